@@ -1,0 +1,73 @@
+-- The classes that a list of edits gives.
+use Rattle.std.specs.Prelude.{ℕ, List, [], ◌∷◌, ◌++◌, length, reverse, Bool, Option, Some, None, slice_get, zero, suc, nat_lt, option_map, option_and_then, position, codes}
+use Rattle.std.specs.List.{flat_map}
+use Rattle.std.specs.Str.{bytes_eq}
+use Rattle.st_classes.specs.declared.values.ClassId.{ClassId}
+use Rattle.st_classes.specs.declared.edits.Edit.{Edit}
+use Rattle.st_classes.specs.declared.edits.Edit.TheVariants.{Define, Install, Remove}
+use Rattle.st_classes.specs.Kernel.{class}
+
+-- a class by its definition: its name, its superclass, and the instance variables that it adds
+pub record ClassDef : Type 0 where
+  pub name : List ℕ
+  pub parent : Option ClassId
+  pub slots : List (List ℕ)
+
+abbrev pub under_object : List ℕ → ClassDef
+under_object name = record { name = name; parent = Some (class 0); slots = [] }
+
+-- Object, which has no superclass, and the seven kernel classes under it
+abbrev pub kernel_classes : List ClassDef
+kernel_classes = record { name = codes "Object"; parent = None; slots = [] } ∷ under_object (codes "SmallInteger") ∷ under_object (codes "True") ∷ under_object (codes "False") ∷ under_object (codes "UndefinedObject") ∷ under_object (codes "Symbol") ∷ under_object (codes "ActorRef") ∷ under_object (codes "Class") ∷ []
+
+-- the classes that the edits define, in order
+abbrev pub defined : List Edit → List ClassDef
+defined [] = []
+defined (Define name parent slots ∷ edits) = record { name = name; parent = Some parent; slots = slots } ∷ defined edits
+defined (Install c m ∷ edits) = defined edits
+defined (Remove c s ∷ edits) = defined edits
+
+-- all classes, by their numbers
+abbrev pub classes : List Edit → List ClassDef
+classes edits = kernel_classes ++ defined edits
+
+abbrev pub class_count : List Edit → ℕ
+class_count edits = length (classes edits)
+
+abbrev pub is_class : List Edit → ClassId → Bool
+is_class edits c = nat_lt c.0 (class_count edits)
+
+abbrev pub parent_in : List ClassDef → ClassId → Option ClassId
+parent_in cs c = option_and_then (λ d. d.parent) (slice_get cs c.0)
+
+-- the superclass of a class
+abbrev pub parent : List Edit → ClassId → Option ClassId
+parent edits c = parent_in (classes edits) c
+
+-- a class and those above it, at most so many
+abbrev pub chain_of : List ClassDef → ℕ → Option ClassId → List ClassId
+chain_of cs zero o = []
+chain_of cs (suc n) None = []
+chain_of cs (suc n) (Some c) = c ∷ chain_of cs n (parent_in cs c)
+
+-- a class, its superclass, and so on to Object. No chain has over 64 classes
+abbrev pub chain : List Edit → ClassId → List ClassId
+chain edits c = chain_of (classes edits) 64 (Some c)
+
+abbrev pub own_slots : List ClassDef → ClassId → List (List ℕ)
+own_slots cs c = slots_in (slice_get cs c.0)
+  where
+    slots_in : Option ClassDef → List (List ℕ)
+    slots_in None = []
+    slots_in (Some d) = d.slots
+
+-- the instance variables of a class, inherited ones first
+abbrev pub slots : List Edit → ClassId → List (List ℕ)
+slots edits c = flat_map (own_slots (classes edits)) (reverse (chain edits c))
+
+abbrev pub class_name : List Edit → ClassId → Option (List ℕ)
+class_name edits c = option_map (λ d. d.name) (slice_get (classes edits) c.0)
+
+-- the class of a name
+abbrev pub class_named : List Edit → List ℕ → Option ClassId
+class_named edits name = option_map class (position (λ d. bytes_eq name d.name) (classes edits))

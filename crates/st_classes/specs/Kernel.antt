@@ -1,0 +1,34 @@
+-- The kernel's classes, selectors and methods.
+use Rattle.std.specs.Prelude.{ℕ, List, [], ◌∷◌, Option, Some, None, if◌then◌else◌, ◌==◌, ◌||◌, codes}
+use Rattle.st_classes.specs.declared.values.ClassId.{ClassId}
+use Rattle.st_classes.specs.declared.values.Selector.{Selector}
+use Rattle.st_classes.specs.declared.kernel.Kernel.{Kernel}
+use Rattle.st_classes.specs.declared.kernel.Kernel.TheVariants.{Identical, Equal, ClassOf, IsNil, DoesNotUnderstand, Add, Subtract, Multiply, Quotient, Remainder, Less, Greater, LessOrEqual, GreaterOrEqual, Not, And}
+
+-- a class by its number
+abbrev pub class : ℕ → ClassId
+class n = record { 0 = n }
+
+-- a selector by its number
+abbrev pub selector : ℕ → Selector
+selector n = record { 0 = n }
+
+-- the kernel's selectors, names 0 to 21
+abbrev pub kernel_selectors : List (List ℕ)
+kernel_selectors = codes "==" ∷ codes "=" ∷ codes "class" ∷ codes "isNil" ∷ codes "doesNotUnderstand:" ∷ codes "+" ∷ codes "-" ∷ codes "*" ∷ codes "//" ∷ codes "\\\\" ∷ codes "<" ∷ codes ">" ∷ codes "<=" ∷ codes ">=" ∷ codes "not" ∷ codes "&" ∷ codes "post:" ∷ codes "post:with:" ∷ codes "post:with:with:" ∷ codes "close" ∷ codes "new" ∷ codes "newActor" ∷ []
+
+abbrev pub does_not_understand : Selector
+does_not_understand = selector 4
+
+abbrev pub object_method : ℕ → Option Kernel
+object_method s = if s == 0 then Some Identical else (if s == 1 then Some Equal else (if s == 2 then Some ClassOf else (if s == 3 then Some IsNil else (if s == 4 then Some DoesNotUnderstand else None))))
+
+abbrev pub integer_method : ℕ → Option Kernel
+integer_method s = if s == 5 then Some Add else (if s == 6 then Some Subtract else (if s == 7 then Some Multiply else (if s == 8 then Some Quotient else (if s == 9 then Some Remainder else (if s == 10 then Some Less else (if s == 11 then Some Greater else (if s == 12 then Some LessOrEqual else (if s == 13 then Some GreaterOrEqual else None))))))))
+
+abbrev pub boolean_method : ℕ → Option Kernel
+boolean_method s = if s == 14 then Some Not else (if s == 15 then Some And else None)
+
+-- the kernel's method in a class for a selector
+abbrev pub kernel_method : ClassId → Selector → Option Kernel
+kernel_method c s = if c.0 == 0 then object_method s.0 else (if c.0 == 1 then integer_method s.0 else (if c.0 == 2 || c.0 == 3 then boolean_method s.0 else None))

@@ -1,0 +1,18 @@
+-- Which refusal a call answers.
+use Rattle.std.specs.Prelude.{◌≡◌, ◌⊎◌, List, [], ◌∷◌, Bool, Option, Some, None, Result, Ok, Err, if◌then◌else◌}
+use Rattle.st_classes.specs.declared.refusals.Refusal.{Refusal}
+use Rattle.st_classes.specs.declared.refusals.Refusal.TheVariants.{NoMemory}
+
+-- a refusal, and whether it applies
+abbrev pub Rule : Type 0
+Rule = Bool × Refusal
+
+-- the first refusal of a list that applies
+abbrev pub first_of : List Rule → Option Refusal
+first_of [] = None
+first_of (rule ∷ rules) = if rule.0 then Some rule.1 else first_of rules
+
+-- the answer of a call: a value only where no refusal applies; a refusal only where it is the first that applies, or for want of memory in place of any answer
+abbrev pub Answers : {T : Type 0} → Option Refusal → Result T Refusal → (T → Type 0) → Type 0
+Answers first (Ok value) P = (first ≡ None) × P value
+Answers first (Err refusal) P = (refusal ≡ NoMemory) ⊎ (first ≡ Some refusal)

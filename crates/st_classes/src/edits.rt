@@ -1,0 +1,71 @@
+//! Edits of the class table.
+use crate::methods::Method;
+use crate::seq::Seq;
+use crate::values::{ClassId, Selector};
+use std::alloc::{AllocError, Global};
+use std::marker::Model;
+use std::sync::Arc;
+
+/// One edit.
+#[derive(Drop)]
+pub enum Edit {
+    /// A new class under another, with its own instance variables.
+    Define {
+        name: Seq<u8>,
+        parent: ClassId,
+        slots: Seq<Seq<u8>>,
+    },
+    /// A method in a class, in place of the one that it has for the selector.
+    Install {
+        class: ClassId,
+        method: Method,
+    },
+    /// The class has no method of its own for the selector any more.
+    Remove {
+        class: ClassId,
+        selector: Selector,
+    },
+}
+
+/// An edit that versions and histories share. Contracts see the edit.
+#[derive(Drop)]
+pub struct SharedEdit {
+    edit: Arc<Edit>,
+}
+
+impl Model for SharedEdit {
+    ghost use Rattle.std.specs.Arc.{arc_value};
+    ghost use Rattle.st_classes.specs.declared.edits.Edit.{Edit};
+
+    ghost Value = { Edit };
+
+    ghost view = { λ s. arc_value s.edit };
+}
+
+impl SharedEdit {
+    ghost use Rattle.std.specs.Prelude.{◌≡◌, IfOk};
+
+    pub fn new(alloc: Global, edit: Edit) -> Result<SharedEdit, AllocError>
+        ensures { IfOk result (λ s. s ≡ edit) }
+    {
+        Ok(SharedEdit {
+            edit: Arc::new(alloc, edit)?,
+        })
+    }
+
+    /// The same edit once more. It is not copied.
+    pub fn again(&self) -> Result<SharedEdit, AllocError>
+        ensures { IfOk result (λ s. s ≡ self.now) }
+    {
+        Ok(SharedEdit {
+            edit: Arc::try_clone(&self.edit)?,
+        })
+    }
+
+    #[inline]
+    pub fn edit(&self) -> &Edit
+        ensures { result.now ≡ self.now }
+    {
+        &self.edit
+    }
+}

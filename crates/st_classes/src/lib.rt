@@ -1,0 +1,15 @@
+//! Values, names, methods and the versioned class table: the lowest layer.
+//!
+//! A [`version::Version`] is a list of edits with the rows that they give. What it answers is what its edits say:
+//! `find` is the target of the walk up the superclass chain, and `with_edit` adds one edit or says why it is refused.
+#![tactic(auto)]
+
+pub mod edits;
+pub mod faults;
+pub mod instructions;
+pub mod kernel;
+pub mod limits;
+pub mod methods;
+pub mod refusals;
+pub mod seq;
+pub mod values;

@@ -1,0 +1,46 @@
+//! The limits of an image.
+
+/// Classes, the kernel's eight counted.
+pub const CLASSES: usize = 1024;
+
+/// Classes on a superclass chain, the class and Object counted.
+pub const CHAIN: usize = 64;
+
+/// Instance variables of a class, inherited ones counted.
+pub const SLOTS: usize = 64;
+
+/// Edits in a class table.
+pub const EDITS: usize = 4096;
+
+/// Edits that one run accepts.
+pub const RUN_EDITS: usize = 2048;
+
+/// Names, which are selectors and symbols.
+pub const NAMES: usize = 8192;
+
+/// Bytes of an identifier.
+pub const IDENTIFIER: usize = 64;
+
+/// Keywords of a selector, and so arguments of a method.
+pub const ARGUMENTS: usize = 8;
+
+/// Arguments and temporaries of a method.
+pub const TEMPORARIES: usize = 64;
+
+/// Operands of a frame.
+pub const OPERANDS: usize = 64;
+
+/// Frames of a body.
+pub const FRAMES: usize = 128;
+
+/// Instructions of a method.
+pub const INSTRUCTIONS: usize = 1024;
+
+/// Bytes of a method's source.
+pub const SOURCE: usize = 4096;
+
+/// Actors of an image.
+pub const ACTORS: usize = 65_536;
+
+/// Objects of an actor.
+pub const OBJECTS: usize = 1024;

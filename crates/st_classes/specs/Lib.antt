@@ -6,3 +6,4 @@ pub mod Classes
 pub mod Walks
 pub mod Suiting
 pub mod Accepting
+pub mod Lawful

@@ -1,0 +1,27 @@
+-- The lists of edits that a class table can have.
+use Rattle.std.specs.Prelude.{◌≡◌, ℕ, List, true, Option, Some, None, slice_get, take, option_and_then}
+use Rattle.st_classes.specs.declared.values.ClassId.{ClassId}
+use Rattle.st_classes.specs.declared.values.MethodId.{MethodId}
+use Rattle.st_classes.specs.declared.methods.MethodParts.{MethodParts}
+use Rattle.st_classes.specs.declared.edits.Edit.{Edit}
+use Rattle.st_classes.specs.declared.edits.Edit.TheVariants.{Define, Install, Remove}
+use Rattle.st_classes.specs.Refusals.{first_of}
+use Rattle.st_classes.specs.Accepting.{edit_rules}
+use Rattle.st_classes.specs.Suiting.{suits}
+
+-- each edit was accepted after those before it
+abbrev pub AreLawful : List Edit → Type 0
+AreLawful edits = (place : ℕ) (e : Edit) → slice_get edits place ≡ Some e → first_of (edit_rules (take place edits) e) ≡ None
+
+-- each installed method suits its class, for given names
+abbrev pub AllSuit : List (List ℕ) → List Edit → Type 0
+AllSuit names edits = (place : ℕ) (c : ClassId) (m : MethodParts) → slice_get edits place ≡ Some (Install c m) → suits names edits c m ≡ true
+
+abbrev pub method_in : Edit → Option MethodParts
+method_in (Define name parent slots) = None
+method_in (Install c m) = Some m
+method_in (Remove c s) = None
+
+-- the method that was installed at a place of the list
+abbrev pub method_at : List Edit → MethodId → Option MethodParts
+method_at edits m = option_and_then method_in (slice_get edits m.0)

@@ -1,0 +1,6 @@
+pub mod Views
+pub mod Arithmetic
+pub mod KernelMethods
+pub mod Frames
+pub mod Steps
+pub mod Fitting

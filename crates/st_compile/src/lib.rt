@@ -1,0 +1,2 @@
+//! Tree to method.
+#![tactic(auto)]

@@ -1,0 +1,100 @@
+-- What callers see of an image, and the refusals of its calls.
+use Rattle.std.specs.Prelude.{ℕ, ◌+◌, ◌-◌, ◌==◌, ◌&&◌, List, [], ◌∷◌, ◌++◌, length, Bool, true, false, not, Option, Some, None, Result, Ok, Err, nat_le, nat_lt, slice_get, unwrap_or, if◌then◌else◌}
+use Rattle.st_classes.specs.declared.values.ClassId.{ClassId}
+use Rattle.st_classes.specs.declared.values.ActorId.{ActorId}
+use Rattle.st_classes.specs.declared.refusals.Refusal.{Refusal}
+use Rattle.st_classes.specs.declared.refusals.Refusal.TheVariants.{UnknownClass, KernelClass, UnknownActor, NothingToDo, Pending, Expired, HistoryFull, TooMany}
+use Rattle.st_classes.specs.declared.refusals.Limited.TheVariants.{Edits, Actors}
+use Rattle.st_classes.specs.Refusals.{Rule}
+use Rattle.st_classes.specs.Classes.{is_class}
+use Rattle.st_classes.specs.Accepting.{is_closed, define_rules}
+use Rattle.st_turn.specs.declared.body.Outcome.{Outcome}
+use Rattle.st_image.specs.declared.messages.Message.{Message}
+use Rattle.st_image.specs.declared.items.Item.{Item}
+use Rattle.st_image.specs.declared.items.Item.TheVariants.{Edited, Created, Posted, Closed, Begun, Ran}
+use Rattle.st_image.specs.Worlds.{World, Being, start, pending, is_idle}
+use Rattle.st_image.specs.Posting.{post_rules}
+use Rattle.st_image.specs.Next.{replay}
+
+-- an image: its names, its history, the capacity of new actors, the most items of the history, and the number from which the next ready actor is looked for
+pub record ImageView : Type 0 where
+  pub names : List (List ℕ)
+  pub history : List Item
+  pub capacity : ℕ
+  pub limit : ℕ
+  pub turn : ℕ
+
+-- the world that the history of an image leads to
+unfoldable pub world_of : List (List ℕ) → List Item → World
+world_of names history = unwrap_or (replay names start history) start
+
+abbrev pub world : ImageView → World
+world i = world_of i.names i.history
+
+-- how many of the items are edits
+abbrev pub edits_in : List Item → ℕ
+edits_in [] = 0
+edits_in (Edited e ∷ is) = edits_in is + 1
+edits_in (Created c n ∷ is) = edits_in is
+edits_in (Posted a m ∷ is) = edits_in is
+edits_in (Closed a ∷ is) = edits_in is
+edits_in (Begun a ∷ is) = edits_in is
+edits_in (Ran a n ∷ is) = edits_in is
+
+abbrev pub appended : ImageView → List Item → ImageView
+appended i items = record i { history = i.history ++ items }
+
+-- ---- refusals, in their order
+
+-- no room for so many items more
+abbrev pub no_room : ImageView → ℕ → Rule
+no_room i n = (nat_lt i.limit (length i.history + n), HistoryFull)
+
+-- one run accepts 2,048 edits
+abbrev pub run_rules : ImageView → List Rule
+run_rules i = (nat_le 2048 (edits_in i.history), TooMany Edits) ∷ no_room i 1 ∷ []
+
+abbrev pub image_define_rules : ImageView → List ℕ → ClassId → List (List ℕ) → List Rule
+image_define_rules i name parent added = define_rules (world i).edits name parent added ++ run_rules i
+
+abbrev pub create_rules : ImageView → ClassId → List Rule
+create_rules i c = (not (is_class (world i).edits c), UnknownClass) ∷ (is_closed c, KernelClass) ∷ (nat_le 65536 (length (world i).actors), TooMany Actors) ∷ no_room i 1 ∷ []
+
+abbrev pub image_post_rules : ImageView → ActorId → Message → List Rule
+image_post_rules i a m = post_rules i.names (world i) (slice_get (world i).actors a.0) m ++ no_room i 1 ∷ []
+
+-- ---- an advance
+
+-- what an advance adds before its steps: an idle actor begins its next message
+abbrev pub beginnings : ActorId → Bool → List Item
+beginnings a true = Begun a ∷ []
+beginnings a false = []
+
+abbrev pub advance_rules : ImageView → Option Being → List Rule
+advance_rules i None = (true, UnknownActor) ∷ []
+advance_rules i (Some b) = (is_idle b.body.phase && (length (pending b) == 0), NothingToDo) ∷ no_room i (if is_idle b.body.phase then 2 else 1) ∷ []
+
+abbrev pub idle_at : Option Being → Bool
+idle_at None = true
+idle_at (Some b) = is_idle b.body.phase
+
+-- the image after an advance of so many steps
+abbrev pub advanced : ImageView → ActorId → ℕ → ImageView
+advanced i a n = record i { history = i.history ++ (beginnings a (idle_at (slice_get (world i).actors a.0)) ++ Ran a n ∷ []); turn = a.0 + 1 }
+
+-- the image after an advance that found no memory for its first step
+abbrev pub only_begun : ImageView → ActorId → ImageView
+only_begun i a = record i { history = i.history ++ beginnings a (idle_at (slice_get (world i).actors a.0)); turn = a.0 + 1 }
+
+-- ---- the outcome of a turn
+
+abbrev pub outcome_in : List Outcome → ℕ → Result Outcome Refusal
+outcome_in results turn = if turn == 0 then Err Expired else or_pending (slice_get results (turn - 1))
+  where
+    or_pending : Option Outcome → Result Outcome Refusal
+    or_pending None = Err Pending
+    or_pending (Some outcome) = Ok outcome
+
+abbrev pub outcome_at : Option Being → ℕ → Result Outcome Refusal
+outcome_at None turn = Err UnknownActor
+outcome_at (Some b) turn = outcome_in b.results turn

@@ -1,0 +1,6 @@
+pub mod Worlds
+pub mod Posting
+pub mod Next
+pub mod Images
+pub mod Ready
+pub mod Delivery

@@ -1,0 +1,21 @@
+//! The items of a history.
+use crate::messages::Message;
+use st_classes::edits::SharedEdit;
+use st_classes::values::{ActorId, ClassId};
+
+/// One thing that happened to an image.
+#[derive(Drop)]
+pub enum Item {
+    /// An edit of the class table.
+    Edited(SharedEdit),
+    /// A new actor, with the capacity of its mailbox.
+    Created { class: ClassId, capacity: u32 },
+    /// A message was accepted.
+    Posted { actor: ActorId, message: Message },
+    /// A mailbox was closed.
+    Closed(ActorId),
+    /// The next pending message became the actor's turn.
+    Begun(ActorId),
+    /// The actor took so many steps, at least one.
+    Ran { actor: ActorId, steps: u32 },
+}

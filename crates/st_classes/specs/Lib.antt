@@ -7,3 +7,4 @@ pub mod Walks
 pub mod Suiting
 pub mod Accepting
 pub mod Lawful
+pub mod Names

@@ -10,6 +10,8 @@ pub mod instructions;
 pub mod kernel;
 pub mod limits;
 pub mod methods;
+pub mod names;
 pub mod refusals;
+pub mod selectors;
 pub mod seq;
 pub mod values;

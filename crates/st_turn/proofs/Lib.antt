@@ -1,0 +1,5 @@
+pub mod KeepingValues
+pub mod KeepingEffects
+pub mod KeepingMoves
+pub mod KeepingArrivals
+pub mod Keeping

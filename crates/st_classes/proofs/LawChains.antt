@@ -38,7 +38,7 @@ chain_of_old cs ds f zero o h = refl
 chain_of_old cs ds f (suc n) None h = refl
 chain_of_old cs ds f (suc n) (Some c) h = ap (λ (xs : List ClassId). c ∷ xs) (ap (chain_of (cs ++ ds) n) (parent_of_old cs ds c (h c refl)) ∙ chain_of_old cs ds f n (parent_in cs c) (λ p e. f c p e))
 
-chain_of_some : (cs ds : List ClassDef) → IsGrounded cs → (n : ℕ) (c : ClassId) → c.0 < length cs → chain_of (cs ++ ds) n (Some c) ≡ chain_of cs n (Some c)
+pub chain_of_some : (cs ds : List ClassDef) → IsGrounded cs → (n : ℕ) (c : ClassId) → c.0 < length cs → chain_of (cs ++ ds) n (Some c) ≡ chain_of cs n (Some c)
 chain_of_some cs ds g n c h = chain_of_old cs ds g.closed n (Some c) (λ d e. let s : c ≡ d = cc in subst (λ (x : ClassId). x.0 < length cs) s h)
 
 -- the superclass in a list with one class more
@@ -114,7 +114,7 @@ grounded edits l = subst (λ (es : List Edit). IsGrounded (classes es)) (take_al
 reverse_cons : {X : Type 0} (x : X) (xs : List X) → reverse (x ∷ xs) ≡ reverse xs ++ x ∷ []
 reverse_cons x xs = reverse-append (x ∷ []) xs
 
-slots_more : (cs : List ClassDef) (c : ClassId) (xs : List ClassId) → flat_map (own_slots cs) (reverse (c ∷ xs)) ≡ flat_map (own_slots cs) (reverse xs) ++ own_slots cs c
+pub slots_more : (cs : List ClassDef) (c : ClassId) (xs : List ClassId) → flat_map (own_slots cs) (reverse (c ∷ xs)) ≡ flat_map (own_slots cs) (reverse xs) ++ own_slots cs c
 slots_more cs c xs = ap (flat_map (own_slots cs)) (reverse_cons c xs) ∙ flat_map-append (own_slots cs) (reverse xs) (c ∷ []) ∙ ap (λ (ys : List (List ℕ)). flat_map (own_slots cs) (reverse xs) ++ ys) (append-nil (own_slots cs c))
 
 pub chain_above : (edits : List Edit) (c p : ClassId) → AreLawful edits → parent edits c ≡ Some p → chain edits c ≡ c ∷ chain edits p

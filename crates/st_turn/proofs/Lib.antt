@@ -3,3 +3,4 @@ pub mod KeepingEffects
 pub mod KeepingMoves
 pub mod KeepingArrivals
 pub mod Keeping
+pub mod KeepingGrowth

@@ -1,12 +1,10 @@
 -- Chains of superclasses, and the instance variables along them.
-use Rattle.std.proofs.Common.{arith, refl, ◌≡◌, ℕ, ◌+◌, ◌<◌, ◌≤◌, ◌⊎◌, List, [], ◌∷◌, ◌++◌, Option, Some, None, slice_get, zero, suc, ap, sym, ◌∙◌, length, subst, length-append, append_assoc, append-nil, take, reverse, inl, inr, Bool, true, false, not, nat_lt, nat_le, ltb-true, leb-true, leb-false, option_and_then, flat_map, le-leb, lt-ltb, le_refl}
-use Rattle.std.proofs.lemmas.Option.{option_and_then_some, slice_get_within, slice_get-get_or}
+use Rattle.std.proofs.Common.{arith, refl, ◌≡◌, ℕ, ◌<◌, ◌≤◌, ◌⊎◌, List, [], ◌∷◌, ◌++◌, Option, Some, None, slice_get, zero, suc, ap, sym, ◌∙◌, length, subst, length-append, append_assoc, append-nil, take, reverse, inl, inr, true, not, nat_lt, nat_le, ltb-true, leb-true, leb-false, option_and_then, flat_map, le_refl}
+use Rattle.std.proofs.lemmas.Option.{option_and_then_some, slice_get-get_or}
 use Rattle.std.proofs.lemmas.List.{take_all, reverse-append}
 use Rattle.std.proofs.lemmas.Bool.{not-false, and_parts}
 use Rattle.std.proofs.lemmas.Grind.{flat_map-append}
 use Rattle.st_classes.specs.declared.values.ClassId.{ClassId}
-use Rattle.st_classes.specs.declared.values.Selector.{Selector}
-use Rattle.st_classes.specs.declared.methods.MethodParts.{MethodParts}
 use Rattle.st_classes.specs.declared.edits.Edit.{Edit}
 use Rattle.st_classes.specs.declared.edits.Edit.TheVariants.{Define, Install, Remove}
 use Rattle.st_classes.specs.declared.refusals.Refusal.TheVariants.{UnknownClass, TooDeep}
@@ -15,7 +13,7 @@ use Rattle.st_classes.specs.Kernel.{class}
 use Rattle.st_classes.specs.Classes.{ClassDef, kernel_classes, defined, classes, class_count, is_class, parent, parent_in, chain_of, chain, own_slots, slots}
 use Rattle.st_classes.specs.Accepting.{is_closed, edit_rules}
 use Rattle.st_classes.specs.Lawful.{AreLawful}
-use Rattle.st_classes.proofs.LawLists.{slice_get_old, slice_get_last, slice_get_push, slice_get_take, take_at_place, no_rule}
+use Rattle.st_classes.proofs.LawLists.{slice_get_old, slice_get_push, take_at_place, no_rule}
 
 -- each superclass is a class, and its chain is the rest of the chain
 pub record IsGrounded (cs : List ClassDef) : Type 0 where
@@ -48,7 +46,7 @@ parent_in_push cs d c p e = option_and_then_some (λ (x : ClassDef). x.parent) (
 new_chain : (cs : List ClassDef) (d : ClassDef) (c p : ClassId) → IsGrounded cs → p.0 < length cs → length (chain_of cs 64 (Some p)) < 64 → parent_in (cs ++ d ∷ []) c ≡ Some p → chain_of (cs ++ d ∷ []) 64 (Some c) ≡ c ∷ chain_of (cs ++ d ∷ []) 64 (Some p)
 new_chain cs d c p g here short e =
     ap (λ (o : Option ClassId). c ∷ chain_of (cs ++ d ∷ []) 63 o) e
-      ∙ ap (λ (xs : List ClassId). c ∷ xs) (chain_of_some cs (d ∷ []) g 63 p here ∙ chain_whole cs 63 (Some p) (omega (arith, short)) ∙ sym (chain_of_some cs (d ∷ []) g 64 p here))
+    ∙ ap (λ (xs : List ClassId). c ∷ xs) (chain_of_some cs (d ∷ []) g 63 p here ∙ chain_whole cs 63 (Some p) (omega (arith, short)) ∙ sym (chain_of_some cs (d ∷ []) g 64 p here))
 
 pub grounded_push : (cs : List ClassDef) (d : ClassDef) (p : ClassId) → IsGrounded cs → d.parent ≡ Some p → p.0 < length cs → length (chain_of cs 64 (Some p)) < 64 → IsGrounded (cs ++ d ∷ [])
 grounded_push cs d p g up here short = record {
@@ -86,9 +84,10 @@ classes_append es fs = ap (λ (ds : List ClassDef). kernel_classes ++ ds) (defin
 
 -- the superclass of an accepted definition is a class whose chain has room
 pub accepted_parent : (es : List Edit) (name : List ℕ) (up : ClassId) (added : List (List ℕ)) → first_of (edit_rules es (Define name up added)) ≡ None → (up.0 < class_count es) × (length (chain es up) < 64)
-accepted_parent es name up added h =
-    (ltb-true up.0 (class_count es) (not-false (is_class es up) (no_rule (edit_rules es (Define name up added)) 0 (not (is_class es up), UnknownClass) h refl)),
-     leb-false 64 (length (chain es up)) (no_rule (edit_rules es (Define name up added)) 5 (nat_le 64 (length (chain es up)), TooDeep) h refl))
+accepted_parent es name up added h = (
+  ltb-true up.0 (class_count es) (not-false (is_class es up) (no_rule (edit_rules es (Define name up added)) 0 (not (is_class es up), UnknownClass) h refl)),
+  leb-false 64 (length (chain es up)) (no_rule (edit_rules es (Define name up added)) 5 (nat_le 64 (length (chain es up)), TooDeep) h refl),
+)
 
 -- an accepted edit leaves the classes grounded
 pub grounded_after : (es : List Edit) (e : Edit) → IsGrounded (classes es) → first_of (edit_rules es e) ≡ None → IsGrounded (classes (es ++ e ∷ []))

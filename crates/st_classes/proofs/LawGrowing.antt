@@ -1,8 +1,8 @@
 -- What stands of a class table stands of it with more edits and more names.
-use Rattle.std.proofs.Common.{arith, refl, ◌≡◌, ℕ, ◌+◌, ◌<◌, ◌≤◌, ◌⊎◌, List, [], ◌∷◌, ◌++◌, Option, Some, None, slice_get, zero, suc, ap, ap₂, sym, ◌∙◌, length, subst, length-append, append-nil, take, drop, take-append-drop, inl, inr, Bool, true, false, not, ◌&&◌, ◌==◌, nat_lt, ltb-true, lt-ltb, eq-eqb, eqb-true, reverse, option_and_then, flat_map, le_refl}
+use Rattle.std.proofs.Common.{arith, refl, ◌≡◌, ℕ, ◌+◌, ◌<◌, ◌≤◌, List, [], ◌∷◌, ◌++◌, Option, Some, None, slice_get, zero, suc, ap, ap₂, sym, ◌∙◌, length, subst, length-append, take, drop, take-append-drop, inl, inr, Bool, true, not, ◌&&◌, ◌==◌, nat_lt, ltb-true, lt-ltb, eq-eqb, eqb-true, reverse, option_and_then, flat_map, le_refl}
 use Rattle.std.specs.List.{list_all}
-use Rattle.std.proofs.lemmas.Bool.{not-false, and_parts, and_from, cases_lt}
-use Rattle.std.proofs.lemmas.Option.{option_and_then_some, slice_get_within}
+use Rattle.std.proofs.lemmas.Bool.{not-false, and_parts, and_from}
+use Rattle.std.proofs.lemmas.Option.{option_and_then_some}
 use Rattle.st_classes.specs.declared.values.ClassId.{ClassId}
 use Rattle.st_classes.specs.declared.values.Selector.{Selector}
 use Rattle.st_classes.specs.declared.values.MethodId.{MethodId}
@@ -12,11 +12,11 @@ use Rattle.st_classes.specs.declared.instructions.Instruction.{Instruction}
 use Rattle.st_classes.specs.declared.instructions.Instruction.TheVariants.{PushLit, PushSelf, PushActor, PushTemp, PushSlot, StoreTemp, StoreSlot, Pop, Dup, Send, SuperSend, Jump, JumpFalse, JumpTrue, Answer}
 use Rattle.st_classes.specs.declared.methods.MethodParts.{MethodParts}
 use Rattle.st_classes.specs.declared.edits.Edit.{Edit}
-use Rattle.st_classes.specs.declared.edits.Edit.TheVariants.{Define, Install, Remove}
+use Rattle.st_classes.specs.declared.edits.Edit.TheVariants.{Install}
 use Rattle.st_classes.specs.declared.refusals.Refusal.TheVariants.{UnknownClass}
 use Rattle.st_classes.specs.Refusals.{first_of}
 use Rattle.st_classes.specs.Kernel.{class, kernel_selectors, does_not_understand}
-use Rattle.st_classes.specs.Classes.{ClassDef, defined, classes, class_count, is_class, parent_in, chain_of, chain, own_slots, slots}
+use Rattle.st_classes.specs.Classes.{ClassDef, defined, classes, class_count, is_class, parent_in, chain_of, own_slots, slots}
 use Rattle.st_classes.specs.Accepting.{edit_rules}
 use Rattle.st_classes.specs.Selectors.{arity_of}
 use Rattle.st_classes.specs.Suiting.{arity_at, is_number, literal_suits, instruction_suits, suits, edit_suits}
@@ -30,8 +30,9 @@ use Rattle.st_classes.proofs.LawChains.{IsGrounded, grounded, chain_of_some, cla
 -- an accepted edit is lawful behind those before it
 pub lawful_with : (edits : List Edit) (e : Edit) → AreLawful edits → first_of (edit_rules edits e) ≡ None → AreLawful (edits ++ e ∷ [])
 lawful_with edits e l h = λ place d at. elim (slice_get_push edits e d place at) [
-    inl w ↦ ap (λ (es : List Edit). first_of (edit_rules es d)) (take_old edits (e ∷ []) place (omega (arith, w.0))) ∙ l place d w.1
-  | inr w ↦ ap (λ (n : ℕ). first_of (edit_rules (take n (edits ++ e ∷ [])) d)) w.0 ∙ ap₂ (λ (es : List Edit) (x : Edit). first_of (edit_rules es x)) (take_whole edits (e ∷ [])) (sym w.1) ∙ h ]
+  | inl w ↦ ap (λ (es : List Edit). first_of (edit_rules es d)) (take_old edits (e ∷ []) place (omega (arith, w.0))) ∙ l place d w.1
+  | inr w ↦ ap (λ (n : ℕ). first_of (edit_rules (take n (edits ++ e ∷ [])) d)) w.0 ∙ ap₂ (λ (es : List Edit) (x : Edit). first_of (edit_rules es x)) (take_whole edits (e ∷ [])) (sym w.1) ∙ h
+]
 
 pub class_count_grows : (edits more : List Edit) → class_count edits ≤ class_count (edits ++ more)
 class_count_grows edits more = omega (arith, ap (λ (cs : List ClassDef). length cs) (classes_append edits more), length-append (classes edits) (defined more))
@@ -50,8 +51,8 @@ slots_along_old cs ds f zero o h = refl
 slots_along_old cs ds f (suc n) None h = refl
 slots_along_old cs ds f (suc n) (Some c) h =
     slots_more (cs ++ ds) c (chain_of cs n (parent_in cs c))
-      ∙ ap₂ (λ (xs ys : List (List ℕ)). xs ++ ys) (slots_along_old cs ds f n (parent_in cs c) (λ p e. f c p e)) (own_slots_old cs ds c.0 (h c refl))
-      ∙ sym (slots_more cs c (chain_of cs n (parent_in cs c)))
+    ∙ ap₂ (λ (xs ys : List (List ℕ)). xs ++ ys) (slots_along_old cs ds f n (parent_in cs c) (λ p e. f c p e)) (own_slots_old cs ds c.0 (h c refl))
+    ∙ sym (slots_more cs c (chain_of cs n (parent_in cs c)))
 
 slots_in_old : (cs ds : List ClassDef) (c : ClassId) → IsGrounded cs → c.0 < length cs → flat_map (own_slots (cs ++ ds)) (reverse (chain_of (cs ++ ds) 64 (Some c))) ≡ flat_map (own_slots cs) (reverse (chain_of cs 64 (Some c)))
 slots_in_old cs ds c g h = ap (λ (xs : List ClassId). flat_map (own_slots (cs ++ ds)) (reverse xs)) (chain_of_some cs ds g 64 c h) ∙ slots_along_old cs ds g.closed 64 (Some c) (λ d e. let s : c ≡ d = cc in subst (λ (x : ClassId). x.0 < length cs) s h)
@@ -155,8 +156,9 @@ all_suit_more_names names more edits all = λ place c m at. suits_more_names nam
 -- an accepted edit whose method suits
 pub all_suit_with : (names : List (List ℕ)) (edits : List Edit) (e : Edit) → AreLawful edits → first_of (edit_rules edits e) ≡ None → AllSuit names edits → edit_suits names edits e ≡ true → AllSuit names (edits ++ e ∷ [])
 all_suit_with names edits e l ok all h = λ place c m at. elim (slice_get_push edits e (Install c m) place at) [
-    inl w ↦ suits_later names edits (e ∷ []) c m l (installed_class edits place c m l w.1) (all place c m w.1)
-  | inr w ↦ suits_later names edits (e ∷ []) c m l (accepted_class edits c m (subst (λ (x : Edit). first_of (edit_rules edits x) ≡ None) w.1 ok)) (subst (λ (x : Edit). edit_suits names edits x ≡ true) w.1 h) ]
+  | inl w ↦ suits_later names edits (e ∷ []) c m l (installed_class edits place c m l w.1) (all place c m w.1)
+  | inr w ↦ suits_later names edits (e ∷ []) c m l (accepted_class edits c m (subst (λ (x : Edit). first_of (edit_rules edits x) ≡ None) w.1 ok)) (subst (λ (x : Edit). edit_suits names edits x ≡ true) w.1 h)
+]
 
 -- an edit whose method is sound
 pub all_sound_with : (edits : List Edit) (e : Edit) → AllSound edits → ((c : ClassId) (m : MethodParts) → e ≡ Install c m → IsSound m) → AllSound (edits ++ e ∷ [])

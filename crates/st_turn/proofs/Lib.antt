@@ -4,3 +4,4 @@ pub mod KeepingMoves
 pub mod KeepingArrivals
 pub mod Keeping
 pub mod KeepingGrowth
+pub mod KeepingNeeds

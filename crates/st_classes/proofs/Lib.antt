@@ -1,2 +1,6 @@
 pub mod Keywords
 pub mod Naming
+pub mod LawLists
+pub mod LawChains
+pub mod LawOwning
+pub mod LawGrowing

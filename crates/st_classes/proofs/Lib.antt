@@ -1,0 +1,3 @@
+pub mod LawLists
+pub mod LawChains
+pub mod LawOwning

@@ -1,12 +1,10 @@
 -- Chains of superclasses, and the instance variables along them.
-use Rattle.std.proofs.Common.{arith, refl, ◌≡◌, ℕ, ◌+◌, ◌<◌, ◌≤◌, ◌⊎◌, List, [], ◌∷◌, ◌++◌, Option, Some, None, slice_get, zero, suc, ap, sym, ◌∙◌, length, subst, length-append, append_assoc, append-nil, take, reverse, inl, inr, Bool, true, false, not, nat_lt, nat_le, ltb-true, leb-true, leb-false, option_and_then, flat_map, le-leb, lt-ltb, le_refl}
-use Rattle.std.proofs.lemmas.Option.{option_and_then_some, slice_get_within, slice_get-get_or}
+use Rattle.std.proofs.Common.{arith, refl, ◌≡◌, ℕ, ◌<◌, ◌≤◌, ◌⊎◌, List, [], ◌∷◌, ◌++◌, Option, Some, None, slice_get, zero, suc, ap, sym, ◌∙◌, length, subst, length-append, append_assoc, append-nil, take, reverse, inl, inr, true, not, nat_lt, nat_le, ltb-true, leb-true, leb-false, option_and_then, flat_map, le_refl}
+use Rattle.std.proofs.lemmas.Option.{option_and_then_some, slice_get-get_or}
 use Rattle.std.proofs.lemmas.List.{take_all, reverse-append}
 use Rattle.std.proofs.lemmas.Bool.{not-false, and_parts}
 use Rattle.std.proofs.lemmas.Grind.{flat_map-append}
 use Rattle.st_classes.specs.declared.values.ClassId.{ClassId}
-use Rattle.st_classes.specs.declared.values.Selector.{Selector}
-use Rattle.st_classes.specs.declared.methods.MethodParts.{MethodParts}
 use Rattle.st_classes.specs.declared.edits.Edit.{Edit}
 use Rattle.st_classes.specs.declared.edits.Edit.TheVariants.{Define, Install, Remove}
 use Rattle.st_classes.specs.declared.refusals.Refusal.TheVariants.{UnknownClass, TooDeep}
@@ -15,7 +13,7 @@ use Rattle.st_classes.specs.Kernel.{class}
 use Rattle.st_classes.specs.Classes.{ClassDef, kernel_classes, defined, classes, class_count, is_class, parent, parent_in, chain_of, chain, own_slots, slots}
 use Rattle.st_classes.specs.Accepting.{is_closed, edit_rules}
 use Rattle.st_classes.specs.Lawful.{AreLawful}
-use Rattle.st_classes.proofs.LawLists.{slice_get_old, slice_get_last, slice_get_push, slice_get_take, take_at_place, no_rule}
+use Rattle.st_classes.proofs.LawLists.{slice_get_old, slice_get_push, take_at_place, no_rule}
 
 -- each superclass is a class, and its chain is the rest of the chain
 pub record IsGrounded (cs : List ClassDef) : Type 0 where
@@ -38,7 +36,7 @@ chain_of_old cs ds f zero o h = refl
 chain_of_old cs ds f (suc n) None h = refl
 chain_of_old cs ds f (suc n) (Some c) h = ap (λ (xs : List ClassId). c ∷ xs) (ap (chain_of (cs ++ ds) n) (parent_of_old cs ds c (h c refl)) ∙ chain_of_old cs ds f n (parent_in cs c) (λ p e. f c p e))
 
-chain_of_some : (cs ds : List ClassDef) → IsGrounded cs → (n : ℕ) (c : ClassId) → c.0 < length cs → chain_of (cs ++ ds) n (Some c) ≡ chain_of cs n (Some c)
+pub chain_of_some : (cs ds : List ClassDef) → IsGrounded cs → (n : ℕ) (c : ClassId) → c.0 < length cs → chain_of (cs ++ ds) n (Some c) ≡ chain_of cs n (Some c)
 chain_of_some cs ds g n c h = chain_of_old cs ds g.closed n (Some c) (λ d e. let s : c ≡ d = cc in subst (λ (x : ClassId). x.0 < length cs) s h)
 
 -- the superclass in a list with one class more
@@ -48,7 +46,7 @@ parent_in_push cs d c p e = option_and_then_some (λ (x : ClassDef). x.parent) (
 new_chain : (cs : List ClassDef) (d : ClassDef) (c p : ClassId) → IsGrounded cs → p.0 < length cs → length (chain_of cs 64 (Some p)) < 64 → parent_in (cs ++ d ∷ []) c ≡ Some p → chain_of (cs ++ d ∷ []) 64 (Some c) ≡ c ∷ chain_of (cs ++ d ∷ []) 64 (Some p)
 new_chain cs d c p g here short e =
     ap (λ (o : Option ClassId). c ∷ chain_of (cs ++ d ∷ []) 63 o) e
-      ∙ ap (λ (xs : List ClassId). c ∷ xs) (chain_of_some cs (d ∷ []) g 63 p here ∙ chain_whole cs 63 (Some p) (omega (arith, short)) ∙ sym (chain_of_some cs (d ∷ []) g 64 p here))
+    ∙ ap (λ (xs : List ClassId). c ∷ xs) (chain_of_some cs (d ∷ []) g 63 p here ∙ chain_whole cs 63 (Some p) (omega (arith, short)) ∙ sym (chain_of_some cs (d ∷ []) g 64 p here))
 
 pub grounded_push : (cs : List ClassDef) (d : ClassDef) (p : ClassId) → IsGrounded cs → d.parent ≡ Some p → p.0 < length cs → length (chain_of cs 64 (Some p)) < 64 → IsGrounded (cs ++ d ∷ [])
 grounded_push cs d p g up here short = record {
@@ -86,9 +84,10 @@ classes_append es fs = ap (λ (ds : List ClassDef). kernel_classes ++ ds) (defin
 
 -- the superclass of an accepted definition is a class whose chain has room
 pub accepted_parent : (es : List Edit) (name : List ℕ) (up : ClassId) (added : List (List ℕ)) → first_of (edit_rules es (Define name up added)) ≡ None → (up.0 < class_count es) × (length (chain es up) < 64)
-accepted_parent es name up added h =
-    (ltb-true up.0 (class_count es) (not-false (is_class es up) (no_rule (edit_rules es (Define name up added)) 0 (not (is_class es up), UnknownClass) h refl)),
-     leb-false 64 (length (chain es up)) (no_rule (edit_rules es (Define name up added)) 5 (nat_le 64 (length (chain es up)), TooDeep) h refl))
+accepted_parent es name up added h = (
+  ltb-true up.0 (class_count es) (not-false (is_class es up) (no_rule (edit_rules es (Define name up added)) 0 (not (is_class es up), UnknownClass) h refl)),
+  leb-false 64 (length (chain es up)) (no_rule (edit_rules es (Define name up added)) 5 (nat_le 64 (length (chain es up)), TooDeep) h refl),
+)
 
 -- an accepted edit leaves the classes grounded
 pub grounded_after : (es : List Edit) (e : Edit) → IsGrounded (classes es) → first_of (edit_rules es e) ≡ None → IsGrounded (classes (es ++ e ∷ []))
@@ -114,7 +113,7 @@ grounded edits l = subst (λ (es : List Edit). IsGrounded (classes es)) (take_al
 reverse_cons : {X : Type 0} (x : X) (xs : List X) → reverse (x ∷ xs) ≡ reverse xs ++ x ∷ []
 reverse_cons x xs = reverse-append (x ∷ []) xs
 
-slots_more : (cs : List ClassDef) (c : ClassId) (xs : List ClassId) → flat_map (own_slots cs) (reverse (c ∷ xs)) ≡ flat_map (own_slots cs) (reverse xs) ++ own_slots cs c
+pub slots_more : (cs : List ClassDef) (c : ClassId) (xs : List ClassId) → flat_map (own_slots cs) (reverse (c ∷ xs)) ≡ flat_map (own_slots cs) (reverse xs) ++ own_slots cs c
 slots_more cs c xs = ap (flat_map (own_slots cs)) (reverse_cons c xs) ∙ flat_map-append (own_slots cs) (reverse xs) (c ∷ []) ∙ ap (λ (ys : List (List ℕ)). flat_map (own_slots cs) (reverse xs) ++ ys) (append-nil (own_slots cs c))
 
 pub chain_above : (edits : List Edit) (c p : ClassId) → AreLawful edits → parent edits c ≡ Some p → chain edits c ≡ c ∷ chain edits p

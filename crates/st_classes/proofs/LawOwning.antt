@@ -1,5 +1,5 @@
 -- What the walk finds: a method of the user's is the one that an edit installed there.
-use Rattle.std.proofs.Common.{arith, refl, ◌≡◌, ℕ, ◌+◌, ◌<◌, ◌≤◌, ◌⊎◌, List, [], ◌∷◌, ◌++◌, Option, Some, None, slice_get, zero, suc, ap, sym, ◌∙◌, length, subst, inl, inr, Bool, true, false, not, ◌&&◌, ◌==◌, eqb-true, option_and_then, option_map, if◌then◌else◌}
+use Rattle.std.proofs.Common.{arith, refl, ◌≡◌, ℕ, ◌+◌, ◌⊎◌, List, [], ◌∷◌, Option, Some, None, slice_get, zero, suc, ap, sym, ◌∙◌, length, subst, inl, inr, Bool, true, false, ◌&&◌, ◌==◌, eqb-true, option_and_then, option_map, if◌then◌else◌}
 use Rattle.std.proofs.lemmas.Bool.{and_parts}
 use Rattle.std.proofs.lemmas.Option.{option_and_then_some}
 use Rattle.std.specs.List.{list_all}

@@ -1,3 +1,4 @@
 pub mod LawLists
 pub mod LawChains
 pub mod LawOwning
+pub mod LawGrowing

@@ -43,7 +43,10 @@ use Rattle.st_classes.proofs.LawLists.{slice_get_push}
 use Rattle.st_image.proofs.Places.{at_all}
 use Rattle.st_image.proofs.GrowingNames.{both_true, and_true, list_all_more, fits_more, all_suit_more}
 use Rattle.st_image.proofs.Deliveries.{let_through, accepting_begins, beginning_begins, nothing_begun}
-use Rattle.st_image.proofs.Pending.{step_fits, lawful_after, classes_grow, suit_after, fits_after, fits_given, fresh_fits, begin_fits}
+use Rattle.st_classes.proofs.LawGrowing.{lawful_with, class_count_grows, all_suit_with, kernel_names_know}
+use Rattle.st_turn.proofs.Keeping.{step_fits}
+use Rattle.st_turn.proofs.KeepingGrowth.{fresh_fits, begin_fits}
+use Rattle.st_image.proofs.Pending.{fits_after, fits_given}
 
 -- ---- lists
 
@@ -80,22 +83,22 @@ message_later names c a c' a' h k m e = let t = both_true _ _ e in and_true _ _ 
 
 -- ---- one actor
 
-being_after : (names : List (List ℕ)) (edits : List Edit) (n : ℕ) (e : Edit) (b : Being) → AreLawful edits → first_of (edit_rules edits e) ≡ None → IsBeing names edits n b → IsBeing names (edits ++ e ∷ []) n b
+being_after : (names : List (List ℕ)) (edits : List Edit) (n : ℕ) (e : Edit) (b : Being) → AreLawful edits → AllSuit names edits → IsBeing names edits n b → IsBeing names (edits ++ e ∷ []) n b
 being_after names edits n e b l r h = record {
   fits = fits_after (given names n) edits e b.body l r h.fits;
   begins = h.begins;
-  mail = all_map _ _ b.accepted (λ m f. message_later names (class_count edits) n (class_count (edits ++ e ∷ [])) n (classes_grow edits e) (omega arith) m f) h.mail;
+  mail = all_map _ _ b.accepted (λ m f. message_later names (class_count edits) n (class_count (edits ++ e ∷ [])) n (class_count_grows edits (e ∷ [])) (omega arith) m f) h.mail;
 }
 
-being_given : (names more : List (List ℕ)) (edits : List Edit) (n m : ℕ) (b : Being) → n ≤ m → IsBeing names edits n b → IsBeing (names ++ more) edits m b
-being_given names more edits n m b k h = record {
-  fits = fits_given names more n m edits b.body k h.fits;
+being_given : (names more : List (List ℕ)) (edits : List Edit) (n m : ℕ) (b : Being) → AreLawful edits → AllSuit names edits → n ≤ m → IsBeing names edits n b → IsBeing (names ++ more) edits m b
+being_given names more edits n m b l s k h = record {
+  fits = fits_given names more n m edits b.body l s k h.fits;
   begins = h.begins;
   mail = all_map _ _ b.accepted (λ x f. fits_more names more (class_count edits) m x (message_later names (class_count edits) n (class_count edits) m (omega arith) k x f)) h.mail;
 }
 
-being_more : (names : List (List ℕ)) (edits : List Edit) (n m : ℕ) (b : Being) → n ≤ m → IsBeing names edits n b → IsBeing names edits m b
-being_more names edits n m b k h = subst (λ (ns : List (List ℕ)). IsBeing ns edits m b) (append-nil names) (being_given names [] edits n m b k h)
+being_more : (names : List (List ℕ)) (edits : List Edit) (n m : ℕ) (b : Being) → AreLawful edits → AllSuit names edits → n ≤ m → IsBeing names edits n b → IsBeing names edits m b
+being_more names edits n m b l s k h = subst (λ (ns : List (List ℕ)). IsBeing ns edits m b) (append-nil names) (being_given names [] edits n m b l s k h)
 
 -- ---- worlds
 
@@ -130,10 +133,10 @@ edited_keeps names w v e h s f =
     let r : first_of (edit_rules w.edits e) ≡ None = none_from _ b.0 in
     subst (IsWorld names) t.1 (record {
       kernel = h.kernel;
-      lawful = lawful_after w.edits e h.lawful r;
-      suited = suit_after names w.edits e h.lawful h.suited r b.1;
+      lawful = lawful_with w.edits e h.lawful r;
+      suited = all_suit_with names w.edits e h.lawful r h.suited b.1;
       sound = sound_push w.edits e h.sound s;
-      actors = all_map (IsBeing names w.edits (length w.actors)) (IsBeing names (w.edits ++ e ∷ []) (length w.actors)) w.actors (λ x g. being_after names w.edits (length w.actors) e x h.lawful r g) h.actors;
+      actors = all_map (IsBeing names w.edits (length w.actors)) (IsBeing names (w.edits ++ e ∷ []) (length w.actors)) w.actors (λ x g. being_after names w.edits (length w.actors) e x h.lawful h.suited g) h.actors;
     })
 
 created_keeps : (names : List (List ℕ)) (w v : World) (c : ClassId) (n : ℕ) → IsWorld names w → created w c n ≡ Some v → IsWorld names v
@@ -147,7 +150,7 @@ created_keeps names w v c n h f =
       lawful = h.lawful;
       suited = h.suited;
       sound = h.sound;
-      actors = All-push (IsBeing names w.edits (length (w.actors ++ new_being w.edits c n ∷ []))) w.actors (new_being w.edits c n) (all_map (IsBeing names w.edits (length w.actors)) (IsBeing names w.edits (length (w.actors ++ new_being w.edits c n ∷ []))) w.actors (λ x g. being_more names w.edits (length w.actors) (length (w.actors ++ new_being w.edits c n ∷ [])) x count g) h.actors) fresh;
+      actors = All-push (IsBeing names w.edits (length (w.actors ++ new_being w.edits c n ∷ []))) w.actors (new_being w.edits c n) (all_map (IsBeing names w.edits (length w.actors)) (IsBeing names w.edits (length (w.actors ++ new_being w.edits c n ∷ []))) w.actors (λ x g. being_more names w.edits (length w.actors) (length (w.actors ++ new_being w.edits c n ∷ [])) x h.lawful h.suited count g) h.actors) fresh;
     })
 
 
@@ -218,7 +221,7 @@ begun_keeps names w v a (Some b) at h f = beginning_keeps names w v a b (pending
 
 -- the selector for what is not understood takes one argument
 pub kernel_known : (names : List (List ℕ)) → BeginsWithKernel names → arity_at names does_not_understand ≡ Some 1
-kernel_known names h = subst (λ (ns : List (List ℕ)). arity_at ns does_not_understand ≡ Some 1) (sym h.1) refl
+kernel_known names h = subst (λ (ns : List (List ℕ)). arity_at ns does_not_understand ≡ Some 1) (sym h.1) (kernel_names_know h.0)
 
 one_step : (g : Given) (edits : List Edit) (s : Stepped) (c : Body) → FitsStepped g edits s → body_after s ≡ Some c → Fits g edits c
 one_step g edits (stepped told) c f e = let same : told.body ≡ c = cc in subst (Fits g edits) same f
@@ -278,5 +281,5 @@ names_keep names more w h = record {
   lawful = h.lawful;
   suited = all_suit_more names more w.edits h.suited;
   sound = h.sound;
-  actors = all_map (IsBeing names w.edits (length w.actors)) (IsBeing (names ++ more) w.edits (length w.actors)) w.actors (λ b g. being_given names more w.edits (length w.actors) (length w.actors) b (omega arith) g) h.actors;
+  actors = all_map (IsBeing names w.edits (length w.actors)) (IsBeing (names ++ more) w.edits (length w.actors)) w.actors (λ b g. being_given names more w.edits (length w.actors) (length w.actors) b h.lawful h.suited (omega arith) g) h.actors;
 }

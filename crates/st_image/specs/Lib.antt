@@ -4,3 +4,4 @@ pub mod Next
 pub mod Images
 pub mod Ready
 pub mod Delivery
+pub mod Lasting

@@ -1,11 +1,4 @@
 //! Commands, and how they are read.
-use crate::fields::{actor_at, arguments_at, quanta_at, sender_at, size, text_at, texts_at, whole_at};
-use serde_json::{Category, Value};
-use st_classes::refusals::Refusal;
-use st_classes::seq::Seq;
-use st_classes::values::ActorId;
-use std::alloc::Global;
-
 ghost use Rattle.std.specs.Prelude.{◌≡◌, Some, Ok, Err, nat_eq, if◌then◌else◌};
 ghost use Rattle.serde_json.specs.View.{view};
 ghost use Rattle.st_classes.specs.Refusals.{Answers, first_of};
@@ -13,6 +6,15 @@ ghost use Rattle.st_classes.specs.declared.refusals.Refusal.TheVariants.{BadComm
 ghost use Rattle.st_wire.specs.Fields.{size as size_of};
 ghost use Rattle.st_wire.specs.Reading.{Reads};
 ghost use Rattle.st_wire.specs.Commands.{command_of, command_rules, command_in, define_in, method_in, remove_in, new_actor_in, post_in, close_in, run_in, outcome_in, stats_in};
+
+use crate::fields::{
+    actor_at, arguments_at, quanta_at, sender_at, size, text_at, texts_at, whole_at,
+};
+use serde_json::{Category, Value};
+use st_classes::refusals::Refusal;
+use st_classes::seq::Seq;
+use st_classes::values::ActorId;
+use std::alloc::Global;
 
 /// How many quanta a `run` takes that does not say.
 pub const DEFAULT_QUANTA: u32 = 1_000;

@@ -1,16 +1,16 @@
 //! The fields of a command's object.
+ghost use Rattle.std.specs.Prelude.{◌≡◌, ◌≤◌, IfOk, IfSome, OnOk, OnErr, Option, Some, None, is_some, option_map, nat_eq, if◌then◌else◌};
+ghost use Rattle.serde_json.specs.View.{view, items_view};
+ghost use Rattle.st_classes.specs.declared.refusals.Refusal.TheVariants.{BadCommand};
+ghost use Rattle.st_wire.specs.Reading.{Reads};
+ghost use Rattle.st_wire.specs.Fields as spec;
+
 use crate::commands::Argument;
 use serde_json::Value;
 use st_classes::refusals::Refusal;
 use st_classes::seq::Seq;
 use st_classes::values::ActorId;
 use std::alloc::{AllocError, Global};
-
-ghost use Rattle.std.specs.Prelude.{◌≡◌, ◌≤◌, IfOk, IfSome, OnOk, OnErr, Option, Some, None, is_some, option_map, nat_eq, if◌then◌else◌};
-ghost use Rattle.serde_json.specs.View.{view, items_view};
-ghost use Rattle.st_classes.specs.declared.refusals.Refusal.TheVariants.{BadCommand};
-ghost use Rattle.st_wire.specs.Reading.{Reads};
-ghost use Rattle.st_wire.specs.Fields as spec;
 
 /// The number of keys of an object, and 0 for another value.
 pub(crate) fn size(object: &Value) -> usize
@@ -57,12 +57,7 @@ pub(crate) fn arguments_at(
 }
 
 /// A whole number in a range, with both ends in it.
-pub(crate) fn whole_at(
-    object: &Value,
-    key: &str,
-    least: u64,
-    most: u64,
-) -> Result<u64, Refusal>
+pub(crate) fn whole_at(object: &Value, key: &str, least: u64, most: u64) -> Result<u64, Refusal>
     ensures read { Reads (spec.whole_at key.now least most (view object.now)) result }
     ensures within { IfOk result (λ n. n ≤ most) }
 {

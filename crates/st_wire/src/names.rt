@@ -1,9 +1,9 @@
 //! Refusals and faults by their names on the wire.
-use st_classes::faults::Fault;
-use st_classes::refusals::{ImagePlace, Limited, Refusal, SourceFault};
-
 ghost use Rattle.std.specs.Prelude.{◌≡◌};
 ghost use Rattle.st_wire.specs.Names as spec;
+
+use st_classes::faults::Fault;
+use st_classes::refusals::{ImagePlace, Limited, Refusal, SourceFault};
 
 pub(crate) fn fault_name(fault: Fault) -> &'static str
     ensures { result.now ≡ spec.fault_name fault }

@@ -1,6 +1,12 @@
 //! Replies, and how they are written.
 #![tactic(auto, unfolding(json::specs::Print::escape_byte))]
 
+ghost use Rattle.std.specs.Prelude.{◌≡◌, ◌++◌, false, true, IfOk, OnOk, codes, decimal};
+ghost use Rattle.json.specs.Print.{quoted};
+ghost use Rattle.st_wire.specs.declared.replies.Reply.TheVariants.{Ran, Answer, Fault as FaultReply, Sites, Refused};
+ghost use Rattle.serde_json.specs.Written.{compact_text, items_text, members_text};
+ghost use Rattle.st_wire.specs.Replies.{line_of, reply_data, answered_data, state_name as name_of, site_data, site_items, refusal_fields};
+
 use crate::line::Line;
 use crate::names::{fault_name, kind_name, limited_name, place_name, refusal_name};
 use st_classes::faults::Fault;
@@ -8,12 +14,6 @@ use st_classes::refusals::Refusal;
 use st_classes::seq::Seq;
 use st_classes::values::ActorId;
 use std::alloc::{AllocError, Global};
-
-ghost use Rattle.std.specs.Prelude.{◌≡◌, ◌++◌, false, true, IfOk, OnOk, codes, decimal};
-ghost use Rattle.json.specs.Print.{quoted};
-ghost use Rattle.st_wire.specs.declared.replies.Reply.TheVariants.{Ran, Answer, Fault as FaultReply, Sites, Refused};
-ghost use Rattle.serde_json.specs.Written.{compact_text, items_text, members_text};
-ghost use Rattle.st_wire.specs.Replies.{line_of, reply_data, answered_data, state_name as name_of, site_data, site_items, refusal_fields};
 
 /// A value in a reply. Names are texts.
 #[derive(Drop)]
@@ -62,10 +62,7 @@ pub enum Reply {
     /// No more messages are accepted.
     Closed,
     /// What a run took.
-    Ran {
-        quanta: u32,
-        steps: u64,
-    },
+    Ran { quanta: u32, steps: u64 },
     /// How a turn ended: with an answer ..
     Answer(Answered),
     /// .. or with a fault.
@@ -81,24 +78,75 @@ pub fn reply_text(alloc: Global, reply: &Reply) -> Result<Vec<u8>, AllocError>
     ensures { IfOk result (λ v. v.items ≡ line_of reply.now) }
 {
     let mut line = Line::new(alloc);
-    write_reply(&mut line, reply)?;
+    reply.write(&mut line)?;
     line.put("\n")?;
     Ok(line.into_bytes())
 }
 
-fn write_reply(line: &mut Line, reply: &Reply) -> Result<(), AllocError>
-    ensures { OnOk result (line.new ≡ line.old ++ compact_text (reply_data reply.now)) }
-{
-    match reply {
-        Reply::Version(version) => write_number(line, "{\"ok\":{\"version\":", (*version).into()),
-        Reply::Actor(actor) => write_number(line, "{\"ok\":{\"actor\":", actor.0.into()),
-        Reply::Turn(turn) => write_number(line, "{\"ok\":{\"turn\":", *turn),
-        Reply::Closed => line.put("{\"ok\":{}}"),
-        Reply::Ran { quanta, steps } => write_ran(line, (*quanta).into(), *steps),
-        Reply::Answer(value) => write_answer(line, value),
-        Reply::Fault(fault) => write_fault(line, *fault),
-        Reply::Sites(sites) => write_sites(line, sites.as_slice()),
-        Reply::Refused(refusal) => write_refusal(line, *refusal),
+impl Reply {
+    fn write(&self, line: &mut Line) -> Result<(), AllocError>
+        ensures { OnOk result (line.new ≡ line.old ++ compact_text (reply_data self.now)) }
+    {
+        match self {
+            Reply::Version(version) => write_number(
+                line,
+                r#"{"ok":{"version":"#,
+                (*version).into(),
+            ),
+            Reply::Actor(actor) => write_number(line, r#"{"ok":{"actor":"#, actor.0.into()),
+            Reply::Turn(turn) => write_number(line, r#"{"ok":{"turn":"#, *turn),
+            Reply::Closed => line.put(r#"{"ok":{}}"#),
+            Reply::Ran { quanta, steps } => write_ran(line, (*quanta).into(), *steps),
+            Reply::Answer(value) => write_answer(line, value),
+            Reply::Fault(fault) => write_fault(line, *fault),
+            Reply::Sites(sites) => write_sites(line, sites.as_slice()),
+            Reply::Refused(refusal) => write_refusal(line, *refusal),
+        }
+    }
+}
+
+impl Answered {
+    fn write(&self, line: &mut Line) -> Result<(), AllocError>
+        ensures { OnOk result (line.new ≡ line.old ++ compact_text (answered_data self.now)) }
+    {
+        match self {
+            Answered::Int(n) => line.integer(*n),
+            Answered::Bool(truth) => line.boolean(*truth),
+            Answered::Nil => line.put("null"),
+            Answered::Symbol(text) => write_text(line, r#"{"sym":"#, text.as_slice()),
+            Answered::Class(text) => write_text(line, r#"{"class":"#, text.as_slice()),
+            Answered::Actor(actor) => write_last(line, r#"{"ref":"#, actor.0.into()),
+            Answered::Local(place) => write_last(line, r#"{"local":"#, (*place).into()),
+        }
+    }
+}
+
+impl SiteReport {
+    fn write(&self, line: &mut Line) -> Result<(), AllocError>
+        ensures { OnOk result (line.new ≡ line.old ++ compact_text (site_data self.now)) }
+    {
+        line.number_at(r#"{"global":"#, self.global)?;
+        line.text_at(r#","selector":"#, self.selector.as_slice())?;
+        line.number_at(r#","sends":"#, self.sends)?;
+        line.number_at(r#","site":"#, self.site)?;
+        line.name_at(r#","state":"#, self.state.name())?;
+        line.put(r#","super":"#)?;
+        line.boolean(self.is_super)?;
+        line.number_at(r#","walk":"#, self.walk)?;
+        line.put("}")
+    }
+}
+
+impl SiteState {
+    fn name(self) -> &'static str
+        ensures { result.now ≡ name_of self }
+    {
+        match self {
+            SiteState::Empty => "empty",
+            SiteState::Mono => "mono",
+            SiteState::Poly => "poly",
+            SiteState::Mega => "mega",
+        }
     }
 }
 
@@ -113,30 +161,30 @@ fn write_number(line: &mut Line, opening: &str, n: u64) -> Result<(), AllocError
 fn write_ran(line: &mut Line, quanta: u64, steps: u64) -> Result<(), AllocError>
     ensures { OnOk result (line.new ≡ line.old ++ compact_text (reply_data (Ran quanta steps))) }
 {
-    line.number_at("{\"ok\":{\"quanta\":", quanta)?;
-    line.number_at(",\"steps\":", steps)?;
+    line.number_at(r#"{"ok":{"quanta":"#, quanta)?;
+    line.number_at(r#","steps":"#, steps)?;
     line.put("}}")
 }
 
 fn write_answer(line: &mut Line, value: &Answered) -> Result<(), AllocError>
     ensures { OnOk result (line.new ≡ line.old ++ compact_text (reply_data (Answer value.now))) }
 {
-    line.put("{\"ok\":{\"answer\":")?;
-    write_value(line, value)?;
+    line.put(r#"{"ok":{"answer":"#)?;
+    value.write(line)?;
     line.put("}}")
 }
 
 fn write_fault(line: &mut Line, fault: Fault) -> Result<(), AllocError>
     ensures { OnOk result (line.new ≡ line.old ++ compact_text (reply_data (FaultReply fault))) }
 {
-    line.name_at("{\"ok\":{\"fault\":", fault_name(fault))?;
+    line.name_at(r#"{"ok":{"fault":"#, fault_name(fault))?;
     line.put("}}")
 }
 
 fn write_sites(line: &mut Line, sites: &[SiteReport]) -> Result<(), AllocError>
     ensures { OnOk result (line.new ≡ line.old ++ compact_text (reply_data (Sites sites.now))) }
 {
-    line.put("{\"ok\":{\"sites\":[")?;
+    line.put(r#"{"ok":{"sites":["#)?;
     write_reports(line, sites)?;
     line.put("}}")
 }
@@ -147,49 +195,9 @@ fn write_reports(line: &mut Line, sites: &[SiteReport]) -> Result<(), AllocError
 {
     for (place, site) in sites.iter().enumerate() {
         line.comma(place > 0)?;
-        write_site(line, site)?;
+        site.write(line)?;
     }
     line.put("]")
-}
-
-fn write_site(line: &mut Line, site: &SiteReport) -> Result<(), AllocError>
-    ensures { OnOk result (line.new ≡ line.old ++ compact_text (site_data site.now)) }
-{
-    line.number_at("{\"global\":", site.global)?;
-    line.text_at(",\"selector\":", site.selector.as_slice())?;
-    line.number_at(",\"sends\":", site.sends)?;
-    line.number_at(",\"site\":", site.site)?;
-    line.name_at(",\"state\":", state_name(site.state))?;
-    line.put(",\"super\":")?;
-    line.boolean(site.is_super)?;
-    line.number_at(",\"walk\":", site.walk)?;
-    line.put("}")?;
-    Ok(())
-}
-
-fn state_name(state: SiteState) -> &'static str
-    ensures { result.now ≡ name_of state }
-{
-    match state {
-        SiteState::Empty => "empty",
-        SiteState::Mono => "mono",
-        SiteState::Poly => "poly",
-        SiteState::Mega => "mega",
-    }
-}
-
-fn write_value(line: &mut Line, value: &Answered) -> Result<(), AllocError>
-    ensures { OnOk result (line.new ≡ line.old ++ compact_text (answered_data value.now)) }
-{
-    match value {
-        Answered::Int(n) => line.integer(*n),
-        Answered::Bool(truth) => line.boolean(*truth),
-        Answered::Nil => line.put("null"),
-        Answered::Symbol(text) => write_text(line, "{\"sym\":", text.as_slice()),
-        Answered::Class(text) => write_text(line, "{\"class\":", text.as_slice()),
-        Answered::Actor(actor) => write_last(line, "{\"ref\":", actor.0.into()),
-        Answered::Local(place) => write_last(line, "{\"local\":", (*place).into()),
-    }
 }
 
 // A text, and the closing bracket of its object.
@@ -211,7 +219,7 @@ fn write_last(line: &mut Line, opening: &str, n: u64) -> Result<(), AllocError>
 fn write_refusal(line: &mut Line, refusal: Refusal) -> Result<(), AllocError>
     ensures { OnOk result (line.new ≡ line.old ++ compact_text (reply_data (Refused refusal))) }
 {
-    line.name_at("{\"error\":", refusal_name(refusal))?;
+    line.name_at(r#"{"error":"#, refusal_name(refusal))?;
     write_fields(line, refusal)
 }
 
@@ -221,13 +229,17 @@ fn write_fields(line: &mut Line, refusal: Refusal) -> Result<(), AllocError>
 {
     match refusal {
         Refusal::BadSource { kind, offset } => {
-            line.name_at(",\"kind\":", kind_name(kind))?;
-            write_last(line, ",\"offset\":", offset.into())
+            line.name_at(r#","kind":"#, kind_name(kind))?;
+            write_last(line, r#","offset":"#, offset.into())
         }
-        Refusal::Old { last } => write_last(line, ",\"last\":", last),
-        Refusal::Stale { version } => write_last(line, ",\"version\":", version.into()),
-        Refusal::TooMany { what } => write_text(line, ",\"what\":", limited_name(what).as_bytes()),
-        Refusal::BadImage { place } => write_text(line, ",\"place\":", place_name(place).as_bytes()),
+        Refusal::Old { last } => write_last(line, r#","last":"#, last),
+        Refusal::Stale { version } => write_last(line, r#","version":"#, version.into()),
+        Refusal::TooMany { what } => write_text(line, r#","what":"#, limited_name(what).as_bytes()),
+        Refusal::BadImage { place } => write_text(
+            line,
+            r#","place":"#,
+            place_name(place).as_bytes(),
+        ),
         _ => line.put("}"),
     }
 }

@@ -1,10 +1,10 @@
 //! What bytes are read from and written to.
 //!
 //! A device may fail. Each failure is counted, so that a caller who answers one can show it.
-use std::alloc::Global;
-
 ghost use Rattle.std.specs.Prelude.{◌≡◌, ◌≤◌, ◌++◌, ℕ, List, [], length, take, IfOk, OnOk, OnErr, vec_len};
 ghost use Rattle.st_wire.specs.Streams.{one_more};
+
+use std::alloc::Global;
 
 /// A read failed.
 #[derive(Clone, Copy, PartialEq, Eq, Debug)]

@@ -11,5 +11,7 @@ returns-in-Ok c =
 pub returns-after-classify : goal.returns-after-classify
 returns-after-classify c =
     let line = c.args.line.now in
-    elim c.match-classify.branch [ in-Memory w ↦ inl w.result-is
-      | in_default w ↦ inr (no_command-line line (no_value-line line (c.in-Err.ensures.err (λ m. w.in_default.not-Memory (c.classify.ensures.memory.1 m)))) ∙ ap Some (sym w.result-is)) ]
+    elim c.match-classify.branch [
+      | in-Memory w ↦ inl w.result-is
+      | in_default w ↦ inr (no_command-line line (no_value-line line (c.in-Err.ensures.err (λ m. w.in_default.not-Memory (c.classify.ensures.memory.1 m)))) ∙ ap Some (sym w.result-is))
+    ]

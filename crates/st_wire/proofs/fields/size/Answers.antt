@@ -1,4 +1,3 @@
-use Rattle.std.proofs.Common.{◌≡◌, ◌∙◌}
 use Rattle.serde_json.proofs.Views.{members_len-members_view}
 use Rattle.st_wire.proofs.Objects.{size-object}
 use Rattle.st_wire.proofs.fields.size.Goals as goal

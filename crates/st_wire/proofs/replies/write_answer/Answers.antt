@@ -4,4 +4,4 @@ use Rattle.st_wire.proofs.replies.write_answer.Goals as goal
 
 pub returns : goal.returns
 unfolding escape_byte
-returns c = simp append_assoc (simp (c.in_ok-write_value.ensures, c.in_ok-put.ensures, append_assoc) at c.put-2.ensures)
+returns c = simp append_assoc (simp (c.in_ok-write.ensures, c.in_ok-put.ensures, append_assoc) at c.put-2.ensures)

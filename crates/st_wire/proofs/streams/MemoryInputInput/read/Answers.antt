@@ -1,4 +1,4 @@
-use Rattle.std.proofs.Common.{◌≡◌, ◌-◌, ◌+◌, ◌≤◌, length, take, drop, ap, ◌∙◌, arith}
+use Rattle.std.proofs.Common.{◌-◌, ◌+◌, take, drop, ap, ◌∙◌, arith}
 use Rattle.st_wire.proofs.Parts.{part_copied}
 use Rattle.st_wire.proofs.streams.MemoryInputInput.read.Goals as goal
 

@@ -1,0 +1,5 @@
+pub mod Lists
+pub mod Objects
+pub mod Lines
+pub mod Written
+pub mod Parts

@@ -1,0 +1,221 @@
+//! Commands, and how they are read.
+ghost use Rattle.std.specs.Prelude.{◌≡◌, Some, Ok, Err, nat_eq, if◌then◌else◌};
+ghost use Rattle.serde_json.specs.View.{view};
+ghost use Rattle.st_classes.specs.Refusals.{Answers, first_of};
+ghost use Rattle.st_classes.specs.declared.refusals.Refusal.TheVariants.{BadCommand};
+ghost use Rattle.st_wire.specs.Fields.{size as size_of};
+ghost use Rattle.st_wire.specs.Reading.{Reads};
+ghost use Rattle.st_wire.specs.Commands.{command_of, command_rules, command_in, define_in, method_in, remove_in, new_actor_in, post_in, close_in, run_in, outcome_in, stats_in};
+
+use crate::fields::{
+    actor_at, arguments_at, quanta_at, sender_at, size, text_at, texts_at, whole_at,
+};
+use serde_json::{Category, Value};
+use st_classes::refusals::Refusal;
+use st_classes::seq::Seq;
+use st_classes::values::ActorId;
+use std::alloc::Global;
+
+/// How many quanta a `run` takes that does not say.
+pub const DEFAULT_QUANTA: u32 = 1_000;
+
+/// A value in a command. Names are texts: whether there is such a selector or class is not decided here.
+#[derive(Drop)]
+pub enum Argument {
+    Int(i64),
+    Bool(bool),
+    Nil,
+    Symbol(Seq<u8>),
+    Class(Seq<u8>),
+    Actor(ActorId),
+}
+
+/// A command.
+#[derive(Drop)]
+pub enum Command {
+    /// A new class. On the wire the parent's key is `super`.
+    Define {
+        name: Seq<u8>,
+        parent: Seq<u8>,
+        slots: Seq<Seq<u8>>,
+    },
+    /// A method in a class.
+    Method {
+        class: Seq<u8>,
+        source: Seq<u8>,
+    },
+    /// No method of the class's own for the selector any more.
+    Remove {
+        class: Seq<u8>,
+        selector: Seq<u8>,
+    },
+    /// A new actor.
+    Actor {
+        class: Seq<u8>,
+    },
+    /// A message to an actor. The number is the sender's own.
+    Post {
+        actor: ActorId,
+        args: Seq<Argument>,
+        selector: Seq<u8>,
+        sender: u16,
+        seq: u64,
+    },
+    /// No more messages to an actor.
+    Close {
+        actor: ActorId,
+    },
+    /// Run until there is nothing to do, for 1 to 1,000,000 quanta at most.
+    Run {
+        quanta: u32,
+    },
+    /// How a turn of an actor ended.
+    Outcome {
+        actor: ActorId,
+        turn: u64,
+    },
+    /// The send sites of a method.
+    Stats {
+        class: Seq<u8>,
+        selector: Seq<u8>,
+    },
+}
+
+/// The command that a line is. BadCommand where the line is none: no UTF-8, no JSON, other keys than those of one
+/// form, or a value of another kind or out of its range.
+pub fn read_command(alloc: Global, line: &[u8]) -> Result<Command, Refusal>
+    ensures { Answers (first_of (command_rules line.now)) result
+        (λ c. command_of line.now ≡ Some c) }
+{
+    match Value::from_slice(alloc, line) {
+        Ok(object) => read_object(alloc, &object),
+        Err(error) => Err(match error.classify() {
+            Category::Memory => Refusal::NoMemory,
+            _ => Refusal::BadCommand,
+        }),
+    }
+}
+
+fn read_object(alloc: Global, object: &Value) -> Result<Command, Refusal>
+    ensures { Reads (command_in (view object.now)) result }
+{
+    match object.get("cmd").and_then(Value::as_str) {
+        Some("define") => define(alloc, object),
+        Some("method") => method(alloc, object),
+        Some("remove") => remove(alloc, object),
+        Some("actor") => new_actor(alloc, object),
+        Some("post") => post(alloc, object),
+        Some("close") => close(object),
+        Some("run") => run(object),
+        Some("outcome") => outcome(object),
+        Some("stats") => stats(alloc, object),
+        _ => Err(Refusal::BadCommand),
+    }
+}
+
+// Refuses an object that has not so many keys.
+fn just_keys(object: &Value, count: usize) -> Result<(), Refusal>
+    ensures { result ≡ (if nat_eq (size_of (view object.now)) count then Ok tt else Err BadCommand) }
+{
+    if size(object) == count {
+        Ok(())
+    } else {
+        Err(Refusal::BadCommand)
+    }
+}
+
+fn define(alloc: Global, object: &Value) -> Result<Command, Refusal>
+    ensures { Reads (define_in (view object.now)) result }
+{
+    just_keys(object, 4)?;
+    Ok(Command::Define {
+        name: text_at(alloc, object, "name")?,
+        parent: text_at(alloc, object, "super")?,
+        slots: texts_at(alloc, object, "slots")?,
+    })
+}
+
+fn method(alloc: Global, object: &Value) -> Result<Command, Refusal>
+    ensures { Reads (method_in (view object.now)) result }
+{
+    just_keys(object, 3)?;
+    Ok(Command::Method {
+        class: text_at(alloc, object, "class")?,
+        source: text_at(alloc, object, "source")?,
+    })
+}
+
+fn remove(alloc: Global, object: &Value) -> Result<Command, Refusal>
+    ensures { Reads (remove_in (view object.now)) result }
+{
+    just_keys(object, 3)?;
+    Ok(Command::Remove {
+        class: text_at(alloc, object, "class")?,
+        selector: text_at(alloc, object, "selector")?,
+    })
+}
+
+fn new_actor(alloc: Global, object: &Value) -> Result<Command, Refusal>
+    ensures { Reads (new_actor_in (view object.now)) result }
+{
+    just_keys(object, 2)?;
+    Ok(Command::Actor {
+        class: text_at(alloc, object, "class")?,
+    })
+}
+
+fn post(alloc: Global, object: &Value) -> Result<Command, Refusal>
+    ensures { Reads (post_in (view object.now)) result }
+{
+    just_keys(object, 6)?;
+    Ok(Command::Post {
+        actor: actor_at(object, "actor")?,
+        args: arguments_at(alloc, object, "args")?,
+        selector: text_at(alloc, object, "selector")?,
+        sender: sender_at(object, "sender")?,
+        seq: whole_at(object, "seq", 0, u64::MAX)?,
+    })
+}
+
+fn close(object: &Value) -> Result<Command, Refusal>
+    ensures { Reads (close_in (view object.now)) result }
+{
+    just_keys(object, 2)?;
+    Ok(Command::Close {
+        actor: actor_at(object, "actor")?,
+    })
+}
+
+fn run(object: &Value) -> Result<Command, Refusal>
+    ensures { Reads (run_in (view object.now)) result }
+{
+    if size(object) == 1 {
+        return Ok(Command::Run {
+            quanta: DEFAULT_QUANTA,
+        });
+    }
+    just_keys(object, 2)?;
+    Ok(Command::Run {
+        quanta: quanta_at(object, "quanta")?,
+    })
+}
+
+fn outcome(object: &Value) -> Result<Command, Refusal>
+    ensures { Reads (outcome_in (view object.now)) result }
+{
+    just_keys(object, 3)?;
+    Ok(Command::Outcome {
+        actor: actor_at(object, "actor")?,
+        turn: whole_at(object, "turn", 0, u64::MAX)?,
+    })
+}
+
+fn stats(alloc: Global, object: &Value) -> Result<Command, Refusal>
+    ensures { Reads (stats_in (view object.now)) result }
+{
+    just_keys(object, 3)?;
+    Ok(Command::Stats {
+        class: text_at(alloc, object, "class")?,
+        selector: text_at(alloc, object, "selector")?,
+    })
+}

@@ -1,0 +1,161 @@
+//! The fields of a command's object.
+ghost use Rattle.std.specs.Prelude.{◌≡◌, ◌≤◌, IfOk, IfSome, OnOk, OnErr, Option, Some, None, is_some, option_map, nat_eq, if◌then◌else◌};
+ghost use Rattle.serde_json.specs.View.{view, items_view};
+ghost use Rattle.st_classes.specs.declared.refusals.Refusal.TheVariants.{BadCommand};
+ghost use Rattle.st_wire.specs.Reading.{Reads};
+ghost use Rattle.st_wire.specs.Fields as spec;
+
+use crate::commands::Argument;
+use serde_json::Value;
+use st_classes::refusals::Refusal;
+use st_classes::seq::Seq;
+use st_classes::values::ActorId;
+use std::alloc::{AllocError, Global};
+
+/// The number of keys of an object, and 0 for another value.
+pub(crate) fn size(object: &Value) -> usize
+    ensures { result ≡ spec.size (view object.now) }
+{
+    match object.as_object() {
+        Some(members) => members.len(),
+        None => 0,
+    }
+}
+
+/// A text.
+pub(crate) fn text_at(alloc: Global, object: &Value, key: &str) -> Result<Seq<u8>, Refusal>
+    ensures { Reads (spec.text_at key.now (view object.now)) result }
+{
+    match object.get(key) {
+        Some(value) => text(alloc, value),
+        None => Err(Refusal::BadCommand),
+    }
+}
+
+/// A list of texts.
+pub(crate) fn texts_at(alloc: Global, object: &Value, key: &str) -> Result<Seq<Seq<u8>>, Refusal>
+    ensures { Reads (spec.texts_at key.now (view object.now)) result }
+{
+    match object.get(key).and_then(Value::as_array) {
+        Some(values) => texts(alloc, values),
+        None => Err(Refusal::BadCommand),
+    }
+}
+
+/// A list of values.
+pub(crate) fn arguments_at(
+    alloc: Global,
+    object: &Value,
+    key: &str,
+) -> Result<Seq<Argument>, Refusal>
+    ensures { Reads (spec.arguments_at key.now (view object.now)) result }
+{
+    match object.get(key).and_then(Value::as_array) {
+        Some(values) => arguments(alloc, values),
+        None => Err(Refusal::BadCommand),
+    }
+}
+
+/// A whole number in a range, with both ends in it.
+pub(crate) fn whole_at(object: &Value, key: &str, least: u64, most: u64) -> Result<u64, Refusal>
+    ensures read { Reads (spec.whole_at key.now least most (view object.now)) result }
+    ensures within { IfOk result (λ n. n ≤ most) }
+{
+    match object.get(key).and_then(Value::as_u64) {
+        Some(n) if least <= n && n <= most => Ok(n),
+        _ => Err(Refusal::BadCommand),
+    }
+}
+
+/// An actor's number.
+pub(crate) fn actor_at(object: &Value, key: &str) -> Result<ActorId, Refusal>
+    ensures { Reads (spec.actor_at key.now (view object.now)) result }
+{
+    let number = whole_at(object, key, 0, 4_294_967_295)?;
+    Ok(ActorId(number as u32))
+}
+
+/// A client's number.
+pub(crate) fn sender_at(object: &Value, key: &str) -> Result<u16, Refusal>
+    ensures { Reads (spec.sender_at key.now (view object.now)) result }
+{
+    let number = whole_at(object, key, 0, 65_535)?;
+    Ok(number as u16)
+}
+
+/// A number of quanta.
+pub(crate) fn quanta_at(object: &Value, key: &str) -> Result<u32, Refusal>
+    ensures { Reads (spec.quanta_at key.now (view object.now)) result }
+{
+    let number = whole_at(object, key, 1, 1_000_000)?;
+    Ok(number as u32)
+}
+
+fn text(alloc: Global, value: &Value) -> Result<Seq<u8>, Refusal>
+    ensures { Reads (spec.text (view value.now)) result }
+{
+    let Some(text) = value.as_str() else {
+        return Err(Refusal::BadCommand);
+    };
+    match Vec::from_slice(alloc, text.as_bytes()) {
+        Ok(bytes) => Ok(Seq::from_vec(bytes)),
+        Err(AllocError) => Err(Refusal::NoMemory),
+    }
+}
+
+fn texts(alloc: Global, values: &Vec<Value>) -> Result<Seq<Seq<u8>>, Refusal>
+    ensures { Reads (spec.each_of spec.text (items_view values.now.items)) result }
+{
+    let mut found = Vec::new(alloc);
+    for value in values {
+        let one = text(alloc, value)?;
+        if found.push(one).is_err() {
+            return Err(Refusal::NoMemory);
+        }
+    }
+    Ok(Seq::from_vec(found))
+}
+
+fn arguments(alloc: Global, values: &Vec<Value>) -> Result<Seq<Argument>, Refusal>
+    ensures { Reads (spec.each_of spec.argument (items_view values.now.items)) result }
+{
+    let mut found = Vec::new(alloc);
+    for value in values {
+        let one = argument(alloc, value)?;
+        if found.push(one).is_err() {
+            return Err(Refusal::NoMemory);
+        }
+    }
+    Ok(Seq::from_vec(found))
+}
+
+fn argument(alloc: Global, value: &Value) -> Result<Argument, Refusal>
+    ensures { Reads (spec.argument (view value.now)) result }
+{
+    match value {
+        Value::Null => Ok(Argument::Nil),
+        Value::Bool(truth) => Ok(Argument::Bool(*truth)),
+        Value::Number(number) => match number.as_i64() {
+            Some(integer) => Ok(Argument::Int(integer)),
+            None => Err(Refusal::BadCommand),
+        },
+        Value::String(_) | Value::Array(_) => Err(Refusal::BadCommand),
+        Value::Object(_) => named(alloc, value),
+    }
+}
+
+// An actor, a symbol or a class, as an object of one key.
+fn named(alloc: Global, object: &Value) -> Result<Argument, Refusal>
+    ensures { Reads (spec.named (view object.now)) result }
+{
+    if size(object) != 1 {
+        return Err(Refusal::BadCommand);
+    }
+    if object.get("ref").is_some() {
+        return Ok(Argument::Actor(actor_at(object, "ref")?));
+    }
+    if object.get("sym").is_some() {
+        return Ok(Argument::Symbol(text_at(alloc, object, "sym")?));
+    }
+    Ok(Argument::Class(text_at(alloc, object, "class")?))
+}

@@ -1,0 +1,314 @@
+//! The lines of a first run, lines that are refused, and each form of reply.
+use crate::commands::{Argument, Command, read_command};
+use crate::replies::{Answered, Reply, SiteReport, SiteState, reply_text};
+use crate::streams::{Input, MemoryInput, MemoryOutput, Output, write_all};
+use st_classes::faults::Fault;
+use st_classes::refusals::{ImagePlace, Limited, Refusal, SourceFault};
+use st_classes::seq::Seq;
+use st_classes::values::ActorId;
+use std::alloc::{AllocError, Global};
+use std::test::Fail;
+
+fn read(alloc: Global, line: &str) -> Result<Command, Refusal> {
+    read_command(alloc, line.as_bytes())
+}
+
+fn is(text: &Seq<u8>, want: &str) -> bool {
+    text.as_slice() == want.as_bytes()
+}
+
+fn text(alloc: Global, bytes: &str) -> Result<Seq<u8>, AllocError> {
+    Ok(Seq::from_vec(Vec::from_slice(alloc, bytes.as_bytes())?))
+}
+
+// Whether a reply is this line and a newline.
+fn is_line(alloc: Global, reply: Reply, line: &str) -> Result<bool, AllocError> {
+    let bytes = reply_text(alloc, &reply)?;
+    Ok(bytes.as_slice().strip_suffix(b"\n") == Some(line.as_bytes()))
+}
+
+#[test]
+fn reads_a_run(rt: HostRuntime) -> Result<(), Fail> {
+    let alloc = rt.alloc();
+    let define = read(
+        alloc,
+        r#"{"cmd":"define","name":"M","slots":["a","b"],"super":"Object"}"#,
+    )?;
+    assert!(rt;
+        matches!(&define, Command::Define { name, parent, slots }
+        if is(name, "M") && is(parent, "Object") && slots.len() == 2)
+    );
+    let method = read(
+        alloc,
+        r#"{"class":"M","cmd":"method","source":"a ^3 + 4 * 2"}"#,
+    )?;
+    assert!(rt;
+        matches!(&method, Command::Method { class, source }
+        if is(class, "M") && is(source, "a ^3 + 4 * 2"))
+    );
+    let actor = read(alloc, r#"{"class":"M","cmd":"actor"}"#)?;
+    assert!(rt; matches!(&actor, Command::Actor { class } if is(class, "M")));
+    let line = r#"{"actor":0,"args":[],"cmd":"post","selector":"a","sender":1,"seq":1}"#;
+    let post = read(alloc, line)?;
+    assert!(rt;
+        matches!(&post, Command::Post { actor, args, selector, sender: 1, seq: 1 }
+        if actor.0 == 0 && args.is_empty() && is(selector, "a"))
+    );
+    assert!(rt;
+        matches!(
+            read(alloc, r#"{"cmd":"run"}"#)?,
+            Command::Run { quanta: 1_000 }
+        )
+    );
+    let outcome = read(alloc, r#"{"actor":0,"cmd":"outcome","turn":1}"#)?;
+    assert!(rt; matches!(&outcome, Command::Outcome { actor, turn: 1 } if actor.0 == 0));
+    Ok(())
+}
+
+#[test]
+fn reads_the_other_forms(rt: HostRuntime) -> Result<(), Fail> {
+    let alloc = rt.alloc();
+    let remove = read(
+        alloc,
+        r#" {"cmd": "remove", "class": "M", "selector": "+"} "#,
+    )?;
+    assert!(rt;
+        matches!(&remove, Command::Remove { class, selector }
+        if is(class, "M") && is(selector, "+"))
+    );
+    let close = read(alloc, r#"{"actor":4294967295,"cmd":"close"}"#)?;
+    assert!(rt; matches!(&close, Command::Close { actor } if actor.0 == u32::MAX));
+    let run = read(alloc, r#"{"cmd":"run","quanta":1000000}"#)?;
+    assert!(rt; matches!(run, Command::Run { quanta: 1_000_000 }));
+    let stats = read(alloc, r#"{"class":"M","cmd":"stats","selector":"at:put:"}"#)?;
+    assert!(rt;
+        matches!(&stats, Command::Stats { class, selector }
+        if is(class, "M") && is(selector, "at:put:"))
+    );
+    let line =
+        r#"{"actor":1,"args":[-9223372036854775808,9223372036854775807,true,null,{"ref":2},{"sym":"at:put:"},{"class":"\u0043"}],"cmd":"post","selector":"m","sender":65535,"seq":18446744073709551615}"#;
+    let Command::Post {
+        args,
+        sender: u16::MAX,
+        seq: u64::MAX,
+        ..
+    } = read(alloc, line)?
+    else {
+        return Err(Refusal::BadCommand.into());
+    };
+    assert!(rt;
+        matches!(args.as_slice(), [
+        Argument::Int(i64::MIN),
+        Argument::Int(i64::MAX),
+        Argument::Bool(true),
+        Argument::Nil,
+        Argument::Actor(ActorId(2)),
+        Argument::Symbol(symbol),
+        Argument::Class(class),
+    ] if is(symbol, "at:put:") && is(class, "C"))
+    );
+    Ok(())
+}
+
+#[test]
+fn refuses_what_is_no_command(rt: HostRuntime) -> Result<(), Fail> {
+    for line in [
+        "",
+        "[]",
+        "{}",
+        "{\"cmd\":\"run\"",
+        r#"{"cmd":"runs"}"#,
+        r#"{"cmd":5}"#,
+        r#"{"cmd":"define","name":"M","super":"Object"}"#,
+        r#"{"cmd":"define","name":"M","slots":[],"super":"Object","extra":1}"#,
+        r#"{"cmd":"define","name":"M","slots":[1],"super":"Object"}"#,
+        r#"{"cmd":"define","name":"M","slots":[],"parent":"Object"}"#,
+        r#"{"cmd":"run","quanta":0}"#,
+        r#"{"cmd":"run","quanta":1000001}"#,
+        r#"{"cmd":"run","quanta":1.0}"#,
+        r#"{"cmd":"run","quantum":1}"#,
+        r#"{"actor":4294967296,"cmd":"close"}"#,
+        r#"{"actor":-0,"cmd":"close"}"#,
+        r#"{"actor":0,"args":[],"cmd":"post","selector":"a","sender":65536,"seq":1}"#,
+        r#"{"actor":0,"args":[],"cmd":"post","selector":"a","sender":1,"seq":18446744073709551616}"#,
+        r#"{"actor":0,"args":[{"local":1}],"cmd":"post","selector":"a","sender":1,"seq":1}"#,
+        r#"{"actor":0,"args":[{"ref":1,"sym":"a"}],"cmd":"post","selector":"a","sender":1,"seq":1}"#,
+        r#"{"actor":0,"args":["a"],"cmd":"post","selector":"a","sender":1,"seq":1}"#,
+        r#"{"actor":0,"args":[-0],"cmd":"post","selector":"a","sender":1,"seq":1}"#,
+        r#"{"actor":0,"args":[1.0],"cmd":"post","selector":"a","sender":1,"seq":1}"#,
+        r#"{"actor":0,"args":[9223372036854775808],"cmd":"post","selector":"a","sender":1,"seq":1}"#,
+    ] {
+        assert!(rt;
+            matches!(read(rt.alloc(), line), Err(Refusal::BadCommand)),
+            "{line}"
+        );
+    }
+    let not_text = b"{\"class\":\"\xff\",\"cmd\":\"actor\"}";
+    assert!(rt; matches!(read_command(rt.alloc(), not_text), Err(Refusal::BadCommand)));
+    Ok(())
+}
+
+#[test]
+fn writes_what_is_done(rt: HostRuntime) -> Result<(), Fail> {
+    let alloc = rt.alloc();
+    assert!(rt; is_line(alloc, Reply::Version(1), r#"{"ok":{"version":1}}"#)?);
+    assert!(rt; is_line(alloc, Reply::Actor(ActorId(0)), r#"{"ok":{"actor":0}}"#)?);
+    assert!(rt; is_line(alloc, Reply::Turn(1), r#"{"ok":{"turn":1}}"#)?);
+    assert!(rt; is_line(alloc, Reply::Closed, r#"{"ok":{}}"#)?);
+    let ran = Reply::Ran {
+        quanta: 1,
+        steps: 7,
+    };
+    assert!(rt; is_line(alloc, ran, r#"{"ok":{"quanta":1,"steps":7}}"#)?);
+    let fault = Reply::Fault(Fault::NotUnderstood);
+    assert!(rt; is_line(alloc, fault, r#"{"ok":{"fault":"notUnderstood"}}"#)?);
+    let none = Reply::Sites(Seq::from_vec(Vec::new(alloc)));
+    assert!(rt; is_line(alloc, none, r#"{"ok":{"sites":[]}}"#)?);
+    let mut reports = Vec::new(alloc);
+    reports.push(SiteReport {
+        global: 0,
+        selector: text(alloc, "+")?,
+        sends: 2,
+        site: 1,
+        state: SiteState::Mono,
+        is_super: false,
+        walk: 1,
+    })?;
+    reports.push(SiteReport {
+        global: 0,
+        selector: text(alloc, "a")?,
+        sends: 0,
+        site: 0,
+        state: SiteState::Empty,
+        is_super: true,
+        walk: 0,
+    })?;
+    let sites =
+        r#"{"ok":{"sites":[{"global":0,"selector":"+","sends":2,"site":1,"state":"mono","super":false,"walk":1},{"global":0,"selector":"a","sends":0,"site":0,"state":"empty","super":true,"walk":0}]}}"#;
+    assert!(rt; is_line(alloc, Reply::Sites(Seq::from_vec(reports)), sites)?);
+    Ok(())
+}
+
+#[test]
+fn writes_answers(rt: HostRuntime) -> Result<(), Fail> {
+    let alloc = rt.alloc();
+    let symbol = Answered::Symbol(text(alloc, "\\\\")?);
+    let control = Answered::Symbol(text(alloc, "\"\n\u{1f}")?);
+    let class = Answered::Class(text(alloc, "Counter")?);
+    assert!(rt;
+        is_line(
+            alloc,
+            Reply::Answer(Answered::Int(14)),
+            r#"{"ok":{"answer":14}}"#
+        )?
+    );
+    assert!(rt;
+        is_line(
+            alloc,
+            Reply::Answer(Answered::Int(-5)),
+            r#"{"ok":{"answer":-5}}"#
+        )?
+    );
+    assert!(rt;
+        is_line(
+            alloc,
+            Reply::Answer(Answered::Bool(true)),
+            r#"{"ok":{"answer":true}}"#
+        )?
+    );
+    assert!(rt;
+        is_line(
+            alloc,
+            Reply::Answer(Answered::Nil),
+            r#"{"ok":{"answer":null}}"#
+        )?
+    );
+    assert!(rt;
+        is_line(
+            alloc,
+            Reply::Answer(symbol),
+            r#"{"ok":{"answer":{"sym":"\\\\"}}}"#
+        )?
+    );
+    let escaped = r#"{"ok":{"answer":{"sym":"\"\n\u001f"}}}"#;
+    assert!(rt; is_line(alloc, Reply::Answer(control), escaped)?);
+    assert!(rt;
+        is_line(
+            alloc,
+            Reply::Answer(class),
+            r#"{"ok":{"answer":{"class":"Counter"}}}"#
+        )?
+    );
+    let actor = Answered::Actor(ActorId(3));
+    assert!(rt;
+        is_line(
+            alloc,
+            Reply::Answer(actor),
+            r#"{"ok":{"answer":{"ref":3}}}"#
+        )?
+    );
+    let local = Answered::Local(1);
+    assert!(rt;
+        is_line(
+            alloc,
+            Reply::Answer(local),
+            r#"{"ok":{"answer":{"local":1}}}"#
+        )?
+    );
+    Ok(())
+}
+
+#[test]
+fn writes_refusals(rt: HostRuntime) -> Result<(), Fail> {
+    for (refusal, line) in [
+        (Refusal::BadCommand, r#"{"error":"BadCommand"}"#),
+        (
+            Refusal::BadSource {
+                kind: SourceFault::BlockEscapes,
+                offset: 3,
+            },
+            r#"{"error":"BadSource","kind":"BlockEscapes","offset":3}"#,
+        ),
+        (Refusal::Old { last: 9 }, r#"{"error":"Old","last":9}"#),
+        (
+            Refusal::Stale { version: 4 },
+            r#"{"error":"Stale","version":4}"#,
+        ),
+        (
+            Refusal::TooMany {
+                what: Limited::Classes,
+            },
+            r#"{"error":"TooMany","what":"classes"}"#,
+        ),
+        (
+            Refusal::BadImage {
+                place: ImagePlace::Json,
+            },
+            r#"{"error":"BadImage","place":"json"}"#,
+        ),
+    ] {
+        assert!(rt;
+            is_line(rt.alloc(), Reply::Refused(refusal), line)?,
+            "{line}"
+        );
+    }
+    Ok(())
+}
+
+#[test]
+fn streams_in_memory(rt: HostRuntime) -> Result<(), Fail> {
+    let mut input = MemoryInput::new(Vec::from_slice(rt.alloc(), b"abcde")?);
+    let mut output = MemoryOutput::new(rt.alloc());
+    let mut buffer = [0u8; 3];
+    for _ in 0..3 {
+        let Ok(count) = input.read(&mut buffer) else {
+            return Err(Refusal::ReadFault.into());
+        };
+        if write_all(&mut output, &buffer[..count]).is_err() {
+            return Err(Refusal::WriteFault.into());
+        }
+    }
+    assert!(rt; output.as_slice() == b"abcde".as_slice());
+    assert!(rt; output.write(b"").is_err());
+    Ok(())
+}

@@ -7,3 +7,5 @@ pub mod Walks
 pub mod Suiting
 pub mod Accepting
 pub mod Lawful
+pub mod ClassRows
+pub mod Tables

@@ -4,6 +4,7 @@
 //! `find` is the target of the walk up the superclass chain, and `with_edit` adds one edit or says why it is refused.
 #![tactic(auto)]
 
+mod class_rows;
 pub mod edits;
 pub mod faults;
 pub mod instructions;
@@ -13,3 +14,4 @@ pub mod methods;
 pub mod refusals;
 pub mod seq;
 pub mod values;
+pub mod version;

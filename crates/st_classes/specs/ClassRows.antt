@@ -1,6 +1,6 @@
 -- The row that a class has in the table.
 use Rattle.std.specs.Prelude.{◌≡◌, ℕ, List, ◌++◌, length, suc, Option, Some, None, ◌==◌, if◌then◌else◌, option_map}
-use Rattle.std.specs.HashMap.{get_by}
+use Rattle.std.specs.Map.{lookup}
 use Rattle.st_classes.specs.declared.values.ClassId.{ClassId}
 use Rattle.st_classes.specs.declared.values.Selector.{Selector}
 use Rattle.st_classes.specs.declared.values.MethodId.{MethodId}
@@ -12,9 +12,12 @@ use Rattle.st_classes.specs.Kernel.{kernel_method}
 use Rattle.st_classes.specs.Classes.{class_name, parent, chain, slots}
 use Rattle.st_classes.specs.Walks.{own, or_else}
 
+abbrev pub method_in : List (Selector × MethodId) → Selector → Option MethodId
+method_in methods s = lookup (λ (t : Selector). s.0 == t.0) methods
+
 -- the user's method that a row has for a selector
 abbrev pub row_method : ClassRow → Selector → Option MethodId
-row_method row s = get_by (λ (t : Selector). s.0 == t.0) row.methods
+row_method row s = method_in row.methods s
 
 -- the method that a row's class has of its own: the user's, and else the kernel's
 abbrev pub row_own : ClassRow → ClassId → Selector → Option Found

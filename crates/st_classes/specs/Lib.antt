@@ -8,4 +8,5 @@ pub mod Suiting
 pub mod Accepting
 pub mod Lawful
 pub mod ClassRows
+pub mod ClassIndexes
 pub mod Tables

@@ -3,13 +3,14 @@ ghost use Rattle.std.specs.Prelude.{◌≡◌, ◌≤◌, List, [], ◌∷◌, �
 ghost use Rattle.std.specs.Option.{option_copied};
 ghost use Rattle.std.specs.List.{slice_get};
 ghost use Rattle.st_classes.specs.declared.edits.Edit.{Edit as EditOf};
-ghost use Rattle.st_classes.specs.Classes.{class_count, class_name, is_class, parent, slots};
+ghost use Rattle.st_classes.specs.Classes.{chain, class_count, class_name, class_named, is_class, parent, slots};
 ghost use Rattle.st_classes.specs.ClassRows.{IsRow};
 ghost use Rattle.st_classes.specs.Tables.{IsKept};
 ghost use Rattle.st_classes.specs.Lawful.{AreLawful, method_at};
 ghost use Rattle.st_classes.specs.Walks.{or_missing, own, super_target, super_walk, target, walk, walk_from};
 
-use crate::class_rows::ClassRow;
+use crate::class_index::ClassIndex;
+use crate::class_rows::{ClassRow, ClassRows};
 use crate::edits::{Edit, SharedEdit};
 use crate::kernel::{DOES_NOT_UNDERSTAND, Found, Target};
 use crate::methods::Method;
@@ -22,11 +23,13 @@ use std::sync::Arc;
 #[derive(Drop)]
 pub struct Version {
     edits: Vec<SharedEdit>,
-    rows: Vec<Arc<ClassRow>>,
+    rows: ClassRows,
+    /// Tables that differ in methods alone share it.
+    named: Arc<ClassIndex>,
 }
 
 impl Model for Version {
-    ghost use Rattle.std.specs.Prelude.{List, map};
+    ghost use Rattle.std.specs.Prelude.{List};
     ghost use Rattle.st_classes.specs.declared.edits.Edit.{Edit};
 
     ghost Value = { List Edit };
@@ -36,7 +39,7 @@ impl Model for Version {
 
     ghost view = { λ v. v.edits.items };
 
-    ghost invariant = { λ v. IsTable v.edits.items (map arc_value v.rows.items) };
+    ghost invariant = { λ v. IsTable v.edits.items v.rows (arc_value v.named) };
 }
 
 impl Version {
@@ -80,22 +83,41 @@ impl Version {
         requires { is_class self.now class ≡ true }
         ensures { IsRow self.now class result.now }
     {
-        &self.rows[class.0 as usize]
+        self.rows.of(class)
     }
 
     pub fn class_name(&self, class: ClassId) -> Option<&[u8]>
         ensures { option_copied result ≡ class_name self.now class }
     {
-        let row: &ClassRow = self.rows.get(class.0 as usize)?;
-        Some(row.name.as_slice())
+        Some(self.rows.get(class)?.name.as_slice())
+    }
+
+    /// The class of a name.
+    pub fn class_named(&self, name: &[u8]) -> Option<ClassId>
+        ensures { result ≡ class_named self.now name.now }
+    {
+        self.named.get(name)
     }
 
     /// The superclass.
     pub fn parent(&self, class: ClassId) -> Option<ClassId>
         ensures { result ≡ parent self.now class }
     {
-        let row: &ClassRow = self.rows.get(class.0 as usize)?;
-        row.superclass
+        self.rows.get(class)?.superclass
+    }
+
+    pub fn is_class(&self, class: ClassId) -> bool
+        ensures { result ≡ is_class self.now class }
+    {
+        usize::from(class.0) < self.rows.len()
+    }
+
+    /// The number of classes on a class's chain, itself and Object counted: 1 to 64.
+    pub fn depth(&self, class: ClassId) -> u8
+        requires { is_class self.now class ≡ true }
+        ensures { result ≡ length (chain self.now class) }
+    {
+        self.row(class).depth
     }
 
     /// The instance variables of a class, inherited ones first.

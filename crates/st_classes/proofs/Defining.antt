@@ -30,7 +30,7 @@ pub record HasRoom (es : List Edit) (p : ClassId) : Type 0 where
   pub few_classes : class_count es < 1024
   pub few : nat_le 4096 (length es) ≡ false
 
-false_from_not : (b : Bool) → not b ≡ false → b ≡ true
+pub false_from_not : (b : Bool) → not b ≡ false → b ≡ true
 false_from_not true h = refl
 false_from_not false h = cc
 
@@ -68,7 +68,7 @@ kept_define es name p added k h =
       few_classes = omega (arith, more, room.few_classes);
     }
 
-kernel_none : (c : ClassId) (s : Selector) → 8 ≤ c.0 → kernel_method c s ≡ None
+pub kernel_none : (c : ClassId) (s : Selector) → 8 ≤ c.0 → kernel_method c s ≡ None
 kernel_none c s h =
     let e0 : nat_eq c.0 0 ≡ false = grind (arith, nat_tests) in
     let e1 : nat_eq c.0 1 ≡ false = grind (arith, nat_tests) in

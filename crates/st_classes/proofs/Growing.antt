@@ -40,7 +40,7 @@ defined_push (Remove c s ∷ es) e = defined_push es e
 pub classes_push : (es : List Edit) (e : Edit) → classes (es ++ e ∷ []) ≡ classes es ++ defined (e ∷ [])
 classes_push es e = ap (λ (cs : List ClassDef). kernel_classes ++ cs) (defined_push es e)
 
-classes_same : (es : List Edit) (e : Edit) → defined (e ∷ []) ≡ [] → classes (es ++ e ∷ []) ≡ classes es
+pub classes_same : (es : List Edit) (e : Edit) → defined (e ∷ []) ≡ [] → classes (es ++ e ∷ []) ≡ classes es
 classes_same es e h = ap (λ (cs : List ClassDef). kernel_classes ++ cs) (defined_push es e ∙ ap (λ (cs : List ClassDef). defined es ++ cs) h ∙ append-nil (defined es))
 
 own_from_push : (es : List Edit) (e : Edit) (place : ℕ) (o : Option Found) (c : ClassId) (s : Selector) → own_from place o (es ++ e ∷ []) c s ≡ decided e (place + length es) (own_from place o es c s) c s

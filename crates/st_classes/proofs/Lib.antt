@@ -5,3 +5,5 @@ pub mod Rows
 pub mod Growing
 pub mod Defining
 pub mod Indexing
+pub mod Accepted
+pub mod Kernels

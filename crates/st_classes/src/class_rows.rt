@@ -1,8 +1,9 @@
 //! Rows of classes.
-ghost use Rattle.std.specs.Prelude.{◌≡◌, ◌∷◌, ◌++◌, [], ◌<◌, length, Some, None, IfOk, OnOk, slice_set};
-ghost use Rattle.std.specs.List.{slice_get};
+ghost use Rattle.std.specs.Prelude.{◌≡◌, List, ◌∷◌, ◌++◌, [], ◌<◌, length, Some, None, IfOk, OnOk, slice_set};
+ghost use Rattle.std.specs.List.{AllZip, slice_get};
 ghost use Rattle.std.specs.Option.{option_copied};
-ghost use Rattle.st_classes.specs.ClassRows.{IsUnder, Puts, row_own};
+ghost use Rattle.st_classes.specs.Classes.{ClassDef};
+ghost use Rattle.st_classes.specs.ClassRows.{IsPlain, IsUnder, Puts, row_own};
 
 use crate::kernel::{Found, kernel_at};
 use crate::method_map::MethodMap;
@@ -78,6 +79,19 @@ impl ClassRow {
             depth: self.depth,
             slots: join_texts(alloc, self.slots.as_slice(), &[])?,
             methods: self.methods.with(selector, method)?,
+        })
+    }
+
+    /// The row of a kernel class.
+    fn plain(alloc: Global, name: &[u8], superclass: Option<ClassId>) -> Result<ClassRow, AllocError>
+        ensures { IfOk result (λ row. IsPlain row (record { name = name.now; parent = superclass; slots = [] })) }
+    {
+        Ok(ClassRow {
+            name: copy_text(alloc, name)?,
+            superclass,
+            depth: if superclass.is_some() { 2 } else { 1 },
+            slots: Seq::from_vec(Vec::new(alloc)),
+            methods: MethodMap::new(alloc),
         })
     }
 
@@ -165,6 +179,14 @@ impl ClassRows {
     {
         self.rows.push(Arc::new(alloc, row)?)?;
         Ok(())
+    }
+
+    /// Puts the row of a kernel class last.
+    pub fn push_plain(&mut self, alloc: Global, name: &[u8], superclass: Option<ClassId>) -> Result<(), AllocError>
+        ensures { OnOk result ((ds : List ClassDef) → AllZip IsPlain self.old ds → AllZip IsPlain self.new (ds ++ record { name = name.now; parent = superclass; slots = [] } ∷ [])) }
+    {
+        let row = ClassRow::plain(alloc, name, superclass)?;
+        self.push(alloc, row)
     }
 
     /// Puts a row in the place of a class's.

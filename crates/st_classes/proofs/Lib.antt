@@ -4,3 +4,11 @@ pub mod LawLists
 pub mod LawChains
 pub mod LawOwning
 pub mod LawGrowing
+pub mod Chains
+pub mod Walking
+pub mod Rows
+pub mod Growing
+pub mod Defining
+pub mod Indexing
+pub mod Accepted
+pub mod Kernels

@@ -8,3 +8,6 @@ pub mod Suiting
 pub mod Accepting
 pub mod Lawful
 pub mod Names
+pub mod ClassRows
+pub mod ClassIndexes
+pub mod Tables

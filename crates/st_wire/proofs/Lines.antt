@@ -1,11 +1,11 @@
 -- From what is read of a value to what a line answers.
-use Rattle.std.proofs.Common.{◌≡◌, ◌⊎◌, inl, inr, ℕ, List, [], ◌∷◌, Bool, true, false, not, is_some, Option, Some, None, option_and_then, Result, Ok, Err, refl, sym, ap, ◌∙◌}
+use Rattle.std.proofs.Common.{◌≡◌, inl, inr, ℕ, List, [], ◌∷◌, Bool, true, false, not, is_some, Option, Some, None, Result, Ok, Err, refl}
 use Rattle.std.specs.Str.{IsUtf8, is_utf8}
 use Rattle.std.proofs.lemmas.Str.{IsUtf8-from_is_utf8, is_utf8-from_IsUtf8}
 use Rattle.serde_json.specs.Data.{Data}
 use Rattle.serde_json.specs.Read.{read}
 use Rattle.st_classes.specs.declared.refusals.Refusal.{Refusal}
-use Rattle.st_classes.specs.declared.refusals.Refusal.TheVariants.{BadCommand, NoMemory}
+use Rattle.st_classes.specs.declared.refusals.Refusal.TheVariants.{BadCommand}
 use Rattle.st_classes.specs.Refusals.{Answers, first_of}
 use Rattle.st_wire.specs.declared.commands.Command.{Command}
 use Rattle.st_wire.specs.Reading.{Reads}

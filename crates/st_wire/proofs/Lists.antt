@@ -1,7 +1,7 @@
 -- Lists that are read item by item.
-use Rattle.std.proofs.Common.{◌≡◌, ℕ, ◌+◌, ◌<◌, ◌≤◌, List, [], ◌∷◌, ◌++◌, length, get_or, drop, Option, Some, None, option_map, refl, sym, ap, ◌∙◌, arith, drop-cons, add-one, append_assoc}
-use Rattle.serde_json.specs.Data.{Data, Items, item, Members}
-use Rattle.serde_json.specs.View.{view, items_view, members_view}
+use Rattle.std.proofs.Common.{◌≡◌, ℕ, ◌+◌, ◌<◌, List, [], ◌∷◌, ◌++◌, length, get_or, drop, Option, Some, None, option_map, refl, sym, ap, drop-cons, add-one, append_assoc}
+use Rattle.serde_json.specs.Data.{Data, item}
+use Rattle.serde_json.specs.View.{view, items_view}
 use Rattle.serde_json.specs.declared.value.Value.{Value}
 use Rattle.st_wire.specs.Fields.{each_of, cons_of}
 

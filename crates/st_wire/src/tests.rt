@@ -28,84 +28,117 @@ fn is_line(alloc: Global, reply: Reply, line: &str) -> Result<bool, AllocError> 
 }
 
 #[test]
-fn reads_a_run(rt: HostRuntime) -> Result<(), Fail> {
-    let alloc = rt.alloc();
-    let define = read(
-        alloc,
-        r#"{"cmd":"define","name":"M","slots":["a","b"],"super":"Object"}"#,
-    )?;
+fn reads_a_definition(rt: HostRuntime) -> Result<(), Fail> {
+    let line = r#"{"cmd":"define","name":"M","slots":["a","b"],"super":"Object"}"#;
     assert!(rt;
-        matches!(&define, Command::Define { name, parent, slots }
+        matches!(&read(rt.alloc(), line)?, Command::Define { name, parent, slots }
         if is(name, "M") && is(parent, "Object") && slots.len() == 2)
     );
-    let method = read(
-        alloc,
-        r#"{"class":"M","cmd":"method","source":"a ^3 + 4 * 2"}"#,
-    )?;
-    assert!(rt;
-        matches!(&method, Command::Method { class, source }
-        if is(class, "M") && is(source, "a ^3 + 4 * 2"))
-    );
-    let actor = read(alloc, r#"{"class":"M","cmd":"actor"}"#)?;
-    assert!(rt; matches!(&actor, Command::Actor { class } if is(class, "M")));
-    let line = r#"{"actor":0,"args":[],"cmd":"post","selector":"a","sender":1,"seq":1}"#;
-    let post = read(alloc, line)?;
-    assert!(rt;
-        matches!(&post, Command::Post { actor, args, selector, sender: 1, seq: 1 }
-        if actor.0 == 0 && args.is_empty() && is(selector, "a"))
-    );
-    assert!(rt;
-        matches!(
-            read(alloc, r#"{"cmd":"run"}"#)?,
-            Command::Run { quanta: 1_000 }
-        )
-    );
-    let outcome = read(alloc, r#"{"actor":0,"cmd":"outcome","turn":1}"#)?;
-    assert!(rt; matches!(&outcome, Command::Outcome { actor, turn: 1 } if actor.0 == 0));
     Ok(())
 }
 
 #[test]
-fn reads_the_other_forms(rt: HostRuntime) -> Result<(), Fail> {
-    let alloc = rt.alloc();
-    let remove = read(
-        alloc,
-        r#" {"cmd": "remove", "class": "M", "selector": "+"} "#,
-    )?;
+fn reads_a_method(rt: HostRuntime) -> Result<(), Fail> {
+    let line = r#"{"class":"M","cmd":"method","source":"a ^3 + 4 * 2"}"#;
     assert!(rt;
-        matches!(&remove, Command::Remove { class, selector }
+        matches!(&read(rt.alloc(), line)?, Command::Method { class, source }
+        if is(class, "M") && is(source, "a ^3 + 4 * 2"))
+    );
+    Ok(())
+}
+
+#[test]
+fn reads_a_removal(rt: HostRuntime) -> Result<(), Fail> {
+    let line = r#" {"cmd": "remove", "class": "M", "selector": "+"} "#;
+    assert!(rt;
+        matches!(&read(rt.alloc(), line)?, Command::Remove { class, selector }
         if is(class, "M") && is(selector, "+"))
     );
-    let close = read(alloc, r#"{"actor":4294967295,"cmd":"close"}"#)?;
-    assert!(rt; matches!(&close, Command::Close { actor } if actor.0 == u32::MAX));
-    let run = read(alloc, r#"{"cmd":"run","quanta":1000000}"#)?;
-    assert!(rt; matches!(run, Command::Run { quanta: 1_000_000 }));
-    let stats = read(alloc, r#"{"class":"M","cmd":"stats","selector":"at:put:"}"#)?;
+    Ok(())
+}
+
+#[test]
+fn reads_an_actor(rt: HostRuntime) -> Result<(), Fail> {
+    let line = r#"{"class":"M","cmd":"actor"}"#;
+    assert!(rt; matches!(&read(rt.alloc(), line)?, Command::Actor { class } if is(class, "M")));
+    Ok(())
+}
+
+#[test]
+fn reads_a_post(rt: HostRuntime) -> Result<(), Fail> {
+    let line = r#"{"actor":0,"args":[],"cmd":"post","selector":"a","sender":1,"seq":1}"#;
+    let command = read(rt.alloc(), line)?;
     assert!(rt;
-        matches!(&stats, Command::Stats { class, selector }
-        if is(class, "M") && is(selector, "at:put:"))
+        matches!(&command, Command::Post { actor, args, selector, sender: 1, seq: 1 }
+        if actor.0 == 0 && args.is_empty() && is(selector, "a"))
     );
+    Ok(())
+}
+
+#[test]
+fn reads_arguments(rt: HostRuntime) -> Result<(), Fail> {
     let line =
         r#"{"actor":1,"args":[-9223372036854775808,9223372036854775807,true,null,{"ref":2},{"sym":"at:put:"},{"class":"\u0043"}],"cmd":"post","selector":"m","sender":65535,"seq":18446744073709551615}"#;
-    let Command::Post {
-        args,
-        sender: u16::MAX,
-        seq: u64::MAX,
-        ..
-    } = read(alloc, line)?
-    else {
-        return Err(Refusal::BadCommand.into());
-    };
+    let command = read(rt.alloc(), line)?;
     assert!(rt;
-        matches!(args.as_slice(), [
-        Argument::Int(i64::MIN),
-        Argument::Int(i64::MAX),
-        Argument::Bool(true),
-        Argument::Nil,
-        Argument::Actor(ActorId(2)),
-        Argument::Symbol(symbol),
-        Argument::Class(class),
-    ] if is(symbol, "at:put:") && is(class, "C"))
+        matches!(&command, Command::Post { args, sender: u16::MAX, seq: u64::MAX, .. }
+        if are_expected(args.as_slice()))
+    );
+    Ok(())
+}
+
+fn are_expected(args: &[Argument]) -> bool {
+    match args {
+        [
+            Argument::Int(i64::MIN),
+            Argument::Int(i64::MAX),
+            Argument::Bool(true),
+            Argument::Nil,
+            Argument::Actor(ActorId(2)),
+            Argument::Symbol(symbol),
+            Argument::Class(class),
+        ] => is(symbol, "at:put:") && is(class, "C"),
+        _ => false,
+    }
+}
+
+#[test]
+fn reads_a_close(rt: HostRuntime) -> Result<(), Fail> {
+    let line = r#"{"actor":4294967295,"cmd":"close"}"#;
+    assert!(rt;
+        matches!(&read(rt.alloc(), line)?, Command::Close { actor }
+        if actor.0 == u32::MAX)
+    );
+    Ok(())
+}
+
+#[test]
+fn reads_runs(rt: HostRuntime) -> Result<(), Fail> {
+    for (line, wanted) in [
+        (r#"{"cmd":"run"}"#, 1_000),
+        (r#"{"cmd":"run","quanta":1}"#, 1),
+        (r#"{"cmd":"run","quanta":1000000}"#, 1_000_000),
+    ] {
+        assert!(rt;
+            matches!(&read(rt.alloc(), line)?, Command::Run { quanta }
+            if *quanta == wanted),
+            "{line}"
+        );
+    }
+    Ok(())
+}
+
+#[test]
+fn reads_questions(rt: HostRuntime) -> Result<(), Fail> {
+    let outcome = r#"{"actor":0,"cmd":"outcome","turn":1}"#;
+    assert!(rt;
+        matches!(&read(rt.alloc(), outcome)?, Command::Outcome { actor, turn: 1 }
+        if actor.0 == 0)
+    );
+    let stats = r#"{"class":"M","cmd":"stats","selector":"at:put:"}"#;
+    assert!(rt;
+        matches!(&read(rt.alloc(), stats)?, Command::Stats { class, selector }
+        if is(class, "M") && is(selector, "at:put:"))
     );
     Ok(())
 }

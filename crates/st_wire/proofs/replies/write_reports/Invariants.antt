@@ -1,4 +1,4 @@
-use Rattle.std.proofs.Common.{◌≡◌, ◌++◌, drop, nat_lt, false, length}
+use Rattle.std.proofs.Common.{◌≡◌, ◌++◌, drop, nat_lt, false}
 use Rattle.serde_json.specs.Written.{items_text}
 use Rattle.st_wire.specs.Replies.{site_items}
 use Rattle.st_wire.proofs.replies.write_reports.Given as goal

@@ -1,25 +1,21 @@
 -- An accepted edit of any kind.
-use Rattle.std.proofs.Common.{arith, refl, ◌≡◌, ◌<◌, ℕ, List, [], ◌∷◌, ◌++◌, Option, Some, None, Bool, true, false, ap, sym, subst, ◌∙◌, length, is_some, option_map, cond}
-use Rattle.std.proofs.Math.ListN.{set}
-use Rattle.std.specs.List.{position}
+use Rattle.std.proofs.Common.{refl, ◌≡◌, ℕ, List, [], ◌∷◌, ◌++◌, Option, Some, None, true, false, ap, sym, subst, ◌∙◌, length, is_some, cond}
 use Rattle.std.specs.Str.{bytes_eq}
 use Rattle.st_classes.specs.declared.values.ClassId.{ClassId}
 use Rattle.st_classes.specs.declared.values.Selector.{Selector}
-use Rattle.st_classes.specs.declared.values.MethodId.{MethodId}
 use Rattle.st_classes.specs.declared.methods.MethodParts.{MethodParts}
 use Rattle.st_classes.specs.declared.edits.Edit.{Edit}
 use Rattle.st_classes.specs.declared.edits.Edit.TheVariants.{Define, Install, Remove}
 use Rattle.st_classes.specs.declared.class_rows.ClassRow.{ClassRow}
 use Rattle.st_classes.specs.Kernel.{class, kernel_method}
-use Rattle.st_classes.specs.Refusals.{Rule, first_of}
+use Rattle.st_classes.specs.Refusals.{first_of}
 use Rattle.st_classes.specs.Accepting.{edit_rules, define_rules, install_rules, remove_rules}
-use Rattle.st_classes.specs.Classes.{ClassDef, defined, classes, class_count, class_named, is_class}
+use Rattle.st_classes.specs.Classes.{ClassDef, defined, classes, class_count, is_class}
 use Rattle.st_classes.specs.Walks.{method_id}
-use Rattle.st_classes.specs.ClassRows.{IsRow, Puts}
 use Rattle.st_classes.specs.ClassIndexes.{Naming, named_in}
 use Rattle.st_classes.specs.Tables.{IsKept, AreRows, IsAt, IsNaming, IsTable}
-use Rattle.st_classes.proofs.Growing.{classes_push, classes_same, kept_at, rows_at, NoneApply, none_apply}
-use Rattle.st_classes.proofs.Defining.{HasRoom, has_room, no_such_class, new_def, false_from_not, kept_define}
+use Rattle.st_classes.proofs.Growing.{classes_push, classes_same, kept_at, NoneApply, none_apply}
+use Rattle.st_classes.proofs.Defining.{no_such_class, new_def, false_from_not, kept_define}
 use Rattle.st_classes.proofs.Indexing.{naming_push, class_in}
 
 none_from : {T : Type 0} (o : Option T) → is_some o ≡ false → o ≡ None

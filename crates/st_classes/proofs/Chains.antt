@@ -1,5 +1,5 @@
 -- Chains of classes, and what one class more leaves as it was.
-use Rattle.std.proofs.Common.{arith, refl, ◌≡◌, ℕ, ◌+◌, ◌<◌, ◌≤◌, ◌⊎◌, List, [], ◌∷◌, ◌++◌, Option, Some, None, slice_get, zero, suc, ap, sym, ◌∙◌, length, subst, length-append, map, reverse, option_map, option_and_then, inl, inr, append-nil}
+use Rattle.std.proofs.Common.{arith, refl, ◌≡◌, ℕ, ◌<◌, ◌≤◌, ◌⊎◌, List, [], ◌∷◌, ◌++◌, Option, Some, None, slice_get, zero, suc, ap, sym, ◌∙◌, length, subst, length-append, reverse, option_and_then, inl, inr, append-nil}
 use Rattle.std.specs.List.{flat_map}
 use Rattle.std.proofs.lemmas.Grind.{reverse_onto, flat_map-append}
 use Rattle.std.proofs.lemmas.Option.{option_and_then_some, slice_get_within}
@@ -62,10 +62,11 @@ pub forest_push : (cs : List ClassDef) (d : ClassDef) (p : ClassId) → IsForest
 forest_push cs d p f e l short = record {
   closed = λ c q g. elim (parent_push cs d c q g) [ inl w ↦ omega (arith, f.closed c q w.1, length-append cs (d ∷ [])) | inr w ↦ let same : p ≡ q = cc in subst (λ (x : ClassId). x.0 < length (cs ++ d ∷ [])) same (omega (arith, l, length-append cs (d ∷ []))) ];
   chains = λ c q g. elim (parent_push cs d c q g) [
-    inl w ↦ chain_old cs (d ∷ []) f 64 (Some c) (λ x h. let same : c ≡ x = cc in subst (λ (y : ClassId). y.0 < length cs) same w.0) ∙ f.chains c q w.1 ∙ ap (λ (xs : List ClassId). c ∷ xs) (sym (chain_old cs (d ∷ []) f 64 (Some q) (λ x h. let same : q ≡ x = cc in subst (λ (y : ClassId). y.0 < length cs) same (f.closed c q w.1))))
-  | inr w ↦
-    let same : p ≡ q = cc in
-    subst (λ (x : ClassId). chain_of (cs ++ d ∷ []) 64 (Some c) ≡ c ∷ chain_of (cs ++ d ∷ []) 64 (Some x)) same (chain_new cs d c p f e l short w.0 ∙ ap (λ (xs : List ClassId). c ∷ xs) (sym (chain_old cs (d ∷ []) f 64 (Some p) (λ x h. let here : p ≡ x = cc in subst (λ (y : ClassId). y.0 < length cs) here l)))) ];
+    | inl w ↦ chain_old cs (d ∷ []) f 64 (Some c) (λ x h. let same : c ≡ x = cc in subst (λ (y : ClassId). y.0 < length cs) same w.0) ∙ f.chains c q w.1 ∙ ap (λ (xs : List ClassId). c ∷ xs) (sym (chain_old cs (d ∷ []) f 64 (Some q) (λ x h. let same : q ≡ x = cc in subst (λ (y : ClassId). y.0 < length cs) same (f.closed c q w.1))))
+    | inr w ↦
+        let same : p ≡ q = cc in
+        subst (λ (x : ClassId). chain_of (cs ++ d ∷ []) 64 (Some c) ≡ c ∷ chain_of (cs ++ d ∷ []) 64 (Some x)) same (chain_new cs d c p f e l short w.0 ∙ ap (λ (xs : List ClassId). c ∷ xs) (sym (chain_old cs (d ∷ []) f 64 (Some p) (λ x h. let here : p ≡ x = cc in subst (λ (y : ClassId). y.0 < length cs) here l))))
+  ];
 }
 
 -- ---- instance variables

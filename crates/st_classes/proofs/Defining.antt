@@ -1,5 +1,5 @@
 -- One class more.
-use Rattle.std.proofs.Common.{arith, rules, tests, refl, ◌≡◌, ◌≢◌, ℕ, ◌+◌, ◌<◌, ◌≤◌, ◌⊎◌, List, [], ◌∷◌, ◌++◌, Option, Some, None, Bool, true, false, not, cond, nat_eq, nat_lt, nat_le, is_some, slice_get, zero, suc, ap, sym, ◌∙◌, length, subst, length-append, map, option_map, option_and_then, inl, inr, reverse}
+use Rattle.std.proofs.Common.{arith, refl, ◌≡◌, ℕ, ◌+◌, ◌<◌, ◌≤◌, List, [], ◌∷◌, ◌++◌, Option, Some, None, Bool, true, false, not, nat_eq, nat_le, is_some, slice_get, suc, ap, sym, ◌∙◌, length, subst, length-append, option_map, option_and_then, inl, inr, reverse}
 use Rattle.std.proofs.lemmas.Bool.Decides.{nat_tests}
 use Rattle.std.specs.List.{flat_map}
 use borrow.Author.Tests.{ltb-true}
@@ -7,18 +7,16 @@ use Rattle.st_classes.specs.declared.values.ClassId.{ClassId}
 use Rattle.st_classes.specs.declared.values.Selector.{Selector}
 use Rattle.st_classes.specs.declared.values.MethodId.{MethodId}
 use Rattle.st_classes.specs.declared.edits.Edit.{Edit}
-use Rattle.st_classes.specs.declared.edits.Edit.TheVariants.{Define, Install, Remove}
+use Rattle.st_classes.specs.declared.edits.Edit.TheVariants.{Define}
 use Rattle.st_classes.specs.declared.kernel.Kernel.{Kernel}
-use Rattle.st_classes.specs.declared.kernel.Found.{Found}
 use Rattle.st_classes.specs.declared.kernel.Found.TheVariants.{User, Kernel as FoundKernel}
-use Rattle.st_classes.specs.declared.refusals.Refusal.{Refusal}
 use Rattle.st_classes.specs.declared.class_rows.ClassRow.{ClassRow}
 use Rattle.st_classes.specs.Kernel.{class, kernel_method}
-use Rattle.st_classes.specs.Refusals.{Rule, first_of}
-use Rattle.st_classes.specs.Accepting.{edit_rules, define_rules, install_rules, remove_rules}
-use Rattle.st_classes.specs.Classes.{ClassDef, kernel_classes, defined, classes, class_count, class_name, class_named, is_class, parent, chain, slots, own_slots, parent_in, chain_of}
-use Rattle.st_classes.specs.Walks.{own, decided, or_else}
-use Rattle.st_classes.specs.ClassRows.{IsRow, IsUnder, row_method, row_own}
+use Rattle.st_classes.specs.Refusals.{first_of}
+use Rattle.st_classes.specs.Accepting.{define_rules}
+use Rattle.st_classes.specs.Classes.{ClassDef, classes, class_count, class_named, is_class, chain, own_slots, parent_in, chain_of}
+use Rattle.st_classes.specs.Walks.{or_else}
+use Rattle.st_classes.specs.ClassRows.{IsRow, IsUnder, row_method}
 use Rattle.st_classes.specs.Tables.{IsForest, IsKept, AreRows}
 use Rattle.st_classes.proofs.Chains.{slice_get_push, slice_get_old, slice_get_last, forest_push, chain_old, chain_new, slots_old, slots_new}
 use Rattle.st_classes.proofs.Growing.{classes_push, own_push, lawful_push, few_push, NoneApply, none_apply}
@@ -118,6 +116,7 @@ rows_define es name p added k h rows t above row r u =
     record {
       long = omega (arith, more, t.long, length-append rows (row ∷ []));
       each = λ n x g. elim (slice_get_push rows row x n g) [
-        inl w ↦ row_old es name p added k (class n) x (omega (arith, w.0, t.long)) (t.each n x w.1)
-      | inr w ↦ subst (λ (y : ClassRow). IsRow (es ++ Define name p added ∷ []) (class n) y) w.1 (row_new es name p added k (has_room es name p added h) above row r u (class n) (w.0 ∙ t.long)) ];
+        | inl w ↦ row_old es name p added k (class n) x (omega (arith, w.0, t.long)) (t.each n x w.1)
+        | inr w ↦ subst (λ (y : ClassRow). IsRow (es ++ Define name p added ∷ []) (class n) y) w.1 (row_new es name p added k (has_room es name p added h) above row r u (class n) (w.0 ∙ t.long))
+      ];
     }

@@ -1,9 +1,8 @@
 -- One edit more.
-use Rattle.std.proofs.Common.{arith, rules, tests, refl, ◌≡◌, ◌≢◌, ℕ, ◌+◌, ◌<◌, ◌≤◌, ◌⊎◌, List, [], ◌∷◌, ◌++◌, Option, Some, None, Bool, true, false, not, cond, nat_eq, nat_lt, nat_le, slice_get, zero, suc, ap, sym, ◌∙◌, length, subst, length-append, take, map, option_map, inl, inr, append-nil, reverse}
+use Rattle.std.proofs.Common.{arith, rules, tests, refl, ◌≡◌, ◌≢◌, ℕ, ◌+◌, ◌<◌, ◌≤◌, ◌⊎◌, List, [], ◌∷◌, ◌++◌, Option, Some, None, Bool, true, false, cond, nat_eq, nat_le, slice_get, zero, suc, ap, sym, ◌∙◌, length, subst, length-append, take, option_map, inl, inr, append-nil, reverse}
 use Rattle.std.proofs.lemmas.List.{take-append-le}
 use Rattle.std.proofs.Math.Seq.{take-append_seam}
 use Rattle.std.proofs.Math.ListN.{set, length-set}
-use Rattle.std.proofs.lemmas.Option.{slice_get_within}
 use Rattle.std.proofs.lemmas.Bool.Decides.{nat_tests}
 use Rattle.std.specs.List.{flat_map}
 use borrow.Author.Tests.{ltb-true}
@@ -11,23 +10,21 @@ use Rattle.std.proofs.lemmas.Bool.{eqb-true, eq-eqb}
 use Rattle.st_classes.specs.declared.values.ClassId.{ClassId}
 use Rattle.st_classes.specs.declared.values.Selector.{Selector}
 use Rattle.st_classes.specs.declared.values.MethodId.{MethodId}
-use Rattle.st_classes.specs.declared.methods.MethodParts.{MethodParts}
 use Rattle.st_classes.specs.declared.edits.Edit.{Edit}
 use Rattle.st_classes.specs.declared.edits.Edit.TheVariants.{Define, Install, Remove}
 use Rattle.st_classes.specs.declared.kernel.Kernel.{Kernel}
 use Rattle.st_classes.specs.declared.kernel.Found.{Found}
 use Rattle.st_classes.specs.declared.kernel.Found.TheVariants.{User, Kernel as FoundKernel}
-use Rattle.st_classes.specs.declared.refusals.Refusal.{Refusal}
 use Rattle.st_classes.specs.declared.class_rows.ClassRow.{ClassRow}
 use Rattle.st_classes.specs.Kernel.{class, kernel_method}
 use Rattle.st_classes.specs.Refusals.{Rule, first_of}
-use Rattle.st_classes.specs.Accepting.{edit_rules, define_rules, install_rules, remove_rules}
-use Rattle.st_classes.specs.Classes.{ClassDef, kernel_classes, defined, classes, class_count, class_name, is_class, parent, chain, slots, own_slots, parent_in, chain_of}
-use Rattle.st_classes.specs.Walks.{own, own_from, decided, is_at, method_id, or_else}
+use Rattle.st_classes.specs.Accepting.{edit_rules}
+use Rattle.st_classes.specs.Classes.{ClassDef, kernel_classes, defined, classes, class_count, is_class, own_slots, parent_in, chain_of}
+use Rattle.st_classes.specs.Walks.{own, own_from, decided, is_at, or_else}
 use Rattle.st_classes.specs.Lawful.{AreLawful}
-use Rattle.st_classes.specs.ClassRows.{IsRow, IsUnder, Puts, SameClass, row_method, row_own}
+use Rattle.st_classes.specs.ClassRows.{IsRow, Puts, row_method, row_own}
 use Rattle.st_classes.specs.Tables.{IsForest, IsKept, AreRows, IsAt}
-use Rattle.st_classes.proofs.Chains.{slice_get_push, slice_get_old, slice_get_last, forest_push, chain_old, chain_new, slots_old, slots_new}
+use Rattle.st_classes.proofs.Chains.{slice_get_push}
 
 -- ---- the classes and the own methods of one edit more
 
@@ -64,8 +61,9 @@ none_apply ((false, r) ∷ rules) h = (refl, none_apply rules h)
 
 pub lawful_push : (es : List Edit) (e : Edit) → AreLawful es → first_of (edit_rules es e) ≡ None → AreLawful (es ++ e ∷ [])
 lawful_push es e l h = λ place x g. elim (slice_get_push es e x place g) [
-    inl w ↦ ap (λ (ds : List Edit). first_of (edit_rules ds x)) (take-append-le place es (e ∷ []) (omega (arith, w.0))) ∙ l place x w.1
-  | inr w ↦ ap (λ (ds : List Edit). first_of (edit_rules ds x)) (ap (λ (n : ℕ). take n (es ++ e ∷ [])) w.0 ∙ take-append_seam es (e ∷ [])) ∙ ap (λ (d : Edit). first_of (edit_rules es d)) (sym w.1) ∙ h ]
+  | inl w ↦ ap (λ (ds : List Edit). first_of (edit_rules ds x)) (take-append-le place es (e ∷ []) (omega (arith, w.0))) ∙ l place x w.1
+  | inr w ↦ ap (λ (ds : List Edit). first_of (edit_rules ds x)) (ap (λ (n : ℕ). take n (es ++ e ∷ [])) w.0 ∙ take-append_seam es (e ∷ [])) ∙ ap (λ (d : Edit). first_of (edit_rules es d)) (sym w.1) ∙ h
+]
 
 pub few_push : (es : List Edit) (e : Edit) → nat_le 4096 (length es) ≡ false → length (es ++ e ∷ []) ≤ 4096
 few_push es e h = let few : length es < 4096 = search (rules, tests) in omega (arith, few, length-append es (e ∷ []))
@@ -139,6 +137,7 @@ pub rows_at : (es : List Edit) (e : Edit) (d : ClassId) (t : Selector) (o : Opti
 rows_at es e d t o rows row after h a k r p = record {
   long = length-set rows d.0 after ∙ h.long ∙ sym (ap (λ (cs : List ClassDef). length cs) (classes_same es e a.no_class));
   each = λ n x g. elim (slice_get_set rows d.0 n after x g) [
-    inl w ↦ row_other es e d t o a (class n) x w.0 (h.each n x w.1)
-  | inr w ↦ subst (λ (y : ClassRow). IsRow (es ++ e ∷ []) (class n) y) w.1 (subst (λ (m : ℕ). IsRow (es ++ e ∷ []) (class m) after) w.0 (row_at es e d t o a k row after r p)) ];
+    | inl w ↦ row_other es e d t o a (class n) x w.0 (h.each n x w.1)
+    | inr w ↦ subst (λ (y : ClassRow). IsRow (es ++ e ∷ []) (class n) y) w.1 (subst (λ (m : ℕ). IsRow (es ++ e ∷ []) (class m) after) w.0 (row_at es e d t o a k row after r p))
+  ];
 }

@@ -1,19 +1,15 @@
 -- The table of no edits.
-use Rattle.std.proofs.Common.{arith, refl, ◌≡◌, ◌<◌, ◌≤◌, ℕ, zero, suc, List, [], ◌∷◌, ◌++◌, Option, Some, None, ap, sym, ◌∙◌, subst, length, slice_get, option_map, option_and_then, if◌then◌else◌, is_some}
+use Rattle.std.proofs.Common.{arith, refl, ◌≡◌, ◌<◌, ℕ, zero, suc, List, [], ◌∷◌, ◌++◌, Option, Some, None, ap, sym, ◌∙◌, subst, length, slice_get, option_map, option_and_then, if◌then◌else◌, is_some}
 use Rattle.std.specs.List.{AllZip}
 use Rattle.st_classes.specs.declared.values.ClassId.{ClassId}
-use Rattle.st_classes.specs.declared.values.Selector.{Selector}
-use Rattle.st_classes.specs.declared.edits.Edit.{Edit}
-use Rattle.st_classes.specs.declared.kernel.Found.{Found}
 use Rattle.st_classes.specs.declared.kernel.Found.TheVariants.{User, Kernel as FoundKernel}
 use Rattle.st_classes.specs.declared.kernel.Kernel.{Kernel}
 use Rattle.st_classes.specs.declared.values.MethodId.{MethodId}
 use Rattle.st_classes.specs.Walks.{or_else}
 use Rattle.st_classes.specs.declared.class_rows.ClassRow.{ClassRow}
 use Rattle.st_classes.specs.Kernel.{class, kernel_method}
-use Rattle.st_classes.specs.Classes.{ClassDef, kernel_classes, class_name, slots, parent_in, chain_of}
-use Rattle.st_classes.specs.Lawful.{AreLawful}
-use Rattle.st_classes.specs.ClassRows.{IsRow, IsPlain, row_method, row_own}
+use Rattle.st_classes.specs.Classes.{ClassDef, kernel_classes, slots, parent_in, chain_of}
+use Rattle.st_classes.specs.ClassRows.{IsRow, IsPlain, row_method}
 use Rattle.st_classes.specs.Tables.{IsForest, IsKept, AreRows}
 use Rattle.st_classes.proofs.Defining.{kernel_none}
 

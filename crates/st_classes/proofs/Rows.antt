@@ -1,6 +1,5 @@
 -- Rows of classes in a table.
-use Rattle.std.proofs.Common.{arith, ◌≡◌, ◌<◌, ℕ, ap, ◌∙◌, sym, List, Option, Some, None, slice_get, length, true, subst, option_map, option_and_then}
-use Rattle.std.proofs.lemmas.Option.{slice_get_past}
+use Rattle.std.proofs.Common.{arith, ◌≡◌, ◌<◌, List, Some, slice_get, length, true}
 use borrow.Author.Tests.{ltb-true}
 use Rattle.st_classes.specs.declared.values.ClassId.{ClassId}
 use Rattle.st_classes.specs.declared.edits.Edit.{Edit}

@@ -5,7 +5,14 @@ ghost use Rattle.std.specs.Str.{bytes_eq};
 ghost use Rattle.st_classes.specs.Refusals.{first_of};
 ghost use Rattle.st_classes.specs.Selectors.{is_slot_name as slot_name};
 ghost use Rattle.st_classes.specs.Accepting.{
-    is_closed as closed, has_twice as twice, are_names as names, too_many_edits, define_rules, install_rules, remove_rules, edit_rules
+  is_closed as closed,
+  has_twice as twice,
+  are_names as names,
+  too_many_edits,
+  define_rules,
+  install_rules,
+  remove_rules,
+  edit_rules,
 };
 
 use crate::edits::Edit;
@@ -150,7 +157,7 @@ impl Version {
     }
 
     /// Why an edit is refused: the first of its refusals that applies.
-    pub fn refusal(&self, edit: &Edit) -> Option<Refusal>
+    pub(crate) fn refusal(&self, edit: &Edit) -> Option<Refusal>
         ensures { result ≡ first_of (edit_rules self.now edit.now) }
     {
         match edit {

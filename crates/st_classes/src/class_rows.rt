@@ -34,7 +34,11 @@ fn copy_text(alloc: Global, text: &[u8]) -> Result<Seq<u8>, AllocError>
 }
 
 /// Puts a copy of each text behind those that are there.
-fn append_texts(alloc: Global, copies: &mut Vec<Seq<u8>>, texts: &[Seq<u8>]) -> Result<(), AllocError>
+fn append_texts(
+    alloc: Global,
+    copies: &mut Vec<Seq<u8>>,
+    texts: &[Seq<u8>],
+) -> Result<(), AllocError>
     ensures { OnOk result (copies.new.items ≡ copies.old.items ++ texts.now) }
 {
     for text in texts {
@@ -44,7 +48,11 @@ fn append_texts(alloc: Global, copies: &mut Vec<Seq<u8>>, texts: &[Seq<u8>]) -> 
 }
 
 /// A copy of the texts of two lists, one behind the other.
-fn join_texts(alloc: Global, front: &[Seq<u8>], back: &[Seq<u8>]) -> Result<Seq<Seq<u8>>, AllocError>
+fn join_texts(
+    alloc: Global,
+    front: &[Seq<u8>],
+    back: &[Seq<u8>],
+) -> Result<Seq<Seq<u8>>, AllocError>
     ensures { IfOk result (λ copy. copy ≡ front.now ++ back.now) }
 {
     let mut copies = Vec::new(alloc);
@@ -83,7 +91,11 @@ impl ClassRow {
     }
 
     /// The row of a kernel class.
-    fn plain(alloc: Global, name: &[u8], superclass: Option<ClassId>) -> Result<ClassRow, AllocError>
+    fn plain(
+        alloc: Global,
+        name: &[u8],
+        superclass: Option<ClassId>,
+    ) -> Result<ClassRow, AllocError>
         ensures { IfOk result (λ row. IsPlain row (record { name = name.now; parent = superclass; slots = [] })) }
     {
         Ok(ClassRow {
@@ -182,7 +194,12 @@ impl ClassRows {
     }
 
     /// Puts the row of a kernel class last.
-    pub fn push_plain(&mut self, alloc: Global, name: &[u8], superclass: Option<ClassId>) -> Result<(), AllocError>
+    pub fn push_plain(
+        &mut self,
+        alloc: Global,
+        name: &[u8],
+        superclass: Option<ClassId>,
+    ) -> Result<(), AllocError>
         ensures { OnOk result ((ds : List ClassDef) → AllZip IsPlain self.old ds → AllZip IsPlain self.new (ds ++ record { name = name.now; parent = superclass; slots = [] } ∷ [])) }
     {
         let row = ClassRow::plain(alloc, name, superclass)?;
@@ -208,7 +225,12 @@ impl ClassRows {
     }
 
     /// The rows with another for a class.
-    pub fn with_at(&self, alloc: Global, class: ClassId, row: ClassRow) -> Result<ClassRows, AllocError>
+    pub fn with_at(
+        &self,
+        alloc: Global,
+        class: ClassId,
+        row: ClassRow,
+    ) -> Result<ClassRows, AllocError>
         requires { class.0 < length self.now }
         ensures { IfOk result (λ rows. rows ≡ slice_set self.now class.0 row) }
     {

@@ -65,7 +65,11 @@ impl MethodMap {
     }
 
     /// A copy with a method at a selector, or with none there.
-    pub fn with(&self, selector: Selector, method: Option<MethodId>) -> Result<MethodMap, AllocError>
+    pub fn with(
+        &self,
+        selector: Selector,
+        method: Option<MethodId>,
+    ) -> Result<MethodMap, AllocError>
         ensures { IfOk result (λ copy. (s : SelectorOf) → method_in copy s ≡ (if selector.0 == s.0 then method else method_in self.now s)) }
     {
         let mut copy = self.again()?;

@@ -1,5 +1,5 @@
 //! Versions of the class table.
-ghost use Rattle.std.specs.Prelude.{◌≡◌, ℕ, List, [], ◌∷◌, ◌++◌, IfOk, length, true, None};
+ghost use Rattle.std.specs.Prelude.{◌≡◌, ◌≤◌, ℕ, List, [], ◌∷◌, ◌++◌, IfOk, length, true, None};
 ghost use Rattle.std.specs.Option.{option_copied};
 ghost use Rattle.std.specs.List.{AllZip, slice_get};
 ghost use Rattle.std.specs.Arc.{arc_value};
@@ -9,18 +9,27 @@ ghost use Rattle.st_classes.specs.Refusals.{Answers, first_of};
 ghost use Rattle.st_classes.specs.Accepting.{define_rules, edit_rules, install_rules};
 ghost use Rattle.st_classes.specs.Suiting.{edit_suits};
 ghost use Rattle.st_classes.specs.Classes.{
-    kernel_classes, chain, class_count, class_name, class_named, defined, is_class, parent, slots
+  kernel_classes,
+  chain,
+  class_count,
+  class_name,
+  class_named,
+  defined,
+  is_class,
+  parent,
+  slots,
 };
 ghost use Rattle.st_classes.specs.ClassRows.{IsPlain, IsRow};
 ghost use Rattle.st_classes.specs.Tables.{AreRows, IsAt, IsKept, IsNaming};
-ghost use Rattle.st_classes.specs.Lawful.{method_at};
+ghost use Rattle.st_classes.specs.Lawful.{AreLawful, method_at};
 ghost use Rattle.st_classes.specs.Walks.{or_missing, own, super_target, target, walk};
 
 use crate::class_index::ClassIndex;
 use crate::class_rows::{ClassRow, ClassRows};
 use crate::edits::{Edit, SharedEdit};
 use crate::kernel::{
-    ACTOR_REF, CLASS, DOES_NOT_UNDERSTAND, FALSE, Found, OBJECT, SMALL_INTEGER, SYMBOL, TRUE, Target, UNDEFINED_OBJECT,
+    ACTOR_REF, CLASS, DOES_NOT_UNDERSTAND, FALSE, Found, OBJECT, SMALL_INTEGER, SYMBOL, TRUE,
+    Target, UNDEFINED_OBJECT,
 };
 use crate::methods::Method;
 use crate::refusals::Refusal;
@@ -55,10 +64,19 @@ impl Model for Version {
 
 impl Version {
     /// What stands of every class table.
-    pub fn known(&self)
+    fn kept(&self)
         ensures { IsKept self.now }
     {
         let _ = &self.edits;
+    }
+
+    /// What callers may know of every class table: each edit was accepted after those before it, and the limits hold.
+    pub fn known(&self)
+        ensures lawful { AreLawful self.now }
+        ensures few { length self.now ≤ 4096 }
+        ensures few_classes { class_count self.now ≤ 1024 }
+    {
+        self.kept();
     }
 
     /// The number of edits, at most 4,096.
@@ -164,7 +182,7 @@ impl Version {
         requires { is_class self.now class ≡ true }
         ensures { result ≡ walk self.now class selector }
     {
-        self.known();
+        self.kept();
         let mut at = class;
         'up: loop {
             if let Some(found) = self.own(at, selector) {
@@ -206,7 +224,7 @@ impl Version {
         requires class { is_class self.now class ≡ true }
         ensures { result ≡ super_target self.now holder class selector }
     {
-        self.known();
+        self.kept();
         let found = match self.parent(holder) {
             Some(up) => self.walk(up, selector),
             None => None,
@@ -288,7 +306,7 @@ impl Version {
         requires { first_of (define_rules self.now name.now parent added.now) ≡ None }
         ensures { IfOk result (λ rows. AreRows (self.now ++ Define name.now parent added.now ∷ []) rows) }
     {
-        self.known();
+        self.kept();
         let row = self.row(parent).under(alloc, name, parent, added)?;
         let rows = self.rows.with(alloc, row)?;
         Ok(rows)
@@ -342,7 +360,7 @@ impl Version {
         requires { first_of (define_rules self.now name.now parent added.now) ≡ None }
         ensures { IfOk result (λ named. IsNaming (self.now ++ Define name.now parent added.now ∷ []) (arc_value named)) }
     {
-        self.known();
+        self.kept();
         let class = ClassId(self.classes() as u16);
         let index = self.named.with(alloc, name, class)?;
         let named = Arc::new(alloc, index)?;
@@ -378,7 +396,7 @@ impl Version {
         requires { first_of (edit_rules self.now edit) ≡ None }
         ensures { IfOk result (λ version. version ≡ self.now ++ edit ∷ []) }
     {
-        self.known();
+        self.kept();
         let rows = self.rows_with(alloc, &edit)?;
         let named = self.named_with(alloc, &edit)?;
         let edits = self.edits_with(alloc, edit)?;
@@ -401,3 +419,6 @@ impl Version {
         }
     }
 }
+
+#[cfg(test)]
+mod tests;

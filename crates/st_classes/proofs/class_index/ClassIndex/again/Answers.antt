@@ -1,4 +1,3 @@
-use Rattle.std.proofs.Common.{rules, ◌≡◌, ℕ, List, map, Some}
 use Rattle.std.proofs.lemmas.List.Elements.{same_from_all_zip}
 use Rattle.st_classes.proofs.Indexing.{same_texts}
 use Rattle.st_classes.proofs.class_index.ClassIndex.again.Goals as goal

@@ -1,6 +1,4 @@
-use Rattle.std.proofs.Common.{◌∙◌, sym, ap, List, ℕ}
-use Rattle.st_classes.specs.declared.values.ClassId.{ClassId}
-use Rattle.st_classes.specs.ClassIndexes.{named_in}
+use Rattle.std.proofs.Common.{◌∙◌, sym}
 use Rattle.st_classes.proofs.Indexing.{lookup_by_text}
 use Rattle.st_classes.proofs.class_index.ClassIndex.get.Goals as goal
 

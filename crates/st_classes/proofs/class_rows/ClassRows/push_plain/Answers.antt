@@ -1,4 +1,3 @@
-use Rattle.std.proofs.Common.{◌≡◌}
 use Rattle.std.proofs.lemmas.Result.{on_ok_weaker}
 use Rattle.st_classes.proofs.Kernels.{zip_push}
 use Rattle.st_classes.proofs.class_rows.ClassRows.push_plain.Goals as goal

@@ -1,4 +1,3 @@
-use Rattle.std.proofs.Common.{rules}
 use Rattle.st_classes.proofs.Rows.{row_read, class_within}
 use Rattle.st_classes.proofs.version.Version.row.Goals as goal
 

@@ -1,0 +1,10 @@
+pub mod Places
+pub mod Resolving
+pub mod Interning
+pub mod Mapped
+pub mod Fitting
+pub mod SendPlaces
+pub mod Suits
+pub mod Sound
+pub mod Compiling
+pub mod FewSlots

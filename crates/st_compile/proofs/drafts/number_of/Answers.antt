@@ -1,0 +1,5 @@
+use Rattle.st_compile.proofs.Interning.{number_answers}
+use Rattle.st_compile.proofs.drafts.number_of.Goals as goal
+
+pub returns-clause-answers : goal.returns-clause-answers
+returns-clause-answers c = number_answers c.args.names.now c.intern-number.new.self c.args.text.now c.intern-number.result c.requires c.known.ensures c.intern-number.ensures.names c.intern-number.ensures.answers

@@ -1,0 +1,30 @@
+-- When a tree is refused.
+use Rattle.std.specs.Prelude.{ℕ, List, [], ◌∷◌, length, not, nat_lt, fold}
+use Rattle.st_classes.specs.declared.refusals.Refusal.{Refusal}
+use Rattle.st_classes.specs.declared.refusals.Refusal.TheVariants.{BadSource, TooMany}
+use Rattle.st_classes.specs.declared.refusals.SourceFault.TheVariants.{BadToken}
+use Rattle.st_classes.specs.declared.refusals.Limited.TheVariants.{Names}
+use Rattle.st_classes.specs.Names.{interned}
+use Rattle.st_classes.specs.Refusals.{Rule}
+use Rattle.st_reader.specs.declared.trees.MethodTree.{MethodTree}
+use Rattle.st_compile.specs.Words.{Word}
+use Rattle.st_compile.specs.Code.{has_code, is_known, selectors_of, word_texts}
+
+-- the names after texts are interned one after another
+abbrev pub interned_all : List (List ℕ) → List (List ℕ) → List (List ℕ)
+interned_all names texts = fold interned names texts
+
+-- at this stage every fault of a tree is the same
+abbrev pub no_code : Refusal
+no_code = BadSource BadToken 0
+
+-- so many of the texts are new that there would be more than 8,192 names
+abbrev pub names_rule : List (List ℕ) → List (List ℕ) → Rule
+names_rule names texts = (nat_lt 8192 (length (interned_all names texts)), TooMany Names)
+
+abbrev pub word_rules : List (List ℕ) → List (List ℕ) → Word → List Rule
+word_rules slots names word = (not (is_known slots word), no_code) ∷ names_rule names (word_texts word) ∷ []
+
+-- the refusals of a tree, in their order
+abbrev pub tree_rules : List (List ℕ) → List (List ℕ) → MethodTree → List Rule
+tree_rules slots names tree = (not (has_code slots tree), no_code) ∷ names_rule names (selectors_of tree) ∷ []

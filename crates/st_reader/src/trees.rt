@@ -18,8 +18,12 @@ pub struct Name {
 /// What a message's receiver or argument begins with.
 #[derive(Drop)]
 pub enum Primary {
-    /// A number. Its span begins with its minus, where it has one.
-    Number { value: i64, span: Span },
+    /// A number and the place of its digits. A minus stands directly before them.
+    Number {
+        value: i64,
+        span: Span,
+        minus: Option<Span>,
+    },
     /// `self`
     Receiver(Span),
     /// An instance variable by its name.

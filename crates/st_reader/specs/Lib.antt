@@ -1,0 +1,4 @@
+pub mod Tokens
+pub mod Trees
+pub mod Lexemes
+pub mod Reading

@@ -4,4 +4,10 @@
 //! and binary messages. Every other text is refused.
 #![tactic(auto)]
 
+mod characters;
+mod parser;
+pub mod reader;
+#[cfg(test)]
+mod tests;
+mod tokens;
 pub mod trees;

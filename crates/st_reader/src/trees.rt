@@ -19,7 +19,11 @@ pub struct Name {
 #[derive(Drop)]
 pub enum Primary {
     /// A number and the place of its digits. A minus stands directly before them.
-    Number { value: i64, span: Span, minus: Option<Span> },
+    Number {
+        value: i64,
+        span: Span,
+        minus: Option<Span>,
+    },
     /// `self`
     Receiver(Span),
     /// An instance variable by its name.

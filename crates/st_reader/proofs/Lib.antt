@@ -1,0 +1,7 @@
+pub mod Values
+pub mod Cutting
+pub mod Exact
+pub mod Runs
+pub mod Complete
+pub mod Results
+pub mod Proper

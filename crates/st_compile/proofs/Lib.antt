@@ -8,3 +8,4 @@ pub mod Suits
 pub mod Sound
 pub mod Compiling
 pub mod FewSlots
+pub mod Selecting

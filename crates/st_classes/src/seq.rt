@@ -53,3 +53,16 @@ impl<T> Seq<T> {
         self.items.is_empty()
     }
 }
+
+impl<T: Copy> Seq<T> {
+    ghost use Rattle.std.specs.Prelude.{◌≡◌, ◌<◌, length, slice_set};
+
+    /// Writes an item.
+    #[inline]
+    pub fn set(&mut self, place: usize, item: T)
+        requires { place < length self.old }
+        ensures { self.new ≡ slice_set self.old place item }
+    {
+        self.items[place] = item;
+    }
+}

@@ -1,7 +1,11 @@
+pub mod Buffers
 pub mod KeepingValues
 pub mod KeepingEffects
 pub mod KeepingMoves
 pub mod KeepingArrivals
 pub mod Keeping
 pub mod KeepingGrowth
-pub mod KeepingNeeds
+pub mod Meets
+pub mod Stepping
+pub mod Flooring
+pub mod Trying

@@ -4,3 +4,6 @@ pub mod KernelMethods
 pub mod Frames
 pub mod Steps
 pub mod Fitting
+pub mod Meeting
+pub mod Leaving
+pub mod Trying

@@ -1,7 +1,19 @@
 //! Bodies.
+ghost use Rattle.std.specs.Prelude.{◌≡◌, [], ◌∷◌, length, replicate, slice_get, Bool, IfOk};
+ghost use Rattle.std.specs.Option.{option_copied};
+ghost use Rattle.st_classes.specs.declared.values.Value.TheVariants.{Nil};
+ghost use Rattle.st_turn.specs.declared.body.Phase.TheVariants as phase;
+ghost use Rattle.st_turn.specs.Frames.{slot_of, stored};
+ghost use Rattle.st_turn.specs.KernelMethods.{class_in};
+ghost use Rattle.st_turn.specs.Meeting.{HasSlot, IsAmong};
+ghost use Rattle.st_turn.specs.Leaving.{is_idle};
+
 use crate::frame::Frames;
 use st_classes::faults::Fault;
+use st_classes::kernel::{ACTOR_REF, CLASS, FALSE, SMALL_INTEGER, SYMBOL, TRUE, UNDEFINED_OBJECT};
+use st_classes::seq::Seq;
 use st_classes::values::{ClassId, Selector, Value, Values};
+use std::alloc::{AllocError, Global};
 use std::marker::Model;
 
 /// An object of an actor's own.
@@ -25,6 +37,77 @@ impl Model for Objects {
     ghost Value = { List Object };
 
     ghost view = { λ o. o.items.items };
+}
+
+impl Objects {
+    /// The objects of a new actor.
+    fn first(alloc: Global, class: ClassId, slots: usize) -> Result<Objects, AllocError>
+        ensures { IfOk result (λ objects. objects ≡ record { class = class; slots = replicate slots Nil } ∷ []) }
+    {
+        let mut values = Vec::with_capacity(alloc, slots)?;
+        values.resize(slots, Value::Nil)?;
+        let mut items = Vec::with_capacity(alloc, 1)?;
+        items.push(Object {
+            class,
+            slots: Seq::from_vec(values),
+        })?;
+        Ok(Objects { items })
+    }
+
+    #[inline]
+    pub fn len(&self) -> usize
+        ensures { result ≡ length self.now }
+    {
+        self.items.len()
+    }
+
+    /// The objects, by their places.
+    pub fn as_slice(&self) -> &[Object]
+        ensures { result.now ≡ self.now }
+    {
+        self.items.as_slice()
+    }
+
+    /// The class of a value.
+    #[inline]
+    pub fn class_of(&self, value: Value) -> ClassId
+        requires { IsAmong self.now value }
+        ensures { result ≡ class_in self.now value }
+    {
+        match value {
+            Value::Int(_) => SMALL_INTEGER,
+            Value::Bool(true) => TRUE,
+            Value::Bool(false) => FALSE,
+            Value::Nil => UNDEFINED_OBJECT,
+            Value::Sym(_) => SYMBOL,
+            Value::Actor(_) => ACTOR_REF,
+            Value::Class(_) => CLASS,
+            Value::Local(n) => self.items[n as usize].class,
+        }
+    }
+
+    /// An instance variable of a receiver.
+    #[inline]
+    pub(crate) fn slot(&self, receiver: Value, place: u8) -> Value
+        requires { HasSlot self.now receiver place }
+        ensures { result ≡ slot_of self.now receiver place }
+    {
+        match receiver {
+            Value::Local(n) => self.items[n as usize].slots.as_slice()[place as usize],
+            _ => Value::Nil,
+        }
+    }
+
+    /// Gives a value to an instance variable of a receiver.
+    #[inline]
+    pub(crate) fn store(&mut self, receiver: Value, place: u8, value: Value)
+        requires { HasSlot self.old receiver place }
+        ensures { self.new ≡ stored self.old receiver place value }
+    {
+        if let Value::Local(n) = receiver {
+            self.items[n as usize].slots.set(place as usize, value);
+        }
+    }
 }
 
 /// How a turn ended.
@@ -54,6 +137,14 @@ pub struct Body {
     pub phase: Phase,
 }
 
+/// How a turn goes on after a step.
+#[derive(Clone, Copy, PartialEq, Eq, Debug)]
+pub enum Turn {
+    /// Its frames go on.
+    Goes,
+    Ends(Outcome),
+}
+
 /// How a step went.
 #[derive(Clone, Copy, PartialEq, Eq, Debug)]
 pub enum Stop {
@@ -65,4 +156,31 @@ pub enum Stop {
     Outer,
     /// Nothing changed: the claim has as many steps as it may have.
     Limit,
+}
+
+impl Body {
+    /// A new actor's body: object 0 is of the class, with so many instance variables, all nil.
+    pub fn fresh(alloc: Global, class: ClassId, slots: usize) -> Result<Body, AllocError>
+        ensures { IfOk result (λ body. body ≡ record { objects = record { class = class; slots = replicate slots Nil } ∷ []; phase = phase.Fresh }) }
+    {
+        Ok(Body {
+            objects: Objects::first(alloc, class, slots)?,
+            phase: Phase::Fresh,
+        })
+    }
+
+    /// Whether no turn is going on.
+    #[inline]
+    pub fn is_idle(&self) -> bool
+        ensures { result ≡ is_idle self.now.phase }
+    {
+        matches!(self.phase, Phase::Fresh | Phase::Done(_))
+    }
+
+    /// A turn begins with a message. What stood of the last one is gone.
+    pub fn begin(&mut self, selector: Selector, args: Values)
+        ensures { self.new ≡ record self.old { phase = phase.Start selector args } }
+    {
+        self.phase = Phase::Start { selector, args };
+    }
 }

@@ -4,5 +4,10 @@
 //! by the plain walk of a class table: it is the step of the definitions, and a body that fits a table still fits it.
 #![tactic(auto)]
 
+pub mod arithmetic;
 pub mod body;
 pub mod frame;
+pub mod kernel_methods;
+pub mod plain;
+#[cfg(test)]
+mod tests;

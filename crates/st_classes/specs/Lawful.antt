@@ -7,6 +7,7 @@ use Rattle.st_classes.specs.declared.edits.Edit.{Edit}
 use Rattle.st_classes.specs.declared.edits.Edit.TheVariants.{Define, Install, Remove}
 use Rattle.st_classes.specs.Refusals.{first_of}
 use Rattle.st_classes.specs.Accepting.{edit_rules}
+use Rattle.st_classes.specs.Methods.{IsSound}
 use Rattle.st_classes.specs.Suiting.{suits}
 
 -- each edit was accepted after those before it
@@ -16,6 +17,10 @@ AreLawful edits = (place : ℕ) (e : Edit) → slice_get edits place ≡ Some e 
 -- each installed method suits its class, for given names
 abbrev pub AllSuit : List (List ℕ) → List Edit → Type 0
 AllSuit names edits = (place : ℕ) (c : ClassId) (m : MethodParts) → slice_get edits place ≡ Some (Install c m) → suits names edits c m ≡ true
+
+-- each installed method is sound
+abbrev pub AllSound : List Edit → Type 0
+AllSound edits = (place : ℕ) (c : ClassId) (m : MethodParts) → slice_get edits place ≡ Some (Install c m) → IsSound m
 
 abbrev pub method_in : Edit → Option MethodParts
 method_in (Define name parent slots) = None

@@ -7,3 +7,6 @@ pub mod Walks
 pub mod Suiting
 pub mod Accepting
 pub mod Lawful
+pub mod ClassRows
+pub mod Tables
+pub mod Names

@@ -36,8 +36,11 @@ edited names w e = only_if (is_none (first_of (edit_rules w.edits e)) && edit_su
 abbrev pub fresh_body : List Edit → ClassId → Body
 fresh_body edits c = record { objects = record { class = c; slots = replicate (length (slots edits c)) Nil } ∷ []; phase = Fresh }
 
+abbrev pub new_being : List Edit → ClassId → ℕ → Being
+new_being edits c capacity = record { class = c; capacity = capacity; is_open = true; body = fresh_body edits c; last = 0; accepted = []; begun = []; results = [] }
+
 abbrev pub created : World → ClassId → ℕ → Option World
-created w c capacity = only_if (has_instances w.edits c) (record w { actors = w.actors ++ record { class = c; capacity = capacity; is_open = true; body = fresh_body w.edits c; last = 0; accepted = []; begun = []; results = [] } ∷ [] })
+created w c capacity = only_if (has_instances w.edits c) (record w { actors = w.actors ++ new_being w.edits c capacity ∷ [] })
 
 -- ---- a message goes last in what its actor accepted
 

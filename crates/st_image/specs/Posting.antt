@@ -10,21 +10,28 @@ use Rattle.st_classes.specs.Suiting.{arity_at, is_number}
 use Rattle.st_image.specs.declared.messages.Message.{Message}
 use Rattle.st_image.specs.Worlds.{World, Being, pending}
 
--- an argument of a message is no local, and names something that is there
-abbrev pub argument_suits : List (List ℕ) → World → Value → Bool
-argument_suits names w (Int z) = true
-argument_suits names w (Boolean b) = true
-argument_suits names w Nil = true
-argument_suits names w (Sym s) = nat_lt s.0 (length names)
-argument_suits names w (Class c) = nat_lt c.0 (class_count w.edits)
-argument_suits names w (Actor a) = nat_lt a.0 (length w.actors)
-argument_suits names w (Local n) = false
+-- an argument of a message is no local, and names something that is there, for so many classes and actors
+abbrev pub argument_fits : List (List ℕ) → ℕ → ℕ → Value → Bool
+argument_fits names classes actors (Int z) = true
+argument_fits names classes actors (Boolean b) = true
+argument_fits names classes actors Nil = true
+argument_fits names classes actors (Sym s) = nat_lt s.0 (length names)
+argument_fits names classes actors (Class c) = nat_lt c.0 classes
+argument_fits names classes actors (Actor a) = nat_lt a.0 actors
+argument_fits names classes actors (Local n) = false
 
--- the selector is there and takes so many arguments, and each of them suits
+-- the selector is there and takes so many arguments, and each of them fits
+abbrev pub message_fits : List (List ℕ) → ℕ → ℕ → Message → Bool
+message_fits names classes actors m = is_number (arity_at names m.selector) (length m.args) && list_all (argument_fits names classes actors) m.args
+
 abbrev pub message_suits : List (List ℕ) → World → Message → Bool
-message_suits names w m = is_number (arity_at names m.selector) (length m.args) && list_all (argument_suits names w) m.args
+message_suits names w m = message_fits names (class_count w.edits) (length w.actors) m
+
+-- the refusals of a mailbox, in their order
+abbrev pub box_rules : Being → List Rule
+box_rules b = (not b.is_open, Closed) ∷ (nat_le b.capacity (length (pending b)), Full) ∷ []
 
 -- the refusals of a post, in their order
 abbrev pub post_rules : List (List ℕ) → World → Option Being → Message → List Rule
 post_rules names w None m = (true, UnknownActor) ∷ []
-post_rules names w (Some b) m = (not (message_suits names w m), BadArguments) ∷ (not b.is_open, Closed) ∷ (nat_le b.capacity (length (pending b)), Full) ∷ []
+post_rules names w (Some b) m = (not (message_suits names w m), BadArguments) ∷ box_rules b

@@ -1,0 +1,49 @@
+-- The row that a class has in the table.
+use Rattle.std.specs.Prelude.{◌≡◌, ℕ, List, ◌++◌, length, suc, Option, Some, None, ◌==◌, if◌then◌else◌, option_map}
+use Rattle.std.specs.HashMap.{get_by}
+use Rattle.st_classes.specs.declared.values.ClassId.{ClassId}
+use Rattle.st_classes.specs.declared.values.Selector.{Selector}
+use Rattle.st_classes.specs.declared.values.MethodId.{MethodId}
+use Rattle.st_classes.specs.declared.edits.Edit.{Edit}
+use Rattle.st_classes.specs.declared.kernel.Found.{Found}
+use Rattle.st_classes.specs.declared.kernel.Found.TheVariants.{User, Kernel as FoundKernel}
+use Rattle.st_classes.specs.declared.class_rows.ClassRow.{ClassRow}
+use Rattle.st_classes.specs.Kernel.{kernel_method}
+use Rattle.st_classes.specs.Classes.{class_name, parent, chain, slots}
+use Rattle.st_classes.specs.Walks.{own, or_else}
+
+-- the user's method that a row has for a selector
+abbrev pub row_method : ClassRow → Selector → Option MethodId
+row_method row s = get_by (λ (t : Selector). s.0 == t.0) row.methods
+
+-- the method that a row's class has of its own: the user's, and else the kernel's
+abbrev pub row_own : ClassRow → ClassId → Selector → Option Found
+row_own row c s = or_else (option_map User (row_method row s)) (option_map FoundKernel (kernel_method c s))
+
+-- the row says what the edits say of the class
+pub record IsRow (edits : List Edit) (c : ClassId) (row : ClassRow) : Type 0 where
+  pub named : class_name edits c ≡ Some row.name
+  pub above : parent edits c ≡ row.superclass
+  pub deep : length (chain edits c) ≡ row.depth
+  pub variables : slots edits c ≡ row.slots
+  pub decides : (s : Selector) → own edits c s ≡ row_own row c s
+
+-- two rows differ in their methods alone
+pub record SameClass (row after : ClassRow) : Type 0 where
+  pub name : after.name ≡ row.name
+  pub above : after.superclass ≡ row.superclass
+  pub depth : after.depth ≡ row.depth
+  pub variables : after.slots ≡ row.slots
+
+-- the second row has a method at the selector, or none there
+pub record Puts (row after : ClassRow) (t : Selector) (o : Option MethodId) : Type 0 where
+  pub same : SameClass row after
+  pub methods : (s : Selector) → row_method after s ≡ (if t.0 == s.0 then o else row_method row s)
+
+-- the row of a new class under another
+pub record IsUnder (above row : ClassRow) (text : List ℕ) (p : ClassId) (added : List (List ℕ)) : Type 0 where
+  pub name : row.name ≡ text
+  pub superclass : row.superclass ≡ Some p
+  pub depth : row.depth ≡ suc above.depth
+  pub variables : row.slots ≡ above.slots ++ added
+  pub methods : (s : Selector) → row_method row s ≡ None

@@ -1,0 +1,34 @@
+-- The rows that a list of edits gives.
+use Rattle.std.specs.Prelude.{◌≡◌, ℕ, ◌<◌, ◌≤◌, List, ◌∷◌, length, false, Option, Some, None, slice_get}
+use Rattle.st_classes.specs.declared.values.ClassId.{ClassId}
+use Rattle.st_classes.specs.declared.values.Selector.{Selector}
+use Rattle.st_classes.specs.declared.edits.Edit.{Edit}
+use Rattle.st_classes.specs.declared.class_rows.ClassRow.{ClassRow}
+use Rattle.st_classes.specs.Kernel.{class}
+use Rattle.st_classes.specs.Classes.{ClassDef, classes, class_count, parent_in, chain_of}
+use Rattle.st_classes.specs.Walks.{own}
+use Rattle.st_classes.specs.Lawful.{AreLawful}
+use Rattle.st_classes.specs.ClassRows.{IsRow}
+
+-- each superclass is a class, and its chain is the rest of the chain
+pub record IsForest (cs : List ClassDef) : Type 0 where
+  pub closed : (c p : ClassId) → parent_in cs c ≡ Some p → p.0 < length cs
+  pub chains : (c p : ClassId) → parent_in cs c ≡ Some p → chain_of cs 64 (Some c) ≡ c ∷ chain_of cs 64 (Some p)
+
+-- a row for each class, with what the edits say of it
+pub record AreRows (edits : List Edit) (rows : List ClassRow) : Type 0 where
+  pub long : length rows ≡ class_count edits
+  pub each : (n : ℕ) (row : ClassRow) → slice_get rows n ≡ Some row → IsRow edits (class n) row
+
+-- what stands of every list of edits in a table
+pub record IsKept (edits : List Edit) : Type 0 where
+  pub lawful : AreLawful edits
+  pub forest : IsForest (classes edits)
+  pub beyond : (c : ClassId) (s : Selector) → class_count edits ≤ c.0 → own edits c s ≡ None
+  pub few : length edits ≤ 4096
+  pub few_classes : class_count edits ≤ 1024
+
+-- the table of a list of edits
+pub record IsTable (edits : List Edit) (rows : List ClassRow) : Type 0 where
+  pub kept : IsKept edits
+  pub shown : AreRows edits rows

@@ -1,0 +1,12 @@
+pub mod Replays
+pub mod Places
+pub mod Running
+pub mod Standing
+pub mod Lists
+pub mod Showing
+pub mod Keeping
+pub mod Posting
+pub mod Creating
+pub mod Naming
+pub mod Editing
+pub mod Advancing

@@ -1,3 +1,14 @@
+pub mod Keywords
+pub mod Naming
+pub mod LawLists
+pub mod LawChains
+pub mod LawOwning
+pub mod LawGrowing
 pub mod Chains
 pub mod Walking
 pub mod Rows
+pub mod Growing
+pub mod Defining
+pub mod Indexing
+pub mod Accepted
+pub mod Kernels

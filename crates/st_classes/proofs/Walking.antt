@@ -1,12 +1,12 @@
 -- The walk, class by class.
-use Rattle.std.proofs.Common.{arith, rules, refl, ◌≡◌, ◌<◌, ap, ◌∙◌, length, List, Option, Some, None, true, nat_lt}
+use Rattle.std.proofs.Common.{rules, ◌≡◌, ◌<◌, ap, ◌∙◌, length, List, Some, None, true}
 use Rattle.st_classes.specs.declared.values.ClassId.{ClassId}
 use Rattle.st_classes.specs.declared.values.Selector.{Selector}
 use Rattle.st_classes.specs.declared.edits.Edit.{Edit}
 use Rattle.st_classes.specs.declared.kernel.Found.{Found}
-use Rattle.st_classes.specs.Classes.{chain, classes, class_count, is_class, parent}
+use Rattle.st_classes.specs.Classes.{chain, classes, is_class, parent}
 use Rattle.st_classes.specs.Walks.{own, walk, first_own}
-use Rattle.st_classes.specs.Tables.{IsForest, IsKept}
+use Rattle.st_classes.specs.Tables.{IsKept}
 use Rattle.st_classes.proofs.Chains.{chain_longer}
 
 pub walk_here : (edits : List Edit) (c : ClassId) (s : Selector) (found : Found) → own edits c s ≡ Some found → walk edits c s ≡ Some found

@@ -1,6 +1,6 @@
 -- The row that a class has in the table.
-use Rattle.std.specs.Prelude.{◌≡◌, ℕ, List, ◌++◌, length, suc, Option, Some, None, ◌==◌, if◌then◌else◌, option_map}
-use Rattle.std.specs.HashMap.{get_by}
+use Rattle.std.specs.Prelude.{◌≡◌, ℕ, List, ◌++◌, length, suc, Option, Some, None, ◌==◌, if◌then◌else◌, option_map, is_some, []}
+use Rattle.std.specs.Map.{lookup}
 use Rattle.st_classes.specs.declared.values.ClassId.{ClassId}
 use Rattle.st_classes.specs.declared.values.Selector.{Selector}
 use Rattle.st_classes.specs.declared.values.MethodId.{MethodId}
@@ -9,12 +9,15 @@ use Rattle.st_classes.specs.declared.kernel.Found.{Found}
 use Rattle.st_classes.specs.declared.kernel.Found.TheVariants.{User, Kernel as FoundKernel}
 use Rattle.st_classes.specs.declared.class_rows.ClassRow.{ClassRow}
 use Rattle.st_classes.specs.Kernel.{kernel_method}
-use Rattle.st_classes.specs.Classes.{class_name, parent, chain, slots}
+use Rattle.st_classes.specs.Classes.{ClassDef, class_name, parent, chain, slots}
 use Rattle.st_classes.specs.Walks.{own, or_else}
+
+abbrev pub method_in : List (Selector × MethodId) → Selector → Option MethodId
+method_in methods s = lookup (λ (t : Selector). s.0 == t.0) methods
 
 -- the user's method that a row has for a selector
 abbrev pub row_method : ClassRow → Selector → Option MethodId
-row_method row s = get_by (λ (t : Selector). s.0 == t.0) row.methods
+row_method row s = method_in row.methods s
 
 -- the method that a row's class has of its own: the user's, and else the kernel's
 abbrev pub row_own : ClassRow → ClassId → Selector → Option Found
@@ -46,4 +49,12 @@ pub record IsUnder (above row : ClassRow) (text : List ℕ) (p : ClassId) (added
   pub superclass : row.superclass ≡ Some p
   pub depth : row.depth ≡ suc above.depth
   pub variables : row.slots ≡ above.slots ++ added
+  pub methods : (s : Selector) → row_method row s ≡ None
+
+-- the row of a kernel class: no instance variables, and no methods of the user's
+pub record IsPlain (row : ClassRow) (d : ClassDef) : Type 0 where
+  pub name : row.name ≡ d.name
+  pub superclass : row.superclass ≡ d.parent
+  pub depth : row.depth ≡ (if is_some d.parent then 2 else 1)
+  pub variables : row.slots ≡ []
   pub methods : (s : Selector) → row_method row s ≡ None

@@ -7,6 +7,7 @@ pub mod Walks
 pub mod Suiting
 pub mod Accepting
 pub mod Lawful
-pub mod ClassRows
-pub mod Tables
 pub mod Names
+pub mod ClassRows
+pub mod ClassIndexes
+pub mod Tables

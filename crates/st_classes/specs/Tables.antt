@@ -1,14 +1,18 @@
 -- The rows that a list of edits gives.
-use Rattle.std.specs.Prelude.{◌≡◌, ℕ, ◌<◌, ◌≤◌, List, ◌∷◌, length, false, Option, Some, None, slice_get}
+use Rattle.std.specs.Prelude.{◌≡◌, ℕ, ◌<◌, ◌≤◌, List, ◌∷◌, [], length, Option, Some, None, slice_get, option_map, if◌then◌else◌}
 use Rattle.st_classes.specs.declared.values.ClassId.{ClassId}
 use Rattle.st_classes.specs.declared.values.Selector.{Selector}
 use Rattle.st_classes.specs.declared.edits.Edit.{Edit}
 use Rattle.st_classes.specs.declared.class_rows.ClassRow.{ClassRow}
 use Rattle.st_classes.specs.Kernel.{class}
-use Rattle.st_classes.specs.Classes.{ClassDef, classes, class_count, parent_in, chain_of}
-use Rattle.st_classes.specs.Walks.{own}
+use Rattle.st_classes.specs.declared.values.MethodId.{MethodId}
+use Rattle.st_classes.specs.declared.kernel.Found.{Found}
+use Rattle.st_classes.specs.declared.kernel.Found.TheVariants.{User}
+use Rattle.st_classes.specs.Classes.{ClassDef, defined, classes, class_count, parent_in, chain_of, class_named}
+use Rattle.st_classes.specs.Walks.{own, decided, is_at}
 use Rattle.st_classes.specs.Lawful.{AreLawful}
 use Rattle.st_classes.specs.ClassRows.{IsRow}
+use Rattle.st_classes.specs.ClassIndexes.{Naming, named_in}
 
 -- each superclass is a class, and its chain is the rest of the chain
 pub record IsForest (cs : List ClassDef) : Type 0 where
@@ -28,7 +32,17 @@ pub record IsKept (edits : List Edit) : Type 0 where
   pub few : length edits ≤ 4096
   pub few_classes : class_count edits ≤ 1024
 
+-- the class of each name
+abbrev pub IsNaming : List Edit → Naming → Type 0
+IsNaming edits naming = (name : List ℕ) → named_in naming name ≡ class_named edits name
+
 -- the table of a list of edits
-pub record IsTable (edits : List Edit) (rows : List ClassRow) : Type 0 where
+pub record IsTable (edits : List Edit) (rows : List ClassRow) (naming : Naming) : Type 0 where
   pub kept : IsKept edits
   pub shown : AreRows edits rows
+  pub named : IsNaming edits naming
+
+-- an edit that defines no class, and at its place gives a class this method, or none, for a selector
+pub record IsAt (e : Edit) (place : ℕ) (d : ClassId) (t : Selector) (o : Option MethodId) : Type 0 where
+  pub no_class : defined (e ∷ []) ≡ []
+  pub decides : (found : Option Found) (c : ClassId) (s : Selector) → decided e place found c s ≡ (if is_at d t c s then option_map User o else found)

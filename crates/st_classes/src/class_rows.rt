@@ -1,11 +1,17 @@
 //! Rows of classes.
-ghost use Rattle.std.specs.Prelude.{◌≡◌};
-ghost use Rattle.st_classes.specs.ClassRows.{row_own};
+ghost use Rattle.std.specs.Prelude.{◌≡◌, List, ◌∷◌, ◌++◌, [], ◌<◌, length, Some, None, IfOk, OnOk, slice_set};
+ghost use Rattle.std.specs.List.{AllZip, slice_get};
+ghost use Rattle.std.specs.Option.{option_copied};
+ghost use Rattle.st_classes.specs.Classes.{ClassDef};
+ghost use Rattle.st_classes.specs.ClassRows.{IsPlain, IsUnder, Puts, row_own};
 
 use crate::kernel::{Found, kernel_at};
+use crate::method_map::MethodMap;
 use crate::seq::Seq;
 use crate::values::{ClassId, MethodId, Selector};
-use std::collections::HashMap;
+use std::alloc::{AllocError, Global};
+use std::marker::Model;
+use std::sync::Arc;
 
 /// What a class table keeps of a class.
 #[derive(Drop)]
@@ -17,7 +23,42 @@ pub struct ClassRow {
     /// All its instance variables, inherited ones first.
     pub slots: Seq<Seq<u8>>,
     /// The user's methods. The kernel's are in `kernel_at`.
-    pub methods: HashMap<Selector, MethodId>,
+    pub methods: MethodMap,
+}
+
+/// A copy of a text.
+fn copy_text(alloc: Global, text: &[u8]) -> Result<Seq<u8>, AllocError>
+    ensures { IfOk result (λ copy. copy ≡ text.now) }
+{
+    Ok(Seq::from_vec(Vec::from_slice(alloc, text)?))
+}
+
+/// Puts a copy of each text behind those that are there.
+fn append_texts(
+    alloc: Global,
+    copies: &mut Vec<Seq<u8>>,
+    texts: &[Seq<u8>],
+) -> Result<(), AllocError>
+    ensures { OnOk result (copies.new.items ≡ copies.old.items ++ texts.now) }
+{
+    for text in texts {
+        copies.push(copy_text(alloc, text.as_slice())?)?;
+    }
+    Ok(())
+}
+
+/// A copy of the texts of two lists, one behind the other.
+fn join_texts(
+    alloc: Global,
+    front: &[Seq<u8>],
+    back: &[Seq<u8>],
+) -> Result<Seq<Seq<u8>>, AllocError>
+    ensures { IfOk result (λ copy. copy ≡ front.now ++ back.now) }
+{
+    let mut copies = Vec::new(alloc);
+    append_texts(alloc, &mut copies, front)?;
+    append_texts(alloc, &mut copies, back)?;
+    Ok(Seq::from_vec(copies))
 }
 
 impl ClassRow {
@@ -25,9 +66,176 @@ impl ClassRow {
     pub fn own(&self, class: ClassId, selector: Selector) -> Option<Found>
         ensures { result ≡ row_own self.now class selector }
     {
-        match self.methods.get(&selector) {
-            Some(id) => Some(Found::User(*id)),
+        match self.methods.get(selector) {
+            Some(id) => Some(Found::User(id)),
             None => kernel_at(class, selector).map(Found::Kernel),
         }
+    }
+
+    /// The row with the user's method for a selector, or with none for it.
+    pub fn with_method(
+        &self,
+        alloc: Global,
+        selector: Selector,
+        method: Option<MethodId>,
+    ) -> Result<ClassRow, AllocError>
+        ensures { IfOk result (λ row. Puts self.now row selector method) }
+    {
+        Ok(ClassRow {
+            name: copy_text(alloc, self.name.as_slice())?,
+            superclass: self.superclass,
+            depth: self.depth,
+            slots: join_texts(alloc, self.slots.as_slice(), &[])?,
+            methods: self.methods.with(selector, method)?,
+        })
+    }
+
+    /// The row of a kernel class.
+    fn plain(
+        alloc: Global,
+        name: &[u8],
+        superclass: Option<ClassId>,
+    ) -> Result<ClassRow, AllocError>
+        ensures { IfOk result (λ row. IsPlain row (record { name = name.now; parent = superclass; slots = [] })) }
+    {
+        Ok(ClassRow {
+            name: copy_text(alloc, name)?,
+            superclass,
+            depth: if superclass.is_some() { 2 } else { 1 },
+            slots: Seq::from_vec(Vec::new(alloc)),
+            methods: MethodMap::new(alloc),
+        })
+    }
+
+    /// The row of a new class under this row's.
+    pub fn under(
+        &self,
+        alloc: Global,
+        name: &[u8],
+        parent: ClassId,
+        added: &[Seq<u8>],
+    ) -> Result<ClassRow, AllocError>
+        requires { self.now.depth < 64 }
+        ensures { IfOk result (λ row. IsUnder self.now row name.now parent added.now) }
+    {
+        Ok(ClassRow {
+            name: copy_text(alloc, name)?,
+            superclass: Some(parent),
+            depth: self.depth + 1,
+            slots: join_texts(alloc, self.slots.as_slice(), added)?,
+            methods: MethodMap::new(alloc),
+        })
+    }
+}
+
+/// Rows by class number. The tables that have a row share it.
+#[derive(Drop)]
+pub struct ClassRows {
+    rows: Vec<Arc<ClassRow>>,
+}
+
+impl Model for ClassRows {
+    ghost use Rattle.std.specs.Prelude.{List, map};
+    ghost use Rattle.std.specs.Arc.{arc_value};
+    ghost use Rattle.st_classes.specs.declared.class_rows.ClassRow.{ClassRow};
+
+    ghost Value = { List ClassRow };
+
+    ghost view = { λ r. map arc_value r.rows.items };
+}
+
+impl ClassRows {
+    pub fn new(alloc: Global) -> ClassRows
+        ensures { result ≡ [] }
+    {
+        ClassRows {
+            rows: Vec::new(alloc),
+        }
+    }
+
+    pub fn len(&self) -> usize
+        ensures { result ≡ length self.now }
+    {
+        self.rows.len()
+    }
+
+    pub fn get(&self, class: ClassId) -> Option<&ClassRow>
+        ensures { option_copied result ≡ slice_get self.now class.0 }
+    {
+        let row: &ClassRow = self.rows.get(class.0 as usize)?;
+        Some(row)
+    }
+
+    /// The row of a class that is there.
+    pub fn of(&self, class: ClassId) -> &ClassRow
+        requires { class.0 < length self.now }
+        ensures { slice_get self.now class.0 ≡ Some result.now }
+    {
+        &self.rows[class.0 as usize]
+    }
+
+    /// The same rows once more.
+    fn again(&self, alloc: Global) -> Result<ClassRows, AllocError>
+        ensures { IfOk result (λ rows. rows ≡ self.now) }
+    {
+        let mut rows = Vec::with_capacity(alloc, self.rows.len() + 1)?;
+        for row in &self.rows {
+            rows.push(Arc::try_clone(row)?)?;
+        }
+        Ok(ClassRows { rows })
+    }
+
+    /// Puts a row last.
+    fn push(&mut self, alloc: Global, row: ClassRow) -> Result<(), AllocError>
+        ensures { OnOk result (self.new ≡ self.old ++ row ∷ []) }
+    {
+        self.rows.push(Arc::new(alloc, row)?)?;
+        Ok(())
+    }
+
+    /// Puts the row of a kernel class last.
+    pub fn push_plain(
+        &mut self,
+        alloc: Global,
+        name: &[u8],
+        superclass: Option<ClassId>,
+    ) -> Result<(), AllocError>
+        ensures { OnOk result ((ds : List ClassDef) → AllZip IsPlain self.old ds → AllZip IsPlain self.new (ds ++ record { name = name.now; parent = superclass; slots = [] } ∷ [])) }
+    {
+        let row = ClassRow::plain(alloc, name, superclass)?;
+        self.push(alloc, row)
+    }
+
+    /// Puts a row in the place of a class's.
+    fn set(&mut self, alloc: Global, class: ClassId, row: ClassRow) -> Result<(), AllocError>
+        requires { class.0 < length self.old }
+        ensures { OnOk result (self.new ≡ slice_set self.old class.0 row) }
+    {
+        self.rows[class.0 as usize] = Arc::new(alloc, row)?;
+        Ok(())
+    }
+
+    /// The rows with one more.
+    pub fn with(&self, alloc: Global, row: ClassRow) -> Result<ClassRows, AllocError>
+        ensures { IfOk result (λ rows. rows ≡ self.now ++ row ∷ []) }
+    {
+        let mut rows = self.again(alloc)?;
+        rows.push(alloc, row)?;
+        Ok(rows)
+    }
+
+    /// The rows with another for a class.
+    pub fn with_at(
+        &self,
+        alloc: Global,
+        class: ClassId,
+        row: ClassRow,
+    ) -> Result<ClassRows, AllocError>
+        requires { class.0 < length self.now }
+        ensures { IfOk result (λ rows. rows ≡ slice_set self.now class.0 row) }
+    {
+        let mut rows = self.again(alloc)?;
+        rows.set(alloc, class, row)?;
+        Ok(rows)
     }
 }

@@ -4,15 +4,19 @@
 //! `find` is the target of the walk up the superclass chain, and `with_edit` adds one edit or says why it is refused.
 #![tactic(auto)]
 
+mod accepting;
+mod class_index;
 mod class_rows;
 pub mod edits;
 pub mod faults;
 pub mod instructions;
 pub mod kernel;
 pub mod limits;
+mod method_map;
 pub mod methods;
 pub mod names;
 pub mod refusals;
+pub mod selectors;
 pub mod seq;
 pub mod values;
 pub mod version;

@@ -31,7 +31,7 @@ use Rattle.st_image.proofs.Lists.{off, set_at_same, set_twice}
 use Rattle.st_image.proofs.Showing.{kept_beginning, started_idle, started_busy}
 use Rattle.st_image.proofs.Keeping.{being_at, kept_at, has_room, begun_kept, ran_kept, with_body}
 use Rattle.st_image.proofs.Posting.{seen}
-use Rattle.st_image.proofs.Standing.{next_keeps, kernel_known}
+use Rattle.st_image.proofs.Lasting.{next_keeps, kernel_known}
 
 -- ---- an actor that may advance
 

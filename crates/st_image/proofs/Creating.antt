@@ -1,5 +1,5 @@
 -- New actors.
-use Rattle.std.proofs.Common.{arith, ◌≡◌, ℕ, ◌+◌, ◌<◌, ◌≤◌, ◌++◌, [], ◌∷◌, List, length, map, Option, None, Bool, true, false, refl, ap, sym, ◌∙◌, subst, nat_le}
+use Rattle.std.proofs.Common.{arith, ◌≡◌, ℕ, ◌+◌, ◌<◌, ◌≤◌, ◌++◌, [], ◌∷◌, List, length, map, Option, None, Bool, true, false, refl, ap, sym, ◌∙◌, subst, nat_le, replicate}
 use Rattle.std.specs.Prelude.{not}
 use Rattle.std.specs.BTreeSet.{BTreeSet}
 use Rattle.std.proofs.lemmas.List.{length-map}
@@ -12,6 +12,9 @@ use Rattle.st_classes.specs.declared.refusals.Limited.TheVariants.{Actors}
 use Rattle.st_classes.specs.Refusals.{Rule, first_of}
 use Rattle.st_classes.specs.Classes.{is_class}
 use Rattle.st_classes.specs.Accepting.{is_closed}
+use Rattle.st_classes.specs.declared.values.Value.TheVariants.{Nil}
+use Rattle.st_turn.specs.declared.body.Body.{Body}
+use Rattle.st_turn.specs.declared.body.Phase.TheVariants.{Fresh}
 use Rattle.st_turn.specs.Fitting.{has_instances}
 use Rattle.st_image.specs.declared.settings.Settings.{Settings}
 use Rattle.st_image.specs.declared.items.Item.{Item}
@@ -45,3 +48,7 @@ created names edits actors actors' ready h made s turn c k allowed e =
   let inst : has_instances edits c ≡ true = subst (λ (es : List Edit). has_instances es c ≡ true) (sym k.shows.edits_are) (has_instances_by w.edits c o1.0 o2.0) in
   let count : length actors < 65536 = omega (arith, count_is edits actors ready w k.shows, fewer 65536 (length w.actors) o3.0) in
   created_kept names edits actors actors' ready h made s c s.capacity k inst count (has_room s.history (length h) 1 _ o3.1) e
+
+-- the body of a new actor with such instance variables
+abbrev pub fresh_with : ClassId → List (List ℕ) → Body
+fresh_with c names = record { objects = record { class = c; slots = replicate (length names) Nil } ∷ []; phase = Fresh }

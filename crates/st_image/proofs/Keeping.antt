@@ -33,7 +33,7 @@ use Rattle.st_image.specs.Kepts.{Kept, kept_of, new_kept, taken_in, started, beg
 use Rattle.st_image.specs.Keeping.{Shows, IsImage}
 use Rattle.st_image.proofs.Replays.{lawful_push}
 use Rattle.st_image.proofs.Places.{at_all, get_set_same}
-use Rattle.st_image.proofs.Standing.{next_keeps}
+use Rattle.st_image.proofs.Lasting.{next_keeps}
 use Rattle.st_image.proofs.Lists.{off, off_append, not_false, set_at_same, set_twice}
 use Rattle.st_image.proofs.Showing.{shows_set, shows_push, begun_length, kept_accepting, ready_accepting, kept_beginning, pending_beginning}
 

@@ -10,7 +10,8 @@ use Rattle.st_image.specs.Images.{world_of}
 use Rattle.st_image.specs.Kepts.{Kept}
 use Rattle.st_image.specs.Lasting.{IsWorld}
 use Rattle.st_image.specs.Keeping.{Shows, IsImage}
-use Rattle.st_image.proofs.Standing.{world_more, names_keep}
+use Rattle.st_image.proofs.GrowingNames.{world_more}
+use Rattle.st_image.proofs.Lasting.{names_keep}
 
 -- an image with other names, at the same world
 pub record IsRenamed (names : List (List ℕ)) (names' : List (List ℕ)) (edits : List Edit) (actors : List Kept) (ready : BTreeSet ℕ) (h : List Item) (made : ℕ) (s : Settings) : Type 0 where

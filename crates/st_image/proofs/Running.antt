@@ -19,7 +19,7 @@ use Rattle.st_turn.specs.Fitting.{Given, Fits, FitsPhase, FitsStepped, Runs, IsF
 use Rattle.st_image.specs.Worlds.{is_idle}
 use Rattle.st_image.specs.Next.{steps, body_after}
 use Rattle.st_image.specs.Keeping.{CanRun}
-use Rattle.st_image.proofs.Standing.{step_fits}
+use Rattle.st_turn.proofs.Keeping.{step_fits}
 
 abbrev IsTaken : Stepped → Type 0
 IsTaken s = (t : Told) × (s ≡ next t)

@@ -1,6 +1,7 @@
 //! Images.
 ghost use Rattle.std.specs.Prelude.{◌≡◌, ◌<◌, slice_get};
 ghost use Rattle.std.specs.Option.{option_copied};
+ghost use Rattle.st_image.specs.Delivery.{Delivers};
 
 mod advancing;
 mod defining;
@@ -20,10 +21,18 @@ use st_turn::body::{Body, Outcome};
 use std::alloc::Global;
 use std::marker::Model;
 
+/// What is kept of an actor.
 fn kept_at(actors: &Vec<Actor>, actor: ActorId) -> Option<&Actor>
     ensures { option_copied result ≡ slice_get actors.now.items actor.0 }
 {
     actors.get(actor.0 as usize)
+}
+
+/// Whatever happens, the messages that an actor has begun are the first ones that its mailbox accepted, in their order, and
+/// what a mailbox accepted stays accepted.
+pub fn delivery()
+    ensures { Delivers }
+{
 }
 
 /// An image: a class table, actors, and the history that led to them.
@@ -224,7 +233,8 @@ impl Image {
         if self.history.reserve(1).is_err() || self.actors.reserve(1).is_err() {
             return Err(Refusal::NoMemory);
         }
-        let Ok(body) = Body::fresh(alloc, &self.version, class) else {
+        let slots = self.version.slots(class).len();
+        let Ok(body) = Body::fresh(alloc, class, slots) else {
             return Err(Refusal::NoMemory);
         };
         let capacity = self.settings.capacity;
@@ -238,3 +248,6 @@ impl Image {
         Ok(ActorId(number))
     }
 }
+
+#[cfg(test)]
+mod tests;

@@ -1,0 +1,65 @@
+-- An accepted edit of any kind.
+use Rattle.std.proofs.Common.{refl, ◌≡◌, ℕ, List, [], ◌∷◌, ◌++◌, Option, Some, None, true, false, ap, sym, subst, ◌∙◌, length, is_some, cond}
+use Rattle.std.specs.Str.{bytes_eq}
+use Rattle.st_classes.specs.declared.values.ClassId.{ClassId}
+use Rattle.st_classes.specs.declared.values.Selector.{Selector}
+use Rattle.st_classes.specs.declared.methods.MethodParts.{MethodParts}
+use Rattle.st_classes.specs.declared.edits.Edit.{Edit}
+use Rattle.st_classes.specs.declared.edits.Edit.TheVariants.{Define, Install, Remove}
+use Rattle.st_classes.specs.declared.class_rows.ClassRow.{ClassRow}
+use Rattle.st_classes.specs.Kernel.{class, kernel_method}
+use Rattle.st_classes.specs.Refusals.{first_of}
+use Rattle.st_classes.specs.Accepting.{edit_rules, define_rules, install_rules, remove_rules}
+use Rattle.st_classes.specs.Classes.{ClassDef, defined, classes, class_count, is_class}
+use Rattle.st_classes.specs.Walks.{method_id}
+use Rattle.st_classes.specs.ClassIndexes.{Naming, named_in}
+use Rattle.st_classes.specs.Tables.{IsKept, AreRows, IsAt, IsNaming, IsTable}
+use Rattle.st_classes.proofs.Growing.{classes_push, classes_same, kept_at, NoneApply, none_apply}
+use Rattle.st_classes.proofs.Defining.{no_such_class, new_def, false_from_not, kept_define}
+use Rattle.st_classes.proofs.Indexing.{naming_push, class_in}
+
+none_from : {T : Type 0} (o : Option T) → is_some o ≡ false → o ≡ None
+none_from None h = refl
+none_from (Some x) h = cc
+
+-- ---- a method
+
+pub install_is_at : (n : ℕ) (c : ClassId) (m : MethodParts) → IsAt (Install c m) n c m.selector (Some (method_id n))
+install_is_at n c m = record { no_class = refl; decides = λ found d s. refl }
+
+pub remove_is_at : (n : ℕ) (c : ClassId) (s : Selector) → IsAt (Remove c s) n c s None
+remove_is_at n c s = record { no_class = refl; decides = λ found d t. refl }
+
+pub install_class : (es : List Edit) (c : ClassId) (s : Selector) → first_of (install_rules es c s) ≡ None → is_class es c ≡ true
+install_class es c s h = let r : NoneApply (install_rules es c s) = none_apply (install_rules es c s) h in false_from_not (is_class es c) r.0
+
+pub install_kernel : (es : List Edit) (c : ClassId) (s : Selector) → first_of (install_rules es c s) ≡ None → kernel_method c s ≡ None
+install_kernel es c s h = let r : NoneApply (install_rules es c s) = none_apply (install_rules es c s) h in none_from (kernel_method c s) r.1.0
+
+-- what may be removed may be installed
+pub remove_install : (es : List Edit) (c : ClassId) (s : Selector) → first_of (remove_rules es c s) ≡ None → first_of (install_rules es c s) ≡ None
+remove_install es c s h = let r : NoneApply (remove_rules es c s) = none_apply (remove_rules es c s) h in rw (r.0, r.1.0, r.1.1.1.0)
+
+pub kept_push : (es : List Edit) (e : Edit) → IsKept es → first_of (edit_rules es e) ≡ None → IsKept (es ++ e ∷ [])
+kept_push es (Define name p added) k h = kept_define es name p added k h
+kept_push es (Install c m) k h =
+    let r : NoneApply (install_rules es c m.selector) = none_apply (install_rules es c m.selector) h in
+    kept_at es (Install c m) c m.selector (Some (method_id (length es))) k (install_is_at (length es) c m) h (false_from_not (is_class es c) r.0) r.1.1.0
+kept_push es (Remove c s) k h =
+    let r : NoneApply (remove_rules es c s) = none_apply (remove_rules es c s) h in
+    kept_at es (Remove c s) c s None k (remove_is_at (length es) c s) h (false_from_not (is_class es c) r.0) r.1.1.1.0
+
+-- ---- names
+
+pub naming_same : (es : List Edit) (e : Edit) (naming : Naming) → defined (e ∷ []) ≡ [] → IsNaming es naming → IsNaming (es ++ e ∷ []) naming
+naming_same es e naming d h = λ q. h q ∙ ap (λ (cs : List ClassDef). class_in cs q) (sym (classes_same es e d))
+
+pub naming_define : (es : List Edit) (name : List ℕ) (p : ClassId) (added : List (List ℕ)) (old new : Naming) (n : ℕ) → first_of (define_rules es name p added) ≡ None → IsNaming es old → n ≡ class_count es → ((q : List ℕ) → named_in new q ≡ cond (bytes_eq q name) (Some (class n)) (named_in old q)) → IsNaming (es ++ Define name p added ∷ []) new
+naming_define es name p added old new n h was count put =
+    let here : (q : List ℕ) → named_in new q ≡ cond (bytes_eq q name) (Some (class (class_count es))) (named_in old q) = subst (λ (k : ℕ). (q : List ℕ) → named_in new q ≡ cond (bytes_eq q name) (Some (class k)) (named_in old q)) count put in
+    λ q. naming_push (classes es) (new_def name p added) old new was (no_such_class es name p added h) here q ∙ ap (λ (cs : List ClassDef). class_in cs q) (sym (classes_push es (Define name p added)))
+
+-- ---- the table
+
+pub table_push : (es edits : List Edit) (e : Edit) (rows : List ClassRow) (naming : Naming) → IsKept es → first_of (edit_rules es e) ≡ None → edits ≡ es ++ e ∷ [] → AreRows (es ++ e ∷ []) rows → IsNaming (es ++ e ∷ []) naming → IsTable edits rows naming
+table_push es edits e rows naming k h same shown named = subst (λ (ds : List Edit). IsTable ds rows naming) (sym same) (record { kept = kept_push es e k h; shown = shown; named = named })

@@ -1,0 +1,174 @@
+-- Chains of superclasses, and the instance variables along them.
+use Rattle.std.proofs.Common.{arith, refl, ◌≡◌, ℕ, ◌<◌, ◌≤◌, ◌⊎◌, List, [], ◌∷◌, ◌++◌, Option, Some, None, slice_get, zero, suc, ap, sym, ◌∙◌, length, subst, length-append, append_assoc, append-nil, take, reverse, inl, inr, true, not, nat_lt, nat_le, ltb-true, leb-true, leb-false, option_and_then, flat_map, le_refl}
+use Rattle.std.proofs.lemmas.Option.{option_and_then_some, slice_get-get_or}
+use Rattle.std.proofs.lemmas.List.{take_all, reverse-append}
+use Rattle.std.proofs.lemmas.Bool.{not-false, and_parts}
+use Rattle.std.proofs.lemmas.Grind.{flat_map-append}
+use Rattle.st_classes.specs.declared.values.ClassId.{ClassId}
+use Rattle.st_classes.specs.declared.edits.Edit.{Edit}
+use Rattle.st_classes.specs.declared.edits.Edit.TheVariants.{Define, Install, Remove}
+use Rattle.st_classes.specs.declared.refusals.Refusal.TheVariants.{UnknownClass, TooDeep}
+use Rattle.st_classes.specs.Refusals.{first_of}
+use Rattle.st_classes.specs.Kernel.{class}
+use Rattle.st_classes.specs.Classes.{ClassDef, kernel_classes, defined, classes, class_count, is_class, parent, parent_in, chain_of, chain, own_slots, slots}
+use Rattle.st_classes.specs.Accepting.{is_closed, edit_rules}
+use Rattle.st_classes.specs.Lawful.{AreLawful}
+use Rattle.st_classes.proofs.LawLists.{slice_get_old, slice_get_push, take_at_place, no_rule}
+
+-- each superclass is a class, and its chain is the rest of the chain
+pub record IsGrounded (cs : List ClassDef) : Type 0 where
+  pub closed : (c p : ClassId) → parent_in cs c ≡ Some p → p.0 < length cs
+  pub chains : (c p : ClassId) → parent_in cs c ≡ Some p → chain_of cs 64 (Some c) ≡ c ∷ chain_of cs 64 (Some p)
+
+-- a chain that ends within its bound is whole
+pub chain_whole : (cs : List ClassDef) (n : ℕ) (o : Option ClassId) → length (chain_of cs (suc n) o) ≤ n → chain_of cs n o ≡ chain_of cs (suc n) o
+chain_whole cs zero None h = refl
+chain_whole cs zero (Some c) h = absurd (omega (arith, h))
+chain_whole cs (suc n) None h = refl
+chain_whole cs (suc n) (Some c) h = ap (λ (xs : List ClassId). c ∷ xs) (chain_whole cs n (parent_in cs c) (omega (arith, h)))
+
+parent_of_old : (cs ds : List ClassDef) (c : ClassId) → c.0 < length cs → parent_in (cs ++ ds) c ≡ parent_in cs c
+parent_of_old cs ds c h = ap (option_and_then (λ (d : ClassDef). d.parent)) (slice_get_old cs ds c.0 h)
+
+-- the chain of an old class
+pub chain_of_old : (cs ds : List ClassDef) → ((c p : ClassId) → parent_in cs c ≡ Some p → p.0 < length cs) → (n : ℕ) (o : Option ClassId) → ((c : ClassId) → o ≡ Some c → c.0 < length cs) → chain_of (cs ++ ds) n o ≡ chain_of cs n o
+chain_of_old cs ds f zero o h = refl
+chain_of_old cs ds f (suc n) None h = refl
+chain_of_old cs ds f (suc n) (Some c) h = ap (λ (xs : List ClassId). c ∷ xs) (ap (chain_of (cs ++ ds) n) (parent_of_old cs ds c (h c refl)) ∙ chain_of_old cs ds f n (parent_in cs c) (λ p e. f c p e))
+
+pub chain_of_some : (cs ds : List ClassDef) → IsGrounded cs → (n : ℕ) (c : ClassId) → c.0 < length cs → chain_of (cs ++ ds) n (Some c) ≡ chain_of cs n (Some c)
+chain_of_some cs ds g n c h = chain_of_old cs ds g.closed n (Some c) (λ d e. let s : c ≡ d = cc in subst (λ (x : ClassId). x.0 < length cs) s h)
+
+-- the superclass in a list with one class more
+parent_in_push : (cs : List ClassDef) (d : ClassDef) (c p : ClassId) → parent_in (cs ++ d ∷ []) c ≡ Some p → ((c.0 < length cs) × (parent_in cs c ≡ Some p)) ⊎ ((c.0 ≡ length cs) × (d.parent ≡ Some p))
+parent_in_push cs d c p e = option_and_then_some (λ (x : ClassDef). x.parent) (slice_get (cs ++ d ∷ []) c.0) p e (λ x at up. elim (slice_get_push cs d x c.0 at) [ inl w ↦ inl (w.0, ap (option_and_then (λ (y : ClassDef). y.parent)) w.1 ∙ up) | inr w ↦ inr (w.0, ap (λ (y : ClassDef). y.parent) w.1 ∙ up) ])
+
+new_chain : (cs : List ClassDef) (d : ClassDef) (c p : ClassId) → IsGrounded cs → p.0 < length cs → length (chain_of cs 64 (Some p)) < 64 → parent_in (cs ++ d ∷ []) c ≡ Some p → chain_of (cs ++ d ∷ []) 64 (Some c) ≡ c ∷ chain_of (cs ++ d ∷ []) 64 (Some p)
+new_chain cs d c p g here short e =
+    ap (λ (o : Option ClassId). c ∷ chain_of (cs ++ d ∷ []) 63 o) e
+    ∙ ap (λ (xs : List ClassId). c ∷ xs) (chain_of_some cs (d ∷ []) g 63 p here ∙ chain_whole cs 63 (Some p) (omega (arith, short)) ∙ sym (chain_of_some cs (d ∷ []) g 64 p here))
+
+pub grounded_push : (cs : List ClassDef) (d : ClassDef) (p : ClassId) → IsGrounded cs → d.parent ≡ Some p → p.0 < length cs → length (chain_of cs 64 (Some p)) < 64 → IsGrounded (cs ++ d ∷ [])
+grounded_push cs d p g up here short = record {
+  closed = λ c q e. elim (parent_in_push cs d c q e) [ inl w ↦ omega (arith, g.closed c q w.1, length-append cs (d ∷ [])) | inr w ↦ let s : p ≡ q = cc in subst (λ (x : ClassId). x.0 < length (cs ++ d ∷ [])) s (omega (arith, here, length-append cs (d ∷ []))) ];
+  chains = λ c q e. elim (parent_in_push cs d c q e) [ inl w ↦ chain_of_some cs (d ∷ []) g 64 c w.0 ∙ g.chains c q w.1 ∙ ap (λ (xs : List ClassId). c ∷ xs) (sym (chain_of_some cs (d ∷ []) g 64 q (g.closed c q w.1))) | inr w ↦ let s : p ≡ q = cc in new_chain cs d c q g (subst (λ (x : ClassId). x.0 < length cs) s here) (subst (λ (x : ClassId). length (chain_of cs 64 (Some x)) < 64) s short) e ];
+}
+
+-- the superclass of a kernel class is Object
+above_kernel : (n : ℕ) (p : ClassId) → parent_in kernel_classes (class n) ≡ Some p → class 0 ≡ p
+above_kernel zero p e = cc
+above_kernel (suc zero) p e = cc
+above_kernel (suc (suc zero)) p e = cc
+above_kernel (suc (suc (suc zero))) p e = cc
+above_kernel (suc (suc (suc (suc zero)))) p e = cc
+above_kernel (suc (suc (suc (suc (suc zero))))) p e = cc
+above_kernel (suc (suc (suc (suc (suc (suc zero)))))) p e = cc
+above_kernel (suc (suc (suc (suc (suc (suc (suc zero))))))) p e = cc
+above_kernel (suc (suc (suc (suc (suc (suc (suc (suc n)))))))) p e = cc
+
+kernel_grounded : IsGrounded kernel_classes
+kernel_grounded = record {
+  closed = λ c p e. subst (λ (x : ClassId). x.0 < length kernel_classes) (above_kernel c.0 p e) (omega arith);
+  chains = λ c p e. ap (λ (o : Option ClassId). c ∷ chain_of kernel_classes 63 o) e ∙ subst (λ (x : ClassId). ◌≡◌ {A = List ClassId} (c ∷ chain_of kernel_classes 63 (Some x)) (c ∷ chain_of kernel_classes 64 (Some x))) (above_kernel c.0 p e) refl;
+}
+
+defined_append : (es fs : List Edit) → defined (es ++ fs) ≡ defined es ++ defined fs
+defined_append [] fs = refl
+defined_append (Define name up added ∷ es) fs = ap (λ (ds : List ClassDef). record { name = name; parent = Some up; slots = added } ∷ ds) (defined_append es fs)
+defined_append (Install c m ∷ es) fs = defined_append es fs
+defined_append (Remove c s ∷ es) fs = defined_append es fs
+
+-- more edits only add classes
+pub classes_append : (es fs : List Edit) → classes (es ++ fs) ≡ classes es ++ defined fs
+classes_append es fs = ap (λ (ds : List ClassDef). kernel_classes ++ ds) (defined_append es fs) ∙ sym (append_assoc kernel_classes (defined es) (defined fs))
+
+-- the superclass of an accepted definition is a class whose chain has room
+pub accepted_parent : (es : List Edit) (name : List ℕ) (up : ClassId) (added : List (List ℕ)) → first_of (edit_rules es (Define name up added)) ≡ None → (up.0 < class_count es) × (length (chain es up) < 64)
+accepted_parent es name up added h = (
+  ltb-true up.0 (class_count es) (not-false (is_class es up) (no_rule (edit_rules es (Define name up added)) 0 (not (is_class es up), UnknownClass) h refl)),
+  leb-false 64 (length (chain es up)) (no_rule (edit_rules es (Define name up added)) 5 (nat_le 64 (length (chain es up)), TooDeep) h refl),
+)
+
+-- an accepted edit leaves the classes grounded
+pub grounded_after : (es : List Edit) (e : Edit) → IsGrounded (classes es) → first_of (edit_rules es e) ≡ None → IsGrounded (classes (es ++ e ∷ []))
+grounded_after es (Define name up added) g h =
+    let a = accepted_parent es name up added h in
+    subst IsGrounded (sym (classes_append es (Define name up added ∷ []))) (grounded_push (classes es) (record { name = name; parent = Some up; slots = added }) up g refl a.0 a.1)
+grounded_after es (Install c m) g h = subst IsGrounded (sym (classes_append es (Install c m ∷ []) ∙ append-nil (classes es))) g
+grounded_after es (Remove c s) g h = subst IsGrounded (sym (classes_append es (Remove c s ∷ []) ∙ append-nil (classes es))) g
+
+grounded_take : (edits : List Edit) → AreLawful edits → (n : ℕ) → n ≤ length edits → IsGrounded (classes (take n edits))
+grounded_take edits l zero h = kernel_grounded
+grounded_take [] l (suc n) h = absurd (omega (arith, h))
+grounded_take (d ∷ edits) l (suc n) h =
+    let e = slice_get-get_or (d ∷ edits) n d (omega (arith, h)) in
+    subst (λ (es : List Edit). IsGrounded (classes es)) (sym (take_at_place (d ∷ edits) n _ e)) (grounded_after (take n (d ∷ edits)) _ (grounded_take (d ∷ edits) l n (omega (arith, h))) (l n _ e))
+
+-- in lawful edits each superclass is a class, and its chain is the rest of the chain
+pub grounded : (edits : List Edit) → AreLawful edits → IsGrounded (classes edits)
+grounded edits l = subst (λ (es : List Edit). IsGrounded (classes es)) (take_all (length edits) edits (le_refl (length edits))) (grounded_take edits l (length edits) (le_refl (length edits)))
+
+-- ---- instance variables along a chain
+
+reverse_cons : {X : Type 0} (x : X) (xs : List X) → reverse (x ∷ xs) ≡ reverse xs ++ x ∷ []
+reverse_cons x xs = reverse-append (x ∷ []) xs
+
+pub slots_more : (cs : List ClassDef) (c : ClassId) (xs : List ClassId) → flat_map (own_slots cs) (reverse (c ∷ xs)) ≡ flat_map (own_slots cs) (reverse xs) ++ own_slots cs c
+slots_more cs c xs = ap (flat_map (own_slots cs)) (reverse_cons c xs) ∙ flat_map-append (own_slots cs) (reverse xs) (c ∷ []) ∙ ap (λ (ys : List (List ℕ)). flat_map (own_slots cs) (reverse xs) ++ ys) (append-nil (own_slots cs c))
+
+pub chain_above : (edits : List Edit) (c p : ClassId) → AreLawful edits → parent edits c ≡ Some p → chain edits c ≡ c ∷ chain edits p
+chain_above edits c p l e = (grounded edits l).chains c p e
+
+pub parent_is_class : (edits : List Edit) (c p : ClassId) → AreLawful edits → parent edits c ≡ Some p → p.0 < class_count edits
+parent_is_class edits c p l e = (grounded edits l).closed c p e
+
+pub chain_at_top : (edits : List Edit) (c : ClassId) → parent edits c ≡ None → chain edits c ≡ c ∷ []
+chain_at_top edits c e = ap (λ (o : Option ClassId). c ∷ chain_of (classes edits) 63 o) e
+
+-- a class has the instance variables of its superclass, and then its own
+pub slots_above : (edits : List Edit) (c p : ClassId) → AreLawful edits → parent edits c ≡ Some p → slots edits c ≡ slots edits p ++ own_slots (classes edits) c
+slots_above edits c p l e = ap (λ (xs : List ClassId). flat_map (own_slots (classes edits)) (reverse xs)) (chain_above edits c p l e) ∙ slots_more (classes edits) c (chain edits p)
+
+-- a list begins with another
+abbrev pub Begins : List (List ℕ) → List (List ℕ) → Type 0
+Begins xs ys = (rest : List (List ℕ)) × (xs ≡ ys ++ rest)
+
+begins_same : (xs : List (List ℕ)) → Begins xs xs
+begins_same xs = ([], sym (append-nil xs))
+
+pub begins_more : (xs ys zs : List (List ℕ)) → Begins xs ys → Begins ys zs → Begins xs zs
+begins_more xs ys zs a b = (b.0 ++ a.0, a.1 ∙ ap (λ (us : List (List ℕ)). us ++ a.0) b.1 ∙ append_assoc zs b.0 a.0)
+
+-- at each class of a chain
+chain_begins_in : (edits : List Edit) → AreLawful edits → (n : ℕ) (c : ClassId) (o : Option ClassId) (k : ℕ) (h : ClassId) → parent edits c ≡ o → length (chain edits c) ≤ n → slice_get (chain edits c) k ≡ Some h → Begins (slots edits c) (slots edits h)
+chain_begins_in edits l zero c o k h up short at = absurd (omega (arith, short))
+chain_begins_in edits l (suc n) c o zero h up short at = let s : c ≡ h = cc in subst (λ (x : ClassId). Begins (slots edits c) (slots edits x)) s (begins_same (slots edits c))
+chain_begins_in edits l (suc n) c None (suc k) h up short at = let e : slice_get (c ∷ []) (suc k) ≡ Some h = ap (λ (xs : List ClassId). slice_get xs (suc k)) (sym (chain_at_top edits c up)) ∙ at in cc
+chain_begins_in edits l (suc n) c (Some p) (suc k) h up short at =
+    let e = chain_above edits c p l up in
+    let shorter : length (chain edits p) ≤ n = omega (arith, short, ap length e) in
+    begins_more (slots edits c) (slots edits p) (slots edits h) (own_slots (classes edits) c, slots_above edits c p l up) (chain_begins_in edits l n p (parent edits p) k h refl shorter (ap (λ (xs : List ClassId). slice_get xs (suc k)) (sym e) ∙ at))
+
+-- the instance variables of a class begin with those of each class on its chain
+pub chain_begins : (edits : List Edit) → AreLawful edits → (c h : ClassId) (k : ℕ) → slice_get (chain edits c) k ≡ Some h → Begins (slots edits c) (slots edits h)
+chain_begins edits l c h k at = chain_begins_in edits l (length (chain edits c)) c (parent edits c) k h refl (le_refl (length (chain edits c))) at
+
+closed_slots : (edits : List Edit) (n : ℕ) → is_closed (class n) ≡ true → slots edits (class n) ≡ []
+closed_slots edits zero h = absurd (omega (arith, leb-true 1 0 (and_parts (nat_le 1 0) (nat_lt 0 8) h).0))
+closed_slots edits (suc zero) h = refl
+closed_slots edits (suc (suc zero)) h = refl
+closed_slots edits (suc (suc (suc zero))) h = refl
+closed_slots edits (suc (suc (suc (suc zero)))) h = refl
+closed_slots edits (suc (suc (suc (suc (suc zero))))) h = refl
+closed_slots edits (suc (suc (suc (suc (suc (suc zero)))))) h = refl
+closed_slots edits (suc (suc (suc (suc (suc (suc (suc zero))))))) h = refl
+closed_slots edits (suc (suc (suc (suc (suc (suc (suc (suc n)))))))) h =
+    let m = suc (suc (suc (suc (suc (suc (suc (suc n))))))) in
+    absurd (omega (arith, ltb-true m 8 (and_parts (nat_le 1 m) (nat_lt m 8) h).1))
+
+-- the kernel's classes under Object have no instance variables
+pub closed_has_no_slots : (edits : List Edit) (c : ClassId) → is_closed c ≡ true → slots edits c ≡ []
+closed_has_no_slots edits c h = closed_slots edits c.0 h
+
+pub object_has_no_slots : (edits : List Edit) → slots edits (class 0) ≡ []
+object_has_no_slots edits = refl

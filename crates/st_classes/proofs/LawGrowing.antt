@@ -1,0 +1,169 @@
+-- What stands of a class table stands of it with more edits and more names.
+use Rattle.std.proofs.Common.{arith, refl, ◌≡◌, ℕ, ◌+◌, ◌<◌, ◌≤◌, List, [], ◌∷◌, ◌++◌, Option, Some, None, slice_get, zero, suc, ap, ap₂, sym, ◌∙◌, length, subst, length-append, take, drop, take-append-drop, inl, inr, Bool, true, not, ◌&&◌, ◌==◌, nat_lt, ltb-true, lt-ltb, eq-eqb, eqb-true, reverse, option_and_then, flat_map, le_refl}
+use Rattle.std.specs.List.{list_all}
+use Rattle.std.proofs.lemmas.Bool.{not-false, and_parts, and_from}
+use Rattle.std.proofs.lemmas.Option.{option_and_then_some}
+use Rattle.st_classes.specs.declared.values.ClassId.{ClassId}
+use Rattle.st_classes.specs.declared.values.Selector.{Selector}
+use Rattle.st_classes.specs.declared.values.MethodId.{MethodId}
+use Rattle.st_classes.specs.declared.values.Value.{Value}
+use Rattle.st_classes.specs.declared.values.Value.TheVariants.{Int, Bool as Boolean, Nil, Sym, Class, Actor, Local}
+use Rattle.st_classes.specs.declared.instructions.Instruction.{Instruction}
+use Rattle.st_classes.specs.declared.instructions.Instruction.TheVariants.{PushLit, PushSelf, PushActor, PushTemp, PushSlot, StoreTemp, StoreSlot, Pop, Dup, Send, SuperSend, Jump, JumpFalse, JumpTrue, Answer}
+use Rattle.st_classes.specs.declared.methods.MethodParts.{MethodParts}
+use Rattle.st_classes.specs.declared.edits.Edit.{Edit}
+use Rattle.st_classes.specs.declared.edits.Edit.TheVariants.{Install}
+use Rattle.st_classes.specs.declared.refusals.Refusal.TheVariants.{UnknownClass}
+use Rattle.st_classes.specs.Refusals.{first_of}
+use Rattle.st_classes.specs.Kernel.{class, kernel_selectors, does_not_understand}
+use Rattle.st_classes.specs.Classes.{ClassDef, defined, classes, class_count, is_class, parent_in, chain_of, own_slots, slots}
+use Rattle.st_classes.specs.Accepting.{edit_rules}
+use Rattle.st_classes.specs.Selectors.{arity_of}
+use Rattle.st_classes.specs.Suiting.{arity_at, is_number, literal_suits, instruction_suits, suits, edit_suits}
+use Rattle.st_classes.specs.Methods.{IsSound}
+use Rattle.st_classes.specs.Lawful.{AreLawful, AllSuit, AllSound, method_in, method_at}
+use Rattle.st_classes.proofs.LawLists.{slice_get_old, slice_get_push, slice_get_kept, take_old, take_whole, no_rule}
+use Rattle.st_classes.proofs.LawChains.{IsGrounded, grounded, chain_of_some, classes_append, slots_more}
+
+-- ---- classes
+
+-- an accepted edit is lawful behind those before it
+pub lawful_with : (edits : List Edit) (e : Edit) → AreLawful edits → first_of (edit_rules edits e) ≡ None → AreLawful (edits ++ e ∷ [])
+lawful_with edits e l h = λ place d at. elim (slice_get_push edits e d place at) [
+  | inl w ↦ ap (λ (es : List Edit). first_of (edit_rules es d)) (take_old edits (e ∷ []) place (omega (arith, w.0))) ∙ l place d w.1
+  | inr w ↦ ap (λ (n : ℕ). first_of (edit_rules (take n (edits ++ e ∷ [])) d)) w.0 ∙ ap₂ (λ (es : List Edit) (x : Edit). first_of (edit_rules es x)) (take_whole edits (e ∷ [])) (sym w.1) ∙ h
+]
+
+pub class_count_grows : (edits more : List Edit) → class_count edits ≤ class_count (edits ++ more)
+class_count_grows edits more = omega (arith, ap (λ (cs : List ClassDef). length cs) (classes_append edits more), length-append (classes edits) (defined more))
+
+-- classes stay classes
+pub class_stays : (edits more : List Edit) (c : ClassId) → is_class edits c ≡ true → is_class (edits ++ more) c ≡ true
+class_stays edits more c h = lt-ltb c.0 (class_count (edits ++ more)) (omega (arith, ltb-true c.0 (class_count edits) h, class_count_grows edits more))
+
+own_slots_old : (cs ds : List ClassDef) (i : ℕ) → i < length cs → own_slots (cs ++ ds) (class i) ≡ own_slots cs (class i)
+own_slots_old [] ds i h = absurd (omega (arith, h))
+own_slots_old (d ∷ cs) ds zero h = refl
+own_slots_old (d ∷ cs) ds (suc i) h = own_slots_old cs ds i (omega (arith, h))
+
+slots_along_old : (cs ds : List ClassDef) → ((c p : ClassId) → parent_in cs c ≡ Some p → p.0 < length cs) → (n : ℕ) (o : Option ClassId) → ((c : ClassId) → o ≡ Some c → c.0 < length cs) → flat_map (own_slots (cs ++ ds)) (reverse (chain_of cs n o)) ≡ flat_map (own_slots cs) (reverse (chain_of cs n o))
+slots_along_old cs ds f zero o h = refl
+slots_along_old cs ds f (suc n) None h = refl
+slots_along_old cs ds f (suc n) (Some c) h =
+    slots_more (cs ++ ds) c (chain_of cs n (parent_in cs c))
+    ∙ ap₂ (λ (xs ys : List (List ℕ)). xs ++ ys) (slots_along_old cs ds f n (parent_in cs c) (λ p e. f c p e)) (own_slots_old cs ds c.0 (h c refl))
+    ∙ sym (slots_more cs c (chain_of cs n (parent_in cs c)))
+
+slots_in_old : (cs ds : List ClassDef) (c : ClassId) → IsGrounded cs → c.0 < length cs → flat_map (own_slots (cs ++ ds)) (reverse (chain_of (cs ++ ds) 64 (Some c))) ≡ flat_map (own_slots cs) (reverse (chain_of cs 64 (Some c)))
+slots_in_old cs ds c g h = ap (λ (xs : List ClassId). flat_map (own_slots (cs ++ ds)) (reverse xs)) (chain_of_some cs ds g 64 c h) ∙ slots_along_old cs ds g.closed 64 (Some c) (λ d e. let s : c ≡ d = cc in subst (λ (x : ClassId). x.0 < length cs) s h)
+
+-- the instance variables of a class stay
+pub slots_stay : (edits more : List Edit) (c : ClassId) → AreLawful edits → c.0 < class_count edits → slots (edits ++ more) c ≡ slots edits c
+slots_stay edits more c l h = ap (λ (cs : List ClassDef). flat_map (own_slots cs) (reverse (chain_of cs 64 (Some c)))) (classes_append edits more) ∙ slots_in_old (classes edits) (defined more) c (grounded edits l) h
+
+-- the methods of a table stay
+pub method_stays : (edits more : List Edit) (m : MethodId) (p : MethodParts) → method_at edits m ≡ Some p → method_at (edits ++ more) m ≡ Some p
+method_stays edits more m p h = option_and_then_some method_in (slice_get edits m.0) p h (λ e at is. ap (option_and_then method_in) (slice_get_kept edits more m.0 e at) ∙ is)
+
+pub method_at_old : (edits more : List Edit) (m : MethodId) → m.0 < length edits → method_at (edits ++ more) m ≡ method_at edits m
+method_at_old edits more m h = ap (option_and_then method_in) (slice_get_old edits more m.0 h)
+
+-- the class of an accepted install is a class
+pub accepted_class : (edits : List Edit) (c : ClassId) (m : MethodParts) → first_of (edit_rules edits (Install c m)) ≡ None → c.0 < class_count edits
+accepted_class edits c m h = ltb-true c.0 (class_count edits) (not-false (is_class edits c) (no_rule (edit_rules edits (Install c m)) 0 (not (is_class edits c), UnknownClass) h refl))
+
+pub installed_class : (edits : List Edit) (place : ℕ) (c : ClassId) (m : MethodParts) → AreLawful edits → slice_get edits place ≡ Some (Install c m) → c.0 < class_count edits
+installed_class edits place c m l at =
+    let early = accepted_class (take place edits) c m (l place (Install c m) at) in
+    subst (λ (es : List Edit). c.0 < class_count es) (take-append-drop place edits) (omega (arith, early, class_count_grows (take place edits) (drop place edits)))
+
+-- ---- methods that suit
+
+-- names that have all that others have, at the same places
+pub record Extends (names others : List (List ℕ)) : Type 0 where
+  pub long : length names ≤ length others
+  pub numbers : (s : Selector) (n : ℕ) → arity_at names s ≡ Some n → arity_at others s ≡ Some n
+
+pub extends_self : (names : List (List ℕ)) → Extends names names
+extends_self names = record { long = le_refl (length names); numbers = λ s n h. h }
+
+pub extends_more : (names more : List (List ℕ)) → Extends names (names ++ more)
+extends_more names more = record {
+  long = omega (arith, length-append names more);
+  numbers = λ s n h. option_and_then_some arity_of (slice_get names s.0) n h (λ text at is. ap (option_and_then arity_of) (slice_get_kept names more s.0 text at) ∙ is);
+}
+
+number_grows : (names others : List (List ℕ)) → Extends names others → (s : Selector) (n : ℕ) → is_number (arity_at names s) n ≡ true → is_number (arity_at others s) n ≡ true
+number_grows names others x s n h = ap (λ (o : Option ℕ). is_number o n) (x.numbers s n (number_from (arity_at names s) n h)) ∙ eq-eqb n n refl
+  where
+    number_from : (o : Option ℕ) (k : ℕ) → is_number o k ≡ true → o ≡ Some k
+    number_from None k e = cc
+    number_from (Some j) k e = ap (λ (i : ℕ). Some i) (eqb-true j k e)
+
+below_grows : (n k j : ℕ) → k ≤ j → nat_lt n k ≡ true → nat_lt n j ≡ true
+below_grows n k j h e = lt-ltb n j (omega (arith, h, ltb-true n k e))
+
+literal_grows : (names others : List (List ℕ)) (count wide : ℕ) → Extends names others → count ≤ wide → (v : Value) → literal_suits names count v ≡ true → literal_suits others wide v ≡ true
+literal_grows names others count wide x w (Int z) h = refl
+literal_grows names others count wide x w (Boolean b) h = refl
+literal_grows names others count wide x w Nil h = refl
+literal_grows names others count wide x w (Sym s) h = below_grows s.0 (length names) (length others) x.long h
+literal_grows names others count wide x w (Class c) h = below_grows c.0 count wide w h
+literal_grows names others count wide x w (Actor a) h = h
+literal_grows names others count wide x w (Local n) h = h
+
+instruction_grows : (names others : List (List ℕ)) (count wide slots temps : ℕ) → Extends names others → count ≤ wide → (i : Instruction) → instruction_suits names count slots temps i ≡ true → instruction_suits others wide slots temps i ≡ true
+instruction_grows names others count wide slots temps x w (PushLit v) h = literal_grows names others count wide x w v h
+instruction_grows names others count wide slots temps x w PushSelf h = refl
+instruction_grows names others count wide slots temps x w PushActor h = refl
+instruction_grows names others count wide slots temps x w (PushTemp i) h = h
+instruction_grows names others count wide slots temps x w (PushSlot i) h = h
+instruction_grows names others count wide slots temps x w (StoreTemp i) h = h
+instruction_grows names others count wide slots temps x w (StoreSlot i) h = h
+instruction_grows names others count wide slots temps x w Pop h = refl
+instruction_grows names others count wide slots temps x w Dup h = refl
+instruction_grows names others count wide slots temps x w (Send s n) h = number_grows names others x s n h
+instruction_grows names others count wide slots temps x w (SuperSend s n) h = number_grows names others x s n h
+instruction_grows names others count wide slots temps x w (Jump d) h = refl
+instruction_grows names others count wide slots temps x w (JumpFalse d) h = refl
+instruction_grows names others count wide slots temps x w (JumpTrue d) h = refl
+instruction_grows names others count wide slots temps x w Answer h = refl
+
+list_all_weaker : {X : Type 0} (f g : X → Bool) → ((x : X) → f x ≡ true → g x ≡ true) → (xs : List X) → list_all f xs ≡ true → list_all g xs ≡ true
+list_all_weaker f g h [] e = refl
+list_all_weaker f g h (x ∷ xs) e = let p = and_parts (f x) (list_all f xs) e in and_from (g x) (list_all g xs) (h x p.0) (list_all_weaker f g h xs p.1)
+
+-- a method that suits suits more names, and a table with more classes where its own has the same instance variables
+pub suits_grows : (names others : List (List ℕ)) (edits later : List Edit) (c : ClassId) (m : MethodParts) → Extends names others → class_count edits ≤ class_count later → slots later c ≡ slots edits c → suits names edits c m ≡ true → suits others later c m ≡ true
+suits_grows names others edits later c m x w same h =
+    let was = instruction_suits names (class_count edits) (length (slots edits c)) (m.arguments + m.temporaries) in
+    let now = instruction_suits others (class_count later) (length (slots edits c)) (m.arguments + m.temporaries) in
+    let outer = and_parts ((m.holder.0 == c.0) && is_number (arity_at names m.selector) m.arguments) (list_all was m.code) h in
+    let inner = and_parts (m.holder.0 == c.0) (is_number (arity_at names m.selector) m.arguments) outer.0 in
+    subst (λ (xs : List (List ℕ)). ((m.holder.0 == c.0) && is_number (arity_at others m.selector) m.arguments && list_all (instruction_suits others (class_count later) (length xs) (m.arguments + m.temporaries)) m.code) ≡ true) (sym same) (and_from ((m.holder.0 == c.0) && is_number (arity_at others m.selector) m.arguments) (list_all now m.code) (and_from (m.holder.0 == c.0) (is_number (arity_at others m.selector) m.arguments) inner.0 (number_grows names others x m.selector m.arguments inner.1)) (list_all_weaker was now (instruction_grows names others (class_count edits) (class_count later) (length (slots edits c)) (m.arguments + m.temporaries) x w) m.code outer.1))
+
+-- more edits
+pub suits_later : (names : List (List ℕ)) (edits more : List Edit) (c : ClassId) (m : MethodParts) → AreLawful edits → c.0 < class_count edits → suits names edits c m ≡ true → suits names (edits ++ more) c m ≡ true
+suits_later names edits more c m l here h = suits_grows names names edits (edits ++ more) c m (extends_self names) (class_count_grows edits more) (slots_stay edits more c l here) h
+
+-- more names
+pub suits_more_names : (names more : List (List ℕ)) (edits : List Edit) (c : ClassId) (m : MethodParts) → suits names edits c m ≡ true → suits (names ++ more) edits c m ≡ true
+suits_more_names names more edits c m h = suits_grows names (names ++ more) edits edits c m (extends_more names more) (le_refl (class_count edits)) refl h
+
+pub all_suit_more_names : (names more : List (List ℕ)) (edits : List Edit) → AllSuit names edits → AllSuit (names ++ more) edits
+all_suit_more_names names more edits all = λ place c m at. suits_more_names names more edits c m (all place c m at)
+
+-- an accepted edit whose method suits
+pub all_suit_with : (names : List (List ℕ)) (edits : List Edit) (e : Edit) → AreLawful edits → first_of (edit_rules edits e) ≡ None → AllSuit names edits → edit_suits names edits e ≡ true → AllSuit names (edits ++ e ∷ [])
+all_suit_with names edits e l ok all h = λ place c m at. elim (slice_get_push edits e (Install c m) place at) [
+  | inl w ↦ suits_later names edits (e ∷ []) c m l (installed_class edits place c m l w.1) (all place c m w.1)
+  | inr w ↦ suits_later names edits (e ∷ []) c m l (accepted_class edits c m (subst (λ (x : Edit). first_of (edit_rules edits x) ≡ None) w.1 ok)) (subst (λ (x : Edit). edit_suits names edits x ≡ true) w.1 h)
+]
+
+-- an edit whose method is sound
+pub all_sound_with : (edits : List Edit) (e : Edit) → AllSound edits → ((c : ClassId) (m : MethodParts) → e ≡ Install c m → IsSound m) → AllSound (edits ++ e ∷ [])
+all_sound_with edits e all h = λ place c m at. elim (slice_get_push edits e (Install c m) place at) [ inl w ↦ all place c m w.1 | inr w ↦ h c m w.1 ]
+
+-- names that begin with the kernel's have `doesNotUnderstand:`, with one argument
+pub kernel_names_know : (more : List (List ℕ)) → arity_at (kernel_selectors ++ more) does_not_understand ≡ Some 1
+kernel_names_know more = refl

@@ -1,0 +1,173 @@
+//! Which edits a class table accepts.
+ghost use Rattle.std.specs.Prelude.{◌≡◌, ◌∷◌, ◌++◌, []};
+ghost use Rattle.std.specs.List.{list_any, list_all};
+ghost use Rattle.std.specs.Str.{bytes_eq};
+ghost use Rattle.st_classes.specs.Refusals.{first_of};
+ghost use Rattle.st_classes.specs.Selectors.{is_slot_name as slot_name};
+ghost use Rattle.st_classes.specs.Accepting.{
+  is_closed as closed,
+  has_twice as twice,
+  are_names as names,
+  too_many_edits,
+  define_rules,
+  install_rules,
+  remove_rules,
+  edit_rules,
+};
+
+use crate::edits::Edit;
+use crate::kernel::{Found, KERNEL_CLASSES, kernel_at};
+use crate::limits;
+use crate::refusals::{Limited, Refusal};
+use crate::selectors::{is_class_name, is_slot_name};
+use crate::seq::Seq;
+use crate::values::{ClassId, Selector};
+use crate::version::Version;
+
+/// Whether a class can have no subclasses: one of the kernel's, Object aside.
+fn is_closed(class: ClassId) -> bool
+    ensures { result ≡ closed class }
+{
+    1 <= class.0 && class.0 < KERNEL_CLASSES
+}
+
+fn are_slot_names(texts: &[Seq<u8>]) -> bool
+    ensures { result ≡ list_all slot_name texts.now }
+{
+    texts.iter().all(|text| is_slot_name(text.as_slice()))
+}
+
+/// Whether the texts can name a class and its own instance variables.
+fn are_names(name: &[u8], slots: &[Seq<u8>]) -> bool
+    ensures { result ≡ names name.now slots.now }
+{
+    is_class_name(name) && are_slot_names(slots)
+}
+
+fn is_among(text: &[u8], texts: &[Seq<u8>]) -> bool
+    ensures { result ≡ list_any (bytes_eq text.now) texts.now }
+{
+    texts.iter().any(|other| text == other.as_slice())
+}
+
+/// Whether a text stands twice in a list.
+fn has_twice(texts: &[Seq<u8>]) -> bool
+    ensures { result ≡ twice texts.now }
+{
+    let mut rest = texts;
+    while let [text, later @ ..] = rest {
+        if is_among(text.as_slice(), later) {
+            return true;
+        }
+        rest = later;
+    }
+    false
+}
+
+/// Whether a text stands twice in two lists, one behind the other.
+fn has_clash(front: &[Seq<u8>], back: &[Seq<u8>]) -> bool
+    ensures { result ≡ twice (front.now ++ back.now) }
+{
+    let mut rest = front;
+    while let [text, later @ ..] = rest {
+        if is_among(text.as_slice(), later) || is_among(text.as_slice(), back) {
+            return true;
+        }
+        rest = later;
+    }
+    has_twice(back)
+}
+
+impl Version {
+    /// The refusal of an edit that would be one too many.
+    fn full(&self) -> Option<Refusal>
+        ensures { result ≡ first_of (too_many_edits self.now ∷ []) }
+    {
+        if self.edits() as usize >= limits::EDITS {
+            return Some(Refusal::TooMany {
+                what: Limited::Edits,
+            });
+        }
+        None
+    }
+
+    /// The refusal of a new class.
+    fn define_refusal(&self, name: &[u8], parent: ClassId, added: &[Seq<u8>]) -> Option<Refusal>
+        ensures { result ≡ first_of (define_rules self.now name.now parent added.now) }
+    {
+        if !self.is_class(parent) {
+            return Some(Refusal::UnknownClass);
+        }
+        if !are_names(name, added) {
+            return Some(Refusal::BadName);
+        }
+        if is_closed(parent) {
+            return Some(Refusal::KernelClass);
+        }
+        if self.class_named(name).is_some() {
+            return Some(Refusal::ClassExists);
+        }
+        let inherited = self.slots(parent);
+        if has_clash(inherited, added) {
+            return Some(Refusal::SlotClash);
+        }
+        if usize::from(self.depth(parent)) >= limits::CHAIN {
+            return Some(Refusal::TooDeep);
+        }
+        if self.classes() as usize >= limits::CLASSES {
+            return Some(Refusal::TooMany {
+                what: Limited::Classes,
+            });
+        }
+        if inherited.len() + added.len() > limits::SLOTS {
+            return Some(Refusal::TooMany {
+                what: Limited::Slots,
+            });
+        }
+        self.full()
+    }
+
+    /// The refusal of a method for a selector.
+    fn install_refusal(&self, class: ClassId, selector: Selector) -> Option<Refusal>
+        ensures { result ≡ first_of (install_rules self.now class selector) }
+    {
+        if !self.is_class(class) {
+            return Some(Refusal::UnknownClass);
+        }
+        if kernel_at(class, selector).is_some() {
+            return Some(Refusal::KernelMethod);
+        }
+        self.full()
+    }
+
+    /// The refusal of a removal.
+    fn remove_refusal(&self, class: ClassId, selector: Selector) -> Option<Refusal>
+        ensures { result ≡ first_of (remove_rules self.now class selector) }
+    {
+        if !self.is_class(class) {
+            return Some(Refusal::UnknownClass);
+        }
+        if kernel_at(class, selector).is_some() {
+            return Some(Refusal::KernelMethod);
+        }
+        let Some(Found::User(_)) = self.own(class, selector) else {
+            return Some(Refusal::NoSuchMethod);
+        };
+        self.full()
+    }
+
+    /// Why an edit is refused: the first of its refusals that applies.
+    pub(crate) fn refusal(&self, edit: &Edit) -> Option<Refusal>
+        ensures { result ≡ first_of (edit_rules self.now edit.now) }
+    {
+        match edit {
+            Edit::Define {
+                name,
+                parent,
+                slots,
+            } => self.define_refusal(name.as_slice(), *parent, slots.as_slice()),
+            Edit::Install { class, method } => self.install_refusal(*class, method.selector()),
+            Edit::Remove { class, selector } => self.remove_refusal(*class, *selector),
+        }
+    }
+}

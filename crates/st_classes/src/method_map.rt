@@ -1,0 +1,82 @@
+//! The user's methods of a class.
+ghost use Rattle.std.specs.Prelude.{◌≡◌, [], ◌==◌, if◌then◌else◌, Some, None, IfOk, OnOk};
+ghost use Rattle.st_classes.specs.declared.values.Selector.{Selector as SelectorOf};
+ghost use Rattle.st_classes.specs.ClassRows.{method_in};
+
+use crate::values::{MethodId, Selector};
+use std::alloc::{AllocError, Global};
+use std::collections::HashMap;
+use std::marker::Model;
+
+/// Methods by selector.
+#[derive(Drop)]
+pub struct MethodMap {
+    methods: HashMap<Selector, MethodId>,
+}
+
+impl Model for MethodMap {
+    ghost use Rattle.std.specs.Prelude.{List};
+    ghost use Rattle.st_classes.specs.declared.values.Selector.{Selector};
+    ghost use Rattle.st_classes.specs.declared.values.MethodId.{MethodId};
+
+    ghost Value = { List (Selector × MethodId) };
+
+    ghost view = { λ m. m.methods.entries };
+}
+
+impl MethodMap {
+    pub fn new(alloc: Global) -> MethodMap
+        ensures { result ≡ [] }
+    {
+        MethodMap {
+            methods: HashMap::new(alloc),
+        }
+    }
+
+    #[inline]
+    pub fn get(&self, selector: Selector) -> Option<MethodId>
+        ensures { result ≡ method_in self.now selector }
+    {
+        self.methods.get(&selector).copied()
+    }
+
+    /// A copy.
+    fn again(&self) -> Result<MethodMap, AllocError>
+        ensures { IfOk result (λ copy. copy ≡ self.now) }
+    {
+        Ok(MethodMap {
+            methods: self.methods.clone()?,
+        })
+    }
+
+    /// Puts a method at a selector.
+    fn put(&mut self, selector: Selector, method: MethodId) -> Result<(), AllocError>
+        ensures { OnOk result ((s : SelectorOf) → method_in self.new s ≡ (if selector.0 == s.0 then Some method else method_in self.old s)) }
+    {
+        self.methods.insert(selector, method)?;
+        Ok(())
+    }
+
+    /// Takes away the method at a selector.
+    fn take(&mut self, selector: Selector)
+        ensures { (s : SelectorOf) → method_in self.new s ≡ (if selector.0 == s.0 then None else method_in self.old s) }
+    {
+        let _ = self.methods.remove(&selector);
+    }
+
+    /// A copy with a method at a selector, or with none there.
+    pub fn with(
+        &self,
+        selector: Selector,
+        method: Option<MethodId>,
+    ) -> Result<MethodMap, AllocError>
+        ensures { IfOk result (λ copy. (s : SelectorOf) → method_in copy s ≡ (if selector.0 == s.0 then method else method_in self.now s)) }
+    {
+        let mut copy = self.again()?;
+        match method {
+            Some(id) => copy.put(selector, id)?,
+            None => copy.take(selector),
+        }
+        Ok(copy)
+    }
+}

@@ -1,0 +1,271 @@
+-- Each item keeps what is true of every world.
+use Rattle.std.proofs.Common.{arith, ◌≡◌, ◌≢◌, ℕ, zero, suc, ◌+◌, ◌<◌, ◌≤◌, ◌++◌, [], ◌∷◌, List, Option, Some, None, refl, ap, sym, ◌∙◌, subst, length, slice_get, slice_set, Bool, true, false, append_assoc, append-nil, option_and_then, cond, drop, length-append, set, take}
+use Rattle.std.specs.Prelude.{All, is_none, ◌&&◌, nat_lt}
+use Rattle.std.specs.List.{list_all}
+use Rattle.std.proofs.Math.ListN.{length-set}
+use Rattle.std.proofs.lemmas.Bool.Decides.{nat_tests}
+use Rattle.std.proofs.lemmas.List.Elements.{All-set, All-push, All-nil, All-cons}
+use Rattle.std.proofs.lemmas.Grind.{common_steps}
+use Rattle.st_classes.specs.declared.values.ActorId.{ActorId}
+use Rattle.st_classes.specs.declared.values.ClassId.{ClassId}
+use Rattle.st_classes.specs.declared.values.Value.{Value}
+use Rattle.st_classes.specs.declared.values.Value.TheVariants.{Int, Bool as Boolean, Nil, Sym, Class, Actor, Local}
+use Rattle.st_classes.specs.declared.methods.MethodParts.{MethodParts}
+use Rattle.st_classes.specs.declared.edits.Edit.{Edit}
+use Rattle.st_classes.specs.declared.edits.Edit.TheVariants.{Define, Install, Remove}
+use Rattle.st_classes.specs.Methods.{IsSound}
+use Rattle.st_classes.specs.Kernel.{kernel_selectors, does_not_understand}
+use Rattle.st_classes.specs.Refusals.{first_of}
+use Rattle.st_classes.specs.Accepting.{edit_rules}
+use Rattle.st_classes.specs.Classes.{class_count}
+use Rattle.st_classes.specs.Suiting.{arity_at, is_number, edit_suits}
+use Rattle.st_classes.specs.Lawful.{AreLawful, AllSuit, AllSound}
+use Rattle.st_turn.specs.declared.body.Body.{Body}
+use Rattle.st_turn.specs.Steps.{Stepped, next as stepped, ended, outer, step}
+use Rattle.st_turn.specs.Fitting.{Given, Fits, FitsStepped, IsThere, has_instances}
+use Rattle.st_image.specs.declared.messages.Message.{Message}
+use Rattle.st_image.specs.declared.items.Item.{Item}
+use Rattle.st_image.specs.declared.items.Item.TheVariants.{Edited, Created, Posted, Closed, Begun, Ran}
+use Rattle.st_image.specs.Worlds.{World, Being, start, pending, with_actor, is_idle}
+use Rattle.st_image.specs.Posting.{argument_fits, message_fits, message_suits, post_rules, box_rules}
+use Rattle.st_image.specs.Next.{next, only_if, edited, created, new_being, fresh_body, posted_to, accepting, closed, begun_by, begun_at, beginning, ran, ran_at, steps, body_after, with_result}
+use Rattle.st_image.specs.Delivery.{BeginsInOrder}
+use Rattle.st_image.specs.Lasting.{given, IsBeing, BeginsWithKernel, IsSoundEdit, IsSoundItem, IsWorld}
+use Rattle.st_classes.specs.declared.refusals.Refusal.{Refusal}
+use Rattle.st_classes.specs.declared.refusals.Refusal.TheVariants.{BadArguments}
+use Rattle.st_classes.specs.Refusals.{Rule}
+use Rattle.std.specs.Prelude.{not}
+use Rattle.std.proofs.Common.{ltb-true}
+use Rattle.std.proofs.lemmas.Bool.{eqb-true}
+use Rattle.std.proofs.lemmas.Option.{slice_get_within}
+use Rattle.std.proofs.Common.{inl, inr, ◌⊎◌, nat_eq}
+use Rattle.st_classes.proofs.LawLists.{slice_get_push}
+use Rattle.st_image.proofs.Places.{at_all}
+use Rattle.st_image.proofs.GrowingNames.{both_true, and_true, list_all_more, fits_more, all_suit_more}
+use Rattle.st_image.proofs.Deliveries.{let_through, accepting_begins, beginning_begins, nothing_begun}
+use Rattle.st_classes.proofs.LawGrowing.{lawful_with, class_count_grows, all_suit_with, kernel_names_know}
+use Rattle.st_turn.proofs.Keeping.{step_fits}
+use Rattle.st_turn.proofs.KeepingGrowth.{fresh_fits, begin_fits}
+use Rattle.st_image.proofs.BodyLaws.{fits_after, fits_given}
+
+-- ---- lists
+
+pub all_map : {X : Type 0} (P Q : X → Type 0) (xs : List X) → ((x : X) → P x → Q x) → All P xs → All Q xs
+all_map P Q xs f h = λ k d l. f _ (h k d l)
+
+-- ---- messages, with more classes and actors
+
+argument_later : (names : List (List ℕ)) (classes actors classes' actors' : ℕ) → classes ≤ classes' → actors ≤ actors' → (v : Value) → argument_fits names classes actors v ≡ true → argument_fits names classes' actors' v ≡ true
+argument_later names c a c' a' h k (Int z) e = refl
+argument_later names c a c' a' h k (Boolean b) e = refl
+argument_later names c a c' a' h k Nil e = refl
+argument_later names c a c' a' h k (Sym s) e = e
+argument_later names c a c' a' h k (Class n) e = grind (arith, nat_tests)
+argument_later names c a c' a' h k (Actor n) e = grind (arith, nat_tests)
+argument_later names c a c' a' h k (Local n) e = e
+
+message_later : (names : List (List ℕ)) (classes actors classes' actors' : ℕ) → classes ≤ classes' → actors ≤ actors' → (m : Message) → message_fits names classes actors m ≡ true → message_fits names classes' actors' m ≡ true
+message_later names c a c' a' h k m e = let t = both_true _ _ e in and_true _ _ t.0 (list_all_more (argument_fits names c a) (argument_fits names c' a') m.args (argument_later names c a c' a' h k) t.1)
+
+-- ---- one actor
+
+being_after : (names : List (List ℕ)) (edits : List Edit) (n : ℕ) (e : Edit) (b : Being) → AreLawful edits → AllSuit names edits → IsBeing names edits n b → IsBeing names (edits ++ e ∷ []) n b
+being_after names edits n e b l r h = record {
+  fits = fits_after (given names n) edits e b.body l r h.fits;
+  begins = h.begins;
+  mail = all_map _ _ b.accepted (λ m f. message_later names (class_count edits) n (class_count (edits ++ e ∷ [])) n (class_count_grows edits (e ∷ [])) (omega arith) m f) h.mail;
+}
+
+being_given : (names more : List (List ℕ)) (edits : List Edit) (n m : ℕ) (b : Being) → AreLawful edits → AllSuit names edits → n ≤ m → IsBeing names edits n b → IsBeing (names ++ more) edits m b
+being_given names more edits n m b l s k h = record {
+  fits = fits_given names more n m edits b.body l s k h.fits;
+  begins = h.begins;
+  mail = all_map _ _ b.accepted (λ x f. fits_more names more (class_count edits) m x (message_later names (class_count edits) n (class_count edits) m (omega arith) k x f)) h.mail;
+}
+
+being_more : (names : List (List ℕ)) (edits : List Edit) (n m : ℕ) (b : Being) → AreLawful edits → AllSuit names edits → n ≤ m → IsBeing names edits n b → IsBeing names edits m b
+being_more names edits n m b l s k h = subst (λ (ns : List (List ℕ)). IsBeing ns edits m b) (append-nil names) (being_given names [] edits n m b l s k h)
+
+-- ---- worlds
+
+-- with another actor at a place
+world_set : (names : List (List ℕ)) (w v : World) (a : ActorId) (c : Being) → IsWorld names w → IsBeing names w.edits (length w.actors) c → v.edits ≡ w.edits → v.actors ≡ slice_set w.actors a.0 c → IsWorld names v
+world_set names w v a c h b e f =
+    let count : length (slice_set w.actors a.0 c) ≡ length w.actors = length-set w.actors a.0 c in
+    record {
+      kernel = h.kernel;
+      lawful = subst AreLawful (sym e) h.lawful;
+      suited = subst (AllSuit names) (sym e) h.suited;
+      sound = subst AllSound (sym e) h.sound;
+      actors = subst (λ (es : List Edit). All (IsBeing names es (length v.actors)) v.actors) (sym e)
+        (subst (λ (xs : List Being). All (IsBeing names w.edits (length xs)) xs) (sym f)
+          (subst (λ (n : ℕ). All (IsBeing names w.edits n) (slice_set w.actors a.0 c)) (sym count) (All-set (IsBeing names w.edits (length w.actors)) w.actors a.0 c b h.actors)));
+    }
+
+none_from : {X : Type 0} (o : Option X) → is_none o ≡ true → o ≡ None
+none_from None e = refl
+none_from (Some x) e = cc
+
+sound_push : (edits : List Edit) (e : Edit) → AllSound edits → IsSoundEdit e → AllSound (edits ++ e ∷ [])
+sound_push edits e h s = λ place c m at. elim (slice_get_push edits e (Install c m) place at) [
+    | inl w ↦ h place c m w.1
+    | inr w ↦ subst IsSoundEdit w.1 s
+  ]
+
+edited_keeps : (names : List (List ℕ)) (w v : World) (e : Edit) → IsWorld names w → IsSoundEdit e → edited names w e ≡ Some v → IsWorld names v
+edited_keeps names w v e h s f =
+    let t = let_through _ _ v f in
+    let b = both_true _ _ t.0 in
+    let r : first_of (edit_rules w.edits e) ≡ None = none_from _ b.0 in
+    subst (IsWorld names) t.1 (record {
+      kernel = h.kernel;
+      lawful = lawful_with w.edits e h.lawful r;
+      suited = all_suit_with names w.edits e h.lawful r h.suited b.1;
+      sound = sound_push w.edits e h.sound s;
+      actors = all_map (IsBeing names w.edits (length w.actors)) (IsBeing names (w.edits ++ e ∷ []) (length w.actors)) w.actors (λ x g. being_after names w.edits (length w.actors) e x h.lawful h.suited g) h.actors;
+    })
+
+created_keeps : (names : List (List ℕ)) (w v : World) (c : ClassId) (n : ℕ) → IsWorld names w → created w c n ≡ Some v → IsWorld names v
+created_keeps names w v c n h f =
+    let t = let_through _ _ v f in
+    let one : length (w.actors ++ new_being w.edits c n ∷ []) ≡ length w.actors + 1 = length-append w.actors (new_being w.edits c n ∷ []) in
+    let count : length w.actors ≤ length (w.actors ++ new_being w.edits c n ∷ []) = omega arith in
+    let fresh : IsBeing names w.edits (length (w.actors ++ new_being w.edits c n ∷ [])) (new_being w.edits c n) = record { fits = fresh_fits (given names (length (w.actors ++ new_being w.edits c n ∷ []))) w.edits c t.0; begins = nothing_begun (new_being w.edits c n) refl; mail = All-nil _ } in
+    subst (IsWorld names) t.1 (record {
+      kernel = h.kernel;
+      lawful = h.lawful;
+      suited = h.suited;
+      sound = h.sound;
+      actors = All-push (IsBeing names w.edits (length (w.actors ++ new_being w.edits c n ∷ []))) w.actors (new_being w.edits c n) (all_map (IsBeing names w.edits (length w.actors)) (IsBeing names w.edits (length (w.actors ++ new_being w.edits c n ∷ []))) w.actors (λ x g. being_more names w.edits (length w.actors) (length (w.actors ++ new_being w.edits c n ∷ [])) x h.lawful h.suited count g) h.actors) fresh;
+    })
+
+
+-- where a post is accepted, the message suits
+free_rule : (b : Bool) (r : Refusal) (rules : List Rule) → is_none (first_of ((not b, r) ∷ rules)) ≡ true → b ≡ true
+free_rule true r rules e = refl
+free_rule false r rules e = cc
+
+posted_keeps : (names : List (List ℕ)) (w v : World) (a : ActorId) (m : Message) (o : Option Being) → slice_get w.actors a.0 ≡ o → IsWorld names w → posted_to names w a m o ≡ Some v → IsWorld names v
+posted_keeps names w v a m None at h f = cc
+posted_keeps names w v a m (Some b) at h f =
+    let t = let_through _ _ v f in
+    let suits : message_fits names (class_count w.edits) (length w.actors) m ≡ true = free_rule (message_suits names w m) BadArguments (box_rules b) t.0 in
+    let here : IsBeing names w.edits (length w.actors) b = at_all (IsBeing names w.edits (length w.actors)) w.actors a.0 b h.actors at in
+    world_set names w v a (accepting b m) h (record { fits = here.fits; begins = accepting_begins b m here.begins; mail = All-push (λ (x : Message). message_fits names (class_count w.edits) (length w.actors) x ≡ true) b.accepted m here.mail suits }) (ap (λ (x : World). x.edits) (sym t.1)) (ap (λ (x : World). x.actors) (sym t.1))
+
+closed_keeps : (names : List (List ℕ)) (w v : World) (a : ActorId) (o : Option Being) → slice_get w.actors a.0 ≡ o → IsWorld names w → closed w a o ≡ Some v → IsWorld names v
+closed_keeps names w v a None at h f = cc
+closed_keeps names w v a (Some b) at h f =
+    let t = let_through _ _ v f in
+    let here : IsBeing names w.edits (length w.actors) b = at_all (IsBeing names w.edits (length w.actors)) w.actors a.0 b h.actors at in
+    world_set names w v a (record b { is_open = false }) h (record { fits = here.fits; begins = here.begins; mail = here.mail }) (ap (λ (x : World). x.edits) (sym t.1)) (ap (λ (x : World). x.actors) (sym t.1))
+
+-- ---- a message that begins
+
+number_is : (o : Option ℕ) (n : ℕ) → is_number o n ≡ true → o ≡ Some n
+number_is None n e = cc
+number_is (Some m) n e = ap Some (eqb-true m n e)
+
+argument_there : (names : List (List ℕ)) (edits : List Edit) (actors objects : ℕ) (v : Value) → argument_fits names (class_count edits) actors v ≡ true → IsThere (given names actors) edits objects v
+argument_there names edits actors objects (Int z) e = tt
+argument_there names edits actors objects (Boolean b) e = tt
+argument_there names edits actors objects Nil e = tt
+argument_there names edits actors objects (Sym s) e = ltb-true _ _ e
+argument_there names edits actors objects (Class c) e = ltb-true _ _ e
+argument_there names edits actors objects (Actor a) e = ltb-true _ _ e
+argument_there names edits actors objects (Local n) e = cc
+
+all_from_tests : {X : Type 0} (p : X → Bool) (P : X → Type 0) (xs : List X) → ((x : X) → p x ≡ true → P x) → list_all p xs ≡ true → All P xs
+all_from_tests p P [] f e = All-nil P
+all_from_tests p P (x ∷ xs) f e = let t = both_true (p x) (list_all p xs) e in All-cons P x xs (f x t.0) (all_from_tests p P xs f t.1)
+
+first_of_drop : {X : Type 0} (xs : List X) (n : ℕ) (x : X) (rest : List X) → drop n xs ≡ x ∷ rest → slice_get xs n ≡ Some x
+first_of_drop [] zero x rest e = cc
+first_of_drop [] (suc n) x rest e = cc
+first_of_drop (y ∷ xs) zero x rest e = cc
+first_of_drop (y ∷ xs) (suc n) x rest e = first_of_drop xs n x rest e
+
+-- the first pending message was accepted
+first_pending : (b : Being) (m : Message) (ms : List Message) → pending b ≡ m ∷ ms → slice_get b.accepted (length b.begun) ≡ Some m
+first_pending b m ms e = first_of_drop b.accepted (length b.begun) m ms e
+
+beginning_keeps : (names : List (List ℕ)) (w v : World) (a : ActorId) (b : Being) (ms : List Message) → slice_get w.actors a.0 ≡ Some b → pending b ≡ ms → IsWorld names w → begun_by w a b ms ≡ Some v → IsWorld names v
+beginning_keeps names w v a b [] at e h f = cc
+beginning_keeps names w v a b (m ∷ ms) at e h f =
+    let t = let_through _ _ v f in
+    let here : IsBeing names w.edits (length w.actors) b = at_all (IsBeing names w.edits (length w.actors)) w.actors a.0 b h.actors at in
+    let suits : message_fits names (class_count w.edits) (length w.actors) m ≡ true = at_all (λ (x : Message). message_fits names (class_count w.edits) (length w.actors) x ≡ true) b.accepted (length b.begun) m here.mail (first_pending b m ms e) in
+    let both = both_true _ _ suits in
+    let fits : Fits (given names (length w.actors)) w.edits (beginning b m).body = begin_fits (given names (length w.actors)) w.edits b.body m.selector m.args here.fits (number_is _ _ both.0) (all_from_tests (argument_fits names (class_count w.edits) (length w.actors)) (IsThere (given names (length w.actors)) w.edits (length b.body.objects)) m.args (argument_there names w.edits (length w.actors) (length b.body.objects)) both.1) in
+    world_set names w v a (beginning b m) h (record { fits = fits; begins = beginning_begins b m ms e here.begins; mail = here.mail }) (ap (λ (x : World). x.edits) (sym t.1)) (ap (λ (x : World). x.actors) (sym t.1))
+
+begun_keeps : (names : List (List ℕ)) (w v : World) (a : ActorId) (o : Option Being) → slice_get w.actors a.0 ≡ o → IsWorld names w → begun_at w a o ≡ Some v → IsWorld names v
+begun_keeps names w v a None at h f = cc
+begun_keeps names w v a (Some b) at h f = beginning_keeps names w v a b (pending b) at refl h f
+
+-- ---- steps
+
+-- the selector for what is not understood takes one argument
+pub kernel_known : (names : List (List ℕ)) → BeginsWithKernel names → arity_at names does_not_understand ≡ Some 1
+kernel_known names h = subst (λ (ns : List (List ℕ)). arity_at ns does_not_understand ≡ Some 1) (sym h.1) (kernel_names_know h.0)
+
+one_step : (g : Given) (edits : List Edit) (s : Stepped) (c : Body) → FitsStepped g edits s → body_after s ≡ Some c → Fits g edits c
+one_step g edits (stepped told) c f e = let same : told.body ≡ c = cc in subst (Fits g edits) same f
+one_step g edits ended c f e = cc
+one_step g edits outer c f e = cc
+
+then_steps : (g : Given) (edits : List Edit) (a : ActorId) (n : ℕ) (c : Body) (o : Option Body) → ((d : Body) → o ≡ Some d → Fits g edits d) → ((d : Body) → Fits g edits d → steps edits a n d ≡ Some c → Fits g edits c) → option_and_then (steps edits a n) o ≡ Some c → Fits g edits c
+then_steps g edits a n c None f k e = cc
+then_steps g edits a n c (Some d) f k e = k d (f d refl) e
+
+pub steps_fit : (names : List (List ℕ)) (actors : ℕ) (edits : List Edit) (a : ActorId) → BeginsWithKernel names → AreLawful edits → AllSuit names edits → AllSound edits → a.0 < actors → (n : ℕ) (b c : Body) → Fits (given names actors) edits b → steps edits a n b ≡ Some c → Fits (given names actors) edits c
+steps_fit names actors edits a k l s t r zero b c f e = let same : b ≡ c = cc in subst (Fits (given names actors) edits) same f
+steps_fit names actors edits a k l s t r (suc n) b c f e = then_steps (given names actors) edits a n c (body_after (step edits a b)) (λ d g. one_step (given names actors) edits (step edits a b) d (step_fits (given names actors) edits a b l s t (kernel_known names k) r f) g) (λ d g. steps_fit names actors edits a k l s t r n d c g) e
+
+ran_to_keeps : (names : List (List ℕ)) (w v : World) (a : ActorId) (n : ℕ) (b : Being) (o : Option Body) → steps w.edits a n b.body ≡ o → slice_get w.actors a.0 ≡ Some b → IsWorld names w → ran w a b o ≡ Some v → IsWorld names v
+ran_to_keeps names w v a n b None st at h f = cc
+ran_to_keeps names w v a n b (Some body) st at h f =
+    let t : with_actor w a (record b { body = body; results = with_result body.phase b.results }) ≡ v = cc in
+    let here : IsBeing names w.edits (length w.actors) b = at_all (IsBeing names w.edits (length w.actors)) w.actors a.0 b h.actors at in
+    let fits : Fits (given names (length w.actors)) w.edits body = steps_fit names (length w.actors) w.edits a h.kernel h.lawful h.suited h.sound (slice_get_within w.actors a.0 b at) n b.body body here.fits st in
+    world_set names w v a (record b { body = body; results = with_result body.phase b.results }) h (record { fits = fits; begins = here.begins; mail = here.mail }) (ap (λ (x : World). x.edits) (sym t)) (ap (λ (x : World). x.actors) (sym t))
+
+ran_some_keeps : (names : List (List ℕ)) (w v : World) (a : ActorId) (n : ℕ) (b : Being) (c : Bool) → slice_get w.actors a.0 ≡ Some b → IsWorld names w → cond c (ran w a b (steps w.edits a n b.body)) None ≡ Some v → IsWorld names v
+ran_some_keeps names w v a n b true at h f = ran_to_keeps names w v a n b (steps w.edits a n b.body) refl at h f
+ran_some_keeps names w v a n b false at h f = cc
+
+ran_keeps : (names : List (List ℕ)) (w v : World) (a : ActorId) (n : ℕ) (o : Option Being) → slice_get w.actors a.0 ≡ o → IsWorld names w → ran_at w a n o ≡ Some v → IsWorld names v
+ran_keeps names w v a n None at h f = cc
+ran_keeps names w v a n (Some b) at h f = ran_some_keeps names w v a n b (nat_lt 0 n) at h f
+
+-- ---- any item
+
+pub next_keeps : (names : List (List ℕ)) (w v : World) (i : Item) → IsWorld names w → IsSoundItem i → next names w i ≡ Some v → IsWorld names v
+next_keeps names w v (Edited e) h s f = edited_keeps names w v e h s f
+next_keeps names w v (Created c n) h s f = created_keeps names w v c n h f
+next_keeps names w v (Posted a m) h s f = posted_keeps names w v a m (slice_get w.actors a.0) refl h f
+next_keeps names w v (Closed a) h s f = closed_keeps names w v a (slice_get w.actors a.0) refl h f
+next_keeps names w v (Begun a) h s f = begun_keeps names w v a (slice_get w.actors a.0) refl h f
+next_keeps names w v (Ran a n) h s f = ran_keeps names w v a n (slice_get w.actors a.0) refl h f
+
+pub start_is_world : (names : List (List ℕ)) → BeginsWithKernel names → IsWorld names start
+start_is_world names k = record {
+  kernel = k;
+  lawful = λ place e at. cc;
+  suited = λ place c m at. cc;
+  sound = λ place c m at. cc;
+  actors = All-nil _;
+}
+
+kernel_more : (names more : List (List ℕ)) → BeginsWithKernel names → BeginsWithKernel (names ++ more)
+kernel_more names more h = (h.0 ++ more, ap (λ (ns : List (List ℕ)). ns ++ more) h.1 ∙ append_assoc kernel_selectors h.0 more)
+
+-- more names leave a world a world
+pub names_keep : (names more : List (List ℕ)) (w : World) → IsWorld names w → IsWorld (names ++ more) w
+names_keep names more w h = record {
+  kernel = kernel_more names more h.kernel;
+  lawful = h.lawful;
+  suited = all_suit_more names more w.edits h.suited;
+  sound = h.sound;
+  actors = all_map (IsBeing names w.edits (length w.actors)) (IsBeing (names ++ more) w.edits (length w.actors)) w.actors (λ b g. being_given names more w.edits (length w.actors) (length w.actors) b h.lawful h.suited (omega arith) g) h.actors;
+}

@@ -1,0 +1,7 @@
+pub mod KeepingValues
+pub mod KeepingEffects
+pub mod KeepingMoves
+pub mod KeepingArrivals
+pub mod Keeping
+pub mod KeepingGrowth
+pub mod KeepingNeeds

@@ -30,7 +30,7 @@ use Rattle.st_image.specs.Worlds.{World, Being, start, pending, with_actor, is_i
 use Rattle.st_image.specs.Posting.{argument_fits, message_fits, message_suits, post_rules, box_rules}
 use Rattle.st_image.specs.Next.{next, only_if, edited, created, new_being, fresh_body, posted_to, accepting, closed, begun_by, begun_at, beginning, ran, ran_at, steps, body_after, with_result}
 use Rattle.st_image.specs.Delivery.{BeginsInOrder}
-use Rattle.st_image.specs.Lasting.{given, IsBeing, BeginsWithKernel, IsWorld}
+use Rattle.st_image.specs.Lasting.{given, IsBeing, BeginsWithKernel, IsSoundEdit, IsSoundItem, IsWorld}
 use Rattle.st_classes.specs.declared.refusals.Refusal.{Refusal}
 use Rattle.st_classes.specs.declared.refusals.Refusal.TheVariants.{BadArguments}
 use Rattle.st_classes.specs.Refusals.{Rule}
@@ -52,20 +52,6 @@ use Rattle.st_image.proofs.BodyLaws.{fits_after, fits_given}
 
 pub all_map : {X : Type 0} (P Q : X → Type 0) (xs : List X) → ((x : X) → P x → Q x) → All P xs → All Q xs
 all_map P Q xs f h = λ k d l. f _ (h k d l)
-
--- an installed method of an item is sound
-abbrev pub IsSoundEdit : Edit → Type 0
-IsSoundEdit (Define name parent added) = Unit {0}
-IsSoundEdit (Install c m) = IsSound m
-IsSoundEdit (Remove c s) = Unit {0}
-
-abbrev pub IsSoundItem : Item → Type 0
-IsSoundItem (Edited e) = IsSoundEdit e
-IsSoundItem (Created c n) = Unit {0}
-IsSoundItem (Posted a m) = Unit {0}
-IsSoundItem (Closed a) = Unit {0}
-IsSoundItem (Begun a) = Unit {0}
-IsSoundItem (Ran a n) = Unit {0}
 
 -- ---- messages, with more classes and actors
 

@@ -4,3 +4,13 @@ pub mod Deliveries
 pub mod GrowingNames
 pub mod BodyLaws
 pub mod Lasting
+pub mod Lists
+pub mod Showing
+pub mod Running
+pub mod Keeping
+pub mod Posting
+pub mod Creating
+pub mod Naming
+pub mod Editing
+pub mod Advancing
+pub mod Beginning

@@ -1,17 +1,19 @@
 -- What callers see of an image, and the refusals of its calls.
-use Rattle.std.specs.Prelude.{ℕ, ◌+◌, ◌-◌, ◌==◌, ◌&&◌, List, [], ◌∷◌, ◌++◌, length, Bool, true, false, not, Option, Some, None, Result, Ok, Err, nat_le, nat_lt, slice_get, unwrap_or, if◌then◌else◌}
+use Rattle.std.specs.Prelude.{◌≡◌, ◌⊎◌, ◌≤◌, ℕ, ◌+◌, ◌-◌, ◌==◌, ◌&&◌, ◌||◌, List, [], ◌∷◌, ◌++◌, length, Bool, true, false, not, Option, Some, None, Result, Ok, Err, nat_le, nat_lt, slice_get, unwrap_or, if◌then◌else◌}
 use Rattle.st_classes.specs.declared.values.ClassId.{ClassId}
 use Rattle.st_classes.specs.declared.values.ActorId.{ActorId}
 use Rattle.st_classes.specs.declared.refusals.Refusal.{Refusal}
-use Rattle.st_classes.specs.declared.refusals.Refusal.TheVariants.{UnknownClass, KernelClass, UnknownActor, NothingToDo, Pending, Expired, HistoryFull, TooMany}
+use Rattle.st_classes.specs.declared.refusals.Refusal.TheVariants.{UnknownClass, KernelClass, BadArguments, UnknownActor, NothingToDo, Pending, Expired, HistoryFull, TooMany}
 use Rattle.st_classes.specs.declared.refusals.Limited.TheVariants.{Edits, Actors}
 use Rattle.st_classes.specs.Refusals.{Rule}
+use Rattle.st_classes.specs.Kernel.{kernel_selectors}
 use Rattle.st_classes.specs.Classes.{is_class}
 use Rattle.st_classes.specs.Accepting.{is_closed, define_rules}
 use Rattle.st_turn.specs.declared.body.Outcome.{Outcome}
 use Rattle.st_image.specs.declared.messages.Message.{Message}
 use Rattle.st_image.specs.declared.items.Item.{Item}
 use Rattle.st_image.specs.declared.items.Item.TheVariants.{Edited, Created, Posted, Closed, Begun, Ran}
+use Rattle.st_image.specs.declared.settings.Settings.{Settings}
 use Rattle.st_image.specs.Worlds.{World, Being, start, pending, is_idle}
 use Rattle.st_image.specs.Posting.{post_rules}
 use Rattle.st_image.specs.Next.{replay}
@@ -41,10 +43,18 @@ edits_in (Closed a ∷ is) = edits_in is
 edits_in (Begun a ∷ is) = edits_in is
 edits_in (Ran a n ∷ is) = edits_in is
 
+-- a new image: the kernel's names and no history
+abbrev pub new_image : Settings → ImageView
+new_image s = record { names = kernel_selectors; history = []; capacity = s.capacity; limit = s.history; turn = 0 }
+
 abbrev pub appended : ImageView → List Item → ImageView
 appended i items = record i { history = i.history ++ items }
 
 -- ---- refusals, in their order
+
+-- the capacity is from 1 to 1,024, and the history from 1 to 1,000,000
+abbrev pub settings_rules : Settings → List Rule
+settings_rules s = (not (nat_le 1 s.capacity && nat_le s.capacity 1024) || not (nat_le 1 s.history && nat_le s.history 1000000), BadArguments) ∷ []
 
 -- no room for so many items more
 abbrev pub no_room : ImageView → ℕ → Rule
@@ -62,6 +72,11 @@ create_rules i c = (not (is_class (world i).edits c), UnknownClass) ∷ (is_clos
 
 abbrev pub image_post_rules : ImageView → ActorId → Message → List Rule
 image_post_rules i a m = post_rules i.names (world i) (slice_get (world i).actors a.0) m ++ no_room i 1 ∷ []
+
+-- how many messages an actor accepted
+abbrev pub accepted_by : Option Being → ℕ
+accepted_by None = 0
+accepted_by (Some b) = length b.accepted
 
 -- ---- an advance
 
@@ -85,6 +100,10 @@ advanced i a n = record i { history = i.history ++ (beginnings a (idle_at (slice
 -- the image after an advance that found no memory for its first step
 abbrev pub only_begun : ImageView → ActorId → ImageView
 only_begun i a = record i { history = i.history ++ beginnings a (idle_at (slice_get (world i).actors a.0)); turn = a.0 + 1 }
+
+-- what an image may be after want of memory in the middle of an advance: the message begun, or some steps taken
+abbrev pub HasStopped : ImageView → ActorId → ℕ → ImageView → Type 0
+HasStopped i a limit j = (j ≡ only_begun i a) ⊎ ((n : ℕ) × (1 ≤ n) × (n ≤ limit) × (j ≡ advanced i a n))
 
 -- ---- the outcome of a turn
 

@@ -1,11 +1,15 @@
 -- What is true of every world that a history leads to.
 use Rattle.std.specs.Prelude.{◌≡◌, ℕ, List, ◌++◌, length, true, All}
 use Rattle.st_classes.specs.declared.edits.Edit.{Edit}
+use Rattle.st_classes.specs.declared.edits.Edit.TheVariants.{Define, Install, Remove}
+use Rattle.st_classes.specs.Methods.{IsSound}
 use Rattle.st_classes.specs.Kernel.{kernel_selectors}
 use Rattle.st_classes.specs.Classes.{class_count}
 use Rattle.st_classes.specs.Lawful.{AreLawful, AllSuit, AllSound}
 use Rattle.st_turn.specs.Fitting.{Given, Fits}
 use Rattle.st_image.specs.declared.messages.Message.{Message}
+use Rattle.st_image.specs.declared.items.Item.{Item}
+use Rattle.st_image.specs.declared.items.Item.TheVariants.{Edited, Created, Posted, Closed, Begun, Ran}
 use Rattle.st_image.specs.Worlds.{World, Being}
 use Rattle.st_image.specs.Posting.{message_fits}
 use Rattle.st_image.specs.Delivery.{BeginsInOrder}
@@ -24,6 +28,21 @@ pub record IsBeing (names : List (List ℕ)) (edits : List Edit) (actors : ℕ) 
 abbrev pub BeginsWithKernel : List (List ℕ) → Type 0
 BeginsWithKernel names = (more : List (List ℕ)) × (names ≡ kernel_selectors ++ more)
 
+-- an installed method is sound
+abbrev pub IsSoundEdit : Edit → Type 0
+IsSoundEdit (Define name parent added) = Unit {0}
+IsSoundEdit (Install c m) = IsSound m
+IsSoundEdit (Remove c s) = Unit {0}
+
+abbrev pub IsSoundItem : Item → Type 0
+IsSoundItem (Edited e) = IsSoundEdit e
+IsSoundItem (Created c n) = Unit {0}
+IsSoundItem (Posted a m) = Unit {0}
+IsSoundItem (Closed a) = Unit {0}
+IsSoundItem (Begun a) = Unit {0}
+IsSoundItem (Ran a n) = Unit {0}
+
+-- the names are sound, the table is lawful and the actors fit it
 pub record IsWorld (names : List (List ℕ)) (w : World) : Type 0 where
   pub kernel : BeginsWithKernel names
   pub lawful : AreLawful w.edits

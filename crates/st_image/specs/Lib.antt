@@ -3,5 +3,8 @@ pub mod Posting
 pub mod Next
 pub mod Images
 pub mod Ready
+pub mod Lasting
+pub mod Kepts
+pub mod Keeping
 pub mod Delivery
 pub mod Lasting

@@ -4,6 +4,9 @@
 //! one after the other, each of them allowed where it stands.
 #![tactic(auto)]
 
+mod actors;
+pub mod image;
 pub mod items;
 pub mod messages;
+mod queues;
 pub mod settings;

@@ -1,5 +1,7 @@
 //! Messages.
+use st_classes::seq::Seq;
 use st_classes::values::{ActorId, Selector, Values};
+use std::alloc::{AllocError, Global};
 
 /// Who sends a message.
 #[derive(Clone, Copy, PartialEq, Eq, Debug)]
@@ -16,4 +18,20 @@ pub struct Message {
     pub seq: u64,
     pub selector: Selector,
     pub args: Values,
+}
+
+impl Message {
+    ghost use Rattle.std.specs.Prelude.{◌≡◌, IfOk};
+
+    /// The same message once more.
+    pub fn copy(&self, alloc: Global) -> Result<Message, AllocError>
+        ensures { IfOk result (λ m. m ≡ self.now) }
+    {
+        Ok(Message {
+            sender: self.sender,
+            seq: self.seq,
+            selector: self.selector,
+            args: Seq::from_vec(self.args.as_slice().to_vec(alloc)?),
+        })
+    }
 }

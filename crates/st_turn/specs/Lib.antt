@@ -6,4 +6,3 @@ pub mod Steps
 pub mod Fitting
 pub mod Meeting
 pub mod Leaving
-pub mod Trying

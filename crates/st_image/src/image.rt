@@ -1,0 +1,253 @@
+//! Images.
+ghost use Rattle.std.specs.Prelude.{◌≡◌, ◌<◌, slice_get};
+ghost use Rattle.std.specs.Option.{option_copied};
+ghost use Rattle.st_image.specs.Delivery.{Delivers};
+
+mod advancing;
+mod defining;
+mod posting;
+
+use crate::actors::Actor;
+use crate::items::Item;
+use crate::queues::Queue;
+use crate::settings::Settings;
+use st_classes::kernel::KERNEL_CLASSES;
+use st_classes::limits::ACTORS;
+use st_classes::names::Names;
+use st_classes::refusals::{Limited, Refusal};
+use st_classes::values::{ActorId, ClassId, Selector};
+use st_classes::version::Version;
+use st_turn::body::{Body, Outcome};
+use std::alloc::Global;
+use std::marker::Model;
+
+/// What is kept of an actor.
+fn kept_at(actors: &Vec<Actor>, actor: ActorId) -> Option<&Actor>
+    ensures { option_copied result ≡ slice_get actors.now.items actor.0 }
+{
+    actors.get(actor.0 as usize)
+}
+
+/// Whatever happens, the messages that an actor has begun are the first ones that its mailbox accepted, in their order, and
+/// what a mailbox accepted stays accepted.
+pub fn delivery()
+    ensures { Delivers }
+{
+}
+
+/// An image: a class table, actors, and the history that led to them.
+///
+/// Contracts see its names, its history, and the numbers that are set. All else follows from the history.
+#[derive(Drop)]
+pub struct Image {
+    names: Names,
+    version: Version,
+    actors: Vec<Actor>,
+    ready: Queue,
+    history: Vec<Item>,
+    /// How many edits are in the history.
+    edits_made: u32,
+    settings: Settings,
+    /// The number from which the next ready actor is looked for.
+    turn: u32,
+}
+
+impl Model for Image {
+    ghost use Rattle.st_image.specs.Images.{ImageView};
+
+    ghost Value = { ImageView };
+
+    ghost use Rattle.st_image.specs.Keeping.{IsImage};
+
+    ghost view = { λ i. record { names = i.names; history = i.history.items; capacity = i.settings.capacity; limit = i.settings.history; turn = i.turn } };
+
+    ghost invariant = { λ i. IsImage i.names i.version i.actors.items i.ready.numbers i.history.items i.edits_made i.settings };
+}
+
+impl Image {
+    ghost use Rattle.std.specs.Prelude.{◌≡◌, ◌+◌, [], ◌∷◌, length, slice_get, OnOk, OnErr, MatchResult, IfSome, IfNone, IfOk, None, Some, Err, ℕ, false, option_map};
+    ghost use Rattle.st_image.specs.Kepts.{kept_of};
+    ghost use Rattle.st_classes.specs.Names.{interned, intern_rules};
+    ghost use Rattle.st_classes.specs.Refusals.{first_of, Answers};
+    ghost use Rattle.st_image.specs.declared.items.Item.TheVariants.{Created as CreatedItem};
+    ghost use Rattle.st_image.specs.Images.{appended, create_rules, new_image, no_room, outcome_at, settings_rules, world};
+    ghost use Rattle.st_image.specs.Ready.{IsNextReady, is_ready_at};
+    ghost use Rattle.st_image.specs.Keeping.{IsLawful};
+
+    /// An image with the kernel's names and classes, no actors and no history.
+    ///
+    /// `BadArguments` says that a number is out of its range.
+    pub fn new(alloc: Global, settings: Settings) -> Result<Image, Refusal>
+        ensures { Answers (first_of (settings_rules settings)) result (λ i. i ≡ new_image settings) }
+    {
+        if let Some(refusal) = settings.refusal() {
+            return Err(refusal);
+        }
+        let Ok(names) = Names::kernel(alloc) else {
+            return Err(Refusal::NoMemory);
+        };
+        let Ok(version) = Version::kernel(alloc) else {
+            return Err(Refusal::NoMemory);
+        };
+        Ok(Image {
+            names,
+            version,
+            actors: Vec::new(alloc),
+            ready: Queue::new(alloc),
+            history: Vec::new(alloc),
+            edits_made: 0,
+            settings,
+            turn: 0,
+        })
+    }
+
+    /// Sets both numbers and nothing else. `BadArguments` says that one is out of its range, and changes nothing.
+    pub fn set(&mut self, settings: Settings) -> Result<(), Refusal>
+        requires { self.old.history ≡ [] }
+        ensures { MatchResult result
+            (λ _. (first_of (settings_rules settings) ≡ None) × (self.new ≡ record self.old { capacity = settings.capacity; limit = settings.history }))
+            (λ e. (first_of (settings_rules settings) ≡ Some e) × (self.new ≡ self.old)) }
+    {
+        if let Some(refusal) = settings.refusal() {
+            return Err(refusal);
+        }
+        self.settings = settings;
+        Ok(())
+    }
+
+    /// What is true of every image.
+    pub fn known(&self)
+        ensures { IsLawful self.now }
+    {
+        let _ = &self.names;
+    }
+
+    /// All that happened, in order.
+    pub fn history(&self) -> &[Item]
+        ensures { result.now ≡ self.now.history }
+    {
+        self.history.as_slice()
+    }
+
+    pub fn names(&self) -> &Names
+        ensures { result.now ≡ self.now.names }
+    {
+        &self.names
+    }
+
+    /// The class table.
+    pub fn version(&self) -> &Version
+        ensures { result.now ≡ (world self.now).edits }
+    {
+        &self.version
+    }
+
+    /// The number of actors, at most 65,536.
+    pub fn actors(&self) -> u32
+        ensures { result ≡ length (world self.now).actors }
+    {
+        self.actors.len() as u32
+    }
+
+    /// The number of a selector, which is put last in the names where it isn't there yet.
+    ///
+    /// `BadName` says that the text is no selector, and `TooMany` that 8,192 names are there. A refused call changes nothing.
+    pub fn intern(&mut self, alloc: Global, text: &[u8]) -> Result<Selector, Refusal>
+        ensures answers { Answers (first_of (intern_rules self.old.names text.now)) result (λ s. slice_get self.new.names s.0 ≡ Some text.now) }
+        ensures names { OnOk result (self.new ≡ record self.old { names = interned self.old.names text.now }) }
+        ensures unchanged { OnErr result (self.new ≡ self.old) }
+        ensures world { world self.new ≡ world self.old }
+    {
+        self.names.intern(alloc, text)
+    }
+
+    /// How a turn of an actor ended. Turns are numbered from 1, as the actor's accepted messages are.
+    ///
+    /// Refusals, in this order: `UnknownActor`; `Expired` for turn 0; `Pending` where the turn has not ended.
+    pub fn outcome(&self, actor: ActorId, turn: u64) -> Result<Outcome, Refusal>
+        ensures { result ≡ outcome_at (slice_get (world self.now).actors actor.0) turn }
+    {
+        match self.actors.get(actor.0 as usize) {
+            Some(kept) => kept.outcome(turn),
+            None => Err(Refusal::UnknownActor),
+        }
+    }
+
+    /// The first actor, in cyclic order of numbers after the one that advanced last, that is in a turn or has a message
+    /// pending.
+    pub fn next_ready(&self) -> Option<ActorId>
+        ensures some { IfSome result (λ a. IsNextReady (world self.now) self.now.turn a.0) }
+        ensures none { IfNone result ((a : ℕ) → is_ready_at (world self.now) a ≡ false) }
+    {
+        self.ready.next(self.turn).map(ActorId)
+    }
+
+    /// What is kept of an actor.
+    fn actor(&self, actor: ActorId) -> Option<&Actor>
+        ensures { option_copied result ≡ option_map kept_of (slice_get (world self.now).actors actor.0) }
+    {
+        kept_at(&self.actors, actor)
+    }
+
+    /// Why the history has no place for so many items more, if it has none.
+    fn room_refusal(&self, items: u32) -> Option<Refusal>
+        requires { items < 3 }
+        ensures { result ≡ first_of (no_room self.now items ∷ []) }
+    {
+        if (self.settings.history as usize) < self.history.len() + items as usize {
+            Some(Refusal::HistoryFull)
+        } else {
+            None
+        }
+    }
+
+    /// Why a new actor is refused, if it is.
+    fn create_refusal(&self, class: ClassId) -> Option<Refusal>
+        ensures { result ≡ first_of (create_rules self.now class) }
+    {
+        if u32::from(class.0) >= self.version.classes() {
+            return Some(Refusal::UnknownClass);
+        }
+        if 1 <= class.0 && class.0 < KERNEL_CLASSES {
+            return Some(Refusal::KernelClass);
+        }
+        if self.actors.len() >= ACTORS {
+            return Some(Refusal::TooMany {
+                what: Limited::Actors,
+            });
+        }
+        self.room_refusal(1)
+    }
+
+    /// A new actor of a class, with the capacity that is set. Actors are numbered from 0.
+    ///
+    /// Refusals, in this order: `UnknownClass`; `KernelClass` for classes 1 to 7; `TooMany` where 65,536 actors are there;
+    /// `HistoryFull`. A refused call changes nothing.
+    pub fn create(&mut self, alloc: Global, class: ClassId) -> Result<ActorId, Refusal>
+        ensures answers { Answers (first_of (create_rules self.old class)) result (λ a. (self.new ≡ appended self.old (CreatedItem class self.old.capacity ∷ [])) × (a.0 ≡ length (world self.old).actors)) }
+        ensures unchanged { OnErr result (self.new ≡ self.old) }
+    {
+        if let Some(refusal) = self.create_refusal(class) {
+            return Err(refusal);
+        }
+        if self.history.reserve(1).is_err() || self.actors.reserve(1).is_err() {
+            return Err(Refusal::NoMemory);
+        }
+        let slots = self.version.slots(class).len();
+        let Ok(body) = Body::fresh(alloc, class, slots) else {
+            return Err(Refusal::NoMemory);
+        };
+        let capacity = self.settings.capacity;
+        let number = self.actors.len() as u32;
+        self.actors
+            .push(Actor::new(alloc, class, capacity, body))
+            .unwrap();
+        self.history
+            .push(Item::Created { class, capacity })
+            .unwrap();
+        Ok(ActorId(number))
+    }
+}
+
+#[cfg(test)]
+mod tests;

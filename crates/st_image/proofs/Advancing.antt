@@ -60,10 +60,10 @@ let_if false w e = cc
 can_run : (names : List (List ℕ)) (w : World) (a : ActorId) (b : Being) → IsWorld names w → slice_get w.actors a.0 ≡ Some b → MayGo b → CanRun w.edits a (started (kept_of b)).body
 can_run names w a b h at (goes_on idle) = subst (λ (k : Kept). CanRun w.edits a k.body) (sym (started_busy (kept_of b) idle)) (runs_at names w a b h at)
 can_run names w a b h at (begins m ms idle first) =
-  let v : World = with_actor w a (beginning b m) in
-  let now : next names w (Begun a) ≡ Some v = ap (begun_at w a) at ∙ ap (begun_by w a b) first ∙ let_if (is_idle b.body.phase) v idle in
-  let here : CanRun w.edits a (beginning b m).body = runs_at names v a (beginning b m) (next_keeps names w v (Begun a) h tt now) (get_set_same w.actors a.0 b (beginning b m) at) in
-  subst (λ (k : Kept). CanRun w.edits a k.body) (kept_beginning b m ms first ∙ sym (started_idle (kept_of b) idle)) here
+    let v : World = with_actor w a (beginning b m) in
+    let now : next names w (Begun a) ≡ Some v = ap (begun_at w a) at ∙ ap (begun_by w a b) first ∙ let_if (is_idle b.body.phase) v idle in
+    let here : CanRun w.edits a (beginning b m).body = runs_at names v a (beginning b m) (next_keeps names w v (Begun a) h tt now) (get_set_same w.actors a.0 b (beginning b m) at) in
+    subst (λ (k : Kept). CanRun w.edits a k.body) (kept_beginning b m ms first ∙ sym (started_idle (kept_of b) idle)) here
 
 -- ---- what an advance leaves
 
@@ -125,54 +125,51 @@ busy_ready : (b : Being) → is_idle b.body.phase ≡ false → is_ready b ≡ t
 busy_ready b h = ap (λ (x : Bool). not x || not (length (pending b) == 0)) h
 
 ran_on : (names : List (List ℕ)) (edits : List Edit) (actors actors' : List Kept) (ready ready' : BTreeSet ℕ) (h : List Item) (made : ℕ) (s : Settings) (a : ActorId) (b : Being) (n : ℕ) (body : Body)
-  → IsImage names edits actors ready h made s → slice_get (world_of names h).actors a.0 ≡ Some b → is_idle b.body.phase ≡ false → steps edits a n b.body ≡ Some body → length h + 1 ≤ s.history → actors' ≡ slice_set actors a.0 (stepped_to (kept_of b) body) → HasAlso ready ready' a.0 (is_ready_kept (stepped_to (kept_of b) body)) → has ready a.0 ≡ true
-  → IsAdvanced names edits actors' ready' (h ++ (cond (n == 0) [] (Ran a n ∷ []))) made s a body
+    → IsImage names edits actors ready h made s → slice_get (world_of names h).actors a.0 ≡ Some b → is_idle b.body.phase ≡ false → steps edits a n b.body ≡ Some body → length h + 1 ≤ s.history → actors' ≡ slice_set actors a.0 (stepped_to (kept_of b) body) → HasAlso ready ready' a.0 (is_ready_kept (stepped_to (kept_of b) body)) → has ready a.0 ≡ true
+    → IsAdvanced names edits actors' ready' (h ++ (cond (n == 0) [] (Ran a n ∷ []))) made s a body
 ran_on names edits actors actors' ready ready' h made s a b zero body k at busy taken room put queue here =
-  let same : stepped_to (kept_of b) body ≡ kept_of b = no_steps (kept_of b) edits a body busy taken in
-  let actors_same : actors' ≡ actors = put ∙ ap (slice_set actors a.0) same ∙ set_at_same actors a.0 (kept_of b) (kept_at edits actors ready (world_of names h) a.0 b k.shows at) in
-  let stays : is_ready_kept (stepped_to (kept_of b) body) ≡ true = ap is_ready_kept same ∙ busy_ready b busy in
-  let image : IsImage names edits actors ready' h made s = with_ready names edits actors ready ready' h made s k (also_same ready ready' a.0 (is_ready_kept (stepped_to (kept_of b) body)) stays here queue) in
-  subst (λ (is : List Item). IsAdvanced names edits actors' ready' is made s a body) (sym (append-nil h)) (record {
-    image = subst (λ (xs : List Kept). IsImage names edits xs ready' h made s) (sym actors_same) image;
-    at = ap idle_at at ∙ ap (λ (x : Body). is_idle x.phase) (sym (some_body b.body body taken));
-  })
+    let same : stepped_to (kept_of b) body ≡ kept_of b = no_steps (kept_of b) edits a body busy taken in
+    let actors_same : actors' ≡ actors = put ∙ ap (slice_set actors a.0) same ∙ set_at_same actors a.0 (kept_of b) (kept_at edits actors ready (world_of names h) a.0 b k.shows at) in
+    let stays : is_ready_kept (stepped_to (kept_of b) body) ≡ true = ap is_ready_kept same ∙ busy_ready b busy in
+    let image : IsImage names edits actors ready' h made s = with_ready names edits actors ready ready' h made s k (also_same ready ready' a.0 (is_ready_kept (stepped_to (kept_of b) body)) stays here queue) in
+    subst (λ (is : List Item). IsAdvanced names edits actors' ready' is made s a body) (sym (append-nil h)) (record {
+      image = subst (λ (xs : List Kept). IsImage names edits xs ready' h made s) (sym actors_same) image;
+      at = ap idle_at at ∙ ap (λ (x : Body). is_idle x.phase) (sym (some_body b.body body taken));
+    })
 ran_on names edits actors actors' ready ready' h made s a b (suc n) body k at busy taken room put queue here =
-  let r = ran_kept names edits actors ready ready' h made s a b (suc n) body k at (omega arith) taken room queue in
-  let items : cond (suc n == 0) [] (Ran a (suc n) ∷ []) ≡ Ran a (suc n) ∷ [] = ap (λ (x : Bool). cond x [] (Ran a (suc n) ∷ [])) (eqb-suc-zero n) in
-  subst (λ (is : List Item). IsAdvanced names edits actors' ready' (h ++ is) made s a body) (sym items) (record {
-    image = subst (λ (xs : List Kept). IsImage names edits xs ready' (h ++ Ran a (suc n) ∷ []) made s) (sym put) r.0;
-    at = ap idle_at r.1;
-  })
+    let r = ran_kept names edits actors ready ready' h made s a b (suc n) body k at (omega arith) taken room queue in
+    let items : cond (suc n == 0) [] (Ran a (suc n) ∷ []) ≡ Ran a (suc n) ∷ [] = ap (λ (x : Bool). cond x [] (Ran a (suc n) ∷ [])) (eqb-suc-zero n) in
+    subst (λ (is : List Item). IsAdvanced names edits actors' ready' (h ++ is) made s a body) (sym items) (record {
+      image = subst (λ (xs : List Kept). IsImage names edits xs ready' (h ++ Ran a (suc n) ∷ []) made s) (sym put) r.0;
+      at = ap idle_at r.1;
+    })
 
 -- ---- the whole
 
-
-
-
 went_on : (names : List (List ℕ)) (edits : List Edit) (actors actors' : List Kept) (ready ready' : BTreeSet ℕ) (h : List Item) (made : ℕ) (s : Settings) (a : ActorId) (b : Being) (n : ℕ) (body : Body)
-  → IsImage names edits actors ready h made s → slice_get (world_of names h).actors a.0 ≡ Some b → MayGo b → length h + cond (is_idle b.body.phase) 2 1 ≤ s.history → steps edits a n (started (kept_of b)).body ≡ Some body → actors' ≡ slice_set actors a.0 (stepped_to (started (kept_of b)) body) → HasAlso ready ready' a.0 (is_ready_kept (stepped_to (started (kept_of b)) body)) → has ready a.0 ≡ true
-  → IsAdvanced names edits actors' ready' (h ++ advance_items a (is_idle b.body.phase) n) made s a body
+    → IsImage names edits actors ready h made s → slice_get (world_of names h).actors a.0 ≡ Some b → MayGo b → length h + cond (is_idle b.body.phase) 2 1 ≤ s.history → steps edits a n (started (kept_of b)).body ≡ Some body → actors' ≡ slice_set actors a.0 (stepped_to (started (kept_of b)) body) → HasAlso ready ready' a.0 (is_ready_kept (stepped_to (started (kept_of b)) body)) → has ready a.0 ≡ true
+    → IsAdvanced names edits actors' ready' (h ++ advance_items a (is_idle b.body.phase) n) made s a body
 went_on names edits actors actors' ready ready' h made s a b n body k at (goes_on busy) room taken put queue here =
-  let same : started (kept_of b) ≡ kept_of b = started_busy (kept_of b) busy in
-  let r : IsAdvanced names edits actors' ready' (h ++ (cond (n == 0) [] (Ran a n ∷ []))) made s a body = ran_on names edits actors actors' ready ready' h made s a b n body k at busy
+    let same : started (kept_of b) ≡ kept_of b = started_busy (kept_of b) busy in
+    let r : IsAdvanced names edits actors' ready' (h ++ (cond (n == 0) [] (Ran a n ∷ []))) made s a body = ran_on names edits actors actors' ready ready' h made s a b n body k at busy
     (subst (λ (x : Kept). steps edits a n x.body ≡ Some body) same taken)
     (subst (λ (x : Bool). length h + cond x 2 1 ≤ s.history) busy room)
     (subst (λ (x : Kept). actors' ≡ slice_set actors a.0 (stepped_to x body)) same put)
     (subst (λ (x : Kept). HasAlso ready ready' a.0 (is_ready_kept (stepped_to x body))) same queue) here in
-  subst (λ (x : Bool). IsAdvanced names edits actors' ready' (h ++ advance_items a x n) made s a body) (sym busy) r
+    subst (λ (x : Bool). IsAdvanced names edits actors' ready' (h ++ advance_items a x n) made s a body) (sym busy) r
 went_on names edits actors actors' ready ready' h made s a b n body k at (begins m ms idle first) room taken put queue here =
-  let c : Being = beginning b m in
-  let same : started (kept_of b) ≡ kept_of c = started_idle (kept_of b) idle ∙ sym (kept_beginning b m ms first) in
-  let room2 : length h + 2 ≤ s.history = subst (λ (x : Bool). length h + cond x 2 1 ≤ s.history) idle room in
-  let one : length (h ++ Begun a ∷ []) ≡ length h + 1 = length-append h (Begun a ∷ []) in
-  let middle : List Kept = slice_set actors a.0 (begun_first (kept_of b)) in
-  let first_step = begun_kept names edits actors ready h made s a b m ms k at idle first (omega arith) (itself ready a.0 here) in
-  let put' : actors' ≡ slice_set middle a.0 (stepped_to (kept_of c) body) = put ∙ ap (λ (x : Kept). slice_set actors a.0 (stepped_to x body)) same ∙ sym (set_twice actors a.0 (begun_first (kept_of b)) (stepped_to (kept_of c) body)) in
-  let r : IsAdvanced names edits actors' ready' ((h ++ Begun a ∷ []) ++ (cond (n == 0) [] (Ran a n ∷ []))) made s a body = ran_on names edits middle actors' ready ready' (h ++ Begun a ∷ []) made s a c n body first_step.0 first_step.1 refl
+    let c : Being = beginning b m in
+    let same : started (kept_of b) ≡ kept_of c = started_idle (kept_of b) idle ∙ sym (kept_beginning b m ms first) in
+    let room2 : length h + 2 ≤ s.history = subst (λ (x : Bool). length h + cond x 2 1 ≤ s.history) idle room in
+    let one : length (h ++ Begun a ∷ []) ≡ length h + 1 = length-append h (Begun a ∷ []) in
+    let middle : List Kept = slice_set actors a.0 (begun_first (kept_of b)) in
+    let first_step = begun_kept names edits actors ready h made s a b m ms k at idle first (omega arith) (itself ready a.0 here) in
+    let put' : actors' ≡ slice_set middle a.0 (stepped_to (kept_of c) body) = put ∙ ap (λ (x : Kept). slice_set actors a.0 (stepped_to x body)) same ∙ sym (set_twice actors a.0 (begun_first (kept_of b)) (stepped_to (kept_of c) body)) in
+    let r : IsAdvanced names edits actors' ready' ((h ++ Begun a ∷ []) ++ (cond (n == 0) [] (Ran a n ∷ []))) made s a body = ran_on names edits middle actors' ready ready' (h ++ Begun a ∷ []) made s a c n body first_step.0 first_step.1 refl
     (subst (λ (x : Kept). steps edits a n x.body ≡ Some body) same taken) (omega arith) put'
     (subst (λ (x : Kept). HasAlso ready ready' a.0 (is_ready_kept (stepped_to x body))) same queue) here in
-  let items : (h ++ Begun a ∷ []) ++ (cond (n == 0) [] (Ran a n ∷ [])) ≡ h ++ advance_items a true n = append_assoc h (Begun a ∷ []) (cond (n == 0) [] (Ran a n ∷ [])) in
-  subst (λ (x : Bool). IsAdvanced names edits actors' ready' (h ++ advance_items a x n) made s a body) (sym idle) (subst (λ (is : List Item). IsAdvanced names edits actors' ready' is made s a body) items r)
+    let items : (h ++ Begun a ∷ []) ++ (cond (n == 0) [] (Ran a n ∷ [])) ≡ h ++ advance_items a true n = append_assoc h (Begun a ∷ []) (cond (n == 0) [] (Ran a n ∷ [])) in
+    subst (λ (x : Bool). IsAdvanced names edits actors' ready' (h ++ advance_items a x n) made s a body) (sym idle) (subst (λ (is : List Item). IsAdvanced names edits actors' ready' is made s a body) items r)
 
 -- ---- as the call sees it
 
@@ -189,9 +186,9 @@ pub record Allowed (names : List (List ℕ)) (h : List Item) (s : Settings) (a :
 allowed_option : (names : List (List ℕ)) (h : List Item) (s : Settings) (turn : ℕ) (a : ActorId) (o : Option Being) → slice_get (world_of names h).actors a.0 ≡ o → first_of (advance_rules (seen names h s turn) o) ≡ None → (b : Being) × Allowed names h s a b
 allowed_option names h s turn a None at e = cc
 allowed_option names h s turn a (Some b) at e =
-  let rest : List Rule = no_room (seen names h s turn) (cond (is_idle b.body.phase) 2 1) ∷ [] in
-  let o = off (is_idle b.body.phase && (length (pending b) == 0)) NothingToDo rest e in
-  (b, record { there = at; goes = may_go b (is_idle b.body.phase) refl o.0; room = has_room s.history (length h) (cond (is_idle b.body.phase) 2 1) HistoryFull o.1 })
+    let rest : List Rule = no_room (seen names h s turn) (cond (is_idle b.body.phase) 2 1) ∷ [] in
+    let o = off (is_idle b.body.phase && (length (pending b) == 0)) NothingToDo rest e in
+    (b, record { there = at; goes = may_go b (is_idle b.body.phase) refl o.0; room = has_room s.history (length h) (cond (is_idle b.body.phase) 2 1) HistoryFull o.1 })
 
 pub allowed_by : (names : List (List ℕ)) (h : List Item) (s : Settings) (turn : ℕ) (a : ActorId) → first_of (advance_rules (seen names h s turn) (slice_get (world_of names h).actors a.0)) ≡ None → (b : Being) × Allowed names h s a b
 allowed_by names h s turn a e = allowed_option names h s turn a (slice_get (world_of names h).actors a.0) refl e
@@ -211,9 +208,9 @@ some_kept k l e = cc
 
 pub runs : (names : List (List ℕ)) (edits : List Edit) (actors : List Kept) (ready : BTreeSet ℕ) (h : List Item) (made : ℕ) (s : Settings) (a : ActorId) (b : Being) → IsImage names edits actors ready h made s → Allowed names h s a b → (k : Kept) → slice_get actors a.0 ≡ Some k → CanRun edits a (started k).body
 runs names edits actors ready h made s a b i l k e =
-  let w : World = world_of names h in
-  let same : kept_of b ≡ k = some_kept (kept_of b) k (sym (kept_at edits actors ready w a.0 b i.shows l.there) ∙ e) in
-  subst (λ (x : Kept). CanRun edits a (started x).body) same (subst (λ (es : List Edit). CanRun es a (started (kept_of b)).body) (sym i.shows.edits_are) (can_run names w a b i.world l.there l.goes))
+    let w : World = world_of names h in
+    let same : kept_of b ≡ k = some_kept (kept_of b) k (sym (kept_at edits actors ready w a.0 b i.shows l.there) ∙ e) in
+    subst (λ (x : Kept). CanRun edits a (started x).body) same (subst (λ (es : List Edit). CanRun es a (started (kept_of b)).body) (sym i.shows.edits_are) (can_run names w a b i.world l.there l.goes))
 
 -- an image after an advance: how many steps it took, and what it did first
 pub record HasAdvanced (names : List (List ℕ)) (edits : List Edit) (actors : List Kept) (ready : BTreeSet ℕ) (h : List Item) (made : ℕ) (s : Settings) (a : ActorId) (begins : Bool) (n limit : ℕ) (is_whole : Bool) : Type 0 where
@@ -229,24 +226,24 @@ some_steps edits a zero limit b c busy l e (inl w) = omega arith
 some_steps edits a zero limit b c busy l e (inr w) = let same : c ≡ b = some_body b c e in let both : is_idle b.phase ≡ true = ap (λ (x : Body). is_idle x.phase) (sym same) ∙ w in cc
 
 pub has_advanced : (names : List (List ℕ)) (edits : List Edit) (actors actors' : List Kept) (ready ready' : BTreeSet ℕ) (h : List Item) (made : ℕ) (s : Settings) (a : ActorId) (b : Being) (t : Bool) (n limit : ℕ) (is_whole : Bool)
-  → IsImage names edits actors ready h made s → Allowed names h s a b → 1 ≤ limit
-  → ((k : Kept) → slice_get actors a.0 ≡ Some k → t ≡ is_idle k.body.phase)
-  → ((k : Kept) → slice_get actors a.0 ≡ Some k → (body : Body) × Advances edits a limit k n is_whole body × (actors' ≡ slice_set actors a.0 (stepped_to (started k) body)) × HasAlso ready ready' a.0 (is_ready_kept (stepped_to (started k) body)))
-  → HasAdvanced names edits actors' ready' h made s a t n limit is_whole
+    → IsImage names edits actors ready h made s → Allowed names h s a b → 1 ≤ limit
+    → ((k : Kept) → slice_get actors a.0 ≡ Some k → t ≡ is_idle k.body.phase)
+    → ((k : Kept) → slice_get actors a.0 ≡ Some k → (body : Body) × Advances edits a limit k n is_whole body × (actors' ≡ slice_set actors a.0 (stepped_to (started k) body)) × HasAlso ready ready' a.0 (is_ready_kept (stepped_to (started k) body)))
+    → HasAdvanced names edits actors' ready' h made s a t n limit is_whole
 has_advanced names edits actors actors' ready ready' h made s a b t n limit is_whole i l least first went =
-  let w : World = world_of names h in
-  let at : slice_get actors a.0 ≡ Some (kept_of b) = kept_at edits actors ready w a.0 b i.shows l.there in
-  let g = went (kept_of b) at in
-  let idle : t ≡ is_idle b.body.phase = first (kept_of b) at in
-  let r : IsAdvanced names edits actors' ready' (h ++ advance_items a (is_idle b.body.phase) n) made s a g.0 = went_on names edits actors actors' ready ready' h made s a b n g.0 i l.there l.goes l.room g.1.taken g.2 g.3 (is_queued names edits actors ready h made s a b i l) in
-  let r' : IsAdvanced names edits actors' ready' (h ++ advance_items a t n) made s a g.0 = subst (λ (x : Bool). IsAdvanced names edits actors' ready' (h ++ advance_items a x n) made s a g.0) (sym idle) r in
-  record {
-    image = r'.image;
-    idle = idle ∙ sym (ap idle_at l.there);
-    within = g.1.within;
-    some = λ y. some_steps edits a n limit (started (kept_of b)).body g.0 (begun_phase b l.goes) least g.1.taken (g.1.whole y);
-    whole = λ y. whole_at (g.1.whole y) r'.at;
-  }
+    let w : World = world_of names h in
+    let at : slice_get actors a.0 ≡ Some (kept_of b) = kept_at edits actors ready w a.0 b i.shows l.there in
+    let g = went (kept_of b) at in
+    let idle : t ≡ is_idle b.body.phase = first (kept_of b) at in
+    let r : IsAdvanced names edits actors' ready' (h ++ advance_items a (is_idle b.body.phase) n) made s a g.0 = went_on names edits actors actors' ready ready' h made s a b n g.0 i l.there l.goes l.room g.1.taken g.2 g.3 (is_queued names edits actors ready h made s a b i l) in
+    let r' : IsAdvanced names edits actors' ready' (h ++ advance_items a t n) made s a g.0 = subst (λ (x : Bool). IsAdvanced names edits actors' ready' (h ++ advance_items a x n) made s a g.0) (sym idle) r in
+    record {
+      image = r'.image;
+      idle = idle ∙ sym (ap idle_at l.there);
+      within = g.1.within;
+      some = λ y. some_steps edits a n limit (started (kept_of b)).body g.0 (begun_phase b l.goes) least g.1.taken (g.1.whole y);
+      whole = λ y. whole_at (g.1.whole y) r'.at;
+    }
   where
     whole_at : {m k : ℕ} {x y : Bool} → (m ≡ k) ⊎ (x ≡ true) → y ≡ x → (m ≡ k) ⊎ (y ≡ true)
     whole_at (inl e) f = inl e

@@ -30,11 +30,11 @@ at_most m n e = grind (arith, nat_tests)
 
 pub settings_are : (s : Settings) → first_of (settings_rules s) ≡ None → AreSettings s
 settings_are s e =
-  let o = off (not (nat_le 1 s.capacity && nat_le s.capacity 1024) || not (nat_le 1 s.history && nat_le s.history 1000000)) BadArguments [] e in
-  let b = or_off (nat_le 1 s.capacity && nat_le s.capacity 1024) (nat_le 1 s.history && nat_le s.history 1000000) o.0 in
-  let c = and_on (nat_le 1 s.capacity) (nat_le s.capacity 1024) b.0 in
-  let h = and_on (nat_le 1 s.history) (nat_le s.history 1000000) b.1 in
-  record { some_capacity = at_most 1 s.capacity c.0; few_messages = at_most s.capacity 1024 c.1; some_history = at_most 1 s.history h.0; few_items = at_most s.history 1000000 h.1 }
+    let o = off (not (nat_le 1 s.capacity && nat_le s.capacity 1024) || not (nat_le 1 s.history && nat_le s.history 1000000)) BadArguments [] e in
+    let b = or_off (nat_le 1 s.capacity && nat_le s.capacity 1024) (nat_le 1 s.history && nat_le s.history 1000000) o.0 in
+    let c = and_on (nat_le 1 s.capacity) (nat_le s.capacity 1024) b.0 in
+    let h = and_on (nat_le 1 s.history) (nat_le s.history 1000000) b.1 in
+    record { some_capacity = at_most 1 s.capacity c.0; few_messages = at_most s.capacity 1024 c.1; some_history = at_most 1 s.history h.0; few_items = at_most s.history 1000000 h.1 }
 
 pub new_is : (ready : BTreeSet ℕ) (s : Settings) → ((a : ℕ) → has ready a ≡ false) → AreSettings s → IsImage kernel_selectors [] [] ready [] 0 s
 unfolding world_of

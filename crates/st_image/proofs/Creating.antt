@@ -35,19 +35,19 @@ fewer : (m n : ℕ) → nat_le m n ≡ false → n < m
 fewer m n h = grind (arith, nat_tests)
 
 pub created : (names : List (List ℕ)) (edits : List Edit) (actors actors' : List Kept) (ready : BTreeSet ℕ) (h : List Item) (made : ℕ) (s : Settings) (turn : ℕ) (c : ClassId)
-  → IsImage names edits actors ready h made s → first_of (create_rules (seen names h s turn) c) ≡ None → actors' ≡ actors ++ new_kept c s.capacity (fresh_body edits c) ∷ []
-  → IsImage names edits actors' ready (h ++ Created c s.capacity ∷ []) made s
+    → IsImage names edits actors ready h made s → first_of (create_rules (seen names h s turn) c) ≡ None → actors' ≡ actors ++ new_kept c s.capacity (fresh_body edits c) ∷ []
+    → IsImage names edits actors' ready (h ++ Created c s.capacity ∷ []) made s
 created names edits actors actors' ready h made s turn c k allowed e =
-  let w : World = world_of names h in
-  let room : List Rule = no_room (seen names h s turn) 1 ∷ [] in
-  let few : List Rule = (nat_le 65536 (length w.actors), TooMany Actors) ∷ room in
-  let open' : List Rule = (is_closed c, KernelClass) ∷ few in
-  let o1 = off (not (is_class w.edits c)) UnknownClass open' allowed in
-  let o2 = off (is_closed c) KernelClass few o1.1 in
-  let o3 = off (nat_le 65536 (length w.actors)) (TooMany Actors) room o2.1 in
-  let inst : has_instances edits c ≡ true = subst (λ (es : List Edit). has_instances es c ≡ true) (sym k.shows.edits_are) (has_instances_by w.edits c o1.0 o2.0) in
-  let count : length actors < 65536 = omega (arith, count_is edits actors ready w k.shows, fewer 65536 (length w.actors) o3.0) in
-  created_kept names edits actors actors' ready h made s c s.capacity k inst count (has_room s.history (length h) 1 _ o3.1) e
+    let w : World = world_of names h in
+    let room : List Rule = no_room (seen names h s turn) 1 ∷ [] in
+    let few : List Rule = (nat_le 65536 (length w.actors), TooMany Actors) ∷ room in
+    let open' : List Rule = (is_closed c, KernelClass) ∷ few in
+    let o1 = off (not (is_class w.edits c)) UnknownClass open' allowed in
+    let o2 = off (is_closed c) KernelClass few o1.1 in
+    let o3 = off (nat_le 65536 (length w.actors)) (TooMany Actors) room o2.1 in
+    let inst : has_instances edits c ≡ true = subst (λ (es : List Edit). has_instances es c ≡ true) (sym k.shows.edits_are) (has_instances_by w.edits c o1.0 o2.0) in
+    let count : length actors < 65536 = omega (arith, count_is edits actors ready w k.shows, fewer 65536 (length w.actors) o3.0) in
+    created_kept names edits actors actors' ready h made s c s.capacity k inst count (has_room s.history (length h) 1 _ o3.1) e
 
 -- the body of a new actor with such instance variables
 abbrev pub fresh_with : ClassId → List (List ℕ) → Body

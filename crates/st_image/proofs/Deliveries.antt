@@ -45,11 +45,11 @@ grow_push xs c = λ a b e. (b, get_left xs (c ∷ []) a b e, prefix_refl b.accep
 
 grow_set : (xs : List Being) (k : ℕ) (b c : Being) → slice_get xs k ≡ Some b → IsPrefixOf b.accepted c.accepted → OnlyGrow xs (slice_set xs k c)
 grow_set xs k b c at p = λ a d e. elim (same_or_not a k) [
-    | inl s ↦ let here : slice_get xs a ≡ Some b = subst (λ (n : ℕ). slice_get xs n ≡ Some b) (sym s) at in
+  | inl s ↦ let here : slice_get xs a ≡ Some b = subst (λ (n : ℕ). slice_get xs n ≡ Some b) (sym s) at in
       let same : b ≡ d = cc in
       (c, subst (λ (n : ℕ). slice_get (slice_set xs k c) n ≡ Some c) (sym s) (get_set_same xs k b c at), subst (λ (x : Being). IsPrefixOf x.accepted c.accepted) same p)
-    | inr f ↦ (d, get_set_other xs a k d c f e, prefix_refl d.accepted)
-  ]
+  | inr f ↦ (d, get_set_other xs a k d c f e, prefix_refl d.accepted)
+]
 
 -- ---- one item
 

@@ -36,17 +36,17 @@ pub record IsEdited (names : List (List ℕ)) (edits : List Edit) (actors : List
   pub edits_are : (world_of names h).edits ≡ edits
 
 pub edited : (names : List (List ℕ)) (edits edits' : List Edit) (actors : List Kept) (ready : BTreeSet ℕ) (h : List Item) (made : ℕ) (s : Settings) (turn : ℕ) (e : Edit)
-  → IsImage names edits actors ready h made s → IsSoundEdit e → edit_suits names (world_of names h).edits e ≡ true → first_of (edit_rules (world_of names h).edits e ++ run_rules (seen names h s turn)) ≡ None → edits' ≡ (world_of names h).edits ++ e ∷ []
-  → IsEdited names edits' actors ready (h ++ Edited e ∷ []) (made + 1) s
+    → IsImage names edits actors ready h made s → IsSoundEdit e → edit_suits names (world_of names h).edits e ≡ true → first_of (edit_rules (world_of names h).edits e ++ run_rules (seen names h s turn)) ≡ None → edits' ≡ (world_of names h).edits ++ e ∷ []
+    → IsEdited names edits' actors ready (h ++ Edited e ∷ []) (made + 1) s
 edited names edits edits' actors ready h made s turn e k sound suits allowed after =
-  let w : World = world_of names h in
-  let both = off_append (edit_rules w.edits e) (run_rules (seen names h s turn)) allowed in
-  let o = off (nat_le 2048 (edits_in h)) (TooMany Edits) (no_room (seen names h s turn) 1 ∷ []) both.1 in
-  let back : w.edits ≡ edits = sym k.shows.edits_are in
-  let suits' : edit_suits names edits e ≡ true = subst (λ (es : List Edit). edit_suits names es e ≡ true) back suits in
-  let allowed' : first_of (edit_rules edits e) ≡ None = subst (λ (es : List Edit). first_of (edit_rules es e) ≡ None) back both.0 in
-  let r = edited_kept names edits edits' actors ready h made (made + 1) s e k sound allowed' suits' (has_room s.history (length h) 1 _ o.1) (after ∙ ap (λ (es : List Edit). es ++ e ∷ []) back) refl in
-  record { image = r.0; edits_are = ap (λ (w : World). w.edits) r.1 }
+    let w : World = world_of names h in
+    let both = off_append (edit_rules w.edits e) (run_rules (seen names h s turn)) allowed in
+    let o = off (nat_le 2048 (edits_in h)) (TooMany Edits) (no_room (seen names h s turn) 1 ∷ []) both.1 in
+    let back : w.edits ≡ edits = sym k.shows.edits_are in
+    let suits' : edit_suits names edits e ≡ true = subst (λ (es : List Edit). edit_suits names es e ≡ true) back suits in
+    let allowed' : first_of (edit_rules edits e) ≡ None = subst (λ (es : List Edit). first_of (edit_rules es e) ≡ None) back both.0 in
+    let r = edited_kept names edits edits' actors ready h made (made + 1) s e k sound allowed' suits' (has_room s.history (length h) 1 _ o.1) (after ∙ ap (λ (es : List Edit). es ++ e ∷ []) back) refl in
+    record { image = r.0; edits_are = ap (λ (w : World). w.edits) r.1 }
 
 get_last : {X : Type 0} (xs : List X) (x : X) → slice_get (xs ++ x ∷ []) (length xs) ≡ Some x
 get_last [] x = refl
@@ -58,5 +58,5 @@ some_same x y e = cc
 -- the last edit of a table that got one
 pub last_is : (edits edits' : List Edit) (e f : Edit) → edits' ≡ edits ++ e ∷ [] → Some f ≡ slice_get edits' (length edits' - 1) → f ≡ e
 last_is edits edits' e f h g =
-  let place : length edits' - 1 ≡ length edits = omega (arith, ap (λ (es : List Edit). length es) h, length-append edits (e ∷ [])) in
-  some_same f e (g ∙ ap (slice_get edits') place ∙ ap (λ (es : List Edit). slice_get es (length edits)) h ∙ get_last edits e)
+    let place : length edits' - 1 ≡ length edits = omega (arith, ap (λ (es : List Edit). length es) h, length-append edits (e ∷ [])) in
+    some_same f e (g ∙ ap (slice_get edits') place ∙ ap (λ (es : List Edit). slice_get es (length edits)) h ∙ get_last edits e)

@@ -56,21 +56,23 @@ accept_more n actors h = All-weaker (λ (k : Kept). k.accepted ≤ n) (λ (k : K
 
 -- an image with an item more
 pushed : (names : List (List ℕ)) (edits edits' : List Edit) (actors actors' : List Kept) (ready ready' : BTreeSet ℕ) (h : List Item) (made made' : ℕ) (s : Settings) (i : Item) (v : World)
-  → IsImage names edits actors ready h made s → IsSoundItem i → next names (world_of names h) i ≡ Some v → Shows edits' actors' ready' v → made' ≡ made + edits_in (i ∷ []) → length h + 1 ≤ s.history → length actors' ≤ 65536 → AcceptAtMost (length h + 1) actors'
-  → IsImage names edits' actors' ready' (h ++ i ∷ []) made' s × (world_of names (h ++ i ∷ []) ≡ v)
+    → IsImage names edits actors ready h made s → IsSoundItem i → next names (world_of names h) i ≡ Some v → Shows edits' actors' ready' v → made' ≡ made + edits_in (i ∷ []) → length h + 1 ≤ s.history → length actors' ≤ 65536 → AcceptAtMost (length h + 1) actors'
+    → IsImage names edits' actors' ready' (h ++ i ∷ []) made' s × (world_of names (h ++ i ∷ []) ≡ v)
 pushed names edits edits' actors actors' ready ready' h made made' s i v k sound n shows count room few acc =
-  let both = lawful_push names h i v k.lawful n in
-  let len : length (h ++ i ∷ []) ≡ length h + 1 = length-append h (i ∷ []) in
-  (record {
-    lawful = both.0 ∙ ap Some (sym both.1);
-    shows = subst (Shows edits' actors' ready') (sym both.1) shows;
-    world = subst (IsWorld names) (sym both.1) (next_keeps names (world_of names h) v i k.world sound n);
-    counted = count ∙ ap (λ (x : ℕ). x + edits_in (i ∷ [])) k.counted ∙ sym (edits_in_append h (i ∷ []));
-    numbers = k.numbers;
-    few_items = subst (λ (x : ℕ). x ≤ s.history) (sym len) room;
-    few_actors = few;
-    few_accepted = subst (λ (x : ℕ). AcceptAtMost x actors') (sym len) acc;
-  }, both.1)
+    let both = lawful_push names h i v k.lawful n in
+    let len : length (h ++ i ∷ []) ≡ length h + 1 = length-append h (i ∷ []) in (
+      record {
+        lawful = both.0 ∙ ap Some (sym both.1);
+        shows = subst (Shows edits' actors' ready') (sym both.1) shows;
+        world = subst (IsWorld names) (sym both.1) (next_keeps names (world_of names h) v i k.world sound n);
+        counted = count ∙ ap (λ (x : ℕ). x + edits_in (i ∷ [])) k.counted ∙ sym (edits_in_append h (i ∷ []));
+        numbers = k.numbers;
+        few_items = subst (λ (x : ℕ). x ≤ s.history) (sym len) room;
+        few_actors = few;
+        few_accepted = subst (λ (x : ℕ). AcceptAtMost x actors') (sym len) acc;
+      },
+      both.1,
+    )
 
 through : (b : Bool) (w : World) → b ≡ true → only_if b w ≡ Some w
 through true w e = refl
@@ -105,29 +107,29 @@ pub has_instances_by : (edits : List Edit) (c : ClassId) → not (is_class edits
 has_instances_by edits c e f = and_true (is_class edits c) (not (is_closed c)) (not_false (is_class edits c) e) (not_true (is_closed c) f)
 
 pub created_kept : (names : List (List ℕ)) (edits : List Edit) (actors actors' : List Kept) (ready : BTreeSet ℕ) (h : List Item) (made : ℕ) (s : Settings) (c : ClassId) (n : ℕ)
-  → IsImage names edits actors ready h made s → has_instances edits c ≡ true → length actors < 65536 → length h + 1 ≤ s.history → actors' ≡ actors ++ new_kept c n (fresh_body edits c) ∷ []
-  → IsImage names edits actors' ready (h ++ Created c n ∷ []) made s
+    → IsImage names edits actors ready h made s → has_instances edits c ≡ true → length actors < 65536 → length h + 1 ≤ s.history → actors' ≡ actors ++ new_kept c n (fresh_body edits c) ∷ []
+    → IsImage names edits actors' ready (h ++ Created c n ∷ []) made s
 created_kept names edits actors actors' ready h made s c n k inst few room e =
-  let w : World = world_of names h in
-  let b : Being = new_being w.edits c n in
-  let v : World = record w { actors = w.actors ++ b ∷ [] } in
-  let inst' : has_instances w.edits c ≡ true = subst (λ (es : List Edit). has_instances es c ≡ true) k.shows.edits_are inst in
-  let now : next names w (Created c n) ≡ Some v = through (has_instances w.edits c) v inst' in
-  let here : actors' ≡ actors ++ kept_of b ∷ [] = e ∙ ap (λ (es : List Edit). actors ++ new_kept c n (fresh_body es c) ∷ []) k.shows.edits_are in
-  let more : length actors' ≤ 65536 = rw e (omega (arith, length-append actors (new_kept c n (fresh_body edits c) ∷ []))) in
-  let acc : AcceptAtMost (length h + 1) (actors ++ kept_of b ∷ []) = All-push (λ (x : Kept). x.accepted ≤ length h + 1) actors (kept_of b) (accept_more (length h) actors k.few_accepted) (omega arith) in
-  (pushed names edits edits actors actors' ready ready h made made s (Created c n) v k tt now (shows_push edits actors actors' ready w v b k.shows refl refl here refl) (omega arith) room more (subst (AcceptAtMost (length h + 1)) (sym here) acc)).0
+    let w : World = world_of names h in
+    let b : Being = new_being w.edits c n in
+    let v : World = record w { actors = w.actors ++ b ∷ [] } in
+    let inst' : has_instances w.edits c ≡ true = subst (λ (es : List Edit). has_instances es c ≡ true) k.shows.edits_are inst in
+    let now : next names w (Created c n) ≡ Some v = through (has_instances w.edits c) v inst' in
+    let here : actors' ≡ actors ++ kept_of b ∷ [] = e ∙ ap (λ (es : List Edit). actors ++ new_kept c n (fresh_body es c) ∷ []) k.shows.edits_are in
+    let more : length actors' ≤ 65536 = rw e (omega (arith, length-append actors (new_kept c n (fresh_body edits c) ∷ []))) in
+    let acc : AcceptAtMost (length h + 1) (actors ++ kept_of b ∷ []) = All-push (λ (x : Kept). x.accepted ≤ length h + 1) actors (kept_of b) (accept_more (length h) actors k.few_accepted) (omega arith) in
+    (pushed names edits edits actors actors' ready ready h made made s (Created c n) v k tt now (shows_push edits actors actors' ready w v b k.shows refl refl here refl) (omega arith) room more (subst (AcceptAtMost (length h + 1)) (sym here) acc)).0
 
 -- ---- one actor changed
 
 set_keeps : (names : List (List ℕ)) (edits : List Edit) (actors actors' : List Kept) (ready ready' : BTreeSet ℕ) (h : List Item) (made : ℕ) (s : Settings) (a : ℕ) (b c : Being) (i : Item) (v : World)
-  → IsImage names edits actors ready h made s → slice_get (world_of names h).actors a ≡ Some b → IsSoundItem i → edits_in (i ∷ []) ≡ 0 → next names (world_of names h) i ≡ Some v → v.edits ≡ (world_of names h).edits → v.actors ≡ slice_set (world_of names h).actors a c → length c.accepted ≤ length h + 1 → actors' ≡ slice_set actors a (kept_of c) → HasAlso ready ready' a (is_ready c) → length h + 1 ≤ s.history
-  → IsImage names edits actors' ready' (h ++ i ∷ []) made s × (world_of names (h ++ i ∷ []) ≡ v)
+    → IsImage names edits actors ready h made s → slice_get (world_of names h).actors a ≡ Some b → IsSoundItem i → edits_in (i ∷ []) ≡ 0 → next names (world_of names h) i ≡ Some v → v.edits ≡ (world_of names h).edits → v.actors ≡ slice_set (world_of names h).actors a c → length c.accepted ≤ length h + 1 → actors' ≡ slice_set actors a (kept_of c) → HasAlso ready ready' a (is_ready c) → length h + 1 ≤ s.history
+    → IsImage names edits actors' ready' (h ++ i ∷ []) made s × (world_of names (h ++ i ∷ []) ≡ v)
 set_keeps names edits actors actors' ready ready' h made s a b c i v k at sound none now same set few here queue room =
-  let count : length actors' ≤ 65536 = rw here (omega (arith, length-set actors a (kept_of c), k.few_actors)) in
-  let acc : AcceptAtMost (length h + 1) (slice_set actors a (kept_of c)) = All-set (λ (x : Kept). x.accepted ≤ length h + 1) actors a (kept_of c) few (accept_more (length h) actors k.few_accepted) in
-  let shows : Shows edits actors' ready' v = shows_set edits actors actors' ready ready' (world_of names h) v a b c k.shows at same set here queue in
-  pushed names edits edits actors actors' ready ready' h made made s i v k sound now shows (omega (arith, none)) room count (subst (AcceptAtMost (length h + 1)) (sym here) acc)
+    let count : length actors' ≤ 65536 = rw here (omega (arith, length-set actors a (kept_of c), k.few_actors)) in
+    let acc : AcceptAtMost (length h + 1) (slice_set actors a (kept_of c)) = All-set (λ (x : Kept). x.accepted ≤ length h + 1) actors a (kept_of c) few (accept_more (length h) actors k.few_accepted) in
+    let shows : Shows edits actors' ready' v = shows_set edits actors actors' ready ready' (world_of names h) v a b c k.shows at same set here queue in
+    pushed names edits edits actors actors' ready ready' h made made s i v k sound now shows (omega (arith, none)) room count (subst (AcceptAtMost (length h + 1)) (sym here) acc)
 
 accepted_at : (names : List (List ℕ)) (edits : List Edit) (actors : List Kept) (ready : BTreeSet ℕ) (h : List Item) (made : ℕ) (s : Settings) (a : ℕ) (b : Being) → IsImage names edits actors ready h made s → slice_get (world_of names h).actors a ≡ Some b → length b.accepted ≤ length h
 accepted_at names edits actors ready h made s a b k at = at_all (λ (x : Kept). x.accepted ≤ length h) actors a (kept_of b) k.few_accepted (kept_at edits actors ready (world_of names h) a b k.shows at)
@@ -135,33 +137,33 @@ accepted_at names edits actors ready h made s a b k at = at_all (λ (x : Kept). 
 -- ---- a message
 
 pub posted_kept : (names : List (List ℕ)) (edits : List Edit) (actors actors' : List Kept) (ready ready' : BTreeSet ℕ) (h : List Item) (made : ℕ) (s : Settings) (a : ActorId) (b : Being) (m : Message)
-  → IsImage names edits actors ready h made s → slice_get (world_of names h).actors a.0 ≡ Some b → first_of (post_rules names (world_of names h) (Some b) m) ≡ None → length h + 1 ≤ s.history → actors' ≡ slice_set actors a.0 (taken_in (kept_of b) m) → HasAlso ready ready' a.0 true
-  → IsImage names edits actors' ready' (h ++ Posted a m ∷ []) made s × (slice_get (world_of names (h ++ Posted a m ∷ [])).actors a.0 ≡ Some (accepting b m))
+    → IsImage names edits actors ready h made s → slice_get (world_of names h).actors a.0 ≡ Some b → first_of (post_rules names (world_of names h) (Some b) m) ≡ None → length h + 1 ≤ s.history → actors' ≡ slice_set actors a.0 (taken_in (kept_of b) m) → HasAlso ready ready' a.0 true
+    → IsImage names edits actors' ready' (h ++ Posted a m ∷ []) made s × (slice_get (world_of names (h ++ Posted a m ∷ [])).actors a.0 ≡ Some (accepting b m))
 posted_kept names edits actors actors' ready ready' h made s a b m k at allowed room here queue =
-  let w : World = world_of names h in
-  let v : World = record (with_actor w a (accepting b m)) { clients = with_last w.clients m.sender m.seq } in
-  let order : BeginsInOrder b = (being_at names w a.0 b k.world at).begins in
-  let now : next names w (Posted a m) ≡ Some v = ap (posted_to names w a m) at ∙ through (is_none (first_of (post_rules names w (Some b) m))) v (none_is_none (first_of (post_rules names w (Some b) m)) allowed) in
-  let more : length (b.accepted ++ m ∷ []) ≡ length b.accepted + 1 = length-append b.accepted (m ∷ []) in
-  let few : length (accepting b m).accepted ≤ length h + 1 = omega (arith, accepted_at names edits actors ready h made s a.0 b k at, more) in
-  let here' : actors' ≡ slice_set actors a.0 (kept_of (accepting b m)) = here ∙ ap (slice_set actors a.0) (sym (kept_accepting b m order)) in
-  let queue' : HasAlso ready ready' a.0 (is_ready (accepting b m)) = subst (HasAlso ready ready' a.0) (sym (ready_accepting b m order)) queue in
-  let r = set_keeps names edits actors actors' ready ready' h made s a.0 b (accepting b m) (Posted a m) v k at tt refl now refl refl few here' queue' room in
-  (r.0, ap (λ (x : World). slice_get x.actors a.0) r.1 ∙ get_set_same w.actors a.0 b (accepting b m) at)
+    let w : World = world_of names h in
+    let v : World = record (with_actor w a (accepting b m)) { clients = with_last w.clients m.sender m.seq } in
+    let order : BeginsInOrder b = (being_at names w a.0 b k.world at).begins in
+    let now : next names w (Posted a m) ≡ Some v = ap (posted_to names w a m) at ∙ through (is_none (first_of (post_rules names w (Some b) m))) v (none_is_none (first_of (post_rules names w (Some b) m)) allowed) in
+    let more : length (b.accepted ++ m ∷ []) ≡ length b.accepted + 1 = length-append b.accepted (m ∷ []) in
+    let few : length (accepting b m).accepted ≤ length h + 1 = omega (arith, accepted_at names edits actors ready h made s a.0 b k at, more) in
+    let here' : actors' ≡ slice_set actors a.0 (kept_of (accepting b m)) = here ∙ ap (slice_set actors a.0) (sym (kept_accepting b m order)) in
+    let queue' : HasAlso ready ready' a.0 (is_ready (accepting b m)) = subst (HasAlso ready ready' a.0) (sym (ready_accepting b m order)) queue in
+    let r = set_keeps names edits actors actors' ready ready' h made s a.0 b (accepting b m) (Posted a m) v k at tt refl now refl refl few here' queue' room in
+    (r.0, ap (λ (x : World). slice_get x.actors a.0) r.1 ∙ get_set_same w.actors a.0 b (accepting b m) at)
 
 -- ---- a message begins
 
 pub begun_kept : (names : List (List ℕ)) (edits : List Edit) (actors : List Kept) (ready : BTreeSet ℕ) (h : List Item) (made : ℕ) (s : Settings) (a : ActorId) (b : Being) (m : Message) (ms : List Message)
-  → IsImage names edits actors ready h made s → slice_get (world_of names h).actors a.0 ≡ Some b → is_idle b.body.phase ≡ true → pending b ≡ m ∷ ms → length h + 1 ≤ s.history → HasAlso ready ready a.0 true
-  → IsImage names edits (slice_set actors a.0 (begun_first (kept_of b))) ready (h ++ Begun a ∷ []) made s × (slice_get (world_of names (h ++ Begun a ∷ [])).actors a.0 ≡ Some (beginning b m))
+    → IsImage names edits actors ready h made s → slice_get (world_of names h).actors a.0 ≡ Some b → is_idle b.body.phase ≡ true → pending b ≡ m ∷ ms → length h + 1 ≤ s.history → HasAlso ready ready a.0 true
+    → IsImage names edits (slice_set actors a.0 (begun_first (kept_of b))) ready (h ++ Begun a ∷ []) made s × (slice_get (world_of names (h ++ Begun a ∷ [])).actors a.0 ≡ Some (beginning b m))
 begun_kept names edits actors ready h made s a b m ms k at idle first room queue =
-  let w : World = world_of names h in
-  let v : World = with_actor w a (beginning b m) in
-  let now : next names w (Begun a) ≡ Some v = ap (begun_at w a) at ∙ ap (begun_by w a b) first ∙ through (is_idle b.body.phase) v idle in
-  let few : length (beginning b m).accepted ≤ length h + 1 = omega (arith, accepted_at names edits actors ready h made s a.0 b k at) in
-  let here : slice_set actors a.0 (begun_first (kept_of b)) ≡ slice_set actors a.0 (kept_of (beginning b m)) = ap (slice_set actors a.0) (sym (kept_beginning b m ms first)) in
-  let r = set_keeps names edits actors (slice_set actors a.0 (begun_first (kept_of b))) ready ready h made s a.0 b (beginning b m) (Begun a) v k at tt refl now refl refl few here queue room in
-  (r.0, ap (λ (x : World). slice_get x.actors a.0) r.1 ∙ get_set_same w.actors a.0 b (beginning b m) at)
+    let w : World = world_of names h in
+    let v : World = with_actor w a (beginning b m) in
+    let now : next names w (Begun a) ≡ Some v = ap (begun_at w a) at ∙ ap (begun_by w a b) first ∙ through (is_idle b.body.phase) v idle in
+    let few : length (beginning b m).accepted ≤ length h + 1 = omega (arith, accepted_at names edits actors ready h made s a.0 b k at) in
+    let here : slice_set actors a.0 (begun_first (kept_of b)) ≡ slice_set actors a.0 (kept_of (beginning b m)) = ap (slice_set actors a.0) (sym (kept_beginning b m ms first)) in
+    let r = set_keeps names edits actors (slice_set actors a.0 (begun_first (kept_of b))) ready ready h made s a.0 b (beginning b m) (Begun a) v k at tt refl now refl refl few here queue room in
+    (r.0, ap (λ (x : World). slice_get x.actors a.0) r.1 ∙ get_set_same w.actors a.0 b (beginning b m) at)
 
 -- ---- steps
 
@@ -173,32 +175,32 @@ positive : (n : ℕ) → 0 < n → nat_lt 0 n ≡ true
 positive n h = grind (arith, nat_tests)
 
 pub ran_kept : (names : List (List ℕ)) (edits : List Edit) (actors : List Kept) (ready ready' : BTreeSet ℕ) (h : List Item) (made : ℕ) (s : Settings) (a : ActorId) (b : Being) (n : ℕ) (body : Body)
-  → IsImage names edits actors ready h made s → slice_get (world_of names h).actors a.0 ≡ Some b → 0 < n → steps edits a n b.body ≡ Some body → length h + 1 ≤ s.history → HasAlso ready ready' a.0 (is_ready (with_body b body))
-  → IsImage names edits (slice_set actors a.0 (stepped_to (kept_of b) body)) ready' (h ++ Ran a n ∷ []) made s × (slice_get (world_of names (h ++ Ran a n ∷ [])).actors a.0 ≡ Some (with_body b body))
+    → IsImage names edits actors ready h made s → slice_get (world_of names h).actors a.0 ≡ Some b → 0 < n → steps edits a n b.body ≡ Some body → length h + 1 ≤ s.history → HasAlso ready ready' a.0 (is_ready (with_body b body))
+    → IsImage names edits (slice_set actors a.0 (stepped_to (kept_of b) body)) ready' (h ++ Ran a n ∷ []) made s × (slice_get (world_of names (h ++ Ran a n ∷ [])).actors a.0 ≡ Some (with_body b body))
 ran_kept names edits actors ready ready' h made s a b n body k at some taken room queue =
-  let w : World = world_of names h in
-  let c : Being = with_body b body in
-  let v : World = with_actor w a c in
-  let taken' : steps w.edits a n b.body ≡ Some body = subst (λ (es : List Edit). steps es a n b.body ≡ Some body) k.shows.edits_are taken in
-  let now : next names w (Ran a n) ≡ Some v = ap (ran_at w a n) at ∙ ap (λ (x : Bool). cond x (ran w a b (steps w.edits a n b.body)) None) (positive n some) ∙ ap (ran w a b) taken' in
-  let few : length c.accepted ≤ length h + 1 = omega (arith, accepted_at names edits actors ready h made s a.0 b k at) in
-  let r = set_keeps names edits actors (slice_set actors a.0 (stepped_to (kept_of b) body)) ready ready' h made s a.0 b c (Ran a n) v k at tt refl now refl refl few refl queue room in
-  (r.0, ap (λ (x : World). slice_get x.actors a.0) r.1 ∙ get_set_same w.actors a.0 b c at)
+    let w : World = world_of names h in
+    let c : Being = with_body b body in
+    let v : World = with_actor w a c in
+    let taken' : steps w.edits a n b.body ≡ Some body = subst (λ (es : List Edit). steps es a n b.body ≡ Some body) k.shows.edits_are taken in
+    let now : next names w (Ran a n) ≡ Some v = ap (ran_at w a n) at ∙ ap (λ (x : Bool). cond x (ran w a b (steps w.edits a n b.body)) None) (positive n some) ∙ ap (ran w a b) taken' in
+    let few : length c.accepted ≤ length h + 1 = omega (arith, accepted_at names edits actors ready h made s a.0 b k at) in
+    let r = set_keeps names edits actors (slice_set actors a.0 (stepped_to (kept_of b) body)) ready ready' h made s a.0 b c (Ran a n) v k at tt refl now refl refl few refl queue room in
+    (r.0, ap (λ (x : World). slice_get x.actors a.0) r.1 ∙ get_set_same w.actors a.0 b c at)
 
 -- ---- an edit
 
 pub edited_kept : (names : List (List ℕ)) (edits edits' : List Edit) (actors : List Kept) (ready : BTreeSet ℕ) (h : List Item) (made made' : ℕ) (s : Settings) (e : Edit)
-  → IsImage names edits actors ready h made s → IsSoundEdit e → first_of (edit_rules edits e) ≡ None → edit_suits names edits e ≡ true → length h + 1 ≤ s.history → edits' ≡ edits ++ e ∷ [] → made' ≡ made + 1
-  → IsImage names edits' actors ready (h ++ Edited e ∷ []) made' s × (world_of names (h ++ Edited e ∷ []) ≡ record (world_of names h) { edits = edits' })
+    → IsImage names edits actors ready h made s → IsSoundEdit e → first_of (edit_rules edits e) ≡ None → edit_suits names edits e ≡ true → length h + 1 ≤ s.history → edits' ≡ edits ++ e ∷ [] → made' ≡ made + 1
+    → IsImage names edits' actors ready (h ++ Edited e ∷ []) made' s × (world_of names (h ++ Edited e ∷ []) ≡ record (world_of names h) { edits = edits' })
 edited_kept names edits edits' actors ready h made made' s e k sound allowed suits room after count =
-  let w : World = world_of names h in
-  let v : World = record w { edits = edits' } in
-  let same : edits ≡ w.edits = k.shows.edits_are in
-  let ok : (is_none (first_of (edit_rules w.edits e)) && edit_suits names w.edits e) ≡ true = subst (λ (es : List Edit). (is_none (first_of (edit_rules es e)) && edit_suits names es e) ≡ true) same (and_true (is_none (first_of (edit_rules edits e))) (edit_suits names edits e) (none_is_none (first_of (edit_rules edits e)) allowed) suits) in
-  let last : w.edits ++ e ∷ [] ≡ edits' = ap (λ (es : List Edit). es ++ e ∷ []) (sym same) ∙ sym after in
-  let now : next names w (Edited e) ≡ Some v = through (is_none (first_of (edit_rules w.edits e)) && edit_suits names w.edits e) (record w { edits = w.edits ++ e ∷ [] }) ok ∙ ap (λ (es : List Edit). Some (record w { edits = es })) last in
-  let shows : Shows edits' actors ready v = record { edits_are = refl; actors_are = k.shows.actors_are; ready_are = k.shows.ready_are } in
-  pushed names edits edits' actors actors ready ready h made made' s (Edited e) v k sound now shows (omega (arith, count)) room k.few_actors (accept_more (length h) actors k.few_accepted)
+    let w : World = world_of names h in
+    let v : World = record w { edits = edits' } in
+    let same : edits ≡ w.edits = k.shows.edits_are in
+    let ok : (is_none (first_of (edit_rules w.edits e)) && edit_suits names w.edits e) ≡ true = subst (λ (es : List Edit). (is_none (first_of (edit_rules es e)) && edit_suits names es e) ≡ true) same (and_true (is_none (first_of (edit_rules edits e))) (edit_suits names edits e) (none_is_none (first_of (edit_rules edits e)) allowed) suits) in
+    let last : w.edits ++ e ∷ [] ≡ edits' = ap (λ (es : List Edit). es ++ e ∷ []) (sym same) ∙ sym after in
+    let now : next names w (Edited e) ≡ Some v = through (is_none (first_of (edit_rules w.edits e)) && edit_suits names w.edits e) (record w { edits = w.edits ++ e ∷ [] }) ok ∙ ap (λ (es : List Edit). Some (record w { edits = es })) last in
+    let shows : Shows edits' actors ready v = record { edits_are = refl; actors_are = k.shows.actors_are; ready_are = k.shows.ready_are } in
+    pushed names edits edits' actors actors ready ready h made made' s (Edited e) v k sound now shows (omega (arith, count)) room k.few_actors (accept_more (length h) actors k.few_accepted)
 
 -- ---- how many edits there are
 

@@ -98,7 +98,7 @@ world_set names w v a c h b e f =
       suited = subst (AllSuit names) (sym e) h.suited;
       sound = subst AllSound (sym e) h.sound;
       actors = subst (λ (es : List Edit). All (IsBeing names es (length v.actors)) v.actors) (sym e)
-        (subst (λ (xs : List Being). All (IsBeing names w.edits (length xs)) xs) (sym f)
+          (subst (λ (xs : List Being). All (IsBeing names w.edits (length xs)) xs) (sym f)
           (subst (λ (n : ℕ). All (IsBeing names w.edits n) (slice_set w.actors a.0 c)) (sym count) (All-set (IsBeing names w.edits (length w.actors)) w.actors a.0 c b h.actors)));
     }
 
@@ -108,9 +108,9 @@ none_from (Some x) e = cc
 
 sound_push : (edits : List Edit) (e : Edit) → AllSound edits → IsSoundEdit e → AllSound (edits ++ e ∷ [])
 sound_push edits e h s = λ place c m at. elim (slice_get_push edits e (Install c m) place at) [
-    | inl w ↦ h place c m w.1
-    | inr w ↦ subst IsSoundEdit w.1 s
-  ]
+  | inl w ↦ h place c m w.1
+  | inr w ↦ subst IsSoundEdit w.1 s
+]
 
 edited_keeps : (names : List (List ℕ)) (w v : World) (e : Edit) → IsWorld names w → IsSoundEdit e → edited names w e ≡ Some v → IsWorld names v
 edited_keeps names w v e h s f =
@@ -138,7 +138,6 @@ created_keeps names w v c n h f =
       sound = h.sound;
       actors = All-push (IsBeing names w.edits (length (w.actors ++ new_being w.edits c n ∷ []))) w.actors (new_being w.edits c n) (all_map (IsBeing names w.edits (length w.actors)) (IsBeing names w.edits (length (w.actors ++ new_being w.edits c n ∷ []))) w.actors (λ x g. being_more names w.edits (length w.actors) (length (w.actors ++ new_being w.edits c n ∷ [])) x h.lawful h.suited count g) h.actors) fresh;
     })
-
 
 -- where a post is accepted, the message suits
 free_rule : (b : Bool) (r : Refusal) (rules : List Rule) → is_none (first_of ((not b, r) ∷ rules)) ≡ true → b ≡ true

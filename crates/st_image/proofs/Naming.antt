@@ -20,20 +20,20 @@ pub record IsRenamed (names : List (List ℕ)) (names' : List (List ℕ)) (edits
 
 more_kept : (names more : List (List ℕ)) (edits : List Edit) (actors : List Kept) (ready : BTreeSet ℕ) (h : List Item) (made : ℕ) (s : Settings) → IsImage names edits actors ready h made s → IsRenamed names (names ++ more) edits actors ready h made s
 more_kept names more edits actors ready h made s k =
-  let m = world_more names more h k.lawful in
-  record {
-    image = record {
-      lawful = m.0;
-      shows = subst (Shows edits actors ready) (sym m.1) k.shows;
-      world = subst (IsWorld (names ++ more)) (sym m.1) (names_keep names more (world_of names h) k.world);
-      counted = k.counted;
-      numbers = k.numbers;
-      few_items = k.few_items;
-      few_actors = k.few_actors;
-      few_accepted = k.few_accepted;
-    };
-    world = m.1;
-  }
+    let m = world_more names more h k.lawful in
+    record {
+      image = record {
+        lawful = m.0;
+        shows = subst (Shows edits actors ready) (sym m.1) k.shows;
+        world = subst (IsWorld (names ++ more)) (sym m.1) (names_keep names more (world_of names h) k.world);
+        counted = k.counted;
+        numbers = k.numbers;
+        few_items = k.few_items;
+        few_actors = k.few_actors;
+        few_accepted = k.few_accepted;
+      };
+      world = m.1;
+    }
 
 pub same_kept : (names : List (List ℕ)) (edits : List Edit) (actors : List Kept) (ready : BTreeSet ℕ) (h : List Item) (made : ℕ) (s : Settings) → IsImage names edits actors ready h made s → IsRenamed names names edits actors ready h made s
 same_kept names edits actors ready h made s k = record { image = k; world = refl }

@@ -50,9 +50,9 @@ pub record IsPosted (names : List (List ℕ)) (edits : List Edit) (actors : List
   pub place : n ≡ accepted_by (slice_get (world_of names h).actors a.0)
 
 posted_option : (names : List (List ℕ)) (edits : List Edit) (actors actors' : List Kept) (ready ready' : BTreeSet ℕ) (h : List Item) (made : ℕ) (s : Settings) (turn n : ℕ) (a : ActorId) (m : Message) (o : Option Being) → slice_get (world_of names h).actors a.0 ≡ o
-  → IsImage names edits actors ready h made s → first_of (post_rules names (world_of names h) o m ++ no_room (seen names h s turn) 1 ∷ []) ≡ None
-  → ((k : Kept) → slice_get actors a.0 ≡ Some k → actors' ≡ slice_set actors a.0 (taken_in k m)) → ((k : Kept) → slice_get actors a.0 ≡ Some k → n ≡ k.accepted + 1) → HasAlso ready ready' a.0 true
-  → IsPosted names edits actors' ready' (h ++ Posted a m ∷ []) made s a n
+    → IsImage names edits actors ready h made s → first_of (post_rules names (world_of names h) o m ++ no_room (seen names h s turn) 1 ∷ []) ≡ None
+    → ((k : Kept) → slice_get actors a.0 ≡ Some k → actors' ≡ slice_set actors a.0 (taken_in k m)) → ((k : Kept) → slice_get actors a.0 ≡ Some k → n ≡ k.accepted + 1) → HasAlso ready ready' a.0 true
+    → IsPosted names edits actors' ready' (h ++ Posted a m ∷ []) made s a n
 posted_option names edits actors actors' ready ready' h made s turn n a m None at k allowed put place queue = cc
 posted_option names edits actors actors' ready ready' h made s turn n a m (Some b) at k allowed put place queue =
     let both = off_append (post_rules names (world_of names h) (Some b) m) (no_room (seen names h s turn) 1 ∷ []) allowed in
@@ -61,7 +61,7 @@ posted_option names edits actors actors' ready ready' h made s turn n a m (Some 
     record { image = r.0; place = place (kept_of b) there ∙ sym (length-append b.accepted (m ∷ [])) ∙ ap accepted_by (sym r.1) }
 
 pub posted : (names : List (List ℕ)) (edits : List Edit) (actors actors' : List Kept) (ready ready' : BTreeSet ℕ) (h : List Item) (made : ℕ) (s : Settings) (turn n : ℕ) (a : ActorId) (m : Message)
-  → IsImage names edits actors ready h made s → first_of (image_post_rules (seen names h s turn) a m) ≡ None
-  → ((k : Kept) → slice_get actors a.0 ≡ Some k → actors' ≡ slice_set actors a.0 (taken_in k m)) → ((k : Kept) → slice_get actors a.0 ≡ Some k → n ≡ k.accepted + 1) → HasAlso ready ready' a.0 true
-  → IsPosted names edits actors' ready' (h ++ Posted a m ∷ []) made s a n
+    → IsImage names edits actors ready h made s → first_of (image_post_rules (seen names h s turn) a m) ≡ None
+    → ((k : Kept) → slice_get actors a.0 ≡ Some k → actors' ≡ slice_set actors a.0 (taken_in k m)) → ((k : Kept) → slice_get actors a.0 ≡ Some k → n ≡ k.accepted + 1) → HasAlso ready ready' a.0 true
+    → IsPosted names edits actors' ready' (h ++ Posted a m ∷ []) made s a n
 posted names edits actors actors' ready ready' h made s turn n a m k allowed put place queue = posted_option names edits actors actors' ready ready' h made s turn n a m (slice_get (world_of names h).actors a.0) refl k allowed put place queue

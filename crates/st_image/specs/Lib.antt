@@ -7,4 +7,3 @@ pub mod Lasting
 pub mod Kepts
 pub mod Keeping
 pub mod Delivery
-pub mod Lasting

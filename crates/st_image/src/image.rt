@@ -32,8 +32,7 @@ fn kept_at(actors: &Vec<Actor>, actor: ActorId) -> Option<&Actor>
 /// what a mailbox accepted stays accepted.
 pub fn delivery()
     ensures { Delivers }
-{
-}
+{}
 
 /// An image: a class table, actors, and the history that led to them.
 ///

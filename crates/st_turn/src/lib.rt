@@ -9,3 +9,5 @@ pub mod body;
 pub mod frame;
 pub mod kernel_methods;
 pub mod plain;
+#[cfg(test)]
+mod tests;

@@ -83,12 +83,7 @@ impl Image {
     /// Refusals, in this order: `UnknownActor`; `NothingToDo` where no turn is going on and no message is pending;
     /// `HistoryFull`. A refused call changes nothing, but where memory ran out in the middle: then the message stays begun, and the
     /// steps that were taken stand.
-    pub fn advance(
-        &mut self,
-        alloc: Global,
-        actor: ActorId,
-        limit: u32,
-    ) -> Result<u32, Refusal>
+    pub fn advance(&mut self, alloc: Global, actor: ActorId, limit: u32) -> Result<u32, Refusal>
         requires some { 1 ≤ limit }
         requires few { limit ≤ 1024 }
         ensures answers { Answers (first_of (advance_rules self.old (slice_get (world self.old).actors actor.0))) result (λ n. (1 ≤ n) × (n ≤ limit) × (self.new ≡ advanced self.old actor n) × ((n ≡ limit) ⊎ (idle_at (slice_get (world self.new).actors actor.0) ≡ true))) }

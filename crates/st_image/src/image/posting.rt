@@ -91,12 +91,7 @@ impl Image {
     ///
     /// Refusals, in this order: `UnknownActor`; `BadArguments` where the selector isn't there or takes another number of
     /// arguments, or an argument is a local or names nothing; `Closed`; `Full`; `HistoryFull`. A refused call changes nothing.
-    pub fn post(
-        &mut self,
-        alloc: Global,
-        actor: ActorId,
-        message: Message,
-    ) -> Result<u64, Refusal>
+    pub fn post(&mut self, alloc: Global, actor: ActorId, message: Message) -> Result<u64, Refusal>
         ensures answers { Answers (first_of (image_post_rules self.old actor message)) result (λ n. (self.new ≡ appended self.old (PostedItem actor message ∷ [])) × (n ≡ accepted_by (slice_get (world self.new).actors actor.0))) }
         ensures unchanged { OnErr result (self.new ≡ self.old) }
     {

@@ -42,10 +42,10 @@ returns-clause-answers c =
     let g : HasAdvanced i.names i.version c.advance_at.new.actors.items c.advance_at.new.ready.numbers i.history.items i.edits_made i.settings c.args.actor c.is_idle-begins.result p.steps c.args.limit p.is_whole = has_advanced i.names i.version i.actors.items c.advance_at.new.actors.items i.ready.numbers c.advance_at.new.ready.numbers i.history.items i.edits_made i.settings c.args.actor l.0 c.is_idle-begins.result p.steps c.args.limit p.is_whole c.self.invariant l.1 c.requires.some c.is_idle-begins.ensures c.in-Ok.ensures.ok in
     let items : c.note.new.history.items ≡ i.history.items ++ advance_items c.args.actor c.is_idle-begins.result p.steps = grind (arith, common_steps) in
     rw c.answer.ensures (finished p.is_whole (first_of (advance_rules c.args.self.now (slice_get (world c.args.self.now).actors c.args.actor.0))) p.steps _ (sym c.in_default.ensures.value) (λ t.
-      let e0 : seen i.names (i.history.items ++ advance_items c.args.actor c.is_idle-begins.result p.steps) i.settings (c.args.actor.0 + 1) ≡ advanced (seen i.names i.history.items i.settings i.turn) c.args.actor p.steps = is_advanced i.names i.history.items i.settings i.turn c.args.actor c.is_idle-begins.result p.steps g.idle (g.some t) in
-      let e1 : seen i.names c.note.new.history.items i.settings (c.args.actor.0 + 1) ≡ advanced (seen i.names i.history.items i.settings i.turn) c.args.actor p.steps = subst (λ (is : List Item). seen i.names is i.settings (c.args.actor.0 + 1) ≡ advanced (seen i.names i.history.items i.settings i.turn) c.args.actor p.steps) (sym items) e0 in
-      let e2 : seen i.names c.note.new.history.items i.settings (c.args.actor.0 + 1) ≡ advanced c.args.self.now c.args.actor p.steps = subst (λ (v : ImageView). seen i.names c.note.new.history.items i.settings (c.args.actor.0 + 1) ≡ advanced v c.args.actor p.steps) c.self.view_is e1 in
-      (g.some t, g.within, e2, rw items (g.whole t))))
+    let e0 : seen i.names (i.history.items ++ advance_items c.args.actor c.is_idle-begins.result p.steps) i.settings (c.args.actor.0 + 1) ≡ advanced (seen i.names i.history.items i.settings i.turn) c.args.actor p.steps = is_advanced i.names i.history.items i.settings i.turn c.args.actor c.is_idle-begins.result p.steps g.idle (g.some t) in
+    let e1 : seen i.names c.note.new.history.items i.settings (c.args.actor.0 + 1) ≡ advanced (seen i.names i.history.items i.settings i.turn) c.args.actor p.steps = subst (λ (is : List Item). seen i.names is i.settings (c.args.actor.0 + 1) ≡ advanced (seen i.names i.history.items i.settings i.turn) c.args.actor p.steps) (sym items) e0 in
+    let e2 : seen i.names c.note.new.history.items i.settings (c.args.actor.0 + 1) ≡ advanced c.args.self.now c.args.actor p.steps = subst (λ (v : ImageView). seen i.names c.note.new.history.items i.settings (c.args.actor.0 + 1) ≡ advanced v c.args.actor p.steps) c.self.view_is e1 in
+    (g.some t, g.within, e2, rw items (g.whole t))))
 
 pub returns-clause-stands : goal.returns-clause-stands
 returns-clause-stands c =
@@ -55,7 +55,9 @@ returns-clause-stands c =
     let p = c.in-Ok.progress in
     let g : HasAdvanced i.names i.version c.advance_at.new.actors.items c.advance_at.new.ready.numbers i.history.items i.edits_made i.settings c.args.actor c.is_idle-begins.result p.steps c.args.limit p.is_whole = has_advanced i.names i.version i.actors.items c.advance_at.new.actors.items i.ready.numbers c.advance_at.new.ready.numbers i.history.items i.edits_made i.settings c.args.actor l.0 c.is_idle-begins.result p.steps c.args.limit p.is_whole c.self.invariant l.1 c.requires.some c.is_idle-begins.ensures c.in-Ok.ensures.ok in
     let items : c.note.new.history.items ≡ i.history.items ++ advance_items c.args.actor c.is_idle-begins.result p.steps = grind (arith, common_steps) in
-    rw c.answer.ensures (stopped p.is_whole p.steps _ (inr (refl,
+    rw c.answer.ensures (stopped p.is_whole p.steps _ (inr (
+      refl,
       let e0 : HasStopped (seen i.names i.history.items i.settings i.turn) c.args.actor c.args.limit (seen i.names (i.history.items ++ advance_items c.args.actor c.is_idle-begins.result p.steps) i.settings (c.args.actor.0 + 1)) = has_stopped i.names i.history.items i.settings i.turn c.args.actor c.is_idle-begins.result p.steps c.args.limit g.idle g.within in
-      let e1 : HasStopped (seen i.names i.history.items i.settings i.turn) c.args.actor c.args.limit (seen i.names c.note.new.history.items i.settings (c.args.actor.0 + 1)) = subst (λ (is : List Item). HasStopped (seen i.names i.history.items i.settings i.turn) c.args.actor c.args.limit (seen i.names is i.settings (c.args.actor.0 + 1))) (sym items) e0 in
-      subst (λ (v : ImageView). HasStopped v c.args.actor c.args.limit (seen i.names c.note.new.history.items i.settings (c.args.actor.0 + 1))) c.self.view_is e1)))
+          let e1 : HasStopped (seen i.names i.history.items i.settings i.turn) c.args.actor c.args.limit (seen i.names c.note.new.history.items i.settings (c.args.actor.0 + 1)) = subst (λ (is : List Item). HasStopped (seen i.names i.history.items i.settings i.turn) c.args.actor c.args.limit (seen i.names is i.settings (c.args.actor.0 + 1))) (sym items) e0 in
+          subst (λ (v : ImageView). HasStopped v c.args.actor c.args.limit (seen i.names c.note.new.history.items i.settings (c.args.actor.0 + 1))) c.self.view_is e1,
+    )))

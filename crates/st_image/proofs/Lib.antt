@@ -11,6 +11,7 @@ pub mod Keeping
 pub mod Posting
 pub mod Creating
 pub mod Naming
+pub mod Installing
 pub mod Editing
 pub mod Advancing
 pub mod Beginning

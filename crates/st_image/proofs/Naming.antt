@@ -18,7 +18,7 @@ pub record IsRenamed (names : List (List ℕ)) (names' : List (List ℕ)) (edits
   pub image : IsImage names' edits actors ready h made s
   pub world : world_of names' h ≡ world_of names h
 
-more_kept : (names more : List (List ℕ)) (edits : List Edit) (actors : List Kept) (ready : BTreeSet ℕ) (h : List Item) (made : ℕ) (s : Settings) → IsImage names edits actors ready h made s → IsRenamed names (names ++ more) edits actors ready h made s
+pub more_kept : (names more : List (List ℕ)) (edits : List Edit) (actors : List Kept) (ready : BTreeSet ℕ) (h : List Item) (made : ℕ) (s : Settings) → IsImage names edits actors ready h made s → IsRenamed names (names ++ more) edits actors ready h made s
 more_kept names more edits actors ready h made s k =
     let m = world_more names more h k.lawful in
     record {
@@ -42,7 +42,7 @@ by_test : (b : Bool) (names : List (List ℕ)) (text : List ℕ) (edits : List E
 by_test true names text edits actors ready h made s k = same_kept names edits actors ready h made s k
 by_test false names text edits actors ready h made s k = more_kept names (text ∷ []) edits actors ready h made s k
 
-renamed : (names names' other : List (List ℕ)) (edits : List Edit) (actors : List Kept) (ready : BTreeSet ℕ) (h : List Item) (made : ℕ) (s : Settings) → names' ≡ other → IsRenamed names other edits actors ready h made s → IsRenamed names names' edits actors ready h made s
+pub renamed : (names names' other : List (List ℕ)) (edits : List Edit) (actors : List Kept) (ready : BTreeSet ℕ) (h : List Item) (made : ℕ) (s : Settings) → names' ≡ other → IsRenamed names other edits actors ready h made s → IsRenamed names names' edits actors ready h made s
 renamed names names' other edits actors ready h made s e r = subst (λ (ns : List (List ℕ)). IsRenamed names ns edits actors ready h made s) (sym e) r
 
 -- after an intern, refused or not

@@ -6,4 +6,5 @@ pub mod Ready
 pub mod Lasting
 pub mod Kepts
 pub mod Keeping
+pub mod Installing
 pub mod Delivery

@@ -5,6 +5,7 @@ ghost use Rattle.st_image.specs.Delivery.{Delivers};
 
 mod advancing;
 mod defining;
+mod installing;
 mod posting;
 
 use crate::actors::Actor;

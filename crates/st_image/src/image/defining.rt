@@ -60,7 +60,7 @@ impl Image {
     }
 
     /// Makes an edit. The answer is the number of edits.
-    fn edit(&mut self, alloc: Global, edit: Edit) -> Result<u32, Refusal>
+    pub(super) fn edit(&mut self, alloc: Global, edit: Edit) -> Result<u32, Refusal>
         requires suits { edit_suits self.old.names (world self.old).edits edit ≡ true }
         requires sound { IsSoundEdit edit }
         ensures answers { Answers (first_of (edit_rules (world self.old).edits edit ++ run_rules self.old)) result (λ n. (self.new ≡ appended self.old (EditedItem edit ∷ [])) × (n ≡ length (world self.new).edits)) }

@@ -1,0 +1,171 @@
+-- What an install answers.
+use Rattle.std.proofs.Common.{arith, ◌≡◌, ◌⊎◌, ℕ, zero, suc, ◌<◌, ◌≤◌, ◌++◌, [], ◌∷◌, List, Bool, true, false, not, cond, eqb, Option, Some, None, Result, Ok, Err, refl, ap, sym, ◌∙◌, subst, inl, inr, length, slice_get, option_map}
+use Rattle.std.specs.Prelude.{is_some}
+use Rattle.std.specs.Str.{bytes_eq}
+use Rattle.std.proofs.lemmas.Bool.Decides.{nat_tests}
+use Rattle.std.proofs.lemmas.Slice.Eq.{bytes_eq-Decides}
+use Rattle.std.proofs.lemmas.Option.{same_Some}
+use Rattle.std.proofs.lemmas.Bool.{cases_lt}
+use Rattle.st_classes.specs.declared.values.ClassId.{ClassId}
+use Rattle.st_classes.specs.declared.values.Selector.{Selector}
+use Rattle.st_classes.specs.declared.methods.MethodParts.{MethodParts}
+use Rattle.st_classes.specs.declared.edits.Edit.{Edit}
+use Rattle.st_classes.specs.declared.edits.Edit.TheVariants.{Install}
+use Rattle.st_classes.specs.declared.kernel.Kernel.{Kernel}
+use Rattle.st_classes.specs.declared.refusals.Refusal.{Refusal}
+use Rattle.st_classes.specs.declared.refusals.Refusal.TheVariants.{UnknownClass, KernelMethod, NoMemory}
+use Rattle.st_classes.specs.Refusals.{Rule, first_of, Answers}
+use Rattle.st_classes.specs.Kernel.{selector, kernel_selectors, kernel_method, object_method, integer_method, boolean_method}
+use Rattle.st_classes.specs.Selectors.{place_of}
+use Rattle.st_classes.specs.Classes.{is_class, slots}
+use Rattle.st_classes.specs.Accepting.{edit_rules, too_many_edits}
+use Rattle.st_classes.proofs.LawLists.{slice_get_old}
+use Rattle.st_reader.specs.declared.trees.MethodTree.{MethodTree}
+use Rattle.st_reader.specs.Trees.{Spells}
+use Rattle.st_compile.specs.Code.{has_code, selectors_of}
+use Rattle.st_compile.specs.Refusing.{interned_all, names_rule, no_code, tree_rules}
+use Rattle.st_compile.specs.Compiled.{IsCompiled}
+use Rattle.st_compile.proofs.Places.{first, position-first, place-append, at-place}
+use Rattle.st_image.specs.declared.items.Item.{Item}
+use Rattle.st_image.specs.declared.items.Item.TheVariants.{Edited}
+use Rattle.st_image.specs.Worlds.{World}
+use Rattle.st_image.specs.Images.{ImageView, world, appended, run_rules}
+use Rattle.st_image.specs.Lasting.{BeginsWithKernel}
+use Rattle.st_image.specs.Installing.{has_kernel, is_kernel_text, install_rules, with_names_of, Installs, RefusesInstall, memory, first as first_refusal, AnswersInstall}
+
+-- ---- kernel methods by text
+
+differ : (n k : ℕ) → k < n → eqb n k ≡ false
+differ n k h = grind (arith, nat_tests)
+
+object_high : (n : ℕ) → 21 < n → object_method n ≡ None
+object_high n h = rw (differ n 0 (omega arith), differ n 1 (omega arith), differ n 2 (omega arith), differ n 3 (omega arith), differ n 4 (omega arith)) refl
+
+integer_high : (n : ℕ) → 21 < n → integer_method n ≡ None
+integer_high n h = rw (differ n 5 (omega arith), differ n 6 (omega arith), differ n 7 (omega arith), differ n 8 (omega arith), differ n 9 (omega arith), differ n 10 (omega arith), differ n 11 (omega arith), differ n 12 (omega arith), differ n 13 (omega arith)) refl
+
+boolean_high : (n : ℕ) → 21 < n → boolean_method n ≡ None
+boolean_high n h = rw (differ n 14 (omega arith), differ n 15 (omega arith)) refl
+
+chosen_none : (b : Bool) (x y : Option Kernel) → x ≡ None → y ≡ None → cond b x y ≡ None
+chosen_none true x y e f = e
+chosen_none false x y e f = f
+
+-- no name behind the kernel's is a kernel method's
+kernel_high : (c : ClassId) (n : ℕ) → 21 < n → kernel_method c (selector n) ≡ None
+kernel_high c n h = chosen_none (eqb c.0 0) _ _ (object_high n h) (chosen_none (eqb c.0 1) _ _ (integer_high n h) (chosen_none _ _ _ (boolean_high n h) refl))
+
+same_text : (text : List ℕ) → bytes_eq text text ≡ true
+same_text text = (bytes_eq-Decides text text).1 refl
+
+head_found : (text x : List ℕ) (rest : Option ℕ) → x ≡ text → cond (bytes_eq text x) (Some 0) rest ≡ None → ⊥
+head_found text x rest e h = let t : bytes_eq text x ≡ true = rw e (same_text text) in let f : cond (bytes_eq text x) (Some 0) rest ≡ Some 0 = rw t refl in cc
+
+tail_none : (b : Bool) (rest : Option ℕ) → cond b (Some 0) (option_map suc rest) ≡ None → rest ≡ None
+tail_none true rest h = cc
+tail_none false None h = refl
+tail_none false (Some n) h = cc
+
+-- a text that stands in a list has a place
+none_there : (xs : List (List ℕ)) (n : ℕ) (text : List ℕ) → slice_get xs n ≡ Some text → first (bytes_eq text) xs ≡ None → ⊥
+none_there [] n text at h = cc
+none_there (x ∷ xs) zero text at h = head_found text x (option_map suc (first (bytes_eq text) xs)) (same_Some x text at) h
+none_there (x ∷ xs) (suc n) text at h = none_there xs n text at (tail_none (bytes_eq text x) (first (bytes_eq text) xs) h)
+
+high_place : (more : List (List ℕ)) (text : List ℕ) (n : ℕ) → place_of (kernel_selectors ++ more) text ≡ Some n → place_of kernel_selectors text ≡ None → 21 < n
+high_place more text n at none = elim (cases_lt n 22) [
+  | inl low ↦ absurd (none_there kernel_selectors n text (sym (slice_get_old kernel_selectors more n low) ∙ at-place (kernel_selectors ++ more) text n at) (sym (position-first (bytes_eq text) kernel_selectors) ∙ none))
+  | inr high ↦ omega (arith, high)
+]
+
+beyond : (c : ClassId) (more : List (List ℕ)) (text : List ℕ) → place_of kernel_selectors text ≡ None → (o : Option ℕ) → place_of (kernel_selectors ++ more) text ≡ o → has_kernel c o ≡ false
+beyond c more text none None at = refl
+beyond c more text none (Some n) at = ap is_some (kernel_high c n (high_place more text n at none))
+
+same_kernel : (c : ClassId) (more : List (List ℕ)) (text : List ℕ) (o : Option ℕ) → place_of kernel_selectors text ≡ o → has_kernel c (place_of (kernel_selectors ++ more) text) ≡ has_kernel c o
+same_kernel c more text None at = beyond c more text at (place_of (kernel_selectors ++ more) text) refl
+same_kernel c more text (Some n) at = ap (has_kernel c) (place-append kernel_selectors more text n at)
+
+-- in a name table a text has a kernel method where it has one among the kernel's names
+pub kernel_in : (names : List (List ℕ)) → BeginsWithKernel names → (c : ClassId) (text : List ℕ) → has_kernel c (place_of names text) ≡ is_kernel_text c text
+kernel_in names h c text = subst (λ (ns : List (List ℕ)). has_kernel c (place_of ns text) ≡ is_kernel_text c text) (sym h.1) (same_kernel c h.0 text (place_of kernel_selectors text) refl)
+
+found_some : (c : ClassId) (s : Selector) (o : Option ℕ) → option_map selector o ≡ Some s → is_some (kernel_method c s) ≡ has_kernel c o
+found_some c s None e = cc
+found_some c s (Some n) e = ap (λ (t : Selector). is_some (kernel_method c t)) (sym (same_Some (selector n) s e))
+
+pub kernel_found : (names : List (List ℕ)) → BeginsWithKernel names → (c : ClassId) (text : List ℕ) (s : Selector) → option_map selector (place_of names text) ≡ Some s → is_some (kernel_method c s) ≡ is_kernel_text c text
+kernel_found names h c text s e = found_some c s (place_of names text) e ∙ kernel_in names h c text
+
+none_found : (c : ClassId) (o : Option ℕ) → option_map selector o ≡ None → has_kernel c o ≡ false
+none_found c None e = refl
+none_found c (Some n) e = cc
+
+pub kernel_missing : (names : List (List ℕ)) → BeginsWithKernel names → (c : ClassId) (text : List ℕ) → option_map selector (place_of names text) ≡ None → is_kernel_text c text ≡ false
+kernel_missing names h c text e = sym (kernel_in names h c text) ∙ none_found c (place_of names text) e
+
+-- ---- rules in order
+
+pub skip : (b : Bool) (r : Refusal) (rules : List Rule) → b ≡ false → first_of ((b, r) ∷ rules) ≡ first_of rules
+skip true r rules e = cc
+skip false r rules e = refl
+
+some_first : (b : Bool) (r e : Refusal) (o p : Option Refusal) → (o ≡ Some e → p ≡ Some e) → cond b (Some r) o ≡ Some e → cond b (Some r) p ≡ Some e
+some_first true r e o p f h = h
+some_first false r e o p f h = f h
+
+first_some : (rules more : List Rule) (e : Refusal) → first_of rules ≡ Some e → first_of (rules ++ more) ≡ Some e
+first_some [] more e h = cc
+first_some (rule ∷ rules) more e h = some_first rule.0 rule.1 e (first_of rules) (first_of (rules ++ more)) (first_some rules more e) h
+
+none_first : (b : Bool) (r : Refusal) (o p q : Option Refusal) → (o ≡ None → p ≡ q) → cond b (Some r) o ≡ None → cond b (Some r) p ≡ q
+none_first true r o p q f h = cc
+none_first false r o p q f h = f h
+
+first_none : (rules more : List Rule) → first_of rules ≡ None → first_of (rules ++ more) ≡ first_of more
+first_none [] more h = refl
+first_none (rule ∷ rules) more h = none_first rule.0 rule.1 (first_of rules) (first_of (rules ++ more)) (first_of more) (first_none rules more) h
+
+is_not : (b : Bool) → b ≡ true → not b ≡ false
+is_not true e = refl
+is_not false e = cc
+
+-- behind the class and the kernel come the tree's refusals, and then those of an edit
+tree_part : (i : ImageView) (c : ClassId) (tree : MethodTree) → is_class (world i).edits c ≡ true → is_kernel_text c tree.selector.text ≡ false → first_of (install_rules i c tree) ≡ first_of (tree_rules (slots (world i).edits c) i.names tree ++ (too_many_edits (world i).edits ∷ run_rules i))
+tree_part i c tree h k =
+    skip (not (is_class (world i).edits c)) UnknownClass ((is_kernel_text c tree.selector.text, KernelMethod) ∷ (tree_rules (slots (world i).edits c) i.names tree ++ (too_many_edits (world i).edits ∷ run_rules i))) (is_not _ h)
+    ∙ skip (is_kernel_text c tree.selector.text) KernelMethod (tree_rules (slots (world i).edits c) i.names tree ++ (too_many_edits (world i).edits ∷ run_rules i)) k
+
+-- the refusal of a tree is that of its install
+pub tree_refused : (i : ImageView) (c : ClassId) (tree : MethodTree) (e : Refusal) → is_class (world i).edits c ≡ true → is_kernel_text c tree.selector.text ≡ false → (e ≡ NoMemory) ⊎ (first_of (tree_rules (slots (world i).edits c) i.names tree) ≡ Some e) → (e ≡ NoMemory) ⊎ (first_of (install_rules i c tree) ≡ Some e)
+tree_refused i c tree e h k (inl m) = inl m
+tree_refused i c tree e h k (inr f) = inr (tree_part i c tree h k ∙ first_some (tree_rules (slots (world i).edits c) i.names tree) (too_many_edits (world i).edits ∷ run_rules i) e f)
+
+-- the number of a method's selector is no kernel method's
+number_free : (names : List (List ℕ)) → BeginsWithKernel names → (c : ClassId) (text : List ℕ) (s : Selector) → place_of names text ≡ Some s.0 → is_kernel_text c text ≡ false → is_some (kernel_method c s) ≡ false
+number_free names b c text s at k = sym (ap (has_kernel c) at) ∙ kernel_in names b c text ∙ k
+
+edit_part : (es : List Edit) (j : ImageView) (c : ClassId) (m : MethodParts) → is_class es c ≡ true → is_some (kernel_method c m.selector) ≡ false → first_of (edit_rules es (Install c m) ++ run_rules j) ≡ first_of (too_many_edits es ∷ run_rules j)
+edit_part es j c m h k =
+    skip (not (is_class es c)) UnknownClass ((is_some (kernel_method c m.selector), KernelMethod) ∷ (too_many_edits es ∷ run_rules j)) (is_not _ h)
+    ∙ skip (is_some (kernel_method c m.selector)) KernelMethod (too_many_edits es ∷ run_rules j) k
+
+answers_same : {T : Type 0} (f g : Option Refusal) (P Q : T → Type 0) (r : Result T Refusal) → f ≡ g → ((x : T) → P x → Q x) → Answers f r P → Answers g r Q
+answers_same f g P Q (Ok x) e h a = (sym e ∙ a.0, h x a.1)
+answers_same f g P Q (Err x) e h (inl m) = inl m
+answers_same f g P Q (Err x) e h (inr s) = inr (sym e ∙ s)
+
+pub tree_installed : (i j k : ImageView) (c : ClassId) (tree : MethodTree) (text : List ℕ) (m : MethodParts) (r : Result ℕ Refusal) → is_class (world i).edits c ≡ true → is_kernel_text c tree.selector.text ≡ false → first_of (tree_rules (slots (world i).edits c) i.names tree) ≡ None → j ≡ with_names_of i tree → world j ≡ world i → BeginsWithKernel j.names → IsCompiled j.names (world i).edits c tree text m → Answers (first_of (edit_rules (world j).edits (Install c m) ++ run_rules j)) r (λ n. (k ≡ appended j (Edited (Install c m) ∷ [])) × (n ≡ length (world k).edits)) → Answers (first_of (install_rules i c tree)) r (λ n. Installs i c tree text k n)
+tree_installed i j k c tree text m r h f t e w b p a =
+    let free : is_some (kernel_method c m.selector) ≡ false = number_free j.names b c tree.selector.text m.selector p.selector f in
+    let mine : first_of (install_rules i c tree) ≡ first_of (too_many_edits (world i).edits ∷ run_rules i) = tree_part i c tree h f ∙ first_none (tree_rules (slots (world i).edits c) i.names tree) (too_many_edits (world i).edits ∷ run_rules i) t in
+    let runs : run_rules j ≡ run_rules i = ap run_rules e in
+    let theirs : first_of (edit_rules (world j).edits (Install c m) ++ run_rules j) ≡ first_of (too_many_edits (world i).edits ∷ run_rules i) =
+    ap (λ (v : World). first_of (edit_rules v.edits (Install c m) ++ run_rules j)) w ∙ edit_part (world i).edits j c m h free ∙ ap (λ (rs : List Rule). first_of (too_many_edits (world i).edits ∷ rs)) runs in
+    answers_same _ _ _ _ r (theirs ∙ sym mine) (λ n q. (m, subst (λ (ns : List (List ℕ)). IsCompiled ns (world i).edits c tree text m) (sym (ap (λ (v : ImageView). v.names) q.0)) p, q.0 ∙ ap (λ (v : ImageView). appended v (Edited (Install c m) ∷ [])) e, q.1)) a
+
+-- the answer of a tree that the text spells is the answer of its install
+pub install_answered : (i k : ImageView) (c : ClassId) (tree : MethodTree) (text : List ℕ) (r : Result ℕ Refusal) → Spells tree text → Answers (first_of (install_rules i c tree)) r (λ n. Installs i c tree text k n) → AnswersInstall i c text k r
+install_answered i k c tree text (Ok n) s a = (tree, s, a.0, a.1)
+install_answered i k c tree text (Err e) s (inl m) = memory m
+install_answered i k c tree text (Err e) s (inr f) = first_refusal tree s f

@@ -1,0 +1,59 @@
+-- What an install answers.
+use Rattle.std.specs.Prelude.{◌≡◌, ◌⊎◌, ℕ, List, [], ◌∷◌, ◌++◌, length, Bool, true, false, not, Option, Some, None, Result, Ok, Err, is_some, nat_le}
+use Rattle.st_classes.specs.declared.values.ClassId.{ClassId}
+use Rattle.st_classes.specs.declared.edits.Edit.TheVariants.{Install}
+use Rattle.st_classes.specs.declared.methods.MethodParts.{MethodParts}
+use Rattle.st_classes.specs.declared.refusals.Refusal.{Refusal}
+use Rattle.st_classes.specs.declared.refusals.Refusal.TheVariants.{UnknownClass, KernelMethod, NoMemory}
+use Rattle.st_classes.specs.Refusals.{Rule, first_of}
+use Rattle.st_classes.specs.Kernel.{selector, kernel_selectors, kernel_method}
+use Rattle.st_classes.specs.Selectors.{place_of}
+use Rattle.st_classes.specs.Classes.{is_class, slots}
+use Rattle.st_classes.specs.Accepting.{too_many_edits}
+use Rattle.st_reader.specs.declared.trees.MethodTree.{MethodTree}
+use Rattle.st_reader.specs.Trees.{Spells}
+use Rattle.st_compile.specs.Code.{has_code, selectors_of}
+use Rattle.st_compile.specs.Refusing.{interned_all, names_rule, no_code}
+use Rattle.st_compile.specs.Compiled.{IsCompiled}
+use Rattle.st_image.specs.declared.items.Item.TheVariants.{Edited}
+use Rattle.st_image.specs.Images.{ImageView, world, appended, run_rules}
+
+-- the kernel has a method in the class for the selector of a number
+abbrev pub has_kernel : ClassId → Option ℕ → Bool
+has_kernel c None = false
+has_kernel c (Some n) = is_some (kernel_method c (selector n))
+
+-- the kernel has a method in the class for the selector of a text
+abbrev pub is_kernel_text : ClassId → List ℕ → Bool
+is_kernel_text c text = has_kernel c (place_of kernel_selectors text)
+
+-- the refusals of an install of a text that spells a tree, in their order
+abbrev pub install_rules : ImageView → ClassId → MethodTree → List Rule
+install_rules i c tree = (not (is_class (world i).edits c), UnknownClass) ∷ (is_kernel_text c tree.selector.text, KernelMethod) ∷ (not (has_code (slots (world i).edits c) tree), no_code) ∷ names_rule i.names (selectors_of tree) ∷ too_many_edits (world i).edits ∷ run_rules i
+
+-- only names were added
+abbrev pub OnlyNames : ImageView → ImageView → Type 0
+OnlyNames i j = (more : List (List ℕ)) × (j ≡ record i { names = i.names ++ more })
+
+-- the image with the names that the tree needs
+abbrev pub with_names_of : ImageView → MethodTree → ImageView
+with_names_of i tree = record i { names = interned_all i.names (selectors_of tree) }
+
+-- the class has the method of the tree, and the answer is the number of edits
+abbrev pub Installs : ImageView → ClassId → MethodTree → List ℕ → ImageView → ℕ → Type 0
+Installs i c tree text j n = (m : MethodParts) × IsCompiled j.names (world i).edits c tree text m × (j ≡ appended (with_names_of i tree) (Edited (Install c m) ∷ [])) × (n ≡ length (world j).edits)
+
+-- no tree spells the text
+abbrev pub IsUnread : List ℕ → Type 0
+IsUnread text = (tree : MethodTree) → Spells tree text → ⊥
+
+-- why an install is refused: the class is unknown; the text spells no tree; or the first refusal of the tree that it spells applies. Want of memory may stand in place of any
+pub data RefusesInstall (i : ImageView) (c : ClassId) (text : List ℕ) (e : Refusal) : Type 0 where
+  memory : e ≡ NoMemory → RefusesInstall i c text e
+  unknown : is_class (world i).edits c ≡ false → e ≡ UnknownClass → RefusesInstall i c text e
+  unread : is_class (world i).edits c ≡ true → IsUnread text → e ≡ no_code → RefusesInstall i c text e
+  first : (tree : MethodTree) → Spells tree text → first_of (install_rules i c tree) ≡ Some e → RefusesInstall i c text e
+
+abbrev pub AnswersInstall : ImageView → ClassId → List ℕ → ImageView → Result ℕ Refusal → Type 0
+AnswersInstall i c text j (Ok n) = (tree : MethodTree) × Spells tree text × (first_of (install_rules i c tree) ≡ None) × Installs i c tree text j n
+AnswersInstall i c text j (Err e) = RefusesInstall i c text e

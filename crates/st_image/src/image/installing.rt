@@ -1,0 +1,105 @@
+//! Installs.
+use crate::image::Image;
+use st_classes::edits::Edit;
+use st_classes::kernel::kernel_at;
+use st_classes::methods::Method;
+use st_classes::refusals::Refusal;
+use st_classes::seq::Seq;
+use st_classes::values::ClassId;
+use st_compile::compile::compile;
+use st_reader::reader::read_method;
+use st_reader::trees::MethodTree;
+use std::alloc::Global;
+
+impl Image {
+    ghost use Rattle.std.specs.Prelude.{◌≡◌, ◌++◌, ◌≤◌, ℕ, List, [], ◌∷◌, length, true, None, OnOk, OnErr};
+    ghost use Rattle.st_classes.specs.declared.refusals.Refusal.TheVariants.{KernelMethod};
+    ghost use Rattle.st_classes.specs.Refusals.{first_of, Answers};
+    ghost use Rattle.st_classes.specs.Classes.{is_class, slots};
+    ghost use Rattle.st_reader.specs.declared.trees.MethodTree.{MethodTree as TreeOf};
+    ghost use Rattle.st_reader.specs.Trees.{HasSelectors, Spells};
+    ghost use Rattle.st_compile.specs.Code.{selectors_of};
+    ghost use Rattle.st_compile.specs.Compiled.{IsCompiled};
+    ghost use Rattle.st_compile.specs.Refusing.{interned_all, tree_rules};
+    ghost use Rattle.st_image.specs.Images.{world};
+    ghost use Rattle.st_image.specs.Installing.{AnswersInstall, Installs, OnlyNames, install_rules, is_kernel_text};
+
+    /// Whether the kernel has a method in the class for the selector.
+    fn has_kernel_method(&self, class: ClassId, selector: &[u8]) -> bool
+        ensures { result ≡ is_kernel_text class selector.now }
+    {
+        match self.names.find(selector) {
+            Some(selector) => kernel_at(class, selector).is_some(),
+            None => false,
+        }
+    }
+
+    /// The method of a tree in a class. Its selectors are interned.
+    fn compiled(
+        &mut self,
+        alloc: Global,
+        tree: &MethodTree,
+        class: ClassId,
+        source: Seq<u8>,
+    ) -> Result<Method, Refusal>
+        requires class { is_class (world self.old).edits class ≡ true }
+        requires selectors { HasSelectors tree.now }
+        requires short { length source ≤ 4096 }
+        ensures answers { Answers (first_of (tree_rules (slots (world self.old).edits class) self.old.names tree.now)) result
+            (λ m. IsCompiled self.new.names (world self.old).edits class tree.now source m) }
+        ensures names { OnOk result (self.new ≡ record self.old { names = interned_all self.old.names (selectors_of tree.now) }) }
+        ensures grown { OnlyNames self.old self.new }
+        ensures world { world self.new ≡ world self.old }
+    {
+        compile(alloc, tree, class, &self.version, &mut self.names, source)
+    }
+
+    /// Installs the method of a tree, and answers the number of edits.
+    fn install_tree(
+        &mut self,
+        alloc: Global,
+        class: ClassId,
+        tree: &MethodTree,
+        source: Seq<u8>,
+    ) -> Result<u32, Refusal>
+        requires class { is_class (world self.old).edits class ≡ true }
+        requires spells { Spells tree.now source }
+        requires selectors { HasSelectors tree.now }
+        ensures answers { Answers (first_of (install_rules self.old class tree.now)) result
+            (λ n. Installs self.old class tree.now source self.new n) }
+        ensures refused { OnErr result (OnlyNames self.old self.new) }
+    {
+        if self.has_kernel_method(class, tree.selector.text.as_slice()) {
+            return Err(Refusal::KernelMethod);
+        }
+        let method = match self.compiled(alloc, tree, class, source) {
+            Ok(method) => method,
+            Err(refusal) => return Err(refusal),
+        };
+        let _ = method.code();
+        self.known();
+        self.edit(alloc, Edit::Install { class, method })
+    }
+
+    /// Installs a method in a class, in place of the one that it has for the selector. The answer is the number of edits.
+    ///
+    /// Refusals, in this order: `UnknownClass`; `BadSource` where no tree spells the source; `KernelMethod` where the kernel
+    /// has a method in the class for the selector; `BadSource` where the tree has no code in the class; `TooMany` names or
+    /// edits; `HistoryFull`. A refused install changes nothing but names: those that fitted stay.
+    pub fn install(&mut self, alloc: Global, class: ClassId, source: &[u8]) -> Result<u32, Refusal>
+        ensures answers { AnswersInstall self.old class source.now self.new result }
+        ensures refused { OnErr result (OnlyNames self.old self.new) }
+    {
+        if !self.version.is_class(class) {
+            return Err(Refusal::UnknownClass);
+        }
+        let tree = match read_method(alloc, source) {
+            Ok(tree) => tree,
+            Err(refusal) => return Err(refusal),
+        };
+        let Ok(text) = source.to_vec(alloc) else {
+            return Err(Refusal::NoMemory);
+        };
+        self.install_tree(alloc, class, &tree, Seq::from_vec(text))
+    }
+}

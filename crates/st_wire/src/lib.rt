@@ -7,7 +7,7 @@
 pub mod commands;
 mod fields;
 mod line;
-mod names;
+pub mod names;
 pub mod replies;
 pub mod streams;
 #[cfg(test)]

@@ -63,7 +63,8 @@ pub(crate) fn place_name(place: ImagePlace) -> &'static str
     }
 }
 
-pub(crate) fn refusal_name(refusal: Refusal) -> &'static str
+/// The name of a refusal on the wire.
+pub fn refusal_name(refusal: Refusal) -> &'static str
     ensures { result.now ≡ spec.refusal_name refusal }
 {
     match refusal {

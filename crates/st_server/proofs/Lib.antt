@@ -1,0 +1,7 @@
+pub mod FirstLine
+pub mod Going
+pub mod Ending
+pub mod Quanta
+pub mod Arguments
+pub mod BadLine
+pub mod Scripting

@@ -1,0 +1,6 @@
+pub mod Lines
+pub mod Sessions
+pub mod Reading
+pub mod Resolving
+pub mod Serving
+pub mod Scripts

@@ -1,0 +1,33 @@
+-- The lines of a text, and those that end a session.
+use Rattle.std.specs.Prelude.{ℕ, ◌==◌, List, [], ◌∷◌, length, Option, Some, None, nat_lt, if◌then◌else◌}
+use Rattle.std.specs.Str.{is_utf8}
+use Rattle.st_classes.specs.declared.refusals.Refusal.{Refusal}
+use Rattle.st_classes.specs.declared.refusals.Refusal.TheVariants.{TooLong, BadCommand}
+
+abbrev pub before_first : ℕ → List (List ℕ) → List (List ℕ)
+before_first b [] = (b ∷ []) ∷ []
+before_first b (part ∷ parts) = (b ∷ part) ∷ parts
+
+-- the parts of a text between its newlines
+abbrev pub parts : List ℕ → List (List ℕ)
+parts [] = [] ∷ []
+parts (b ∷ bs) = if b == 10 then [] ∷ parts bs else before_first b (parts bs)
+
+-- the last part is a line unless it is empty, or one carriage return alone
+abbrev pub last_line : List ℕ → List (List ℕ)
+last_line [] = []
+last_line (b ∷ []) = if b == 13 then [] else (b ∷ []) ∷ []
+last_line (b ∷ c ∷ bs) = (b ∷ c ∷ bs) ∷ []
+
+abbrev pub lines_of : List (List ℕ) → List (List ℕ)
+lines_of [] = []
+lines_of (part ∷ []) = last_line part
+lines_of (part ∷ next ∷ rest) = part ∷ lines_of (next ∷ rest)
+
+-- the parts before newlines, and a last part
+abbrev pub lines : List ℕ → List (List ℕ)
+lines text = lines_of (parts text)
+
+-- a line over 8,192 bytes and one that is no text end a session, after a reply that says so
+abbrev pub ends_with : List ℕ → Option Refusal
+ends_with line = if nat_lt 8192 (length line) then Some TooLong else (if is_utf8 line then None else Some BadCommand)

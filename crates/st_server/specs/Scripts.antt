@@ -1,0 +1,34 @@
+-- A script: its input is read to the end, and then a session answers the lines.
+use Rattle.std.specs.Prelude.{◌≡◌, ℕ, ◌&&◌, ◌⊎◌, List, [], ◌∷◌, length, Bool, not, Result, Err, nat_le, MatchOption, IfOk}
+use Rattle.st_classes.specs.declared.refusals.Refusal.{Refusal}
+use Rattle.st_classes.specs.declared.refusals.Refusal.TheVariants.{BadArguments}
+use Rattle.st_classes.specs.Refusals.{Rule, first_of}
+use Rattle.st_image.specs.Images.{ImageView, settings_rules}
+use Rattle.st_server.specs.declared.settings.ScriptSettings.{ScriptSettings}
+use Rattle.st_server.specs.Lines.{lines}
+use Rattle.st_server.specs.Reading.{StopsReading}
+use Rattle.st_server.specs.Sessions.{Session, end_of}
+use Rattle.st_server.specs.Serving.{Replies}
+
+-- a quantum is from 1 to 1,024 steps
+abbrev pub is_quantum : ℕ → Bool
+is_quantum quantum = nat_le 1 quantum && nat_le quantum 1024
+
+abbrev pub script_rules : ScriptSettings → List Rule
+script_rules s = (not (is_quantum s.quantum), BadArguments) ∷ settings_rules (record { capacity = s.capacity; history = s.history })
+
+-- the image with the numbers of a script
+abbrev pub with_settings : ImageView → ScriptSettings → ImageView
+with_settings i s = record i { capacity = s.capacity; limit = s.history }
+
+-- the lines of a text are answered, and all of them counted unless the session ended before
+abbrev pub AnswersLines : ℕ → ImageView → List ℕ → List ℕ → ImageView → Result ℕ Refusal → Type 0
+AnswersLines quantum i text written j result = Session (Replies quantum) i (lines text) written j (end_of result) × IfOk result (λ n. n ≡ length (lines text))
+
+-- the text that was read is answered, or its reading stopped, with so many failures before and after it, and nothing is written
+abbrev pub Scripted : ℕ → ImageView → List ℕ → ℕ → ℕ → List ℕ → ImageView → Result ℕ Refusal → Type 0
+Scripted quantum i text before after written j result = ((after ≡ before) × AnswersLines quantum i text written j result) ⊎ ((e : Refusal) × (result ≡ Err e) × StopsReading text before after e × (written ≡ []) × (j ≡ i))
+
+-- settings out of their ranges are refused, and then nothing is read or written
+abbrev pub Script : ScriptSettings → ImageView → List ℕ → ℕ → ℕ → List ℕ → ImageView → Result ℕ Refusal → Type 0
+Script s i text before after written j result = MatchOption (first_of (script_rules s)) (Scripted s.quantum (with_settings i s) text before after written j result) (λ e. (result ≡ Err e) × (text ≡ []) × (after ≡ before) × (written ≡ []) × (j ≡ i))

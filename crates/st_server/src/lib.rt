@@ -1,0 +1,15 @@
+//! The program over an image: commands and their replies, and a script of lines.
+//!
+//! [`scripts::script_on`] answers each line of its input by one line: the text of the reply to the line's command,
+//! asked of the image as the line before left it.
+#![tactic(auto)]
+
+mod lines;
+mod reading;
+mod resolving;
+pub mod scripts;
+mod serving;
+pub mod sessions;
+pub mod settings;
+#[cfg(test)]
+mod tests;

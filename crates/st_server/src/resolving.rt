@@ -1,0 +1,97 @@
+//! The values that the texts of a command stand for, and the texts of values.
+ghost use Rattle.std.specs.Prelude.{◌≡◌, ◌⊎◌, [], Err, IfOk, slice_get, unwrap_or};
+ghost use Rattle.st_classes.specs.declared.refusals.Refusal.TheVariants.{NoMemory};
+ghost use Rattle.st_classes.specs.Classes.{class_name};
+ghost use Rattle.st_image.specs.Images.{world};
+ghost use Rattle.st_server.specs.Resolving.{Resolves, AllResolve, shown as shown_as};
+
+use st_classes::refusals::Refusal;
+use st_classes::seq::Seq;
+use st_classes::values::{ClassId, Selector, Value, Values};
+use st_image::image::Image;
+use st_wire::commands::Argument;
+use st_wire::replies::Answered;
+use std::alloc::{AllocError, Global};
+
+/// The value of an argument. A symbol is interned.
+fn argument_value(image: &mut Image, alloc: Global, argument: &Argument) -> Result<Value, Refusal>
+    ensures { Resolves image.old argument.now result image.new }
+{
+    match argument {
+        Argument::Int(n) => Ok(Value::Int(*n)),
+        Argument::Bool(b) => Ok(Value::Bool(*b)),
+        Argument::Nil => Ok(Value::Nil),
+        Argument::Symbol(text) => match image.intern(alloc, text.as_slice()) {
+            Ok(selector) => Ok(Value::Sym(selector)),
+            Err(refusal) => Err(refusal),
+        },
+        Argument::Class(text) => match image.version().class_named(text.as_slice()) {
+            Some(class) => Ok(Value::Class(class)),
+            None => Err(Refusal::UnknownClass),
+        },
+        Argument::Actor(actor) => Ok(Value::Actor(*actor)),
+    }
+}
+
+/// The values of arguments, from the left up to the first that has none.
+pub fn argument_values(
+    image: &mut Image,
+    alloc: Global,
+    arguments: &[Argument],
+) -> Result<Values, Refusal>
+    ensures { ((result ≡ Err NoMemory) × (image.new ≡ image.old)) ⊎ AllResolve image.old arguments.now result image.new }
+{
+    let Ok(mut values) = Vec::with_capacity(alloc, arguments.len()) else {
+        return Err(Refusal::NoMemory);
+    };
+    for argument in arguments {
+        match argument_value(image, alloc, argument) {
+            Ok(value) => values.push(value).unwrap(),
+            Err(refusal) => return Err(refusal),
+        }
+    }
+    Ok(Seq::from_vec(values))
+}
+
+fn text_of(alloc: Global, text: &[u8]) -> Result<Seq<u8>, AllocError>
+    ensures { IfOk result (λ copy. copy ≡ text.now) }
+{
+    Ok(Seq::from_vec(text.to_vec(alloc)?))
+}
+
+/// The text of a selector, which is empty where the selector isn't there.
+fn selector_text(image: &Image, selector: Selector) -> &[u8]
+    ensures { result.now ≡ unwrap_or (slice_get image.now.names selector.0) [] }
+{
+    let names = image.names();
+    if u32::from(selector.0) < names.len() {
+        names.text(selector)
+    } else {
+        b""
+    }
+}
+
+/// The name of a class, which is empty where the class isn't there.
+fn class_text(image: &Image, class: ClassId) -> &[u8]
+    ensures { result.now ≡ unwrap_or (class_name (world image.now).edits class) [] }
+{
+    match image.version().class_name(class) {
+        Some(name) => name,
+        None => b"",
+    }
+}
+
+/// A value as texts.
+pub fn shown(image: &Image, alloc: Global, value: Value) -> Result<Answered, AllocError>
+    ensures { IfOk result (λ texts. texts ≡ shown_as image.now value) }
+{
+    Ok(match value {
+        Value::Int(n) => Answered::Int(n),
+        Value::Bool(b) => Answered::Bool(b),
+        Value::Nil => Answered::Nil,
+        Value::Sym(selector) => Answered::Symbol(text_of(alloc, selector_text(image, selector))?),
+        Value::Class(class) => Answered::Class(text_of(alloc, class_text(image, class))?),
+        Value::Actor(actor) => Answered::Actor(actor),
+        Value::Local(place) => Answered::Local(place),
+    })
+}

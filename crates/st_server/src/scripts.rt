@@ -1,0 +1,83 @@
+//! Scripts.
+ghost use Rattle.std.specs.Prelude.{◌≡◌, ◌≤◌, ◌++◌, ℕ, List, []};
+ghost use Rattle.st_server.specs.Sessions.{end_of, failures_after};
+ghost use Rattle.st_server.specs.Scripts.{AnswersLines, Scripted, Script};
+
+use crate::reading::read_all;
+use crate::serving::ImageHandler;
+use crate::sessions::session;
+use crate::settings::ScriptSettings;
+use st_classes::refusals::Refusal;
+use st_image::image::Image;
+use st_wire::streams::{Input, Output};
+use std::alloc::Global;
+
+/// Writes an image's reply to each line of a text.
+fn answer_lines<O: Output>(
+    alloc: Global,
+    output: &mut O,
+    quantum: u32,
+    image: Image,
+    text: &[u8],
+) -> (Image, Result<u64, Refusal>)
+    requires some { 1 ≤ quantum }
+    requires few { quantum ≤ 1024 }
+    ensures written { (written : List ℕ) × (O.written output.new ≡ O.written output.old ++ written)
+        × AnswersLines quantum image text.now written result.0 result.1 }
+    ensures failures { O.failures output.new ≡ failures_after (end_of result.1) (O.failures output.old) }
+{
+    let mut handler = ImageHandler { image, quantum };
+    let result = session(&mut handler, alloc, output, text);
+    (handler.image, result)
+}
+
+/// Reads an input to its end, and writes an image's reply to each of its lines.
+fn answer_input<I: Input, O: Output>(
+    alloc: Global,
+    input: &mut I,
+    output: &mut O,
+    quantum: u32,
+    image: Image,
+) -> (Image, Result<u64, Refusal>)
+    requires some { 1 ≤ quantum }
+    requires few { quantum ≤ 1024 }
+    ensures script { (text : List ℕ) × (written : List ℕ)
+        × (I.given input.new ≡ I.given input.old ++ text)
+        × (O.written output.new ≡ O.written output.old ++ written)
+        × Scripted quantum image text (I.failures input.old) (I.failures input.new) written result.0 result.1 }
+    ensures failures { O.failures output.new ≡ failures_after (end_of result.1) (O.failures output.old) }
+{
+    match read_all(alloc, input) {
+        Ok(text) => answer_lines(alloc, output, quantum, image, text.as_slice()),
+        Err(refusal) => (image, Err(refusal)),
+    }
+}
+
+/// Runs the commands of an input on an image, and writes a reply to each. The whole input is read first.
+///
+/// Answers the image, and how many lines there were or why the session ended: BadArguments where a number of the
+/// settings is out of its range, and then nothing is read; ReadFault where a read failed or 2^32 of them did not reach
+/// the end, and then nothing is written; TooLong or BadCommand at a line that is over 8,192 bytes or no text, which is
+/// replied to; WriteFault where a write failed, and NoMemory where a reply found none.
+pub fn script_on<I: Input, O: Output>(
+    alloc: Global,
+    input: &mut I,
+    output: &mut O,
+    settings: ScriptSettings,
+    mut image: Image,
+) -> (Image, Result<u64, Refusal>)
+    requires { image.history ≡ [] }
+    ensures script { (text : List ℕ) × (written : List ℕ)
+        × (I.given input.new ≡ I.given input.old ++ text)
+        × (O.written output.new ≡ O.written output.old ++ written)
+        × Script settings image text (I.failures input.old) (I.failures input.new) written result.0 result.1 }
+    ensures failures { O.failures output.new ≡ failures_after (end_of result.1) (O.failures output.old) }
+{
+    if !settings.has_quantum() {
+        return (image, Err(Refusal::BadArguments));
+    }
+    if let Err(refusal) = image.set(settings.of_image()) {
+        return (image, Err(refusal));
+    }
+    answer_input(alloc, input, output, settings.quantum, image)
+}

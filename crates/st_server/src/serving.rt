@@ -1,0 +1,232 @@
+//! Commands, asked of an image.
+ghost use Rattle.std.specs.Prelude.{◌≡◌, ◌≤◌, ◌⊎◌, MatchOption, MatchResult};
+ghost use Rattle.st_classes.specs.Classes.{class_named};
+ghost use Rattle.st_image.specs.declared.messages.Sender.TheVariants.{Client};
+ghost use Rattle.st_image.specs.Images.{world};
+ghost use Rattle.st_server.specs.Serving.{NoClass, InstallsMethod, Defines, Creates, PostsMessage, PostsArguments, Posts, NoneReady, TakesQuantum, StopsAt, Runs, Tells, Serves, Replies};
+
+use crate::resolving::{argument_values, shown};
+use crate::sessions::Handler;
+use st_classes::refusals::Refusal;
+use st_classes::seq::Seq;
+use st_classes::values::{ActorId, Selector};
+use st_image::image::Image;
+use st_image::messages::{Message, Sender};
+use st_turn::body::Outcome;
+use st_wire::commands::{Argument, Command, read_command};
+use st_wire::replies::Reply;
+use std::alloc::Global;
+
+fn define(
+    image: &mut Image,
+    alloc: Global,
+    name: &[u8],
+    parent: &[u8],
+    slots: Seq<Seq<u8>>,
+) -> Reply
+    ensures { MatchOption (class_named (world image.old).edits parent.now) (NoClass image.old result image.new) (Defines image.old name.now slots result image.new) }
+{
+    let Some(parent) = image.version().class_named(parent) else {
+        return Reply::Refused(Refusal::UnknownClass);
+    };
+    match image.define(alloc, name, parent, slots) {
+        Ok(version) => Reply::Version(version),
+        Err(refusal) => Reply::Refused(refusal),
+    }
+}
+
+fn install(image: &mut Image, alloc: Global, class: &[u8], source: &[u8]) -> Reply
+    ensures { MatchOption (class_named (world image.old).edits class.now) (NoClass image.old result image.new) (InstallsMethod image.old source.now result image.new) }
+{
+    let Some(class) = image.version().class_named(class) else {
+        return Reply::Refused(Refusal::UnknownClass);
+    };
+    match image.install(alloc, class, source) {
+        Ok(version) => Reply::Version(version),
+        Err(refusal) => Reply::Refused(refusal),
+    }
+}
+
+fn create(image: &mut Image, alloc: Global, class: &[u8]) -> Reply
+    ensures { MatchOption (class_named (world image.old).edits class.now) (NoClass image.old result image.new) (Creates image.old result image.new) }
+{
+    let Some(class) = image.version().class_named(class) else {
+        return Reply::Refused(Refusal::UnknownClass);
+    };
+    match image.create(alloc, class) {
+        Ok(actor) => Reply::Actor(actor),
+        Err(refusal) => Reply::Refused(refusal),
+    }
+}
+
+fn post_message(image: &mut Image, alloc: Global, actor: ActorId, message: Message) -> Reply
+    ensures { PostsMessage image.old actor message result image.new }
+{
+    match image.post(alloc, actor, message) {
+        Ok(turn) => Reply::Turn(turn),
+        Err(refusal) => Reply::Refused(refusal),
+    }
+}
+
+fn post_arguments(
+    image: &mut Image,
+    alloc: Global,
+    actor: ActorId,
+    arguments: &[Argument],
+    selector: Selector,
+    sender: u16,
+    seq: u64,
+) -> Reply
+    ensures { PostsArguments image.old actor arguments.now selector sender seq result image.new }
+{
+    match argument_values(image, alloc, arguments) {
+        Ok(args) => {
+            let message = Message {
+                sender: Sender::Client(sender),
+                seq,
+                selector,
+                args,
+            };
+            post_message(image, alloc, actor, message)
+        }
+        Err(refusal) => Reply::Refused(refusal),
+    }
+}
+
+fn post(
+    image: &mut Image,
+    alloc: Global,
+    actor: ActorId,
+    arguments: &[Argument],
+    selector: &[u8],
+    sender: u16,
+    seq: u64,
+) -> Reply
+    ensures { Posts image.old actor arguments.now selector.now sender seq result image.new }
+{
+    match image.intern(alloc, selector) {
+        Ok(selector) => post_arguments(image, alloc, actor, arguments, selector, sender, seq),
+        Err(refusal) => Reply::Refused(refusal),
+    }
+}
+
+/// Lets the next ready actor take a quantum, and says how many steps that was, or nothing where none is ready.
+fn take_quantum(image: &mut Image, alloc: Global, quantum: u32) -> Result<Option<u32>, Refusal>
+    requires some { 1 ≤ quantum }
+    requires few { quantum ≤ 1024 }
+    ensures { MatchResult result
+        (λ taken. MatchOption taken (NoneReady image.old × (image.new ≡ image.old)) (λ n. TakesQuantum quantum image.old n image.new))
+        (λ e. StopsAt quantum image.old e image.new) }
+{
+    let Some(actor) = image.next_ready() else {
+        return Ok(None);
+    };
+    match image.advance(alloc, actor, quantum) {
+        Ok(steps) => Ok(Some(steps)),
+        Err(refusal) => Err(refusal),
+    }
+}
+
+/// So long as quanta are left and an actor is ready, the next ready one takes a quantum.
+fn run(image: &mut Image, alloc: Global, quantum: u32, quanta: u32) -> Reply
+    requires some { 1 ≤ quantum }
+    requires few { quantum ≤ 1024 }
+    ensures { Runs quantum quanta image.old 0 0 result image.new }
+{
+    let mut steps = 0;
+    for taken in 0..quanta {
+        match take_quantum(image, alloc, quantum) {
+            Ok(Some(count)) => steps += u64::from(count),
+            Ok(None) => {
+                return Reply::Ran {
+                    quanta: taken,
+                    steps,
+                };
+            }
+            Err(refusal) => return Reply::Refused(refusal),
+        }
+    }
+    Reply::Ran { quanta, steps }
+}
+
+fn outcome(image: &Image, alloc: Global, actor: ActorId, turn: u64) -> Reply
+    ensures { Tells image.now actor turn result }
+{
+    match image.outcome(actor, turn) {
+        Ok(Outcome::Answer(value)) => match shown(image, alloc, value) {
+            Ok(value) => Reply::Answer(value),
+            Err(_) => Reply::Refused(Refusal::NoMemory),
+        },
+        Ok(Outcome::Fault(fault)) => Reply::Fault(fault),
+        Err(refusal) => Reply::Refused(refusal),
+    }
+}
+
+/// The reply to a command.
+fn serve(image: &mut Image, alloc: Global, quantum: u32, command: Command) -> Reply
+    requires some { 1 ≤ quantum }
+    requires few { quantum ≤ 1024 }
+    ensures { Serves quantum image.old command result image.new }
+{
+    match command {
+        Command::Define {
+            name,
+            parent,
+            slots,
+        } => define(image, alloc, name.as_slice(), parent.as_slice(), slots),
+        Command::Method { class, source } => {
+            install(image, alloc, class.as_slice(), source.as_slice())
+        }
+        Command::Actor { class } => create(image, alloc, class.as_slice()),
+        Command::Post {
+            actor,
+            args,
+            selector,
+            sender,
+            seq,
+        } => post(
+            image,
+            alloc,
+            actor,
+            args.as_slice(),
+            selector.as_slice(),
+            sender,
+            seq,
+        ),
+        Command::Run { quanta } => run(image, alloc, quantum, quanta),
+        Command::Outcome { actor, turn } => outcome(image, alloc, actor, turn),
+        Command::Remove { .. } | Command::Close { .. } | Command::Stats { .. } => {
+            Reply::Refused(Refusal::BadCommand)
+        }
+    }
+}
+
+/// The reply to a line. One that is no command is BadCommand.
+fn reply_to(image: &mut Image, alloc: Global, quantum: u32, line: &[u8]) -> Reply
+    requires some { 1 ≤ quantum }
+    requires few { quantum ≤ 1024 }
+    ensures { Replies quantum image.old line.now result image.new }
+{
+    match read_command(alloc, line) {
+        Ok(command) => serve(image, alloc, quantum, command),
+        Err(refusal) => Reply::Refused(refusal),
+    }
+}
+
+/// An image that answers lines.
+#[derive(Drop)]
+pub struct ImageHandler {
+    pub image: Image,
+    /// The steps of a quantum, 1 to 1,024.
+    pub quantum: u32,
+    ghost some: { 1 ≤ quantum },
+    ghost few: { quantum ≤ 1024 },
+}
+
+impl Handler for ImageHandler {
+    ghost answers = { λ i line r j. Replies i.quantum i.image line r j.image × (j.quantum ≡ i.quantum) };
+
+    fn reply(&mut self, alloc: Global, line: &[u8]) -> Reply {
+        reply_to(&mut self.image, alloc, self.quantum, line)
+    }
+}

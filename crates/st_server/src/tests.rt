@@ -1,0 +1,194 @@
+//! Scripts over memory, and over devices that fail.
+ghost use Rattle.std.specs.Prelude.{◌≡◌, ◌++◌, ◌≤◌, take};
+
+use crate::scripts::script_on;
+use crate::settings::ScriptSettings;
+use st_classes::refusals::Refusal;
+use st_image::image::Image;
+use st_image::settings::Settings;
+use st_wire::streams::{Input, MemoryInput, MemoryOutput, Output, ReadFailed, WriteFailed};
+use std::alloc::{AllocError, Global};
+use std::test::Fail;
+
+const RAN: &str = "{\"ok\":{\"quanta\":0,\"steps\":0}}\n";
+
+const BAD_COMMAND: &str = "{\"error\":\"BadCommand\"}\n";
+
+const TOO_LONG: &str = "{\"error\":\"TooLong\"}\n";
+
+/// An input that fails after so many reads.
+#[derive(Drop)]
+struct FailingInput {
+    inner: MemoryInput,
+    left: u32,
+    failures: u64,
+}
+
+impl Input for FailingInput {
+    ghost given = { λ f. take f.inner.place f.inner.bytes.items };
+
+    ghost failures = { λ f. f.failures };
+
+    fn read(&mut self, buffer: &mut [u8]) -> Result<usize, ReadFailed> {
+        if self.left > 0 {
+            self.left -= 1;
+            if let Ok(count) = self.inner.read(buffer) {
+                return Ok(count);
+            }
+        }
+        self.failures = self.failures.wrapping_add(1);
+        Err(ReadFailed)
+    }
+}
+
+/// An output that fails after so many writes.
+#[derive(Drop)]
+struct FailingOutput {
+    inner: MemoryOutput,
+    left: u32,
+    failures: u64,
+}
+
+impl Output for FailingOutput {
+    ghost written = { λ f. f.inner.bytes.items };
+
+    ghost failures = { λ f. f.failures };
+
+    fn write(&mut self, bytes: &[u8]) -> Result<usize, WriteFailed> {
+        if self.left > 0 {
+            self.left -= 1;
+            if let Ok(count) = self.inner.write(bytes) {
+                return Ok(count);
+            }
+        }
+        self.failures = self.failures.wrapping_add(1);
+        Err(WriteFailed)
+    }
+}
+
+fn bytes_of(alloc: Global, parts: &[&[u8]]) -> Result<Vec<u8>, AllocError> {
+    let mut bytes = Vec::new(alloc);
+    for part in parts {
+        bytes.extend_from_slice(part)?;
+    }
+    Ok(bytes)
+}
+
+/// What a new image answers to an input, and how the script ends.
+fn answered(
+    alloc: Global,
+    parts: &[&[u8]],
+    settings: ScriptSettings,
+) -> Result<(Result<u64, Refusal>, MemoryOutput), Fail> {
+    let mut input = MemoryInput::new(bytes_of(alloc, parts)?);
+    let mut output = MemoryOutput::new(alloc);
+    let image = Image::new(alloc, Settings::DEFAULT)?;
+    let (_, result) = script_on(alloc, &mut input, &mut output, settings, image);
+    Ok((result, output))
+}
+
+/// Whether the lines written are these.
+fn wrote(alloc: Global, output: &MemoryOutput, lines: &[&str]) -> Result<bool, AllocError> {
+    let mut bytes = Vec::new(alloc);
+    for line in lines {
+        bytes.extend_from_slice(line.as_bytes())?;
+    }
+    Ok(output.as_slice() == bytes.as_slice())
+}
+
+#[test]
+fn answers_each_line(rt: HostRuntime) -> Result<(), Fail> {
+    let alloc = rt.alloc();
+    let text = b"{\"cmd\":\"run\"}\n\nno\n{\"cmd\":\"run\"}\r\n{\"cmd\":\"run\"}";
+    let (result, output) = answered(alloc, &[text], ScriptSettings::DEFAULT)?;
+    assert!(rt; result == Ok(5));
+    assert!(rt; wrote(alloc, &output, &[RAN, BAD_COMMAND, BAD_COMMAND, RAN, RAN])?);
+    Ok(())
+}
+
+#[test]
+fn carriage_return_at_the_end(rt: HostRuntime) -> Result<(), Fail> {
+    let alloc = rt.alloc();
+    let text = b"{\"cmd\":\"run\"}\r\n\r";
+    let (result, output) = answered(alloc, &[text], ScriptSettings::DEFAULT)?;
+    assert!(rt; result == Ok(1));
+    assert!(rt; wrote(alloc, &output, &[RAN])?);
+    Ok(())
+}
+
+#[test]
+fn long_lines(rt: HostRuntime) -> Result<(), Fail> {
+    let alloc = rt.alloc();
+    let long = [b'x'; 8192];
+    let parts = [
+        long.as_slice(),
+        b"\n".as_slice(),
+        long.as_slice(),
+        b"x\n{\"cmd\":\"run\"}\n".as_slice(),
+    ];
+    let (result, output) = answered(alloc, &parts, ScriptSettings::DEFAULT)?;
+    assert!(rt; result == Err(Refusal::TooLong));
+    assert!(rt; wrote(alloc, &output, &[BAD_COMMAND, TOO_LONG])?);
+    Ok(())
+}
+
+#[test]
+fn a_line_that_is_no_text(rt: HostRuntime) -> Result<(), Fail> {
+    let alloc = rt.alloc();
+    let text = b"{\"cmd\":\"run\"}\n{\"cmd\":\"run\xff\"}\n{\"cmd\":\"run\"}\n";
+    let (result, output) = answered(alloc, &[text], ScriptSettings::DEFAULT)?;
+    assert!(rt; result == Err(Refusal::BadCommand));
+    assert!(rt; wrote(alloc, &output, &[RAN, BAD_COMMAND])?);
+    Ok(())
+}
+
+#[test]
+fn settings_out_of_range(rt: HostRuntime) -> Result<(), Fail> {
+    let alloc = rt.alloc();
+    for (quantum, capacity, history) in [(0, 1, 1), (1025, 1, 1), (1, 1025, 1), (1, 1, 0)] {
+        let settings = ScriptSettings {
+            quantum,
+            capacity,
+            history,
+        };
+        let (result, output) = answered(alloc, &[b"{\"cmd\":\"run\"}\n"], settings)?;
+        assert!(rt; result == Err(Refusal::BadArguments));
+        assert!(rt; output.as_slice().is_empty());
+    }
+    Ok(())
+}
+
+#[test]
+fn input_fails(rt: HostRuntime) -> Result<(), Fail> {
+    let alloc = rt.alloc();
+    let mut input = FailingInput {
+        inner: MemoryInput::new(Vec::from_slice(alloc, b"{\"cmd\":\"run\"}\n")?),
+        left: 1,
+        failures: 0,
+    };
+    let mut output = MemoryOutput::new(alloc);
+    let image = Image::new(alloc, Settings::DEFAULT)?;
+    let settings = ScriptSettings::DEFAULT;
+    let (_, result) = script_on(alloc, &mut input, &mut output, settings, image);
+    assert!(rt; result == Err(Refusal::ReadFault));
+    assert!(rt; output.as_slice().is_empty());
+    Ok(())
+}
+
+#[test]
+fn output_fails(rt: HostRuntime) -> Result<(), Fail> {
+    let alloc = rt.alloc();
+    let text = Vec::from_slice(alloc, b"{\"cmd\":\"run\"}\n{\"cmd\":\"run\"}\n")?;
+    let mut input = MemoryInput::new(text);
+    let mut output = FailingOutput {
+        inner: MemoryOutput::new(alloc),
+        left: 1,
+        failures: 0,
+    };
+    let image = Image::new(alloc, Settings::DEFAULT)?;
+    let settings = ScriptSettings::DEFAULT;
+    let (_, result) = script_on(alloc, &mut input, &mut output, settings, image);
+    assert!(rt; result == Err(Refusal::WriteFault));
+    assert!(rt; wrote(alloc, &output.inner, &[RAN])?);
+    Ok(())
+}

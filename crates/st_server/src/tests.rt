@@ -107,6 +107,62 @@ fn answers_each_line(rt: HostRuntime) -> Result<(), Fail> {
 }
 
 #[test]
+fn the_first_run(rt: HostRuntime) -> Result<(), Fail> {
+    let alloc = rt.alloc();
+    let text = br#"{"cmd":"define","name":"M","slots":[],"super":"Object"}
+{"class":"M","cmd":"method","source":"a ^3 + 4 * 2"}
+{"class":"M","cmd":"actor"}
+{"actor":0,"args":[],"cmd":"post","selector":"a","sender":1,"seq":1}
+{"cmd":"run"}
+{"actor":0,"cmd":"outcome","turn":1}
+"#;
+    let (result, output) = answered(alloc, &[text], ScriptSettings::DEFAULT)?;
+    assert!(rt; result == Ok(6));
+    let lines = [
+        "{\"ok\":{\"version\":1}}\n",
+        "{\"ok\":{\"version\":2}}\n",
+        "{\"ok\":{\"actor\":0}}\n",
+        "{\"ok\":{\"turn\":1}}\n",
+        "{\"ok\":{\"quanta\":1,\"steps\":7}}\n",
+        "{\"ok\":{\"answer\":14}}\n",
+    ];
+    assert!(rt; wrote(alloc, &output, &lines)?);
+    Ok(())
+}
+
+#[test]
+fn runs_a_message(rt: HostRuntime) -> Result<(), Fail> {
+    let alloc = rt.alloc();
+    let text = br#"{"cmd":"define","name":"M","slots":["a"],"super":"Object"}
+{"class":"M","cmd":"actor"}
+{"actor":0,"args":[],"cmd":"post","selector":"isNil","sender":1,"seq":1}
+{"actor":0,"cmd":"outcome","turn":1}
+{"cmd":"run"}
+{"actor":0,"cmd":"outcome","turn":1}
+{"class":"N","cmd":"actor"}
+{"actor":0,"args":[{"sym":"foo:"},{"class":"N"}],"cmd":"post","selector":"a:b:","sender":1,"seq":2}
+{"actor":0,"args":[{"sym":"foo:"},{"class":"M"}],"cmd":"post","selector":"=","sender":1,"seq":2}
+{"actor":9,"args":[],"cmd":"post","selector":"isNil","sender":1,"seq":2}
+"#;
+    let (result, output) = answered(alloc, &[text], ScriptSettings::DEFAULT)?;
+    assert!(rt; result == Ok(10));
+    let lines = [
+        "{\"ok\":{\"version\":1}}\n",
+        "{\"ok\":{\"actor\":0}}\n",
+        "{\"ok\":{\"turn\":1}}\n",
+        "{\"error\":\"Pending\"}\n",
+        "{\"ok\":{\"quanta\":1,\"steps\":1}}\n",
+        "{\"ok\":{\"answer\":false}}\n",
+        "{\"error\":\"UnknownClass\"}\n",
+        "{\"error\":\"UnknownClass\"}\n",
+        "{\"error\":\"BadArguments\"}\n",
+        "{\"error\":\"UnknownActor\"}\n",
+    ];
+    assert!(rt; wrote(alloc, &output, &lines)?);
+    Ok(())
+}
+
+#[test]
 fn carriage_return_at_the_end(rt: HostRuntime) -> Result<(), Fail> {
     let alloc = rt.alloc();
     let text = b"{\"cmd\":\"run\"}\r\n\r";

@@ -138,77 +138,96 @@ fn finds_kernel_methods(rt: HostRuntime) -> Result<(), Fail> {
     Ok(())
 }
 
+const A: ClassId = ClassId(8);
+
+const B: ClassId = ClassId(9);
+
+const C: ClassId = ClassId(10);
+
+/// Classes A, B under A and C under B, with a method `who` in A and in B.
+fn three_classes(alloc: Global) -> Result<Version, Refusal> {
+    let Ok(version) = Version::kernel(alloc) else {
+        return Err(Refusal::NoMemory);
+    };
+    let version = define(&version, alloc, b"A", OBJECT, &[b"count"])?;
+    let version = install(&version, alloc, A, WHO)?;
+    let version = define(&version, alloc, b"B", A, &[])?;
+    let version = install(&version, alloc, B, WHO)?;
+    define(&version, alloc, b"C", B, &[b"more"])
+}
+
 #[test]
 fn finds_up_a_chain(rt: HostRuntime) -> Result<(), Fail> {
-    let alloc = rt.alloc();
-    let (a, b, c) = (ClassId(8), ClassId(9), ClassId(10));
-    let version = Version::kernel(alloc)?;
-    let version = define(&version, alloc, b"A", OBJECT, &[b"count"])?;
-    let version = install(&version, alloc, a, WHO)?;
-    let version = define(&version, alloc, b"B", a, &[])?;
-    let version = install(&version, alloc, b, WHO)?;
-    let version = define(&version, alloc, b"C", b, &[b"more"])?;
-    let before = install(&version, alloc, c, WHO)?;
-    assert_eq!(rt; found(&version, c, WHO), Some(Target::Run(MethodId(3))));
-    assert_eq!(rt; found(&before, c, WHO), Some(Target::Run(MethodId(5))));
-    assert_eq!(rt;
-        found_above(&before, c, c, WHO),
-        Some(Target::Run(MethodId(3)))
-    );
-    assert_eq!(rt;
-        found_above(&before, b, c, WHO),
-        Some(Target::Run(MethodId(1)))
-    );
-    assert_eq!(rt;
-        found_above(&before, a, c, WHO),
-        Some(Target::Missing(None))
-    );
-    let after = remove(&before, alloc, c, WHO)?;
-    assert_eq!(rt; found(&after, c, WHO), Some(Target::Run(MethodId(3))));
-    assert_eq!(rt; after.edits(), 7);
-    assert_eq!(rt; after.method(MethodId(5)).map(Method::holder), Some(c));
-    assert_eq!(rt; after.class_named(b"B"), Some(b));
-    assert_eq!(rt; after.class_name(c), Some(b"C".as_slice()));
-    assert_eq!(rt; after.parent(c), Some(b));
+    let before = three_classes(rt.alloc())?;
+    let after = install(&before, rt.alloc(), C, WHO)?;
+    assert_eq!(rt; found(&before, C, WHO), Some(Target::Run(MethodId(3))));
+    assert_eq!(rt; found(&after, C, WHO), Some(Target::Run(MethodId(5))));
+    let removed = remove(&after, rt.alloc(), C, WHO)?;
+    assert_eq!(rt; found(&removed, C, WHO), Some(Target::Run(MethodId(3))));
     Ok(())
 }
 
 #[test]
-fn refuses_in_order(rt: HostRuntime) -> Result<(), Fail> {
-    let alloc = rt.alloc();
-    let a = ClassId(8);
-    let version = Version::kernel(alloc)?;
-    let version = define(&version, alloc, b"Counter", OBJECT, &[b"count"])?;
+fn finds_above_a_holder(rt: HostRuntime) -> Result<(), Fail> {
+    let version = three_classes(rt.alloc())?;
     assert_eq!(rt;
-        define(&version, alloc, b"x", ClassId(9), &[]).err(),
+        found_above(&version, C, C, WHO),
+        Some(Target::Run(MethodId(3)))
+    );
+    assert_eq!(rt;
+        found_above(&version, B, C, WHO),
+        Some(Target::Run(MethodId(1)))
+    );
+    assert_eq!(rt;
+        found_above(&version, A, C, WHO),
+        Some(Target::Missing(None))
+    );
+    Ok(())
+}
+
+#[test]
+fn reads_classes(rt: HostRuntime) -> Result<(), Fail> {
+    let version = three_classes(rt.alloc())?;
+    assert_eq!(rt; version.edits(), 5);
+    assert_eq!(rt; version.method(MethodId(3)).map(Method::holder), Some(B));
+    assert_eq!(rt; version.class_named(b"B"), Some(B));
+    assert_eq!(rt; version.class_name(C), Some(b"C".as_slice()));
+    assert_eq!(rt; version.parent(C), Some(B));
+    Ok(())
+}
+
+#[test]
+fn refuses_classes_in_order(rt: HostRuntime) -> Result<(), Fail> {
+    let version = three_classes(rt.alloc())?;
+    let cases: [(&[u8], ClassId, Refusal); 5] = [
+        (b"x", ClassId(11), Refusal::UnknownClass),
+        (b"x", SMALL_INTEGER, Refusal::BadName),
+        (b"B", SMALL_INTEGER, Refusal::KernelClass),
+        (b"B", A, Refusal::ClassExists),
+        (b"D", A, Refusal::SlotClash),
+    ];
+    for (name, parent, refusal) in cases {
+        assert_eq!(rt;
+            define(&version, rt.alloc(), name, parent, &[b"count"]).err(),
+            Some(refusal)
+        );
+    }
+    Ok(())
+}
+
+#[test]
+fn refuses_methods(rt: HostRuntime) -> Result<(), Fail> {
+    let version = three_classes(rt.alloc())?;
+    assert_eq!(rt;
+        install(&version, rt.alloc(), ClassId(11), PLUS).err(),
         Some(Refusal::UnknownClass)
     );
     assert_eq!(rt;
-        define(&version, alloc, b"x", SMALL_INTEGER, &[]).err(),
-        Some(Refusal::BadName)
-    );
-    assert_eq!(rt;
-        define(&version, alloc, b"Counter", SMALL_INTEGER, &[]).err(),
-        Some(Refusal::KernelClass)
-    );
-    assert_eq!(rt;
-        define(&version, alloc, b"Counter", a, &[b"count"]).err(),
-        Some(Refusal::ClassExists)
-    );
-    assert_eq!(rt;
-        define(&version, alloc, b"D", a, &[b"count"]).err(),
-        Some(Refusal::SlotClash)
-    );
-    assert_eq!(rt;
-        install(&version, alloc, ClassId(9), PLUS).err(),
-        Some(Refusal::UnknownClass)
-    );
-    assert_eq!(rt;
-        install(&version, alloc, SMALL_INTEGER, PLUS).err(),
+        install(&version, rt.alloc(), SMALL_INTEGER, PLUS).err(),
         Some(Refusal::KernelMethod)
     );
     assert_eq!(rt;
-        remove(&version, alloc, a, WHO).err(),
+        remove(&version, rt.alloc(), C, WHO).err(),
         Some(Refusal::NoSuchMethod)
     );
     Ok(())

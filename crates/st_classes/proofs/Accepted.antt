@@ -1,5 +1,5 @@
 -- An accepted edit of any kind.
-use Rattle.std.proofs.Common.{refl, ◌≡◌, ℕ, List, [], ◌∷◌, ◌++◌, Option, Some, None, true, false, ap, sym, subst, ◌∙◌, length, is_some, cond}
+use Rattle.std.proofs.Common.{refl, ◌≡◌, ℕ, List, [], ◌∷◌, ◌++◌, Option, Some, None, true, false, ap, sym, subst, ◌∙◌, length, is_some, cond, inl, inr}
 use Rattle.std.specs.Str.{bytes_eq}
 use Rattle.st_classes.specs.declared.values.ClassId.{ClassId}
 use Rattle.st_classes.specs.declared.values.Selector.{Selector}
@@ -13,7 +13,9 @@ use Rattle.st_classes.specs.Accepting.{edit_rules, define_rules, install_rules, 
 use Rattle.st_classes.specs.Classes.{ClassDef, defined, classes, class_count, is_class}
 use Rattle.st_classes.specs.Walks.{method_id}
 use Rattle.st_classes.specs.ClassIndexes.{Naming, named_in}
+use Rattle.st_classes.specs.Lawful.{AllSound, IsSoundEdit}
 use Rattle.st_classes.specs.Tables.{IsKept, AreRows, IsAt, IsNaming, IsTable}
+use Rattle.st_classes.proofs.Chains.{slice_get_push}
 use Rattle.st_classes.proofs.Growing.{classes_push, classes_same, kept_at, NoneApply, none_apply}
 use Rattle.st_classes.proofs.Defining.{no_such_class, new_def, false_from_not, kept_define}
 use Rattle.st_classes.proofs.Indexing.{naming_push, class_in}
@@ -61,5 +63,11 @@ naming_define es name p added old new n h was count put =
 
 -- ---- the table
 
-pub table_push : (es edits : List Edit) (e : Edit) (rows : List ClassRow) (naming : Naming) → IsKept es → first_of (edit_rules es e) ≡ None → edits ≡ es ++ e ∷ [] → AreRows (es ++ e ∷ []) rows → IsNaming (es ++ e ∷ []) naming → IsTable edits rows naming
-table_push es edits e rows naming k h same shown named = subst (λ (ds : List Edit). IsTable ds rows naming) (sym same) (record { kept = kept_push es e k h; shown = shown; named = named })
+pub sound_push : (edits : List Edit) (e : Edit) → AllSound edits → IsSoundEdit e → AllSound (edits ++ e ∷ [])
+sound_push edits e h s = λ place c m at. elim (slice_get_push edits e (Install c m) place at) [
+  | inl w ↦ h place c m w.1
+  | inr w ↦ subst IsSoundEdit w.1 s
+]
+
+pub table_push : (es edits : List Edit) (e : Edit) (rows : List ClassRow) (naming : Naming) → IsKept es → AllSound es → IsSoundEdit e → first_of (edit_rules es e) ≡ None → edits ≡ es ++ e ∷ [] → AreRows (es ++ e ∷ []) rows → IsNaming (es ++ e ∷ []) naming → IsTable edits rows naming
+table_push es edits e rows naming k sound s h same shown named = subst (λ (ds : List Edit). IsTable ds rows naming) (sym same) (record { kept = kept_push es e k h; sound = sound_push es e sound s; shown = shown; named = named })

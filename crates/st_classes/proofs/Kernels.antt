@@ -10,6 +10,7 @@ use Rattle.st_classes.specs.declared.class_rows.ClassRow.{ClassRow}
 use Rattle.st_classes.specs.Kernel.{class, kernel_method}
 use Rattle.st_classes.specs.Classes.{ClassDef, kernel_classes, slots, parent_in, chain_of}
 use Rattle.st_classes.specs.ClassRows.{IsRow, IsPlain, row_method}
+use Rattle.st_classes.specs.Lawful.{AllSound}
 use Rattle.st_classes.specs.Tables.{IsForest, IsKept, AreRows}
 use Rattle.st_classes.proofs.Defining.{kernel_none}
 
@@ -38,6 +39,9 @@ kernel_kept = record {
   few = omega arith;
   few_classes = omega arith;
 }
+
+pub kernel_sound : AllSound []
+kernel_sound = λ place c m at. cc
 
 own_plain : (m : Option MethodId) (k : Option Kernel) → m ≡ None → option_map FoundKernel k ≡ or_else (option_map User m) (option_map FoundKernel k)
 own_plain m k e = rw e

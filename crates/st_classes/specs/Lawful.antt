@@ -18,6 +18,12 @@ AreLawful edits = (place : ℕ) (e : Edit) → slice_get edits place ≡ Some e 
 abbrev pub AllSuit : List (List ℕ) → List Edit → Type 0
 AllSuit names edits = (place : ℕ) (c : ClassId) (m : MethodParts) → slice_get edits place ≡ Some (Install c m) → suits names edits c m ≡ true
 
+-- the method of an install is sound
+abbrev pub IsSoundEdit : Edit → Type 0
+IsSoundEdit (Define name parent slots) = Unit {0}
+IsSoundEdit (Install c m) = IsSound m
+IsSoundEdit (Remove c s) = Unit {0}
+
 -- each installed method is sound
 abbrev pub AllSound : List Edit → Type 0
 AllSound edits = (place : ℕ) (c : ClassId) (m : MethodParts) → slice_get edits place ≡ Some (Install c m) → IsSound m

@@ -10,7 +10,7 @@ use Rattle.st_classes.specs.declared.kernel.Found.{Found}
 use Rattle.st_classes.specs.declared.kernel.Found.TheVariants.{User}
 use Rattle.st_classes.specs.Classes.{ClassDef, defined, classes, class_count, parent_in, chain_of, class_named}
 use Rattle.st_classes.specs.Walks.{own, decided, is_at}
-use Rattle.st_classes.specs.Lawful.{AreLawful}
+use Rattle.st_classes.specs.Lawful.{AreLawful, AllSound}
 use Rattle.st_classes.specs.ClassRows.{IsRow}
 use Rattle.st_classes.specs.ClassIndexes.{Naming, named_in}
 
@@ -39,6 +39,7 @@ IsNaming edits naming = (name : List ℕ) → named_in naming name ≡ class_nam
 -- the table of a list of edits
 pub record IsTable (edits : List Edit) (rows : List ClassRow) (naming : Naming) : Type 0 where
   pub kept : IsKept edits
+  pub sound : AllSound edits
   pub shown : AreRows edits rows
   pub named : IsNaming edits naming
 

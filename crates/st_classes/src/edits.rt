@@ -27,6 +27,19 @@ pub enum Edit {
     },
 }
 
+impl Edit {
+    ghost use Rattle.st_classes.specs.Lawful.{IsSoundEdit};
+
+    /// What is true of every edit: the method of an install is sound.
+    pub fn known(&self)
+        ensures { IsSoundEdit self.now }
+    {
+        if let Edit::Install { method, .. } = self {
+            let _ = method.code();
+        }
+    }
+}
+
 /// An edit that versions and histories share. Contracts see the edit.
 #[derive(Drop)]
 pub struct SharedEdit {

@@ -21,7 +21,8 @@ ghost use Rattle.st_classes.specs.Classes.{
 };
 ghost use Rattle.st_classes.specs.ClassRows.{IsPlain, IsRow};
 ghost use Rattle.st_classes.specs.Tables.{AreRows, IsAt, IsKept, IsNaming};
-ghost use Rattle.st_classes.specs.Lawful.{AreLawful, method_at};
+ghost use Rattle.st_classes.specs.Lawful.{AllSound, AreLawful, method_at};
+ghost use Rattle.st_classes.specs.declared.methods.MethodParts.{MethodParts as PartsOf};
 ghost use Rattle.st_classes.specs.Walks.{or_missing, own, super_target, target, walk};
 
 use crate::class_index::ClassIndex;
@@ -70,13 +71,23 @@ impl Version {
         let _ = &self.edits;
     }
 
-    /// What callers may know of every class table: each edit was accepted after those before it, and the limits hold.
+    /// The methods of every class table are sound.
+    fn methods_known(&self)
+        ensures { AllSound self.now }
+    {
+        let _ = &self.edits;
+    }
+
+    /// What callers may know of every class table: each edit was accepted after those before it, its methods are sound, and the
+    /// limits hold.
     pub fn known(&self)
         ensures lawful { AreLawful self.now }
+        ensures sound { AllSound self.now }
         ensures few { length self.now ≤ 4096 }
         ensures few_classes { class_count self.now ≤ 1024 }
     {
         self.kept();
+        self.methods_known();
     }
 
     /// The number of edits, at most 4,096.
@@ -165,6 +176,18 @@ impl Version {
         match self.edits.get(id.0 as usize)?.edit() {
             Edit::Install { method, .. } => Some(method),
             _ => None,
+        }
+    }
+
+    /// The method that was installed at a place where there is one, found without a test.
+    #[inline]
+    pub fn installed(&self, id: MethodId) -> &Method
+        requires { (m : PartsOf) × (method_at self.now id ≡ Some m) }
+        ensures { method_at self.now id ≡ Some result.now }
+    {
+        match self.edits[id.0 as usize].edit() {
+            Edit::Install { method, .. } => method,
+            _ => unreachable!(),
         }
     }
 
@@ -397,6 +420,8 @@ impl Version {
         ensures { IfOk result (λ version. version ≡ self.now ++ edit ∷ []) }
     {
         self.kept();
+        self.methods_known();
+        edit.known();
         let rows = self.rows_with(alloc, &edit)?;
         let named = self.named_with(alloc, &edit)?;
         let edits = self.edits_with(alloc, edit)?;

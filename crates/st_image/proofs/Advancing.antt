@@ -21,10 +21,10 @@ use Rattle.st_image.specs.declared.items.Item.{Item}
 use Rattle.st_image.specs.declared.items.Item.TheVariants.{Begun, Ran}
 use Rattle.st_image.specs.Worlds.{World, Being, pending, is_idle, with_actor}
 use Rattle.st_image.specs.Next.{next, begun_at, begun_by, beginning, steps, with_result, only_if}
-use Rattle.st_image.specs.Images.{ImageView, world, world_of, no_room, advance_rules, advanced, HasStopped, idle_at, beginnings}
+use Rattle.st_image.specs.Images.{ImageView, world, world_of, no_room, advance_rules, advanced, only_begun, HasStopped, idle_at, beginnings}
 use Rattle.st_image.specs.Ready.{is_ready, is_ready_at}
 use Rattle.st_image.specs.Lasting.{IsWorld, IsBeing, given}
-use Rattle.st_image.specs.Kepts.{Kept, kept_of, started, begun_first, stepped_to, is_ready_kept, has, HasAlso, advance_items, Advances}
+use Rattle.st_image.specs.Kepts.{Kept, kept_of, started, begun_first, stepped_to, is_ready_kept, has, HasAlso, advance_items, turn_after, Advances}
 use Rattle.st_image.specs.Keeping.{Shows, IsImage, CanRun}
 use Rattle.st_image.proofs.Places.{get_set_same}
 use Rattle.st_image.proofs.Lists.{off, set_at_same, set_twice}
@@ -219,6 +219,7 @@ pub record HasAdvanced (names : List (List ℕ)) (edits : List Edit) (actors : L
   pub within : n ≤ limit
   pub some : IsTrue is_whole → 1 ≤ n
   pub whole : IsTrue is_whole → (n ≡ limit) ⊎ (idle_at (slice_get (world_of names (h ++ advance_items a begins n)).actors a.0) ≡ true)
+  pub cut : is_whole ≡ false → (n < limit) × (idle_at (slice_get (world_of names (h ++ advance_items a begins n)).actors a.0) ≡ false)
 
 some_steps : (edits : List Edit) (a : ActorId) (n limit : ℕ) (b c : Body) → is_idle b.phase ≡ false → 1 ≤ limit → steps edits a n b ≡ Some c → (n ≡ limit) ⊎ (is_idle c.phase ≡ true) → 1 ≤ n
 some_steps edits a (suc n) limit b c busy l e w = omega arith
@@ -243,6 +244,7 @@ has_advanced names edits actors actors' ready ready' h made s a b t n limit is_w
       within = g.1.within;
       some = λ y. some_steps edits a n limit (started (kept_of b)).body g.0 (begun_phase b l.goes) least g.1.taken (g.1.whole y);
       whole = λ y. whole_at (g.1.whole y) r'.at;
+      cut = λ y. let p = g.1.cut y in (p.0, r'.at ∙ p.1);
     }
   where
     whole_at : {m k : ℕ} {x y : Bool} → (m ≡ k) ⊎ (x ≡ true) → y ≡ x → (m ≡ k) ⊎ (y ≡ true)
@@ -255,17 +257,29 @@ pub finished : (t : Bool) (first : Option Refusal) (n : ℕ) (P : ℕ → Type 0
 finished true first n P h f = (h, f refl)
 finished false first n P h f = inl refl
 
-pub stopped : (t : Bool) (n : ℕ) (P : Refusal → Type 0) → P NoMemory → IfErr (cond t (Ok n) (Err NoMemory)) P
+pub stopped : (t : Bool) (n : ℕ) (P : Refusal → Type 0) → (t ≡ false → P NoMemory) → IfErr (cond t (Ok n) (Err NoMemory)) P
 stopped true n P h = tt
-stopped false n P h = h
+stopped false n P h = h refl
 
 items_ran : (a : ActorId) (t : Bool) (n : ℕ) → 1 ≤ n → advance_items a t n ≡ beginnings a t ++ Ran a n ∷ []
 items_ran a t zero h = absurd (omega arith)
 items_ran a t (suc n) h = ap (λ (x : Bool). beginnings a t ++ cond x [] (Ran a (suc n) ∷ [])) (eqb-suc-zero n)
 
-pub is_advanced : (names : List (List ℕ)) (h : List Item) (s : Settings) (turn : ℕ) (a : ActorId) (t : Bool) (n : ℕ) → t ≡ idle_at (slice_get (world_of names h).actors a.0) → 1 ≤ n → seen names (h ++ advance_items a t n) s (a.0 + 1) ≡ advanced (seen names h s turn) a n
-is_advanced names h s turn a t n e some = ap (λ (is : List Item). seen names (h ++ is) s (a.0 + 1)) (items_ran a t n some ∙ ap (λ (x : Bool). beginnings a x ++ Ran a n ∷ []) e)
+turn_moves : (turn : ℕ) (a : ActorId) (t : Bool) (n : ℕ) → 1 ≤ n → turn_after turn a t n ≡ a.0 + 1
+turn_moves turn a true n h = refl
+turn_moves turn a false zero h = absurd (omega arith)
+turn_moves turn a false (suc n) h = ap (λ (x : Bool). cond x turn (a.0 + 1)) (eqb-suc-zero n)
 
-pub has_stopped : (names : List (List ℕ)) (h : List Item) (s : Settings) (turn : ℕ) (a : ActorId) (t : Bool) (n limit : ℕ) → t ≡ idle_at (slice_get (world_of names h).actors a.0) → n ≤ limit → HasStopped (seen names h s turn) a limit (seen names (h ++ advance_items a t n) s (a.0 + 1))
-has_stopped names h s turn a t zero limit e l = inl (ap (λ (is : List Item). seen names (h ++ is) s (a.0 + 1)) (append-nil (beginnings a t) ∙ ap (beginnings a) e))
-has_stopped names h s turn a t (suc n) limit e l = inr (suc n, omega arith, l, is_advanced names h s turn a t (suc n) e (omega arith))
+pub is_advanced : (names : List (List ℕ)) (h : List Item) (s : Settings) (turn : ℕ) (a : ActorId) (t : Bool) (n : ℕ) → t ≡ idle_at (slice_get (world_of names h).actors a.0) → 1 ≤ n → seen names (h ++ advance_items a t n) s (turn_after turn a t n) ≡ advanced (seen names h s turn) a n
+is_advanced names h s turn a t n e some =
+    ap (seen names (h ++ advance_items a t n) s) (turn_moves turn a t n some)
+    ∙ ap (λ (is : List Item). seen names (h ++ is) s (a.0 + 1)) (items_ran a t n some ∙ ap (λ (x : Bool). beginnings a x ++ Ran a n ∷ []) e)
+
+-- what want of memory leaves, where the history ends with these items
+abbrev pub Stops : ImageView → ActorId → ℕ → ImageView → Type 0
+Stops i a limit j = (j ≡ i) ⊎ HasStopped i a limit j
+
+pub has_stopped : (names : List (List ℕ)) (h : List Item) (s : Settings) (turn : ℕ) (a : ActorId) (t : Bool) (n limit : ℕ) → t ≡ idle_at (slice_get (world_of names h).actors a.0) → (n < limit) × (idle_at (slice_get (world_of names (h ++ advance_items a t n)).actors a.0) ≡ false) → Stops (seen names h s turn) a limit (seen names (h ++ advance_items a t n) s (turn_after turn a t n))
+has_stopped names h s turn a true zero limit e l = inr (inl (sym e, refl))
+has_stopped names h s turn a false zero limit e l = inl (ap (λ (is : List Item). seen names is s turn) (append-nil h))
+has_stopped names h s turn a t (suc n) limit e l = inr (inr (suc n, omega arith, is_advanced names h s turn a t (suc n) e (omega arith), l))

@@ -1,5 +1,5 @@
 -- What callers see of an image, and the refusals of its calls.
-use Rattle.std.specs.Prelude.{◌≡◌, ◌⊎◌, ◌≤◌, ℕ, ◌+◌, ◌-◌, ◌==◌, ◌&&◌, ◌||◌, List, [], ◌∷◌, ◌++◌, length, Bool, true, false, not, Option, Some, None, Result, Ok, Err, nat_le, nat_lt, slice_get, unwrap_or, if◌then◌else◌}
+use Rattle.std.specs.Prelude.{◌≡◌, ◌⊎◌, ◌≤◌, ◌<◌, ℕ, ◌+◌, ◌-◌, ◌==◌, ◌&&◌, ◌||◌, List, [], ◌∷◌, ◌++◌, length, Bool, true, false, not, Option, Some, None, Result, Ok, Err, nat_le, nat_lt, slice_get, unwrap_or, if◌then◌else◌}
 use Rattle.st_classes.specs.declared.values.ClassId.{ClassId}
 use Rattle.st_classes.specs.declared.values.ActorId.{ActorId}
 use Rattle.st_classes.specs.declared.refusals.Refusal.{Refusal}
@@ -97,13 +97,17 @@ idle_at (Some b) = is_idle b.body.phase
 abbrev pub advanced : ImageView → ActorId → ℕ → ImageView
 advanced i a n = record i { history = i.history ++ (beginnings a (idle_at (slice_get (world i).actors a.0)) ++ Ran a n ∷ []); turn = a.0 + 1 }
 
--- the image after an advance that found no memory for its first step
+-- the image after an advance that began a message and found no memory for its first step
 abbrev pub only_begun : ImageView → ActorId → ImageView
-only_begun i a = record i { history = i.history ++ beginnings a (idle_at (slice_get (world i).actors a.0)); turn = a.0 + 1 }
+only_begun i a = record i { history = i.history ++ Begun a ∷ []; turn = a.0 + 1 }
 
--- what an image may be after want of memory in the middle of an advance: the message begun, or some steps taken
+-- the advance of an actor may go on after so many steps: they are fewer than it may take, and the turn has not ended
+abbrev pub GoesOn : ImageView → ActorId → ℕ → ℕ → Type 0
+GoesOn i a limit n = (n < limit) × (idle_at (slice_get (world i).actors a.0) ≡ false)
+
+-- what want of memory in the middle of an advance leaves: an idle actor's message begun and no step taken, or the steps before it
 abbrev pub HasStopped : ImageView → ActorId → ℕ → ImageView → Type 0
-HasStopped i a limit j = (j ≡ only_begun i a) ⊎ ((n : ℕ) × (1 ≤ n) × (n ≤ limit) × (j ≡ advanced i a n))
+HasStopped i a limit j = ((idle_at (slice_get (world i).actors a.0) ≡ true) × (j ≡ only_begun i a)) ⊎ ((n : ℕ) × (1 ≤ n) × (j ≡ advanced i a n) × GoesOn j a limit n)
 
 -- ---- the outcome of a turn
 

@@ -1,5 +1,5 @@
 -- What an image keeps of an actor.
-use Rattle.std.specs.Prelude.{IsTrue, ℕ, ◌+◌, ◌≡◌, ◌≤◌, ◌⊎◌, ◌&&◌, ◌||◌, ◌==◌, List, [], ◌∷◌, ◌++◌, length, drop, Bool, true, false, not, Some, nat_le, nat_eq, if◌then◌else◌}
+use Rattle.std.specs.Prelude.{IsTrue, ℕ, ◌+◌, ◌≡◌, ◌≤◌, ◌<◌, ◌⊎◌, ◌&&◌, ◌||◌, ◌==◌, List, [], ◌∷◌, ◌++◌, length, drop, Bool, true, false, not, Some, nat_le, nat_eq, if◌then◌else◌}
 use Rattle.std.specs.Ordering.{nat_cmp}
 use Rattle.std.specs.BTreeSet.{BTreeSet, contains}
 use Rattle.st_classes.specs.declared.values.ClassId.{ClassId}
@@ -86,8 +86,13 @@ pub record IsNext (numbers : BTreeSet ℕ) (from a : ℕ) : Type 0 where
 abbrev pub advance_items : ActorId → Bool → ℕ → List Item
 advance_items a begins n = beginnings a begins ++ (if n == 0 then [] else Ran a n ∷ [])
 
--- an actor that begins a message, where it is idle, comes by so many steps to a body, and ends with its last step or with its turn where it is not cut short
+-- the number from which the next ready actor is looked for, after an advance that added something or nothing
+abbrev pub turn_after : ℕ → ActorId → Bool → ℕ → ℕ
+turn_after turn a begins n = if not begins && (n == 0) then turn else a.0 + 1
+
+-- an actor that begins a message, where it is idle, comes by so many steps to a body: with its last step or with its turn, or cut short before either
 pub record Advances (edits : List Edit) (a : ActorId) (limit : ℕ) (k : Kept) (n : ℕ) (is_whole : Bool) (body : Body) : Type 0 where
   pub taken : steps edits a n (started k).body ≡ Some body
   pub within : n ≤ limit
   pub whole : IsTrue is_whole → (n ≡ limit) ⊎ (is_idle body.phase ≡ true)
+  pub cut : is_whole ≡ false → (n < limit) × (is_idle body.phase ≡ false)

@@ -1,6 +1,7 @@
 -- When a message is accepted.
 use Rattle.std.specs.Prelude.{ℕ, ◌&&◌, List, [], ◌∷◌, length, Bool, true, false, not, Option, Some, None, nat_le, nat_lt}
 use Rattle.std.specs.List.{list_all}
+use Rattle.st_classes.specs.declared.values.Selector.{Selector}
 use Rattle.st_classes.specs.declared.values.Value.{Value}
 use Rattle.st_classes.specs.declared.values.Value.TheVariants.{Int, Bool as Boolean, Nil, Sym, Class, Actor, Local}
 use Rattle.st_classes.specs.declared.refusals.Refusal.TheVariants.{UnknownActor, BadArguments, Closed, Full}
@@ -8,6 +9,7 @@ use Rattle.st_classes.specs.Refusals.{Rule}
 use Rattle.st_classes.specs.Classes.{class_count}
 use Rattle.st_classes.specs.Suiting.{arity_at, is_number}
 use Rattle.st_image.specs.declared.messages.Message.{Message}
+use Rattle.st_image.specs.declared.messages.Sender.TheVariants.{Client}
 use Rattle.st_image.specs.Worlds.{World, Being, pending}
 
 -- an argument of a message is no local, and names something that is there, for so many classes and actors
@@ -19,6 +21,10 @@ argument_fits names classes actors (Sym s) = nat_lt s.0 (length names)
 argument_fits names classes actors (Class c) = nat_lt c.0 classes
 argument_fits names classes actors (Actor a) = nat_lt a.0 actors
 argument_fits names classes actors (Local n) = false
+
+-- a client's message, with the client's number for it
+abbrev pub from_client : ℕ → ℕ → Selector → List Value → Message
+from_client sender seq selector args = record { sender = Client sender; seq = seq; selector = selector; args = args }
 
 -- the selector is there and takes so many arguments, and each of them fits
 abbrev pub message_fits : List (List ℕ) → ℕ → ℕ → Message → Bool

@@ -1,5 +1,5 @@
 //! What an image keeps of an actor.
-ghost use Rattle.std.specs.Prelude.{◌≡◌, ◌⊎◌, ◌≤◌, IsTrue, Some, drop, true, if◌then◌else◌};
+ghost use Rattle.std.specs.Prelude.{◌≡◌, ◌⊎◌, ◌≤◌, ◌<◌, IsTrue, Some, drop, true, false, if◌then◌else◌};
 ghost use Rattle.st_image.specs.Keeping.{CanRun};
 ghost use Rattle.st_image.specs.Kepts.{started_body};
 ghost use Rattle.st_image.specs.Next.{steps};
@@ -78,6 +78,7 @@ fn run_steps(
     ensures steps { steps version.now actor result.steps body.old ≡ Some body.new }
     ensures within { result.steps ≤ limit }
     ensures whole { IsTrue result.is_whole → (result.steps ≡ limit) ⊎ (idle body.new.phase ≡ true) }
+    ensures cut { result.is_whole ≡ false → (result.steps < limit) × (idle body.new.phase ≡ false) }
 {
     let mut steps = 0;
     'turn: while steps < limit && !is_idle(&body.phase) {
@@ -221,6 +222,7 @@ impl Actor {
         ensures kept { OnOk result (self.new ≡ stepped_to (started self.old) self.new.body) }
         ensures within { IfOk result (λ p. p.steps ≤ limit) }
         ensures whole { IfOk result (λ p. IsTrue p.is_whole → (p.steps ≡ limit) ⊎ (idle self.new.body.phase ≡ true)) }
+        ensures cut { IfOk result (λ p. p.is_whole ≡ false → (p.steps < limit) × (idle self.new.body.phase ≡ false)) }
         ensures err { OnErr result (self.new ≡ self.old) }
     {
         self.results.reserve(1)?;

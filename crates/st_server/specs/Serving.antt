@@ -12,8 +12,8 @@ use Rattle.st_classes.specs.Classes.{class_named}
 use Rattle.st_turn.specs.declared.body.Outcome.{Outcome}
 use Rattle.st_turn.specs.declared.body.Outcome.TheVariants as outcome
 use Rattle.st_image.specs.declared.messages.Message.{Message}
-use Rattle.st_image.specs.declared.messages.Sender.TheVariants.{Client}
 use Rattle.st_image.specs.declared.items.Item.TheVariants.{Edited, Created, Posted}
+use Rattle.st_image.specs.Posting.{from_client}
 use Rattle.st_image.specs.Images.{ImageView, world, appended, image_define_rules, create_rules, image_post_rules, accepted_by, advance_rules, advanced, HasStopped, outcome_at, idle_at}
 use Rattle.st_image.specs.Installing.{AnswersInstall, OnlyNames}
 use Rattle.st_image.specs.Ready.{IsNextReady, is_ready_at}
@@ -51,7 +51,7 @@ PostsMessage i a m r j = Settles (first_of (image_post_rules i a m)) i r j ((j �
 -- memory may run out before the first argument
 abbrev pub PostsArguments : ImageView → ActorId → List Argument → Selector → ℕ → ℕ → Reply → ImageView → Type 0
 PostsArguments i a args s sender seq r j = ((r ≡ reply.Refused NoMemory) × (j ≡ i)) ⊎ ((values : Result (List Value) Refusal) × (k : ImageView) × AllResolve i args values k × MatchResult values
-    (λ vs. PostsMessage k a (record { sender = Client sender; seq = seq; selector = s; args = vs }) r j)
+    (λ vs. PostsMessage k a (from_client sender seq s vs) r j)
     (λ e. (r ≡ reply.Refused e) × (j ≡ k)))
 
 abbrev pub Posts : ImageView → ActorId → List Argument → List ℕ → ℕ → ℕ → Reply → ImageView → Type 0

@@ -1,7 +1,7 @@
 //! Commands, asked of an image.
 ghost use Rattle.std.specs.Prelude.{◌≡◌, ◌≤◌, ◌⊎◌, MatchOption, MatchResult};
 ghost use Rattle.st_classes.specs.Classes.{class_named};
-ghost use Rattle.st_image.specs.declared.messages.Sender.TheVariants.{Client};
+ghost use Rattle.st_image.specs.Posting.{from_client};
 ghost use Rattle.st_image.specs.Images.{world};
 ghost use Rattle.st_server.specs.Serving.{NoClass, InstallsMethod, Defines, Creates, PostsMessage, PostsArguments, Posts, NoneReady, TakesQuantum, StopsAt, Runs, Tells, Serves, Replies};
 
@@ -9,9 +9,8 @@ use crate::resolving::{argument_values, shown};
 use crate::sessions::Handler;
 use st_classes::refusals::Refusal;
 use st_classes::seq::Seq;
-use st_classes::values::{ActorId, Selector};
+use st_classes::values::{ActorId, Selector, Values};
 use st_image::image::Image;
-use st_image::messages::{Message, Sender};
 use st_turn::body::Outcome;
 use st_wire::commands::{Argument, Command, read_command};
 use st_wire::replies::Reply;
@@ -59,10 +58,18 @@ fn create(image: &mut Image, alloc: Global, class: &[u8]) -> Reply
     }
 }
 
-fn post_message(image: &mut Image, alloc: Global, actor: ActorId, message: Message) -> Reply
-    ensures { PostsMessage image.old actor message result image.new }
+fn post_values(
+    image: &mut Image,
+    alloc: Global,
+    actor: ActorId,
+    args: Values,
+    selector: Selector,
+    sender: u16,
+    seq: u64,
+) -> Reply
+    ensures { PostsMessage image.old actor (from_client sender seq selector args) result image.new }
 {
-    match image.post(alloc, actor, message) {
+    match image.post(alloc, sender, seq, actor, selector, args) {
         Ok(turn) => Reply::Turn(turn),
         Err(refusal) => Reply::Refused(refusal),
     }
@@ -80,15 +87,7 @@ fn post_arguments(
     ensures { PostsArguments image.old actor arguments.now selector sender seq result image.new }
 {
     match argument_values(image, alloc, arguments) {
-        Ok(args) => {
-            let message = Message {
-                sender: Sender::Client(sender),
-                seq,
-                selector,
-                args,
-            };
-            post_message(image, alloc, actor, message)
-        }
+        Ok(args) => post_values(image, alloc, actor, args, selector, sender, seq),
         Err(refusal) => Reply::Refused(refusal),
     }
 }

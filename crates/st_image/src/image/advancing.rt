@@ -2,7 +2,7 @@
 ghost use Rattle.std.specs.Prelude.{◌≡◌, ◌⊎◌, ◌+◌, ◌<◌, ◌≤◌, ◌++◌, ℕ, vec_len, vec_capacity, length, slice_get, slice_set, Some, true, IsTrue, IfOk, OnErr};
 ghost use Rattle.st_turn.specs.declared.body.Body.{Body as BodyOf};
 ghost use Rattle.st_image.specs.Keeping.{CanRun};
-ghost use Rattle.st_image.specs.Kepts.{Kept, Advances, HasAlso, advance_items, has, is_ready_kept, started, stepped_to};
+ghost use Rattle.st_image.specs.Kepts.{Kept, Advances, HasAlso, advance_items, has, is_ready_kept, started, stepped_to, turn_after};
 ghost use Rattle.st_image.specs.Worlds.{is_idle as idle};
 
 use crate::actors::{Actor, Progress};
@@ -57,6 +57,18 @@ fn note(history: &mut Vec<Item>, actor: ActorId, begins: bool, steps: u32)
     }
 }
 
+/// The number from which the next ready actor is looked for, after an advance.
+fn turn_after(turn: u32, actor: ActorId, begins: bool, steps: u32) -> u32
+    requires { actor.0 < 65536 }
+    ensures { result ≡ turn_after turn actor begins steps }
+{
+    if !begins && steps == 0 {
+        turn
+    } else {
+        actor.0 + 1
+    }
+}
+
 impl Image {
     ghost use Rattle.std.specs.Prelude.{◌≡◌, ◌⊎◌, ◌≤◌, ◌<◌, length, slice_get, true, IfNone, IfErr};
     ghost use Rattle.st_classes.specs.Refusals.{first_of, Answers};
@@ -82,7 +94,7 @@ impl Image {
     ///
     /// Refusals, in this order: `UnknownActor`; `NothingToDo` where no turn is going on and no message is pending;
     /// `HistoryFull`. A refused call changes nothing, but where memory ran out in the middle: then the message stays begun, and the
-    /// steps that were taken stand.
+    /// steps that were taken stand; the next call goes on behind them.
     pub fn advance(&mut self, alloc: Global, actor: ActorId, limit: u32) -> Result<u32, Refusal>
         requires some { 1 ≤ limit }
         requires few { limit ≤ 1024 }
@@ -107,7 +119,7 @@ impl Image {
             return Err(Refusal::NoMemory);
         };
         note(&mut self.history, actor, begins, progress.steps);
-        self.turn = actor.0 + 1;
+        self.turn = turn_after(self.turn, actor, begins, progress.steps);
         progress.answer()
     }
 }

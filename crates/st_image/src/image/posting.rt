@@ -5,10 +5,10 @@ ghost use Rattle.st_image.specs.Kepts.{Kept, has, HasAlso, taken_in};
 use crate::actors::Actor;
 use crate::image::Image;
 use crate::items::Item;
-use crate::messages::Message;
+use crate::messages::{Message, Sender};
 use crate::queues::Queue;
 use st_classes::refusals::Refusal;
-use st_classes::values::{ActorId, Value};
+use st_classes::values::{ActorId, Selector, Value, Values};
 use std::alloc::{AllocError, Global};
 
 /// Puts a message into the mailbox of an actor, which is then ready. The answer is how many messages the actor has accepted.
@@ -37,7 +37,7 @@ impl Image {
     ghost use Rattle.st_classes.specs.Classes.{class_count};
     ghost use Rattle.st_image.specs.declared.items.Item.TheVariants.{Posted as PostedItem};
     ghost use Rattle.st_image.specs.Images.{accepted_by, appended, image_post_rules, world};
-    ghost use Rattle.st_image.specs.Posting.{argument_fits, message_suits};
+    ghost use Rattle.st_image.specs.Posting.{argument_fits, from_client, message_suits};
 
     /// Whether an argument is no local and names something that is there.
     fn argument_fits(&self, value: Value) -> bool
@@ -86,12 +86,9 @@ impl Image {
         }
     }
 
-    /// Puts a message last in the mailbox of an actor. The answer is its place among the messages that the actor accepted, from
-    /// 1, which is also the number of its turn.
-    ///
-    /// Refusals, in this order: `UnknownActor`; `BadArguments` where the selector isn't there or takes another number of
-    /// arguments, or an argument is a local or names nothing; `Closed`; `Full`; `HistoryFull`. A refused call changes nothing.
-    pub fn post(&mut self, alloc: Global, actor: ActorId, message: Message) -> Result<u64, Refusal>
+    /// Puts a message of any sender last in the mailbox of an actor. The answer is its place among the messages that the actor
+    /// accepted, from 1.
+    fn accept(&mut self, alloc: Global, actor: ActorId, message: Message) -> Result<u64, Refusal>
         ensures answers { Answers (first_of (image_post_rules self.old actor message)) result (λ n. (self.new ≡ appended self.old (PostedItem actor message ∷ [])) × (n ≡ accepted_by (slice_get (world self.new).actors actor.0))) }
         ensures unchanged { OnErr result (self.new ≡ self.old) }
     {
@@ -114,5 +111,31 @@ impl Image {
             })
             .unwrap();
         Ok(place)
+    }
+
+    /// Puts a client's message, with the client's own number for it, last in the mailbox of an actor. The answer is its place
+    /// among the messages that the actor accepted, from 1, which is also the number of its turn.
+    ///
+    /// Refusals, in this order: `UnknownActor`; `BadArguments` where the selector isn't there or takes another number of
+    /// arguments, or an argument is a local or names nothing; `Closed`; `Full`; `HistoryFull`. A refused call changes nothing.
+    pub fn post(
+        &mut self,
+        alloc: Global,
+        sender: u16,
+        seq: u64,
+        actor: ActorId,
+        selector: Selector,
+        args: Values,
+    ) -> Result<u64, Refusal>
+        ensures answers { Answers (first_of (image_post_rules self.old actor (from_client sender seq selector args))) result (λ n. (self.new ≡ appended self.old (PostedItem actor (from_client sender seq selector args) ∷ [])) × (n ≡ accepted_by (slice_get (world self.new).actors actor.0))) }
+        ensures unchanged { OnErr result (self.new ≡ self.old) }
+    {
+        let message = Message {
+            sender: Sender::Client(sender),
+            seq,
+            selector,
+            args,
+        };
+        self.accept(alloc, actor, message)
     }
 }

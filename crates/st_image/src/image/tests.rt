@@ -1,5 +1,4 @@
 use super::Image;
-use crate::messages::{Message, Sender};
 use crate::settings::Settings;
 use st_classes::kernel::{OBJECT, SYMBOL};
 use st_classes::refusals::Refusal;
@@ -13,14 +12,10 @@ const IS_NIL: Selector = Selector(3);
 
 const FIRST: ActorId = ActorId(0);
 
-/// A unary message of the kernel.
-fn asking(alloc: Global, seq: u64) -> Message {
-    Message {
-        sender: Sender::Client(1),
-        seq,
-        selector: IS_NIL,
-        args: Seq::from_vec(Vec::new(alloc)),
-    }
+/// Posts a unary message of the kernel to the first actor.
+fn ask(image: &mut Image, alloc: Global, seq: u64) -> Result<u64, Refusal> {
+    let none = Seq::from_vec(Vec::new(alloc));
+    image.post(alloc, 1, seq, FIRST, IS_NIL, none)
 }
 
 #[test]
@@ -43,9 +38,9 @@ fn sets_numbers(rt: HostRuntime) -> Result<(), Fail> {
     };
     image.set(two)?;
     assert_eq!(rt; image.create(rt.alloc(), OBJECT)?, FIRST);
-    assert_eq!(rt; image.post(rt.alloc(), FIRST, asking(rt.alloc(), 1))?, 1);
-    assert_eq!(rt; image.post(rt.alloc(), FIRST, asking(rt.alloc(), 2))?, 2);
-    let full = image.post(rt.alloc(), FIRST, asking(rt.alloc(), 3));
+    assert_eq!(rt; ask(&mut image, rt.alloc(), 1)?, 1);
+    assert_eq!(rt; ask(&mut image, rt.alloc(), 2)?, 2);
+    let full = ask(&mut image, rt.alloc(), 3);
     assert!(rt; matches!(full, Err(Refusal::Full)));
     assert_eq!(rt; image.history().len(), 3);
     Ok(())
@@ -73,7 +68,7 @@ fn runs_a_turn(rt: HostRuntime) -> Result<(), Fail> {
     assert!(rt; image.next_ready().is_none());
     let idle = image.advance(rt.alloc(), FIRST, 10);
     assert!(rt; matches!(idle, Err(Refusal::NothingToDo)));
-    image.post(rt.alloc(), FIRST, asking(rt.alloc(), 1))?;
+    ask(&mut image, rt.alloc(), 1)?;
     assert_eq!(rt; image.next_ready(), Some(FIRST));
     let pending = image.outcome(FIRST, 1);
     assert!(rt; matches!(pending, Err(Refusal::Pending)));

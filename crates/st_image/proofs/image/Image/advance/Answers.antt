@@ -1,12 +1,12 @@
-use Rattle.std.proofs.Common.{rules, arith, ◌≡◌, ◌⊎◌, inr, ℕ, ◌+◌, ◌++◌, [], ◌∷◌, List, Bool, true, Some, None, refl, sym, ap, ◌∙◌, subst, slice_get}
+use Rattle.std.proofs.Common.{rules, arith, ◌≡◌, ◌⊎◌, inl, inr, ℕ, ◌+◌, ◌++◌, [], ◌∷◌, List, Bool, true, Some, None, refl, sym, ap, ◌∙◌, subst, slice_get}
 use Rattle.std.proofs.lemmas.Grind.{common_steps}
 use Rattle.st_classes.specs.Refusals.{first_of}
 use Rattle.st_image.specs.declared.items.Item.{Item}
 use Rattle.st_image.specs.Worlds.{Being}
-use Rattle.st_image.specs.Images.{ImageView, advance_rules, advanced, HasStopped, world, world_of}
-use Rattle.st_image.specs.Kepts.{advance_items}
+use Rattle.st_image.specs.Images.{ImageView, advance_rules, advanced, world, world_of}
+use Rattle.st_image.specs.Kepts.{advance_items, turn_after}
 use Rattle.st_image.proofs.Posting.{seen}
-use Rattle.st_image.proofs.Advancing.{Allowed, allowed_by, is_queued, runs, HasAdvanced, has_advanced, finished, stopped, is_advanced, has_stopped}
+use Rattle.st_image.proofs.Advancing.{Allowed, allowed_by, is_queued, runs, HasAdvanced, has_advanced, finished, stopped, is_advanced, Stops, has_stopped}
 use Rattle.st_image.proofs.image.Image.advance.Goals as goal
 
 pub advance_at-requires-clause-ready : goal.advance_at-requires-clause-ready
@@ -39,13 +39,14 @@ returns-clause-answers c =
     let allowed : first_of (advance_rules (seen i.names i.history.items i.settings i.turn) (slice_get (world_of i.names i.history.items).actors c.args.actor.0)) ≡ None = subst (λ (v : ImageView). first_of (advance_rules v (slice_get (world v).actors c.args.actor.0)) ≡ None) (sym c.self.view_is) (sym c.in_default.ensures.value) in
     let l = allowed_by i.names i.history.items i.settings i.turn c.args.actor allowed in
     let p = c.in-Ok.progress in
-    let g : HasAdvanced i.names i.version c.advance_at.new.actors.items c.advance_at.new.ready.numbers i.history.items i.edits_made i.settings c.args.actor c.is_idle-begins.result p.steps c.args.limit p.is_whole = has_advanced i.names i.version i.actors.items c.advance_at.new.actors.items i.ready.numbers c.advance_at.new.ready.numbers i.history.items i.edits_made i.settings c.args.actor l.0 c.is_idle-begins.result p.steps c.args.limit p.is_whole c.self.invariant l.1 c.requires.some c.is_idle-begins.ensures c.in-Ok.ensures.ok in
-    let items : c.note.new.history.items ≡ i.history.items ++ advance_items c.args.actor c.is_idle-begins.result p.steps = grind (arith, common_steps) in
-    rw c.answer.ensures (finished p.is_whole (first_of (advance_rules c.args.self.now (slice_get (world c.args.self.now).actors c.args.actor.0))) p.steps _ (sym c.in_default.ensures.value) (λ t.
-    let e0 : seen i.names (i.history.items ++ advance_items c.args.actor c.is_idle-begins.result p.steps) i.settings (c.args.actor.0 + 1) ≡ advanced (seen i.names i.history.items i.settings i.turn) c.args.actor p.steps = is_advanced i.names i.history.items i.settings i.turn c.args.actor c.is_idle-begins.result p.steps g.idle (g.some t) in
-    let e1 : seen i.names c.note.new.history.items i.settings (c.args.actor.0 + 1) ≡ advanced (seen i.names i.history.items i.settings i.turn) c.args.actor p.steps = subst (λ (is : List Item). seen i.names is i.settings (c.args.actor.0 + 1) ≡ advanced (seen i.names i.history.items i.settings i.turn) c.args.actor p.steps) (sym items) e0 in
-    let e2 : seen i.names c.note.new.history.items i.settings (c.args.actor.0 + 1) ≡ advanced c.args.self.now c.args.actor p.steps = subst (λ (v : ImageView). seen i.names c.note.new.history.items i.settings (c.args.actor.0 + 1) ≡ advanced v c.args.actor p.steps) c.self.view_is e1 in
-    (g.some t, g.within, e2, rw items (g.whole t))))
+    let t = c.is_idle-begins.result in
+    let g : HasAdvanced i.names i.version c.advance_at.new.actors.items c.advance_at.new.ready.numbers i.history.items i.edits_made i.settings c.args.actor t p.steps c.args.limit p.is_whole = has_advanced i.names i.version i.actors.items c.advance_at.new.actors.items i.ready.numbers c.advance_at.new.ready.numbers i.history.items i.edits_made i.settings c.args.actor l.0 t p.steps c.args.limit p.is_whole c.self.invariant l.1 c.requires.some c.is_idle-begins.ensures c.in-Ok.ensures.ok in
+    let items : c.note.new.history.items ≡ i.history.items ++ advance_items c.args.actor t p.steps = grind (arith, common_steps) in
+    rw c.answer.ensures (finished p.is_whole (first_of (advance_rules c.args.self.now (slice_get (world c.args.self.now).actors c.args.actor.0))) p.steps _ (sym c.in_default.ensures.value) (λ w.
+    let e0 : seen i.names (i.history.items ++ advance_items c.args.actor t p.steps) i.settings (turn_after i.turn c.args.actor t p.steps) ≡ advanced (seen i.names i.history.items i.settings i.turn) c.args.actor p.steps = is_advanced i.names i.history.items i.settings i.turn c.args.actor t p.steps g.idle (g.some w) in
+    let e1 : seen i.names c.note.new.history.items i.settings (turn_after i.turn c.args.actor t p.steps) ≡ advanced (seen i.names i.history.items i.settings i.turn) c.args.actor p.steps = subst (λ (is : List Item). seen i.names is i.settings (turn_after i.turn c.args.actor t p.steps) ≡ advanced (seen i.names i.history.items i.settings i.turn) c.args.actor p.steps) (sym items) e0 in
+    let e2 : seen i.names c.note.new.history.items i.settings (turn_after i.turn c.args.actor t p.steps) ≡ advanced c.args.self.now c.args.actor p.steps = subst (λ (v : ImageView). seen i.names c.note.new.history.items i.settings (turn_after i.turn c.args.actor t p.steps) ≡ advanced v c.args.actor p.steps) c.self.view_is e1 in
+    (g.some w, g.within, rw (c.turn_after.ensures, e2), rw items (g.whole w))))
 
 pub returns-clause-stands : goal.returns-clause-stands
 returns-clause-stands c =
@@ -53,11 +54,11 @@ returns-clause-stands c =
     let allowed : first_of (advance_rules (seen i.names i.history.items i.settings i.turn) (slice_get (world_of i.names i.history.items).actors c.args.actor.0)) ≡ None = subst (λ (v : ImageView). first_of (advance_rules v (slice_get (world v).actors c.args.actor.0)) ≡ None) (sym c.self.view_is) (sym c.in_default.ensures.value) in
     let l = allowed_by i.names i.history.items i.settings i.turn c.args.actor allowed in
     let p = c.in-Ok.progress in
-    let g : HasAdvanced i.names i.version c.advance_at.new.actors.items c.advance_at.new.ready.numbers i.history.items i.edits_made i.settings c.args.actor c.is_idle-begins.result p.steps c.args.limit p.is_whole = has_advanced i.names i.version i.actors.items c.advance_at.new.actors.items i.ready.numbers c.advance_at.new.ready.numbers i.history.items i.edits_made i.settings c.args.actor l.0 c.is_idle-begins.result p.steps c.args.limit p.is_whole c.self.invariant l.1 c.requires.some c.is_idle-begins.ensures c.in-Ok.ensures.ok in
-    let items : c.note.new.history.items ≡ i.history.items ++ advance_items c.args.actor c.is_idle-begins.result p.steps = grind (arith, common_steps) in
-    rw c.answer.ensures (stopped p.is_whole p.steps _ (inr (
-      refl,
-      let e0 : HasStopped (seen i.names i.history.items i.settings i.turn) c.args.actor c.args.limit (seen i.names (i.history.items ++ advance_items c.args.actor c.is_idle-begins.result p.steps) i.settings (c.args.actor.0 + 1)) = has_stopped i.names i.history.items i.settings i.turn c.args.actor c.is_idle-begins.result p.steps c.args.limit g.idle g.within in
-          let e1 : HasStopped (seen i.names i.history.items i.settings i.turn) c.args.actor c.args.limit (seen i.names c.note.new.history.items i.settings (c.args.actor.0 + 1)) = subst (λ (is : List Item). HasStopped (seen i.names i.history.items i.settings i.turn) c.args.actor c.args.limit (seen i.names is i.settings (c.args.actor.0 + 1))) (sym items) e0 in
-          subst (λ (v : ImageView). HasStopped v c.args.actor c.args.limit (seen i.names c.note.new.history.items i.settings (c.args.actor.0 + 1))) c.self.view_is e1,
-    )))
+    let t = c.is_idle-begins.result in
+    let g : HasAdvanced i.names i.version c.advance_at.new.actors.items c.advance_at.new.ready.numbers i.history.items i.edits_made i.settings c.args.actor t p.steps c.args.limit p.is_whole = has_advanced i.names i.version i.actors.items c.advance_at.new.actors.items i.ready.numbers c.advance_at.new.ready.numbers i.history.items i.edits_made i.settings c.args.actor l.0 t p.steps c.args.limit p.is_whole c.self.invariant l.1 c.requires.some c.is_idle-begins.ensures c.in-Ok.ensures.ok in
+    let items : c.note.new.history.items ≡ i.history.items ++ advance_items c.args.actor t p.steps = grind (arith, common_steps) in
+    rw c.answer.ensures (stopped p.is_whole p.steps _ (λ w.
+    let e0 : Stops (seen i.names i.history.items i.settings i.turn) c.args.actor c.args.limit (seen i.names (i.history.items ++ advance_items c.args.actor t p.steps) i.settings (turn_after i.turn c.args.actor t p.steps)) = has_stopped i.names i.history.items i.settings i.turn c.args.actor t p.steps c.args.limit g.idle (g.cut w) in
+    let e1 : Stops (seen i.names i.history.items i.settings i.turn) c.args.actor c.args.limit (seen i.names c.note.new.history.items i.settings (turn_after i.turn c.args.actor t p.steps)) = subst (λ (is : List Item). Stops (seen i.names i.history.items i.settings i.turn) c.args.actor c.args.limit (seen i.names is i.settings (turn_after i.turn c.args.actor t p.steps))) (sym items) e0 in
+    let e2 : Stops c.args.self.now c.args.actor c.args.limit (seen i.names c.note.new.history.items i.settings (turn_after i.turn c.args.actor t p.steps)) = subst (λ (v : ImageView). Stops v c.args.actor c.args.limit (seen i.names c.note.new.history.items i.settings (turn_after i.turn c.args.actor t p.steps))) c.self.view_is e1 in
+    rw c.turn_after.ensures (elim e2 [ inl e ↦ inl e | inr h ↦ inr (refl, h) ])))

@@ -4,7 +4,7 @@ use Rattle.st_classes.specs.Refusals.{first_of}
 use Rattle.st_image.specs.declared.items.Item.TheVariants.{Posted}
 use Rattle.st_image.specs.Images.{ImageView, image_post_rules}
 use Rattle.st_image.proofs.Posting.{IsPosted, posted, seen}
-use Rattle.st_image.proofs.image.Image.post.Goals as goal
+use Rattle.st_image.proofs.image.Image.accept.Goals as goal
 
 pub invariant_of-self-2 : goal.invariant_of-self-2
 invariant_of-self-2 c =

@@ -14,7 +14,7 @@ use Rattle.st_classes.specs.declared.refusals.Limited.TheVariants.{Names}
 use Rattle.st_classes.specs.Names.{is_name, interned, intern_rules, AreNames}
 use Rattle.st_classes.specs.Refusals.{first_of, Answers}
 use Rattle.st_classes.specs.Selectors.{is_selector, place_of}
-use Rattle.st_compile.specs.Refusing.{interned_all, names_rule}
+use Rattle.st_compile.specs.Refusing.{InternsFirst, interned_all, names_rule}
 use Rattle.st_compile.proofs.Places.{place-of_name}
 
 -- the one list begins with the other
@@ -97,11 +97,19 @@ grown_by old names texts e =
     let g = grows-interned_all old texts in
     (g.0, e ∙ g.1)
 
-pub grown_twice : (old names after texts more : List (List ℕ)) → names ≡ interned_all old texts → after ≡ interned_all names more → Grows old after
-grown_twice old names after texts more e h = grows-trans old names after (grown_by old names texts e) (grown_by names after more h)
+-- ---- some first texts of a list
 
-pub grown_same : (old names after texts : List (List ℕ)) → names ≡ interned_all old texts → after ≡ names → Grows old after
-grown_same old names after texts e h = grown_by old after texts (h ∙ e)
+pub first-none : (names texts : List (List ℕ)) → InternsFirst names texts names
+first-none names texts = ([], texts, refl, refl)
+
+pub first-all : (names texts after : List (List ℕ)) → after ≡ interned_all names texts → InternsFirst names texts after
+first-all names texts after e = (texts, [], sym (append-nil texts), e)
+
+pub first-more : (names middle after : List (List ℕ)) (text : List ℕ) (texts : List (List ℕ)) → middle ≡ interned names text → InternsFirst middle texts after → InternsFirst names (text ∷ texts) after
+first-more names middle after text texts e f = (text ∷ f.0, f.1, ap (λ (ts : List (List ℕ)). text ∷ ts) f.2, f.3 ∙ ap (λ (ns : List (List ℕ)). interned_all ns f.0) e)
+
+pub first-grows : (names texts after : List (List ℕ)) → InternsFirst names texts after → Grows names after
+first-grows names texts after f = grown_by names after f.0 f.3
 
 -- what is refused for one text is refused for it and more
 pub refused_first : (names : List (List ℕ)) (text : List ℕ) (texts : List (List ℕ)) (e : Refusal) → (e ≡ NoMemory) ⊎ (first_of (names_rule names (text ∷ []) ∷ []) ≡ Some e) → (e ≡ NoMemory) ⊎ (first_of (names_rule names (text ∷ texts) ∷ []) ≡ Some e)

@@ -13,7 +13,7 @@ use Rattle.st_classes.specs.Refusals.{first_of}
 use Rattle.st_classes.specs.Selectors.{arity_of, is_selector}
 use Rattle.st_classes.specs.Suiting.{is_number}
 use Rattle.st_compile.specs.Code.{instruction_of, instructions_of, is_known, word_texts}
-use Rattle.st_compile.specs.Refusing.{interned_all, names_rule, word_rules}
+use Rattle.st_compile.specs.Refusing.{InternsFirst, interned_all, names_rule, word_rules}
 use Rattle.st_compile.specs.Words.{Word}
 use Rattle.st_compile.proofs.Resolving.{instructions-append, instructions-push}
 use Rattle.st_compile.proofs.Interning.{interned_all-append, length-interned_all, grows-interned_all, refused-full, names-full}
@@ -86,3 +86,7 @@ module _ {X : Type 0} (f : X → Word) where
       let step : interned_all names (word_texts (f x)) ≡ interned_all old (texts (take (k + 1) xs)) = names_step old names (interned_all names (word_texts (f x))) (take k xs) (take (k + 1) xs) x t n refl in
       let all : 8192 < length (interned_all old (texts xs)) = omega (arith, ap length step, names_taken old xs (k + 1)) in
       inr (names-full old (texts xs) all ∙ (sym (names-full names (word_texts (f x)) full) ∙ at))
+
+-- at each word, the texts of those before it are interned
+pub first-taken : {X : Type 0} (f : X → Word) (names after : List (List ℕ)) (xs : List X) (k : ℕ) → after ≡ interned_all names (texts f (take k xs)) → InternsFirst names (texts f xs) after
+first-taken f names after xs k e = (texts f (take k xs), texts f (drop k xs), ap (texts f) (sym (take-append-drop k xs)) ∙ texts-append f (take k xs) (drop k xs), e)

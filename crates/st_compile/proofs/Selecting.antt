@@ -12,9 +12,14 @@ use Rattle.st_reader.specs.declared.trees.Primary.TheVariants.{Number as NumberL
 use Rattle.st_reader.specs.declared.trees.Term.{Term}
 use Rattle.st_reader.specs.declared.trees.Operation.{Operation}
 use Rattle.st_reader.specs.declared.trees.MethodTree.{MethodTree}
-use Rattle.st_reader.specs.Trees.{IsUnary, IsBinaryMessage, HasSelectors}
+use Rattle.st_reader.specs.Trees.{Spells}
+use Rattle.st_reader.proofs.Proper.{IsUnary, IsBinaryMessage, HasSelectors, named}
 use Rattle.st_compile.specs.Words.{Word, Return, Message, primary_word, unary_word, term_words, operation_words, tree_words}
-use Rattle.st_compile.specs.Code.{has_selector, has_selectors}
+use Rattle.st_compile.specs.Code.{has_selector}
+
+-- each message has as many arguments as its selector says, and the method has none
+abbrev pub has_selectors : MethodTree → Bool
+has_selectors tree = is_number (arity_of tree.selector.text) 0 && list_all has_selector (tree_words tree)
 
 both : (a b : Bool) → a ≡ true → b ≡ true → (a && b) ≡ true
 both true true e f = refl
@@ -83,5 +88,8 @@ operations_fine : (os : List Operation) → AllByRecursion IsBinaryMessage os �
 operations_fine [] h = refl
 operations_fine (o ∷ os) h = joined (operation_words o) (flat_map operation_words os) (operation_fine o h.0) (operations_fine os h.1)
 
-pub selectors_known : (tree : MethodTree) → HasSelectors tree → has_selectors tree ≡ true
+selectors_known : (tree : MethodTree) → HasSelectors tree → has_selectors tree ≡ true
 selectors_known tree h = both _ _ (unary_number tree.selector.text h.selector) (joined (term_words tree.first ++ flat_map operation_words tree.operations) (Return ∷ []) (joined (term_words tree.first) (flat_map operation_words tree.operations) (term_fine tree.first h.first) (operations_fine tree.operations h.operations)) refl)
+
+pub spelled_selectors : (tree : MethodTree) (text : List ℕ) → Spells tree text → has_selectors tree ≡ true
+spelled_selectors tree text h = selectors_known tree (named tree text h)

@@ -15,9 +15,10 @@ use Rattle.st_classes.specs.Classes.{class_count, slots}
 use Rattle.st_classes.specs.Kernel.{selector}
 use Rattle.st_classes.specs.Selectors.{place_of, arity_of}
 use Rattle.st_classes.specs.Suiting.{arity_at, is_number, instruction_suits, suits}
-use Rattle.st_compile.specs.Code.{has_selector, has_selectors, instruction_of, instructions_of, code_of}
+use Rattle.st_compile.specs.Code.{has_selector, instruction_of, instructions_of, code_of}
 use Rattle.st_compile.specs.Words.{Word, Number, Receiver, Variable, Message, Return, tree_words}
 use Rattle.st_reader.specs.declared.trees.MethodTree.{MethodTree}
+use Rattle.st_compile.proofs.Selecting.{has_selectors}
 use Rattle.st_compile.proofs.Places.{at-place, place-within}
 use Rattle.st_compile.proofs.Resolving.{sent, instructions-parts}
 

@@ -47,7 +47,3 @@ selectors_of tree = tree.selector.text ∷ flat_map word_texts (tree_words tree)
 abbrev pub has_selector : Word → Bool
 has_selector (Message text arguments) = is_number (arity_of text) arguments
 has_selector _ = true
-
--- so has each message, and the method has no argument
-abbrev pub has_selectors : MethodTree → Bool
-has_selectors tree = is_number (arity_of tree.selector.text) 0 && list_all has_selector (tree_words tree)

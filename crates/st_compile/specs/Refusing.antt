@@ -1,5 +1,5 @@
 -- When a tree is refused.
-use Rattle.std.specs.Prelude.{ℕ, List, [], ◌∷◌, length, not, nat_lt, fold}
+use Rattle.std.specs.Prelude.{◌≡◌, ℕ, List, [], ◌∷◌, ◌++◌, length, not, nat_lt, fold}
 use Rattle.st_classes.specs.declared.refusals.Refusal.{Refusal}
 use Rattle.st_classes.specs.declared.refusals.Refusal.TheVariants.{BadSource, TooMany}
 use Rattle.st_classes.specs.declared.refusals.SourceFault.TheVariants.{BadToken}
@@ -13,6 +13,10 @@ use Rattle.st_compile.specs.Code.{has_code, is_known, selectors_of, word_texts}
 -- the names after texts are interned one after another
 abbrev pub interned_all : List (List ℕ) → List (List ℕ) → List (List ℕ)
 interned_all names texts = fold interned names texts
+
+-- some of the texts were interned, in their order: the first ones, or all
+abbrev pub InternsFirst : List (List ℕ) → List (List ℕ) → List (List ℕ) → Type 0
+InternsFirst names texts after = (done : List (List ℕ)) × (left : List (List ℕ)) × (texts ≡ done ++ left) × (after ≡ interned_all names done)
 
 -- at this stage every fault of a tree is the same
 abbrev pub no_code : Refusal

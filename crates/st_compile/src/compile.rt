@@ -1,10 +1,11 @@
 //! Methods of trees.
-ghost use Rattle.std.specs.Prelude.{◌≡◌, ◌≤◌, ℕ, List, ◌++◌, length, true, false, OnOk};
+ghost use Rattle.std.specs.Prelude.{◌≡◌, true, false, OnOk};
 ghost use Rattle.st_classes.specs.Classes.{is_class, slots};
 ghost use Rattle.st_classes.specs.Refusals.{first_of, Answers};
-ghost use Rattle.st_compile.specs.Code.{has_code, has_selectors, selectors_of};
+ghost use Rattle.st_reader.specs.Trees.{Spells};
+ghost use Rattle.st_compile.specs.Code.{has_code, selectors_of};
 ghost use Rattle.st_compile.specs.Compiled.{IsCompiled};
-ghost use Rattle.st_compile.specs.Refusing.{interned_all, tree_rules};
+ghost use Rattle.st_compile.specs.Refusing.{InternsFirst, interned_all, tree_rules};
 
 use crate::drafts::{Draft, NO_CODE};
 use crate::sites::sites_of;
@@ -17,11 +18,12 @@ use st_classes::version::Version;
 use st_reader::trees::MethodTree;
 use std::alloc::Global;
 
-/// The method of a tree in a class. Its selector and those of its code are interned, in this order.
+/// The method of a tree in a class, which keeps the source that spells the tree. Its selector and those of its code are interned,
+/// in this order.
 ///
 /// `BadSource`, with the kind `BadToken` and the offset 0, says that the tree has no code: a variable is no instance variable of
 /// the class, or there are more than 1,024 instructions. No name is interned then. `TooMany` says that there is no room for all
-/// the names; those that fitted stay.
+/// the names; those that fitted stay, and so they do where memory runs out.
 pub fn compile(
     alloc: Global,
     tree: &MethodTree,
@@ -31,11 +33,10 @@ pub fn compile(
     source: Seq<u8>,
 ) -> Result<Method, Refusal>
     requires class { is_class version.now class ≡ true }
-    requires selectors { has_selectors tree.now ≡ true }
-    requires source { length source ≤ 4096 }
+    requires spells { Spells tree.now source }
     ensures answers { Answers (first_of (tree_rules (slots version.now class) names.old tree.now)) result (λ method. IsCompiled names.new version.now class tree.now source method) }
     ensures names { OnOk result (names.new ≡ interned_all names.old (selectors_of tree.now)) }
-    ensures grown { (more : List (List ℕ)) × (names.new ≡ names.old ++ more) }
+    ensures some { InternsFirst names.old (selectors_of tree.now) names.new }
     ensures untouched { has_code (slots version.now class) tree.now ≡ false → names.new ≡ names.old }
 {
     version.known();

@@ -7,7 +7,7 @@ ghost use Rattle.st_classes.specs.Selectors.{is_selector, place_of};
 ghost use Rattle.st_compile.specs.Code.{has_selector, instruction_of, instructions_of, is_known, word_texts};
 ghost use Rattle.st_compile.specs.Depths.{term_depths, operation_depths, tree_depths};
 ghost use Rattle.st_compile.specs.Drafts.{word_of};
-ghost use Rattle.st_compile.specs.Refusing.{interned_all, names_rule, word_rules};
+ghost use Rattle.st_compile.specs.Refusing.{InternsFirst, interned_all, names_rule, word_rules};
 ghost use Rattle.st_compile.specs.Words.{primary_word, term_words, operation_words, tree_words};
 
 use st_classes::instructions::Instruction;
@@ -189,7 +189,7 @@ impl<'t> Draft<'t> {
         requires selectors { list_all has_selector (map word_of self.now.words.items) ≡ true }
         ensures answers { Answers (first_of (names_rule names.old (flat_map word_texts (map word_of self.now.words.items)) ∷ [])) result (λ code. instructions_of names.new slots.now (map word_of self.now.words.items) ≡ Some code.items) }
         ensures names { OnOk result (names.new ≡ interned_all names.old (flat_map word_texts (map word_of self.now.words.items))) }
-        ensures grown { (more : List (List ℕ)) × (names.new ≡ names.old ++ more) }
+        ensures some { InternsFirst names.old (flat_map word_texts (map word_of self.now.words.items)) names.new }
     {
         names.known();
         let mut code = Vec::new(alloc);
@@ -217,7 +217,7 @@ impl<'t> Draft<'t> {
         requires selectors { list_all has_selector (map word_of self.now.words.items) ≡ true }
         ensures answers { Answers (first_of (names_rule names.old (selector.now ∷ flat_map word_texts (map word_of self.now.words.items)) ∷ [])) result (λ r. (place_of names.new selector.now ≡ Some r.0.0) × (instructions_of names.new slots.now (map word_of self.now.words.items) ≡ Some r.1.items)) }
         ensures names { OnOk result (names.new ≡ interned_all names.old (selector.now ∷ flat_map word_texts (map word_of self.now.words.items))) }
-        ensures grown { (more : List (List ℕ)) × (names.new ≡ names.old ++ more) }
+        ensures some { InternsFirst names.old (selector.now ∷ flat_map word_texts (map word_of self.now.words.items)) names.new }
     {
         let number = number_of(alloc, selector, names)?;
         let code = self.code(alloc, slots, names)?;

@@ -1,5 +1,5 @@
 -- What an install answers.
-use Rattle.std.proofs.Common.{arith, ◌≡◌, ◌⊎◌, ℕ, zero, suc, ◌<◌, ◌≤◌, ◌++◌, [], ◌∷◌, List, Bool, true, false, not, cond, eqb, Option, Some, None, Result, Ok, Err, refl, ap, sym, ◌∙◌, subst, inl, inr, length, slice_get, option_map}
+use Rattle.std.proofs.Common.{arith, ◌≡◌, ◌⊎◌, ℕ, zero, suc, ◌<◌, ◌≤◌, ◌++◌, [], ◌∷◌, List, Bool, true, false, not, cond, eqb, Option, Some, None, Result, Ok, Err, OnErr, refl, ap, sym, ◌∙◌, subst, inl, inr, length, slice_get, option_map}
 use Rattle.std.specs.Prelude.{is_some}
 use Rattle.std.specs.Str.{bytes_eq}
 use Rattle.std.proofs.lemmas.Bool.Decides.{nat_tests}
@@ -23,7 +23,7 @@ use Rattle.st_classes.proofs.LawLists.{slice_get_old}
 use Rattle.st_reader.specs.declared.trees.MethodTree.{MethodTree}
 use Rattle.st_reader.specs.Trees.{Spells}
 use Rattle.st_compile.specs.Code.{has_code, selectors_of}
-use Rattle.st_compile.specs.Refusing.{interned_all, names_rule, no_code, tree_rules}
+use Rattle.st_compile.specs.Refusing.{InternsFirst, interned_all, names_rule, no_code, tree_rules}
 use Rattle.st_compile.specs.Compiled.{IsCompiled}
 use Rattle.st_compile.proofs.Places.{first, position-first, place-append, at-place}
 use Rattle.st_image.specs.declared.items.Item.{Item}
@@ -31,7 +31,7 @@ use Rattle.st_image.specs.declared.items.Item.TheVariants.{Edited}
 use Rattle.st_image.specs.Worlds.{World}
 use Rattle.st_image.specs.Images.{ImageView, world, appended, run_rules}
 use Rattle.st_image.specs.Lasting.{BeginsWithKernel}
-use Rattle.st_image.specs.Installing.{has_kernel, is_kernel_text, install_rules, with_names_of, Installs, RefusesInstall, memory, first as first_refusal, AnswersInstall}
+use Rattle.st_image.specs.Installing.{has_kernel, is_kernel_text, source_rules, install_rules, LeavesNames, with_names_of, Installs, RefusesInstall, memory, first as first_refusal, AnswersInstall}
 
 -- ---- kernel methods by text
 
@@ -169,3 +169,22 @@ pub install_answered : (i k : ImageView) (c : ClassId) (tree : MethodTree) (text
 install_answered i k c tree text (Ok n) s a = (tree, s, a.0, a.1)
 install_answered i k c tree text (Err e) s (inl m) = memory m
 install_answered i k c tree text (Err e) s (inr f) = first_refusal tree s f
+
+-- ---- what a refused install leaves
+
+source_allowed : (i : ImageView) (c : ClassId) (tree : MethodTree) → is_class (world i).edits c ≡ true → is_kernel_text c tree.selector.text ≡ false → has_code (slots (world i).edits c) tree ≡ true → first_of (source_rules i c tree) ≡ None
+source_allowed i c tree h k e =
+    skip (not (is_class (world i).edits c)) UnknownClass ((is_kernel_text c tree.selector.text, KernelMethod) ∷ (not (has_code (slots (world i).edits c) tree), no_code) ∷ []) (is_not _ h)
+    ∙ (skip (is_kernel_text c tree.selector.text) KernelMethod ((not (has_code (slots (world i).edits c) tree), no_code) ∷ []) k
+    ∙ skip (not (has_code (slots (world i).edits c) tree)) no_code [] (is_not _ e))
+
+pub tree_left : (i j : ImageView) (c : ClassId) (tree : MethodTree) (text : List ℕ) → Spells tree text → is_class (world i).edits c ≡ true → is_kernel_text c tree.selector.text ≡ false → InternsFirst i.names (selectors_of tree) j.names → j ≡ record i { names = j.names } → (has_code (slots (world i).edits c) tree ≡ false → j ≡ i) → LeavesNames i c text j
+tree_left i j c tree text s h k some only untouched = by (has_code (slots (world i).edits c) tree) refl
+  where
+    by : (b : Bool) → has_code (slots (world i).edits c) tree ≡ b → LeavesNames i c text j
+    by true e = inr (tree, s, source_allowed i c tree h k e, some, only)
+    by false e = inl (untouched e)
+
+pub left_still : {T E : Type 0} (r : Result T E) (i j k : ImageView) (c : ClassId) (text : List ℕ) → OnErr r (k ≡ j) → LeavesNames i c text j → OnErr r (LeavesNames i c text k)
+left_still (Ok x) i j k c text e h = tt
+left_still (Err x) i j k c text e h = subst (LeavesNames i c text) (sym e) h

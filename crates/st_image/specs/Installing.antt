@@ -13,7 +13,7 @@ use Rattle.st_classes.specs.Accepting.{too_many_edits}
 use Rattle.st_reader.specs.declared.trees.MethodTree.{MethodTree}
 use Rattle.st_reader.specs.Trees.{Spells}
 use Rattle.st_compile.specs.Code.{has_code, selectors_of}
-use Rattle.st_compile.specs.Refusing.{interned_all, names_rule, no_code}
+use Rattle.st_compile.specs.Refusing.{InternsFirst, interned_all, names_rule, no_code}
 use Rattle.st_compile.specs.Compiled.{IsCompiled}
 use Rattle.st_image.specs.declared.items.Item.TheVariants.{Edited}
 use Rattle.st_image.specs.Images.{ImageView, world, appended, run_rules}
@@ -27,13 +27,17 @@ has_kernel c (Some n) = is_some (kernel_method c (selector n))
 abbrev pub is_kernel_text : ClassId → List ℕ → Bool
 is_kernel_text c text = has_kernel c (place_of kernel_selectors text)
 
+-- the refusals of an install that come before any name is interned
+abbrev pub source_rules : ImageView → ClassId → MethodTree → List Rule
+source_rules i c tree = (not (is_class (world i).edits c), UnknownClass) ∷ (is_kernel_text c tree.selector.text, KernelMethod) ∷ (not (has_code (slots (world i).edits c) tree), no_code) ∷ []
+
 -- the refusals of an install of a text that spells a tree, in their order
 abbrev pub install_rules : ImageView → ClassId → MethodTree → List Rule
-install_rules i c tree = (not (is_class (world i).edits c), UnknownClass) ∷ (is_kernel_text c tree.selector.text, KernelMethod) ∷ (not (has_code (slots (world i).edits c) tree), no_code) ∷ names_rule i.names (selectors_of tree) ∷ too_many_edits (world i).edits ∷ run_rules i
+install_rules i c tree = source_rules i c tree ++ names_rule i.names (selectors_of tree) ∷ too_many_edits (world i).edits ∷ run_rules i
 
--- only names were added
-abbrev pub OnlyNames : ImageView → ImageView → Type 0
-OnlyNames i j = (more : List (List ℕ)) × (j ≡ record i { names = i.names ++ more })
+-- what a refused install leaves: all as it was, or, where none of the first refusals applies, with names that the tree needs, in their order
+abbrev pub LeavesNames : ImageView → ClassId → List ℕ → ImageView → Type 0
+LeavesNames i c text j = (j ≡ i) ⊎ ((tree : MethodTree) × Spells tree text × (first_of (source_rules i c tree) ≡ None) × InternsFirst i.names (selectors_of tree) j.names × (j ≡ record i { names = j.names }))
 
 -- the image with the names that the tree needs
 abbrev pub with_names_of : ImageView → MethodTree → ImageView

@@ -161,3 +161,13 @@ too_long text long tree spells = let h = spells.short in omega arith
 
 pub no_character : (text : List ℕ) → list_all is_character text ≡ false → (tree : MethodTree) → Spells tree text → ⊥
 no_character text bad tree spells = let e : false ≡ true = sym bad ∙ spells.characters in cc
+
+some_tree : (t u : MethodTree) → Some t ≡ Some u → t ≡ u
+some_tree t u e = cc
+
+some_tokens : (ts us : List Token) → Some ts ≡ Some us → ts ≡ us
+some_tokens ts us e = cc
+
+-- a text is spelled by one tree at most
+pub one_tree : (text : List ℕ) (t u : MethodTree) → Spells t text → Spells u text → t ≡ u
+one_tree text t u p q = some_tree t u (sym (method_complete t p.fits) ∙ (ap method_of (some_tokens (toks t) (toks u) (sym p.tokens ∙ q.tokens)) ∙ method_complete u q.fits))

@@ -13,8 +13,23 @@ use Rattle.st_reader.specs.declared.tokens.Kind.TheVariants.{Identifier, Number,
 use Rattle.st_reader.specs.declared.tokens.Piece.{Piece}
 use Rattle.st_reader.specs.declared.tokens.Piece.TheVariants.{Blank, Token as Whole}
 use Rattle.st_reader.specs.Tokens.{Token, identifier, number, binary, mark, is_white, is_mark, comment, number_front, is_no_quote, begins_letter, begins_fraction, binary_more, front, span, with_piece, tokens_behind}
-use Rattle.st_reader.specs.Trees.{primary_toks, message_toks, term_toks, operation_toks, period_toks, toks, NameFits, TermFits, OperationFits, Spells, IsUnary, IsBinaryMessage, HasSelectors}
+use Rattle.st_reader.specs.Trees.{primary_toks, message_toks, term_toks, operation_toks, period_toks, toks, NameFits, TermFits, OperationFits, Spells}
 use Rattle.st_reader.proofs.Exact.{bind_some, map_some}
+
+-- a unary message has an identifier of at most 64 bytes
+abbrev pub IsUnary : Name → Type 0
+IsUnary name = is_identifier name.text ≡ true
+
+-- a binary message has a binary selector
+pub record IsBinaryMessage (operation : Operation) : Type 0 where
+  pub selector : is_binary operation.selector.text ≡ true
+  pub messages : AllByRecursion IsUnary operation.argument.messages
+
+-- each message of a tree has a selector of its kind
+pub record HasSelectors (tree : MethodTree) : Type 0 where
+  pub selector : IsUnary tree.selector
+  pub first : AllByRecursion IsUnary tree.first.messages
+  pub operations : AllByRecursion IsBinaryMessage tree.operations
 
 -- a letter and then letters and digits
 abbrev is_word : List ℕ → Bool

@@ -7,10 +7,9 @@ use Rattle.st_reader.specs.declared.trees.MethodTree.{MethodTree}
 use Rattle.st_reader.specs.declared.tokens.Lexeme.{Lexeme}
 use Rattle.st_reader.specs.Tokens.{tokens, is_character}
 use Rattle.st_reader.specs.Lexemes.{token_of}
-use Rattle.st_reader.specs.Trees.{Spells, HasSelectors}
+use Rattle.st_reader.specs.Trees.{Spells}
 use Rattle.st_reader.specs.Reading.{bad_source, Gives, method_of}
-use Rattle.st_reader.proofs.Proper.{named}
-use Rattle.st_reader.proofs.Complete.{spelled, no_method}
+use Rattle.st_reader.proofs.Complete.{spelled, no_method, one_tree}
 
 abbrev same : MethodTree → MethodTree
 same t = t
@@ -27,6 +26,6 @@ reads_refused text items lexemes (Ok tree) e cut gives = tt
 reads_refused text items lexemes (Err refusal) e cut (inl memory) = inl memory
 reads_refused text items lexemes (Err refusal) e cut (inr bad) = inr (bad.0, no_method text (map (token_of text) lexemes) cut (moved text items lexemes None e bad.1))
 
-pub reads_named : (text : List ℕ) (r : Result MethodTree Refusal) → IfOk r (λ t. Spells t text) → IfOk r HasSelectors
-reads_named text (Ok tree) h = named tree text h
-reads_named text (Err refusal) h = tt
+pub reads_only : (text : List ℕ) (r : Result MethodTree Refusal) → IfOk r (λ t. Spells t text) → IfOk r (λ t. (other : MethodTree) → Spells other text → other ≡ t)
+reads_only text (Ok tree) h = λ other g. one_tree text other tree g h
+reads_only text (Err refusal) h = tt

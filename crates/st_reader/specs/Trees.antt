@@ -1,7 +1,7 @@
 -- The texts that spell a tree.
 use Rattle.std.specs.Prelude.{◌≡◌, ℕ, ◌<◌, ◌≤◌, ◌^◌, ℤ, pos, negsuc, unsigned_abs, List, [], ◌∷◌, ◌++◌, length, true, Option, Some, None, codes}
 use Rattle.std.specs.List.{flat_map, list_all, AllByRecursion}
-use Rattle.st_classes.specs.Selectors.{is_slot_name, is_identifier, is_binary}
+use Rattle.st_classes.specs.Selectors.{is_slot_name}
 use Rattle.st_reader.specs.declared.trees.Span.{Span}
 use Rattle.st_reader.specs.declared.trees.Name.{Name}
 use Rattle.st_reader.specs.declared.trees.Primary.{Primary}
@@ -85,18 +85,3 @@ pub record Spells (tree : MethodTree) (text : List ℕ) : Type 0 where
   pub fits : Fits tree
   pub short : length text ≤ 4096
   pub characters : list_all is_character text ≡ true
-
--- a unary message has an identifier of at most 64 bytes
-abbrev pub IsUnary : Name → Type 0
-IsUnary name = is_identifier name.text ≡ true
-
--- a binary message has a binary selector
-pub record IsBinaryMessage (operation : Operation) : Type 0 where
-  pub selector : is_binary operation.selector.text ≡ true
-  pub messages : AllByRecursion IsUnary operation.argument.messages
-
--- each message of a tree has a selector of its kind
-pub record HasSelectors (tree : MethodTree) : Type 0 where
-  pub selector : IsUnary tree.selector
-  pub first : AllByRecursion IsUnary tree.first.messages
-  pub operations : AllByRecursion IsBinaryMessage tree.operations

@@ -2,7 +2,7 @@
 ghost use Rattle.std.specs.Prelude.{◌≡◌, ◌⊎◌, IfOk, IfErr};
 ghost use Rattle.st_classes.specs.declared.refusals.Refusal.TheVariants.{NoMemory};
 ghost use Rattle.st_reader.specs.declared.trees.MethodTree.{MethodTree};
-ghost use Rattle.st_reader.specs.Trees.{Spells, HasSelectors};
+ghost use Rattle.st_reader.specs.Trees.{Spells};
 ghost use Rattle.st_reader.specs.Reading.{bad_source};
 
 use crate::tokens::{self, BAD_SOURCE};
@@ -14,11 +14,11 @@ use std::alloc::Global;
 
 /// The tree that a method's source spells.
 ///
-/// A source that spells none, or is over a limit, is refused as `BadSource` with the kind `BadToken` at 0; else the only
-/// refusal is `NoMemory`. Each message of the tree has a selector of its kind.
+/// No text is spelled by two trees. A source that spells none, or is over a limit, is refused as `BadSource` with the kind
+/// `BadToken` at 0; else the only refusal is `NoMemory`.
 pub fn read_method(alloc: Global, source: &[u8]) -> Result<MethodTree, Refusal>
     ensures ok { IfOk result (λ t. Spells t source.now) }
-    ensures names { IfOk result HasSelectors }
+    ensures only { IfOk result (λ t. (other : MethodTree) → Spells other source.now → other ≡ t) }
     ensures refused { IfErr result (λ e. (e ≡ NoMemory) ⊎ ((e ≡ bad_source) × ((t : MethodTree) → Spells t source.now → ⊥))) }
 {
     if source.len() > limits::SOURCE || !characters::are_characters(source) {

@@ -15,7 +15,7 @@ use Rattle.st_image.specs.declared.messages.Message.{Message}
 use Rattle.st_image.specs.declared.items.Item.TheVariants.{Edited, Created, Posted}
 use Rattle.st_image.specs.Posting.{from_client}
 use Rattle.st_image.specs.Images.{ImageView, world, appended, image_define_rules, create_rules, image_post_rules, accepted_by, advance_rules, advanced, HasStopped, outcome_at, idle_at}
-use Rattle.st_image.specs.Installing.{AnswersInstall, OnlyNames}
+use Rattle.st_image.specs.Installing.{AnswersInstall, LeavesNames}
 use Rattle.st_image.specs.Ready.{IsNextReady, is_ready_at}
 use Rattle.st_wire.specs.declared.commands.Argument.{Argument}
 use Rattle.st_wire.specs.declared.commands.Command.{Command}
@@ -65,9 +65,9 @@ abbrev pub version_or_refused : Result ℕ Refusal → Reply
 version_or_refused (Ok n) = reply.Version n
 version_or_refused (Err e) = reply.Refused e
 
--- the image's answer to an install; a refused one adds only names
+-- the image's answer to an install; a refused one adds names alone
 abbrev pub InstallsMethod : ImageView → List ℕ → Reply → ImageView → ClassId → Type 0
-InstallsMethod i source r j c = (result : Result ℕ Refusal) × (r ≡ version_or_refused result) × AnswersInstall i c source j result × OnErr result (OnlyNames i j)
+InstallsMethod i source r j c = (result : Result ℕ Refusal) × (r ≡ version_or_refused result) × AnswersInstall i c source j result × OnErr result (LeavesNames i c source j)
 
 -- ---- a run: so long as quanta are left and an actor is ready, the next ready one takes up to so many steps
 

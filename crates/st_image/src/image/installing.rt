@@ -12,17 +12,17 @@ use st_reader::trees::MethodTree;
 use std::alloc::Global;
 
 impl Image {
-    ghost use Rattle.std.specs.Prelude.{◌≡◌, ◌++◌, ◌≤◌, ℕ, List, [], ◌∷◌, length, true, None, OnOk, OnErr};
+    ghost use Rattle.std.specs.Prelude.{◌≡◌, true, false, OnOk, OnErr};
     ghost use Rattle.st_classes.specs.declared.refusals.Refusal.TheVariants.{KernelMethod};
     ghost use Rattle.st_classes.specs.Refusals.{first_of, Answers};
     ghost use Rattle.st_classes.specs.Classes.{is_class, slots};
     ghost use Rattle.st_reader.specs.declared.trees.MethodTree.{MethodTree as TreeOf};
-    ghost use Rattle.st_reader.specs.Trees.{HasSelectors, Spells};
-    ghost use Rattle.st_compile.specs.Code.{selectors_of};
+    ghost use Rattle.st_reader.specs.Trees.{Spells};
+    ghost use Rattle.st_compile.specs.Code.{has_code, selectors_of};
     ghost use Rattle.st_compile.specs.Compiled.{IsCompiled};
-    ghost use Rattle.st_compile.specs.Refusing.{interned_all, tree_rules};
+    ghost use Rattle.st_compile.specs.Refusing.{InternsFirst, interned_all, tree_rules};
     ghost use Rattle.st_image.specs.Images.{world};
-    ghost use Rattle.st_image.specs.Installing.{AnswersInstall, Installs, OnlyNames, install_rules, is_kernel_text};
+    ghost use Rattle.st_image.specs.Installing.{AnswersInstall, Installs, LeavesNames, install_rules, is_kernel_text};
 
     /// Whether the kernel has a method in the class for the selector.
     fn has_kernel_method(&self, class: ClassId, selector: &[u8]) -> bool
@@ -43,12 +43,13 @@ impl Image {
         source: Seq<u8>,
     ) -> Result<Method, Refusal>
         requires class { is_class (world self.old).edits class ≡ true }
-        requires selectors { HasSelectors tree.now }
-        requires short { length source ≤ 4096 }
+        requires spells { Spells tree.now source }
         ensures answers { Answers (first_of (tree_rules (slots (world self.old).edits class) self.old.names tree.now)) result
             (λ m. IsCompiled self.new.names (world self.old).edits class tree.now source m) }
         ensures names { OnOk result (self.new ≡ record self.old { names = interned_all self.old.names (selectors_of tree.now) }) }
-        ensures grown { OnlyNames self.old self.new }
+        ensures some { InternsFirst self.old.names (selectors_of tree.now) self.new.names }
+        ensures only { self.new ≡ record self.old { names = self.new.names } }
+        ensures untouched { has_code (slots (world self.old).edits class) tree.now ≡ false → self.new ≡ self.old }
         ensures world { world self.new ≡ world self.old }
     {
         compile(alloc, tree, class, &self.version, &mut self.names, source)
@@ -64,10 +65,9 @@ impl Image {
     ) -> Result<u32, Refusal>
         requires class { is_class (world self.old).edits class ≡ true }
         requires spells { Spells tree.now source }
-        requires selectors { HasSelectors tree.now }
         ensures answers { Answers (first_of (install_rules self.old class tree.now)) result
             (λ n. Installs self.old class tree.now source self.new n) }
-        ensures refused { OnErr result (OnlyNames self.old self.new) }
+        ensures refused { OnErr result (LeavesNames self.old class source self.new) }
     {
         if self.has_kernel_method(class, tree.selector.text.as_slice()) {
             return Err(Refusal::KernelMethod);
@@ -85,10 +85,11 @@ impl Image {
     ///
     /// Refusals, in this order: `UnknownClass`; `BadSource` where no tree spells the source; `KernelMethod` where the kernel
     /// has a method in the class for the selector; `BadSource` where the tree has no code in the class; `TooMany` names or
-    /// edits; `HistoryFull`. A refused install changes nothing but names: those that fitted stay.
+    /// edits; `HistoryFull`. A refused install changes nothing but names: where the tree has code, those
+    /// of its selectors that were interned stay.
     pub fn install(&mut self, alloc: Global, class: ClassId, source: &[u8]) -> Result<u32, Refusal>
         ensures answers { AnswersInstall self.old class source.now self.new result }
-        ensures refused { OnErr result (OnlyNames self.old self.new) }
+        ensures refused { OnErr result (LeavesNames self.old class source.now self.new) }
     {
         if !self.version.is_class(class) {
             return Err(Refusal::UnknownClass);

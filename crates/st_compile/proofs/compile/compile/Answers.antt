@@ -14,6 +14,7 @@ use Rattle.st_compile.specs.Words.{tree_words}
 use Rattle.st_compile.proofs.Compiling.{test_is, refused_without, refused_with, refused_later, texts_are, few_words, code_by, few_code, touched}
 use Rattle.st_compile.proofs.FewSlots.{few_slots}
 use Rattle.st_compile.proofs.Mapped.{selector_of_number}
+use Rattle.st_compile.proofs.Selecting.{spelled_selectors}
 use Rattle.st_compile.proofs.Sound.{sound_of}
 use Rattle.st_compile.proofs.Suits.{tree_suits}
 use Rattle.st_compile.proofs.compile.compile.Goals as goal
@@ -25,7 +26,7 @@ returns-then-not-has_code-clause-answers c =
 
 pub resolve-requires-clause-selector : goal.resolve-requires-clause-selector
 resolve-requires-clause-selector c =
-    let b = and_parts (is_number (arity_of c.args.tree.now.selector.text) 0) (list_all has_selector (tree_words c.args.tree.now)) c.requires.selectors in
+    let b = and_parts (is_number (arity_of c.args.tree.now.selector.text) 0) (list_all has_selector (tree_words c.args.tree.now)) (spelled_selectors c.args.tree.now c.args.source c.requires.spells) in
     rw c.as_slice.ensures (selector_of_number c.args.tree.now.selector.text 0 b.0)
 
 pub resolve-requires-clause-few : goal.resolve-requires-clause-few
@@ -36,7 +37,7 @@ resolve-requires-clause-few c =
 
 pub resolve-requires-clause-selectors : goal.resolve-requires-clause-selectors
 resolve-requires-clause-selectors c =
-    let b = and_parts (is_number (arity_of c.args.tree.now.selector.text) 0) (list_all has_selector (tree_words c.args.tree.now)) c.requires.selectors in
+    let b = and_parts (is_number (arity_of c.args.tree.now.selector.text) 0) (list_all has_selector (tree_words c.args.tree.now)) (spelled_selectors c.args.tree.now c.args.source c.requires.spells) in
     rw c.in_ok-draft.ensures.words b.1
 
 pub returns-in_err-selector-clause-answers : goal.returns-in_err-selector-clause-answers
@@ -76,7 +77,7 @@ new-requires c =
     let words = map word_of c.in_ok-draft.draft.words.items in
     let is : c.has_code.result ≡ has_code vars tree = test_is c.slots-slots.result.now vars words tree c.has_code.result c.slots-slots.ensures c.in_ok-draft.ensures.words c.has_code.ensures in
     let code : code_of c.resolve.new.names vars tree ≡ Some c.from_vec.result = code_by c.resolve.new.names c.slots-slots.result.now vars words tree c.from_vec.result c.in_ok-selector.code.items c.slots-slots.ensures c.in_ok-draft.ensures.words c.from_vec.ensures c.in_ok-selector.ensures.answers.1.1 in
-    sound_of c.resolve.new.names vars tree _ code (few_words vars tree (sym is ∙ c.if-not-has_code.false)) (c.from_vec-2.ensures ∙ c.in_ok-draft.ensures.depths) (c.from_vec-3.ensures ∙ (c.in_ok-sites.ensures.ok ∙ ap (send_places 0) (c.as_slice-2.ensures.value ∙ sym c.from_vec.ensures))) refl refl c.requires.source
+    sound_of c.resolve.new.names vars tree _ code (few_words vars tree (sym is ∙ c.if-not-has_code.false)) (c.from_vec-2.ensures ∙ c.in_ok-draft.ensures.depths) (c.from_vec-3.ensures ∙ (c.in_ok-sites.ensures.ok ∙ ap (send_places 0) (c.as_slice-2.ensures.value ∙ sym c.from_vec.ensures))) refl refl c.requires.spells.short
 
 pub returns-clause-answers : goal.returns-clause-answers
 returns-clause-answers c =
@@ -98,7 +99,7 @@ returns-clause-answers c =
         depths = c.from_vec-2.ensures ∙ c.in_ok-draft.ensures.depths;
         sites = c.from_vec-3.ensures ∙ (c.in_ok-sites.ensures.ok ∙ ap (send_places 0) (c.as_slice-2.ensures.value ∙ sym c.from_vec.ensures));
         source = refl;
-        fitting = tree_suits c.resolve.new.names c.args.version.now c.args.class tree (record { holder = c.args.class; selector = c.in_ok-selector.selector; arguments = 0; temporaries = 0; code = c.from_vec.result; depths = c.from_vec-2.result; sites = c.from_vec-3.result; source = c.args.source }) refl selector refl refl code c.requires.selectors;
+        fitting = tree_suits c.resolve.new.names c.args.version.now c.args.class tree (record { holder = c.args.class; selector = c.in_ok-selector.selector; arguments = 0; temporaries = 0; code = c.from_vec.result; depths = c.from_vec-2.result; sites = c.from_vec-3.result; source = c.args.source }) refl selector refl refl code (spelled_selectors tree c.args.source c.requires.spells);
       }),
     )
 

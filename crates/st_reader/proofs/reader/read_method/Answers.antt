@@ -1,7 +1,7 @@
 use Rattle.std.proofs.Common.{◌≡◌, arith, rules, true}
 use Rattle.std.specs.List.{list_all}
 use Rattle.st_reader.specs.Tokens.{is_character}
-use Rattle.st_reader.proofs.Results.{reads_ok, reads_named, reads_refused}
+use Rattle.st_reader.proofs.Results.{reads_ok, reads_only, reads_refused}
 use Rattle.st_reader.proofs.reader.read_method.Goals as goal
 
 pub returns-clause-ok : goal.returns-clause-ok
@@ -14,5 +14,5 @@ pub returns-clause-refused : goal.returns-clause-refused
 returns-clause-refused c =
     reads_refused c.args.source.now c.deref.result.now c.in_ok-lexemes.lexemes.items c.method.result c.deref.ensures.value c.in_ok-lexemes.ensures c.method.ensures
 
-pub returns-clause-names : goal.returns-clause-names
-returns-clause-names c = reads_named c.args.source.now c.method.result (returns-clause-ok c)
+pub returns-clause-only : goal.returns-clause-only
+returns-clause-only c = reads_only c.args.source.now c.method.result (returns-clause-ok c)

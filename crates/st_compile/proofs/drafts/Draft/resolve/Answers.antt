@@ -3,7 +3,7 @@ use Rattle.std.proofs.lemmas.Result.{err_from_is_err_and}
 use Rattle.st_classes.specs.Refusals.{first_of}
 use Rattle.st_compile.specs.Drafts.{word_of}
 use Rattle.st_compile.specs.Refusing.{names_rule}
-use Rattle.st_compile.proofs.Interning.{grows-trans, grown_by, refused_first}
+use Rattle.st_compile.proofs.Interning.{first-none, first-more, first-grows, refused_first}
 use Rattle.st_compile.proofs.Mapped.{texts}
 use Rattle.st_compile.proofs.Places.{place-append}
 use Rattle.st_compile.proofs.drafts.Draft.resolve.Goals as goal
@@ -13,15 +13,18 @@ returns-in_err-number-clause-answers c =
     let p = err_from_is_err_and c.from_residual.result c.from_residual.ensures.1 in
     rw (p.1, p.2) (refused_first c.args.names.now c.args.selector.now (texts word_of c.args.self.now.words.items) c.in_err-number.field-0.0 c.in_err-number.ensures.answers)
 
-pub returns-in_err-code-clause-grown : goal.returns-in_err-code-clause-grown
-returns-in_err-code-clause-grown c = grows-trans c.args.names.now c.number_of.new.names c.code.new.names (grown_by c.args.names.now c.number_of.new.names (c.args.selector.now ∷ []) c.in_ok-number.ensures.names) c.in_err-code.ensures.grown
+pub returns-in_err-number-clause-some : goal.returns-in_err-number-clause-some
+returns-in_err-number-clause-some c = rw c.in_err-number.ensures.unchanged (first-none c.args.names.now (c.args.selector.now ∷ texts word_of c.args.self.now.words.items))
+
+pub returns-in_err-code-clause-some : goal.returns-in_err-code-clause-some
+returns-in_err-code-clause-some c = first-more c.args.names.now c.number_of.new.names c.code.new.names c.args.selector.now (texts word_of c.args.self.now.words.items) c.in_ok-number.ensures.names c.in_err-code.ensures.some
 
 pub returns-clause-answers : goal.returns-clause-answers
 returns-clause-answers c =
-    let g = c.in_ok-code.ensures.grown in (
+    let g = first-grows c.number_of.new.names (texts word_of c.args.self.now.words.items) c.code.new.names c.in_ok-code.ensures.some in (
       ap (λ (n : List (List ℕ)). first_of (names_rule n (texts word_of c.args.self.now.words.items) ∷ [])) (sym c.in_ok-number.ensures.names) ∙ c.in_ok-code.ensures.answers.0,
       (rw g.1 (place-append c.number_of.new.names g.0 c.args.selector.now c.in_ok-number.number.0 c.in_ok-number.ensures.answers.1), c.in_ok-code.ensures.answers.1),
     )
 
-pub returns-clause-grown : goal.returns-clause-grown
-returns-clause-grown c = grows-trans c.args.names.now c.number_of.new.names c.code.new.names (grown_by c.args.names.now c.number_of.new.names (c.args.selector.now ∷ []) c.in_ok-number.ensures.names) c.in_ok-code.ensures.grown
+pub returns-clause-some : goal.returns-clause-some
+returns-clause-some c = first-more c.args.names.now c.number_of.new.names c.code.new.names c.args.selector.now (texts word_of c.args.self.now.words.items) c.in_ok-number.ensures.names c.in_ok-code.ensures.some

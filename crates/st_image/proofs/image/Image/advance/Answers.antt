@@ -46,7 +46,7 @@ returns-clause-answers c =
     let e0 : seen i.names (i.history.items ++ advance_items c.args.actor t p.steps) i.settings (turn_after i.turn c.args.actor t p.steps) ≡ advanced (seen i.names i.history.items i.settings i.turn) c.args.actor p.steps = is_advanced i.names i.history.items i.settings i.turn c.args.actor t p.steps g.idle (g.some w) in
     let e1 : seen i.names c.note.new.history.items i.settings (turn_after i.turn c.args.actor t p.steps) ≡ advanced (seen i.names i.history.items i.settings i.turn) c.args.actor p.steps = subst (λ (is : List Item). seen i.names is i.settings (turn_after i.turn c.args.actor t p.steps) ≡ advanced (seen i.names i.history.items i.settings i.turn) c.args.actor p.steps) (sym items) e0 in
     let e2 : seen i.names c.note.new.history.items i.settings (turn_after i.turn c.args.actor t p.steps) ≡ advanced c.args.self.now c.args.actor p.steps = subst (λ (v : ImageView). seen i.names c.note.new.history.items i.settings (turn_after i.turn c.args.actor t p.steps) ≡ advanced v c.args.actor p.steps) c.self.view_is e1 in
-    (g.some w, g.within, rw (c.turn_after.ensures, e2), rw items (g.whole w))))
+    (g.some w, g.within, rw (c.turn_after-self-inside.ensures, e2), rw items (g.whole w))))
 
 pub returns-clause-stands : goal.returns-clause-stands
 returns-clause-stands c =
@@ -61,4 +61,4 @@ returns-clause-stands c =
     let e0 : Stops (seen i.names i.history.items i.settings i.turn) c.args.actor c.args.limit (seen i.names (i.history.items ++ advance_items c.args.actor t p.steps) i.settings (turn_after i.turn c.args.actor t p.steps)) = has_stopped i.names i.history.items i.settings i.turn c.args.actor t p.steps c.args.limit g.idle (g.cut w) in
     let e1 : Stops (seen i.names i.history.items i.settings i.turn) c.args.actor c.args.limit (seen i.names c.note.new.history.items i.settings (turn_after i.turn c.args.actor t p.steps)) = subst (λ (is : List Item). Stops (seen i.names i.history.items i.settings i.turn) c.args.actor c.args.limit (seen i.names is i.settings (turn_after i.turn c.args.actor t p.steps))) (sym items) e0 in
     let e2 : Stops c.args.self.now c.args.actor c.args.limit (seen i.names c.note.new.history.items i.settings (turn_after i.turn c.args.actor t p.steps)) = subst (λ (v : ImageView). Stops v c.args.actor c.args.limit (seen i.names c.note.new.history.items i.settings (turn_after i.turn c.args.actor t p.steps))) c.self.view_is e1 in
-    rw c.turn_after.ensures (elim e2 [ inl e ↦ inl e | inr h ↦ inr (refl, h) ])))
+    rw c.turn_after-self-inside.ensures (elim e2 [ inl e ↦ inl e | inr h ↦ inr (refl, h) ])))

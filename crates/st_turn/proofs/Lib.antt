@@ -8,3 +8,4 @@ pub mod KeepingGrowth
 pub mod Meets
 pub mod Stepping
 pub mod Flooring
+pub mod Starting

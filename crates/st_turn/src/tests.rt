@@ -1,10 +1,48 @@
-//! Arithmetic by hand.
-use crate::body::Body;
+//! Arithmetic by hand, and the steps of a turn.
+ghost use Rattle.std.specs.Prelude.{◌≡◌, [], ◌∷◌, IfOk};
+ghost use Rattle.st_classes.specs.Kernel.{class, selector};
+ghost use Rattle.st_turn.specs.declared.body.Phase.TheVariants as phase;
+
+use crate::body::{Body, Outcome, Phase, Stop};
 use crate::kernel_methods::kernel_answer;
+use crate::plain::step_plain;
 use st_classes::faults::Fault;
 use st_classes::kernel::{Kernel, OBJECT};
-use st_classes::values::Value;
+use st_classes::seq::Seq;
+use st_classes::values::{ActorId, Selector, Value};
+use st_classes::version::Version;
+use std::alloc::{AllocError, Global};
 use std::test::Fail;
+
+/// The body of an actor of Object that is asked whether it is nil.
+fn asked(alloc: Global) -> Result<Body, AllocError>
+    ensures { IfOk result (λ b. b ≡ record { objects = record { class = class 0; slots = [] } ∷ []; phase = phase.Start (selector 3) [] }) }
+{
+    let mut body = Body::fresh(alloc, OBJECT, 0)?;
+    body.begin(Selector(3), Seq::from_vec(Vec::new(alloc)));
+    Ok(body)
+}
+
+/// The body after a step, and what stopped it.
+fn stepped(alloc: Global) -> Result<(Body, Stop), AllocError> {
+    let version = Version::kernel(alloc)?;
+    let mut body = asked(alloc)?;
+    let stop = step_plain(&mut body, alloc, ActorId(0), &version)?;
+    Ok((body, stop))
+}
+
+#[test]
+fn a_kernel_method_answers_a_message(rt: HostRuntime) -> Result<(), Fail> {
+    let (body, stop) = stepped(rt.alloc())?;
+    assert!(rt; matches!(stop, Stop::More), "no step");
+    match &body.phase {
+        Phase::Done(outcome) => {
+            assert!(rt; *outcome == Outcome::Answer(Value::Bool(false)), "another answer");
+        }
+        _ => assert!(rt; false, "the turn goes on"),
+    }
+    Ok(())
+}
 
 #[test]
 fn divides_towards_negative_infinity(rt: HostRuntime) -> Result<(), Fail> {

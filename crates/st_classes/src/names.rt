@@ -167,6 +167,3 @@ impl Names {
         self.texts.len() as u32
     }
 }
-
-#[cfg(test)]
-mod tests;

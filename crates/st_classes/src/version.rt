@@ -444,6 +444,3 @@ impl Version {
         }
     }
 }
-
-#[cfg(test)]
-mod tests;

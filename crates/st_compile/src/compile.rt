@@ -58,6 +58,3 @@ pub fn compile(
         source,
     }))
 }
-
-#[cfg(test)]
-mod tests;

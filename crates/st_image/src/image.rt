@@ -248,6 +248,3 @@ impl Image {
         Ok(ActorId(number))
     }
 }
-
-#[cfg(test)]
-mod tests;

@@ -7,7 +7,5 @@
 mod characters;
 mod parser;
 pub mod reader;
-#[cfg(test)]
-mod tests;
 mod tokens;
 pub mod trees;

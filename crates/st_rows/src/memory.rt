@@ -159,6 +159,13 @@ fn refuses_as_usual(rt: HostRuntime) -> Result<(), Fail> {
     assert!(rt; matches!(again, Err(Refusal::ClassExists)), "defined twice");
     let bad = install(&mut image, rt.alloc(), b"a ^3 +");
     assert!(rt; matches!(bad, Err(Refusal::BadSource { .. })), "no tree");
+    let unknown = install(&mut image, rt.alloc(), b"b ^x");
+    assert!(rt;
+        matches!(unknown, Err(Refusal::BadSource { .. })),
+        "no code"
+    );
+    assert_eq!(rt; image.names().find(b"a"), Some(Selector(22)));
+    assert_eq!(rt; image.names().len(), 23);
     assert_eq!(rt; image.history().len(), 3);
     Ok(())
 }

@@ -8,4 +8,3 @@ pub mod KeepingGrowth
 pub mod Meets
 pub mod Stepping
 pub mod Flooring
-pub mod Starting

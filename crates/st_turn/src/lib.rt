@@ -9,5 +9,3 @@ pub mod body;
 pub mod frame;
 pub mod kernel_methods;
 pub mod plain;
-#[cfg(test)]
-mod tests;

@@ -1,6 +1,7 @@
-use crate::reader::read_method;
-use crate::trees::{MethodTree, Name, Primary, Span, Term};
+//! Reading by hand.
 use st_classes::refusals::{Refusal, SourceFault};
+use st_reader::reader::read_method;
+use st_reader::trees::{MethodTree, Name, Primary, Span, Term};
 use std::alloc::Global;
 use std::test::*;
 

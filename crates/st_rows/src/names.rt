@@ -1,7 +1,8 @@
-use super::Names;
-use crate::refusals::{Limited, Refusal};
-use crate::selectors::{arity_of, is_class_name, is_identifier, is_slot_name};
-use crate::values::Selector;
+//! The name table by hand.
+use st_classes::names::Names;
+use st_classes::refusals::{Limited, Refusal};
+use st_classes::selectors::{arity_of, is_class_name, is_identifier, is_slot_name};
+use st_classes::values::Selector;
 use std::test::*;
 
 #[test]

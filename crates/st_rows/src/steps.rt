@@ -3,14 +3,14 @@ ghost use Rattle.std.specs.Prelude.{◌≡◌, [], ◌∷◌, IfOk};
 ghost use Rattle.st_classes.specs.Kernel.{class, selector};
 ghost use Rattle.st_turn.specs.declared.body.Phase.TheVariants as phase;
 
-use crate::body::{Body, Outcome, Phase, Stop};
-use crate::kernel_methods::kernel_answer;
-use crate::plain::step_plain;
 use st_classes::faults::Fault;
 use st_classes::kernel::{Kernel, OBJECT};
 use st_classes::seq::Seq;
 use st_classes::values::{ActorId, Selector, Value};
 use st_classes::version::Version;
+use st_turn::body::{Body, Outcome, Phase, Stop};
+use st_turn::kernel_methods::kernel_answer;
+use st_turn::plain::step_plain;
 use std::alloc::{AllocError, Global};
 use std::test::Fail;
 
@@ -37,7 +37,10 @@ fn a_kernel_method_answers_a_message(rt: HostRuntime) -> Result<(), Fail> {
     assert!(rt; matches!(stop, Stop::More), "no step");
     match &body.phase {
         Phase::Done(outcome) => {
-            assert!(rt; *outcome == Outcome::Answer(Value::Bool(false)), "another answer");
+            assert!(rt;
+                *outcome == Outcome::Answer(Value::Bool(false)),
+                "another answer"
+            );
         }
         _ => assert!(rt; false, "the turn goes on"),
     }

@@ -1,4 +1,4 @@
-use super::compile;
+//! Compiling by hand.
 use st_classes::instructions::Instruction;
 use st_classes::methods::Method;
 use st_classes::names::Names;
@@ -6,6 +6,7 @@ use st_classes::refusals::{Refusal, SourceFault};
 use st_classes::seq::Seq;
 use st_classes::values::{ClassId, Selector, Value};
 use st_classes::version::Version;
+use st_compile::compile::compile;
 use st_reader::reader::read_method;
 use std::alloc::Global;
 use std::test::*;

@@ -1,15 +1,16 @@
+//! The class table by hand.
 ghost use Rattle.std.specs.Prelude.{◌≡◌, [], ◌∷◌, IfOk};
 ghost use Rattle.st_classes.specs.declared.values.Value.TheVariants.{Int};
 ghost use Rattle.st_classes.specs.declared.instructions.Instruction.TheVariants.{PushLit, Answer};
 
-use super::Version;
-use crate::edits::Edit;
-use crate::instructions::Instruction;
-use crate::kernel::{Kernel, OBJECT, SMALL_INTEGER, TRUE, Target};
-use crate::methods::{Method, MethodParts};
-use crate::refusals::Refusal;
-use crate::seq::Seq;
-use crate::values::{ClassId, MethodId, Selector, Value};
+use st_classes::edits::Edit;
+use st_classes::instructions::Instruction;
+use st_classes::kernel::{Kernel, OBJECT, SMALL_INTEGER, TRUE, Target};
+use st_classes::methods::{Method, MethodParts};
+use st_classes::refusals::Refusal;
+use st_classes::seq::Seq;
+use st_classes::values::{ClassId, MethodId, Selector, Value};
+use st_classes::version::Version;
 use std::alloc::{AllocError, Global};
 use std::test::*;
 

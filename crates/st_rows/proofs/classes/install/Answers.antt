@@ -6,7 +6,7 @@ use Rattle.st_classes.specs.declared.instructions.Instruction.TheVariants.{PushL
 use Rattle.st_classes.specs.declared.methods.MethodParts.{MethodParts}
 use Rattle.st_classes.specs.declared.edits.Edit.{Edit}
 use Rattle.st_classes.specs.Suiting.{suits}
-use Rattle.st_classes.proofs.version.tests.install.Goals as goal
+use Rattle.st_rows.proofs.classes.install.Goals as goal
 
 -- so many names without arguments
 abbrev names_of : ℕ → List (List ℕ)

@@ -1,9 +1,10 @@
-use super::Image;
-use crate::settings::Settings;
+//! The calls of an image by hand.
 use st_classes::kernel::{OBJECT, SYMBOL};
 use st_classes::refusals::Refusal;
 use st_classes::seq::Seq;
 use st_classes::values::{ActorId, ClassId, Selector, Value};
+use st_image::image::Image;
+use st_image::settings::Settings;
 use st_turn::body::Outcome;
 use std::alloc::Global;
 use std::test::*;

@@ -1,5 +1,5 @@
 -- A session that has come as far as some line.
-use Rattle.std.proofs.Common.{◌≡◌, ℕ, true, false, List, [], ◌∷◌, ◌++◌, Option, Some, None, Result, Ok, Err, IsErr, IsErrAnd, refl, sym, ap, ◌∙◌, inl, inr, append_assoc, append-nil}
+use Rattle.std.proofs.Common.{◌≡◌, ℕ, true, false, List, [], ◌∷◌, ◌++◌, Option, Some, None, Result, Ok, Err, IsErr, IsErrAnd, refl, sym, ap, inl, inr, append_assoc, append-nil}
 use Rattle.st_classes.specs.declared.refusals.Refusal.{Refusal}
 use Rattle.st_wire.specs.declared.replies.Reply.{Reply}
 use Rattle.st_server.specs.Sessions.{IsAnswered, EndsAt, Session, end_of}
@@ -16,9 +16,6 @@ going_ended answers i k j all left others before first line e end going at ends 
 
 pub going_done : {S : Type 0} (answers : S → List ℕ → Reply → S → Type 0) (i k : S) (all left : List (List ℕ)) (before : List ℕ) → GoesOn answers i all before k left → left ≡ [] → Session answers i all before k None
 going_done answers i k all left before going e = let none : before ++ [] ≡ before = append-nil before in rw (← none) (going.whole [] k None (rw e (refl, refl, refl)))
-
-pub more : (a b start part next : List ℕ) → a ≡ start ++ part → b ≡ a ++ next → b ≡ start ++ (part ++ next)
-more a b start part next e f = f ∙ ap (λ x. x ++ next) e ∙ append_assoc start part next
 
 pub ended_by : {T : Type 0} (r : Result T Refusal) (e : Refusal) → IsErr r → IsErrAnd r (λ f. f ≡ e) → Some e ≡ end_of r
 ended_by (Ok x) e is same = let never : false ≡ true = is in cc

@@ -5,3 +5,4 @@ pub mod Quanta
 pub mod Arguments
 pub mod BadLine
 pub mod Scripting
+pub mod InMemory

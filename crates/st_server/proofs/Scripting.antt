@@ -7,6 +7,7 @@ use Rattle.st_image.specs.Images.{ImageView, settings_rules}
 use Rattle.st_wire.specs.declared.replies.Reply.{Reply}
 use Rattle.st_wire.specs.declared.replies.Reply.TheVariants.{Refused}
 use Rattle.st_wire.specs.Replies.{line_of}
+use Rattle.st_wire.specs.Streams.{InputView}
 use Rattle.st_server.specs.declared.serving.ImageHandler.{ImageHandler}
 use Rattle.st_server.specs.declared.settings.ScriptSettings.{ScriptSettings}
 use Rattle.st_server.specs.Lines.{ends_with}
@@ -36,8 +37,8 @@ image_session quantum (line ∷ lines) i written j end q (inr s) =
     let answered = s.4 in
     inr (s.0, s.1, k.image, s.3, (answered.0, (answered.1.0, replies_at quantum i line answered.1.0 k q answered.1.1, answered.1.2)), image_session quantum lines k s.1 j end (answered.1.1.1 ∙ q) s.5)
 
-pub refuses_quantum : (s : ScriptSettings) (i : ImageView) (failures : ℕ) → is_quantum s.quantum ≡ false → Script s i [] failures failures [] i (Err BadArguments)
-refuses_quantum s i failures e = rw e (refl, refl, refl, refl, refl)
+pub refuses_quantum : (s : ScriptSettings) (i : ImageView) (input : InputView) → is_quantum s.quantum ≡ false → Script s i input input [] i (Err BadArguments)
+refuses_quantum s i input e = rw e (refl, refl, refl, refl)
 
-pub refuses_settings : (s : ScriptSettings) (i j : ImageView) (failures : ℕ) (f : Refusal) → is_quantum s.quantum ≡ true → first_of (settings_rules (record { capacity = s.capacity; history = s.history })) ≡ Some f → j ≡ i → Script s i [] failures failures [] j (Err f)
-refuses_settings s i j failures f e is same = rw (e, is) (refl, refl, refl, refl, same)
+pub refuses_settings : (s : ScriptSettings) (i j : ImageView) (input : InputView) (f : Refusal) → is_quantum s.quantum ≡ true → first_of (settings_rules (record { capacity = s.capacity; history = s.history })) ≡ Some f → j ≡ i → Script s i input input [] j (Err f)
+refuses_settings s i j input f e is same = rw (e, is) (refl, refl, refl, same)

@@ -4,9 +4,10 @@ use Rattle.st_classes.specs.declared.refusals.Refusal.{Refusal}
 use Rattle.st_classes.specs.declared.refusals.Refusal.TheVariants.{BadArguments}
 use Rattle.st_classes.specs.Refusals.{Rule, first_of}
 use Rattle.st_image.specs.Images.{ImageView, settings_rules}
+use Rattle.st_wire.specs.Streams.{InputView}
 use Rattle.st_server.specs.declared.settings.ScriptSettings.{ScriptSettings}
 use Rattle.st_server.specs.Lines.{lines}
-use Rattle.st_server.specs.Reading.{StopsReading}
+use Rattle.st_server.specs.Reading.{ReadsAll, StopsReading}
 use Rattle.st_server.specs.Sessions.{Session, end_of}
 use Rattle.st_server.specs.Serving.{Replies}
 
@@ -25,10 +26,10 @@ with_settings i s = record i { capacity = s.capacity; limit = s.history }
 abbrev pub AnswersLines : ℕ → ImageView → List ℕ → List ℕ → ImageView → Result ℕ Refusal → Type 0
 AnswersLines quantum i text written j result = Session (Replies quantum) i (lines text) written j (end_of result) × IfOk result (λ n. n ≡ length (lines text))
 
--- the text that was read is answered, or its reading stopped, with so many failures before and after it, and nothing is written
-abbrev pub Scripted : ℕ → ImageView → List ℕ → ℕ → ℕ → List ℕ → ImageView → Result ℕ Refusal → Type 0
-Scripted quantum i text before after written j result = ((after ≡ before) × AnswersLines quantum i text written j result) ⊎ ((e : Refusal) × (result ≡ Err e) × StopsReading text before after e × (written ≡ []) × (j ≡ i))
+-- the text that was read is answered, or its reading stopped and nothing is written
+abbrev pub Scripted : ℕ → ImageView → InputView → InputView → List ℕ → ImageView → Result ℕ Refusal → Type 0
+Scripted quantum i before after written j result = ((text : List ℕ) × ReadsAll before after text × AnswersLines quantum i text written j result) ⊎ ((e : Refusal) × (taken : List ℕ) × (result ≡ Err e) × StopsReading before after taken e × (written ≡ []) × (j ≡ i))
 
 -- settings out of their ranges are refused, and then nothing is read or written
-abbrev pub Script : ScriptSettings → ImageView → List ℕ → ℕ → ℕ → List ℕ → ImageView → Result ℕ Refusal → Type 0
-Script s i text before after written j result = MatchOption (first_of (script_rules s)) (Scripted s.quantum (with_settings i s) text before after written j result) (λ e. (result ≡ Err e) × (text ≡ []) × (after ≡ before) × (written ≡ []) × (j ≡ i))
+abbrev pub Script : ScriptSettings → ImageView → InputView → InputView → List ℕ → ImageView → Result ℕ Refusal → Type 0
+Script s i before after written j result = MatchOption (first_of (script_rules s)) (Scripted s.quantum (with_settings i s) before after written j result) (λ e. (result ≡ Err e) × (after ≡ before) × (written ≡ []) × (j ≡ i))

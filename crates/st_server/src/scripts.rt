@@ -1,5 +1,7 @@
 //! Scripts.
-ghost use Rattle.std.specs.Prelude.{◌≡◌, ◌≤◌, ◌++◌, ℕ, List, []};
+ghost use Rattle.std.specs.Prelude.{◌≡◌, ◌≤◌, ℕ, List, []};
+ghost use Rattle.std.specs.Io.KnownBytes.{Appends};
+ghost use Rattle.st_wire.specs.Streams.{input_view};
 ghost use Rattle.st_server.specs.Sessions.{end_of, failures_after};
 ghost use Rattle.st_server.specs.Scripts.{AnswersLines, Scripted, Script};
 
@@ -22,7 +24,7 @@ fn answer_lines<O: Output>(
 ) -> (Image, Result<u64, Refusal>)
     requires some { 1 ≤ quantum }
     requires few { quantum ≤ 1024 }
-    ensures written { (written : List ℕ) × (O.written output.new ≡ O.written output.old ++ written)
+    ensures written { (written : List ℕ) × Appends (O.contents output.old) (O.contents output.new) written
         × AnswersLines quantum image text.now written result.0 result.1 }
     ensures failures { O.failures output.new ≡ failures_after (end_of result.1) (O.failures output.old) }
 {
@@ -41,10 +43,10 @@ fn answer_input<I: Input, O: Output>(
 ) -> (Image, Result<u64, Refusal>)
     requires some { 1 ≤ quantum }
     requires few { quantum ≤ 1024 }
-    ensures script { (text : List ℕ) × (written : List ℕ)
-        × (I.given input.new ≡ I.given input.old ++ text)
-        × (O.written output.new ≡ O.written output.old ++ written)
-        × Scripted quantum image text (I.failures input.old) (I.failures input.new) written result.0 result.1 }
+    ensures script { let before = input_view I.remaining I.failures I.reads input.old in
+        let after = input_view I.remaining I.failures I.reads input.new in
+        (written : List ℕ) × Appends (O.contents output.old) (O.contents output.new) written
+        × Scripted quantum image before after written result.0 result.1 }
     ensures failures { O.failures output.new ≡ failures_after (end_of result.1) (O.failures output.old) }
 {
     match read_all(alloc, input) {
@@ -53,12 +55,14 @@ fn answer_input<I: Input, O: Output>(
     }
 }
 
-/// Runs the commands of an input on an image, and writes a reply to each. The whole input is read first.
+/// Runs the commands of an input on an image, and writes a reply to each. The whole input is read first: the commands
+/// are all that it had left.
 ///
 /// Answers the image, and how many lines there were or why the session ended: BadArguments where a number of the
-/// settings is out of its range, and then nothing is read; ReadFault where a read failed or 2^32 of them did not reach
-/// the end, and then nothing is written; TooLong or BadCommand at a line that is over 8,192 bytes or no text, which is
-/// replied to; WriteFault where a write failed, and NoMemory where a reply found none.
+/// settings is out of its range, and then nothing is read or written; ReadFault where a read failed or 2^32 of them did
+/// not reach the end, or NoMemory where there was none for what was read, and then nothing is written; TooLong or
+/// BadCommand at a line that is over 8,192 bytes or no text, which is replied to; WriteFault where a write failed, and
+/// NoMemory where a reply found none.
 pub fn script_on<I: Input, O: Output>(
     alloc: Global,
     input: &mut I,
@@ -67,10 +71,10 @@ pub fn script_on<I: Input, O: Output>(
     mut image: Image,
 ) -> (Image, Result<u64, Refusal>)
     requires { image.history ≡ [] }
-    ensures script { (text : List ℕ) × (written : List ℕ)
-        × (I.given input.new ≡ I.given input.old ++ text)
-        × (O.written output.new ≡ O.written output.old ++ written)
-        × Script settings image text (I.failures input.old) (I.failures input.new) written result.0 result.1 }
+    ensures script { let before = input_view I.remaining I.failures I.reads input.old in
+        let after = input_view I.remaining I.failures I.reads input.new in
+        (written : List ℕ) × Appends (O.contents output.old) (O.contents output.new) written
+        × Script settings image before after written result.0 result.1 }
     ensures failures { O.failures output.new ≡ failures_after (end_of result.1) (O.failures output.old) }
 {
     if !settings.has_quantum() {

@@ -1,5 +1,6 @@
 //! Sessions: a handler's reply to each line of a text.
-ghost use Rattle.std.specs.Prelude.{◌≡◌, ◌++◌, ℕ, List, length, IfOk, MatchResult, OnOk};
+ghost use Rattle.std.specs.Prelude.{◌≡◌, ℕ, List, length, IfOk, MatchResult};
+ghost use Rattle.std.specs.Io.KnownBytes.{Appends};
 ghost use Rattle.st_wire.specs.declared.replies.Reply.{Reply as ReplyOf};
 ghost use Rattle.st_wire.specs.Replies.{line_of};
 ghost use Rattle.st_server.specs.Lines.{lines};
@@ -23,7 +24,7 @@ pub trait Handler {
 
 /// Writes the line of a reply.
 fn write_reply<O: Output>(alloc: Global, output: &mut O, reply: &Reply) -> Result<(), Refusal>
-    ensures written { (part : List ℕ) × (O.written output.new ≡ O.written output.old ++ part)
+    ensures written { (part : List ℕ) × Appends (O.contents output.old) (O.contents output.new) part
         × MatchResult result (λ _. part ≡ line_of reply.now) (λ e. Breaks (line_of reply.now) part e) }
     ensures failures { O.failures output.new ≡ failures_after (end_of result) (O.failures output.old) }
 {
@@ -43,7 +44,7 @@ fn answer<H: Handler, O: Output>(
     output: &mut O,
     line: &[u8],
 ) -> Result<(), Refusal>
-    ensures written { (part : List ℕ) × (O.written output.new ≡ O.written output.old ++ part)
+    ensures written { (part : List ℕ) × Appends (O.contents output.old) (O.contents output.new) part
         × MatchResult result (λ _. IsAnswered H.answers handler.old line.now part handler.new)
         (λ e. EndsAt H.answers handler.old line.now part handler.new e) }
     ensures failures { O.failures output.new ≡ failures_after (end_of result) (O.failures output.old) }
@@ -67,7 +68,7 @@ pub fn session<H: Handler, O: Output>(
     output: &mut O,
     text: &[u8],
 ) -> Result<u64, Refusal>
-    ensures written { (part : List ℕ) × (O.written output.new ≡ O.written output.old ++ part)
+    ensures written { (part : List ℕ) × Appends (O.contents output.old) (O.contents output.new) part
         × Session H.answers handler.old (lines text.now) part handler.new (end_of result) }
     ensures count { IfOk result (λ n. n ≡ length (lines text.now)) }
     ensures failures { O.failures output.new ≡ failures_after (end_of result) (O.failures output.old) }

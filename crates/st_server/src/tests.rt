@@ -1,13 +1,17 @@
 //! Scripts over memory, and over devices that fail.
-ghost use Rattle.std.specs.Prelude.{◌≡◌, ◌++◌, ◌≤◌, take};
+ghost use Rattle.std.specs.Prelude.{◌≡◌, ◌⊎◌, ◌^◌, ◌≤◌, [], length, Some, Err, IfNone, IfSome};
+ghost use Rattle.st_classes.specs.Refusals.{first_of};
+ghost use Rattle.st_classes.specs.declared.refusals.Refusal.TheVariants.{NoMemory, ReadFault};
+ghost use Rattle.st_server.specs.Scripts.{AnswersLines, script_rules, with_settings};
 
 use crate::scripts::script_on;
 use crate::settings::ScriptSettings;
 use st_classes::refusals::Refusal;
 use st_image::image::Image;
 use st_image::settings::Settings;
-use st_wire::streams::{Input, MemoryInput, MemoryOutput, Output, ReadFailed, WriteFailed};
+use st_wire::streams::{MemoryInput, MemoryOutput, Output, Reader, WriteFailed, Writer};
 use std::alloc::{AllocError, Global};
+use std::io::{self, ErrorKind, Read};
 use std::test::Fail;
 
 const RAN: &str = "{\"ok\":{\"quanta\":0,\"steps\":0}}\n";
@@ -16,28 +20,22 @@ const BAD_COMMAND: &str = "{\"error\":\"BadCommand\"}\n";
 
 const TOO_LONG: &str = "{\"error\":\"TooLong\"}\n";
 
-/// An input that fails after so many reads.
+/// A device that gives its bytes in pieces, and fails after so many of them.
 #[derive(Drop)]
-struct FailingInput {
-    inner: MemoryInput,
-    left: u32,
-    failures: u64,
+struct Pieces {
+    left: &'static [u8],
+    longest: usize,
+    reads: u32,
 }
 
-impl Input for FailingInput {
-    ghost given = { λ f. take f.inner.place f.inner.bytes.items };
-
-    ghost failures = { λ f. f.failures };
-
-    fn read(&mut self, buffer: &mut [u8]) -> Result<usize, ReadFailed> {
-        if self.left > 0 {
-            self.left -= 1;
-            if let Ok(count) = self.inner.read(buffer) {
-                return Ok(count);
-            }
+impl Read for Pieces {
+    fn read(&mut self, buffer: &mut [u8]) -> io::Result<usize> {
+        if self.reads == 0 {
+            return Err(io::Error::from(ErrorKind::BrokenPipe));
         }
-        self.failures = self.failures.wrapping_add(1);
-        Err(ReadFailed)
+        self.reads -= 1;
+        let end = self.longest.min(buffer.len());
+        self.left.read(&mut buffer[..end])
     }
 }
 
@@ -50,7 +48,7 @@ struct FailingOutput {
 }
 
 impl Output for FailingOutput {
-    ghost written = { λ f. f.inner.bytes.items };
+    ghost contents = { λ f. Some f.inner.bytes.items };
 
     ghost failures = { λ f. f.failures };
 
@@ -74,15 +72,55 @@ fn bytes_of(alloc: Global, parts: &[&[u8]]) -> Result<Vec<u8>, AllocError> {
     Ok(bytes)
 }
 
+/// A script over bytes in memory. Its contract says what that of every script says there: settings out of their ranges
+/// are refused; otherwise all of the bytes are answered, line by line, or there was no memory for them or no end of
+/// them, and then nothing is written.
+fn in_memory(
+    alloc: Global,
+    bytes: Vec<u8>,
+    settings: ScriptSettings,
+    image: Image,
+) -> (Image, MemoryOutput, Result<u64, Refusal>)
+    requires { image.history ≡ [] }
+    ensures refused { IfSome (first_of (script_rules settings))
+        (λ e. (result.2 ≡ Err e) × (result.1.bytes.items ≡ []) × (result.0 ≡ image)) }
+    ensures answered { IfNone (first_of (script_rules settings))
+        (AnswersLines settings.quantum (with_settings image settings) bytes.items result.1.bytes.items result.0 result.2
+        ⊎ (((result.2 ≡ Err NoMemory) ⊎ ((result.2 ≡ Err ReadFault) × (2 ^ 32 ≤ length bytes.items)))
+        × (result.1.bytes.items ≡ []) × (result.0 ≡ with_settings image settings))) }
+{
+    let mut input = MemoryInput::new(bytes);
+    let mut output = MemoryOutput::new(alloc);
+    let (image, result) = script_on(alloc, &mut input, &mut output, settings, image);
+    (image, output, result)
+}
+
 /// What a new image answers to an input, and how the script ends.
 fn answered(
     alloc: Global,
     parts: &[&[u8]],
     settings: ScriptSettings,
 ) -> Result<(Result<u64, Refusal>, MemoryOutput), Fail> {
-    let mut input = MemoryInput::new(bytes_of(alloc, parts)?);
+    let image = Image::new(alloc, Settings::DEFAULT)?;
+    let (_, output, result) = in_memory(alloc, bytes_of(alloc, parts)?, settings, image);
+    Ok((result, output))
+}
+
+/// What a new image answers to a text that a device gives in pieces of so many bytes, so many of them at the most.
+fn answered_in_pieces(
+    alloc: Global,
+    text: &'static [u8],
+    longest: usize,
+    reads: u32,
+) -> Result<(Result<u64, Refusal>, MemoryOutput), Fail> {
+    let mut input = Reader::new(Pieces {
+        left: text,
+        longest,
+        reads,
+    });
     let mut output = MemoryOutput::new(alloc);
     let image = Image::new(alloc, Settings::DEFAULT)?;
+    let settings = ScriptSettings::DEFAULT;
     let (_, result) = script_on(alloc, &mut input, &mut output, settings, image);
     Ok((result, output))
 }
@@ -215,19 +253,26 @@ fn settings_out_of_range(rt: HostRuntime) -> Result<(), Fail> {
 }
 
 #[test]
+fn input_in_pieces(rt: HostRuntime) -> Result<(), Fail> {
+    let alloc = rt.alloc();
+    let text = b"{\"cmd\":\"run\"}\nno\n{\"cmd\":\"run\"}";
+    for longest in [1, 3] {
+        let (result, output) = answered_in_pieces(alloc, text, longest, u32::MAX)?;
+        assert!(rt; result == Ok(3));
+        assert!(rt; wrote(alloc, &output, &[RAN, BAD_COMMAND, RAN])?);
+    }
+    Ok(())
+}
+
+#[test]
 fn input_fails(rt: HostRuntime) -> Result<(), Fail> {
     let alloc = rt.alloc();
-    let mut input = FailingInput {
-        inner: MemoryInput::new(Vec::from_slice(alloc, b"{\"cmd\":\"run\"}\n")?),
-        left: 1,
-        failures: 0,
-    };
-    let mut output = MemoryOutput::new(alloc);
-    let image = Image::new(alloc, Settings::DEFAULT)?;
-    let settings = ScriptSettings::DEFAULT;
-    let (_, result) = script_on(alloc, &mut input, &mut output, settings, image);
-    assert!(rt; result == Err(Refusal::ReadFault));
-    assert!(rt; output.as_slice().is_empty());
+    for reads in [0, 1, 8] {
+        let text = b"{\"cmd\":\"run\"}\n{\"cmd\":\"run\"}\n";
+        let (result, output) = answered_in_pieces(alloc, text, 3, reads)?;
+        assert!(rt; result == Err(Refusal::ReadFault));
+        assert!(rt; output.as_slice().is_empty());
+    }
     Ok(())
 }
 
@@ -246,5 +291,20 @@ fn output_fails(rt: HostRuntime) -> Result<(), Fail> {
     let (_, result) = script_on(alloc, &mut input, &mut output, settings, image);
     assert!(rt; result == Err(Refusal::WriteFault));
     assert!(rt; wrote(alloc, &output.inner, &[RAN])?);
+    Ok(())
+}
+
+#[test]
+fn output_to_a_device(rt: HostRuntime) -> Result<(), Fail> {
+    let alloc = rt.alloc();
+    let mut bytes: Vec<u8> = Vec::new(alloc);
+    let mut input = Reader::new(b"{\"cmd\":\"run\"}\nno\n".as_slice());
+    let mut output = Writer::new(&mut bytes);
+    let image = Image::new(alloc, Settings::DEFAULT)?;
+    let settings = ScriptSettings::DEFAULT;
+    let (_, result) = script_on(alloc, &mut input, &mut output, settings, image);
+    assert!(rt; result == Ok(2));
+    let want = bytes_of(alloc, &[RAN.as_bytes(), BAD_COMMAND.as_bytes()])?;
+    assert!(rt; bytes.as_slice() == want.as_slice());
     Ok(())
 }

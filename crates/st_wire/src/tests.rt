@@ -1,12 +1,15 @@
 //! The lines of a first run, lines that are refused, and each form of reply.
 use crate::commands::{Argument, Command, read_command};
 use crate::replies::{Answered, Reply, SiteReport, SiteState, reply_text};
-use crate::streams::{Input, MemoryInput, MemoryOutput, Output, write_all};
+use crate::streams::{
+    Input, MemoryInput, MemoryOutput, Output, ReadFailed, Reader, WriteFailed, Writer, write_all,
+};
 use st_classes::faults::Fault;
 use st_classes::refusals::{ImagePlace, Limited, Refusal, SourceFault};
 use st_classes::seq::Seq;
 use st_classes::values::ActorId;
 use std::alloc::{AllocError, Global};
+use std::io::{self, ErrorKind, Read, Write};
 use std::test::Fail;
 
 fn read(alloc: Global, line: &str) -> Result<Command, Refusal> {
@@ -337,11 +340,95 @@ fn streams_in_memory(rt: HostRuntime) -> Result<(), Fail> {
         let Ok(count) = input.read(&mut buffer) else {
             return Err(Refusal::ReadFault.into());
         };
-        if write_all(&mut output, &buffer[..count]).is_err() {
+        if count > 0 && write_all(&mut output, &buffer[..count]).is_err() {
             return Err(Refusal::WriteFault.into());
         }
     }
     assert!(rt; output.as_slice() == b"abcde".as_slice());
-    assert!(rt; output.write(b"").is_err());
+    assert!(rt; input.read(&mut buffer) == Ok(0));
+    assert!(rt; output.write(b"") == Err(WriteFailed));
+    assert!(rt; write_all(&mut output, b"") == Ok(()));
+    Ok(())
+}
+
+/// A device that gives one byte, is interrupted, gives three, fails, and gives what is left.
+#[derive(Drop)]
+struct Giving {
+    left: &'static [u8],
+    turn: u32,
+}
+
+impl Read for Giving {
+    fn read(&mut self, buffer: &mut [u8]) -> io::Result<usize> {
+        self.turn = self.turn.saturating_add(1);
+        let most = match self.turn {
+            1 => 1,
+            2 => return Err(io::Error::from(ErrorKind::Interrupted)),
+            3 => 3,
+            4 => return Err(io::Error::from(ErrorKind::BrokenPipe)),
+            _ => buffer.len(),
+        };
+        let end = most.min(buffer.len());
+        self.left.read(&mut buffer[..end])
+    }
+}
+
+/// A device that takes one byte, is interrupted, takes what it gets, takes nothing, and fails.
+#[derive(Drop)]
+struct Taking {
+    taken: Vec<u8>,
+    turn: u32,
+}
+
+impl Write for Taking {
+    fn write(&mut self, bytes: &[u8]) -> io::Result<usize> {
+        self.turn = self.turn.saturating_add(1);
+        let most = match self.turn {
+            1 => 1,
+            2 => return Err(io::Error::from(ErrorKind::Interrupted)),
+            3 => bytes.len(),
+            4 => 0,
+            _ => return Err(io::Error::from(ErrorKind::BrokenPipe)),
+        };
+        let end = most.min(bytes.len());
+        self.taken.write(&bytes[..end])
+    }
+
+    fn flush(&mut self) -> io::Result<()> {
+        if self.turn > 4 {
+            return Err(io::Error::from(ErrorKind::BrokenPipe));
+        }
+        Ok(())
+    }
+}
+
+#[test]
+fn reads_a_device(rt: HostRuntime) -> Result<(), Fail> {
+    let mut input = Reader::new(Giving {
+        left: b"abcdef",
+        turn: 0,
+    });
+    let mut buffer = [0u8; 8];
+    assert!(rt; input.read(&mut buffer) == Ok(1) && buffer.starts_with(b"a"));
+    assert!(rt; input.read(&mut buffer) == Ok(3) && buffer.starts_with(b"bcd"));
+    assert!(rt; input.read(&mut buffer) == Err(ReadFailed));
+    assert!(rt; input.read(&mut buffer) == Ok(2) && buffer.starts_with(b"ef"));
+    assert!(rt; input.read(&mut buffer) == Ok(0));
+    Ok(())
+}
+
+#[test]
+fn writes_to_a_device(rt: HostRuntime) -> Result<(), Fail> {
+    let mut device = Taking {
+        taken: Vec::new(rt.alloc()),
+        turn: 0,
+    };
+    let mut output = Writer::new(&mut device);
+    assert!(rt; write_all(&mut output, b"abc") == Ok(()));
+    assert!(rt; output.flush() == Ok(()));
+    assert!(rt; output.write(b"d") == Err(WriteFailed));
+    assert!(rt; write_all(&mut output, b"d") == Err(WriteFailed));
+    assert!(rt; output.flush() == Err(WriteFailed));
+    assert!(rt; device.taken.as_slice() == b"abc".as_slice());
     Ok(())
 }

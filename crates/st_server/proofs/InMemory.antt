@@ -1,0 +1,47 @@
+-- Scripts over bytes in memory.
+use Rattle.std.proofs.Common.{◌≡◌, ℕ, ◌^◌, ◌≤◌, ◌⊎◌, List, [], length, length-append, Option, None, Some, Result, Err, IfNone, IfSome, MatchOption, ap, subst, ◌∙◌, inl, inr, arith}
+use Rattle.std.specs.Io.KnownBytes.{Consumes}
+use Rattle.st_classes.specs.declared.refusals.Refusal.{Refusal}
+use Rattle.st_classes.specs.declared.refusals.Refusal.TheVariants.{NoMemory, ReadFault}
+use Rattle.st_image.specs.Images.{ImageView}
+use Rattle.st_wire.specs.Streams.{InputView, one_more}
+use Rattle.st_server.specs.Reading.{IsWhole, WhyStopped}
+use Rattle.st_server.specs.Scripts.{AnswersLines, Scripted}
+
+whole_text : (a b : Option (List ℕ)) (bytes text : List ℕ) → a ≡ Some bytes → IsWhole a b text → text ≡ bytes
+whole_text a b bytes text known whole = let first : IsWhole (Some bytes) b text = subst (λ o. IsWhole o b text) known whole in first.0
+
+no_more : (bytes taken : List ℕ) (b : Option (List ℕ)) → Consumes (Some bytes) b taken → length taken ≤ length bytes
+no_more bytes taken None read = absurd read
+no_more bytes taken (Some rest) read = omega (arith, length-append taken rest, ap length read)
+
+taken_short : (a b : Option (List ℕ)) (bytes taken : List ℕ) → a ≡ Some bytes → Consumes a b taken → length taken ≤ length bytes
+taken_short a b bytes taken known read = no_more bytes taken b (subst (λ o. Consumes o b taken) known read)
+
+never : (before after : ℕ) → before ≡ 0 → after ≡ 0 → after ≡ one_more before → ⊥
+never before after b a e = omega arith
+
+-- no memory, or no end
+why : (before after : InputView) (bytes taken : List ℕ) (e : Refusal) → before.failures ≡ 0 → after.failures ≡ 0 → length taken ≤ length bytes → WhyStopped before after taken e → (e ≡ NoMemory) ⊎ ((e ≡ ReadFault) × (2 ^ 32 ≤ length bytes))
+why before after bytes taken e b a short (inl none) = inl none.0
+why before after bytes taken e b a short (inr (is, inl failed)) = absurd (never before.failures after.failures b a failed)
+why before after bytes taken e b a short (inr (is, inr endless)) = let long : 2 ^ 32 ≤ length taken = endless.2 in inr (is, omega arith)
+
+stops_with : (r : Result ℕ Refusal) (n : ℕ) (e : Refusal) → r ≡ Err e → (e ≡ NoMemory) ⊎ ((e ≡ ReadFault) × (2 ^ 32 ≤ n)) → (r ≡ Err NoMemory) ⊎ ((r ≡ Err ReadFault) × (2 ^ 32 ≤ n))
+stops_with r n e is (inl none) = inl (is ∙ ap Err none)
+stops_with r n e is (inr fault) = inr (is ∙ ap Err fault.0, fault.1)
+
+abbrev Whole : ℕ → ImageView → List ℕ → List ℕ → ImageView → Result ℕ Refusal → Type 0
+Whole quantum i bytes out j r = AnswersLines quantum i bytes out j r ⊎ (((r ≡ Err NoMemory) ⊎ ((r ≡ Err ReadFault) × (2 ^ 32 ≤ length bytes))) × (out ≡ []) × (j ≡ i))
+
+answers_all : (quantum : ℕ) (i j : ImageView) (before after : InputView) (bytes out written : List ℕ) (r : Result ℕ Refusal) → before.remaining ≡ Some bytes → before.failures ≡ 0 → after.failures ≡ 0 → out ≡ written → Scripted quantum i before after written j r → Whole quantum i bytes out j r
+answers_all quantum i j before after bytes out written r known b a wrote (inl s) = inl (rw (wrote, ← (whole_text _ _ bytes s.0 known s.1.0)) s.2)
+answers_all quantum i j before after bytes out written r known b a wrote (inr s) = inr (stops_with r (length bytes) s.0 s.2 (why before after bytes s.1 s.0 b a (taken_short _ _ bytes s.1 known s.3.0) s.3.1), wrote ∙ s.4, s.5)
+
+pub answers_whole : (o : Option Refusal) (quantum : ℕ) (i j : ImageView) (before after : InputView) (bytes out written : List ℕ) (r : Result ℕ Refusal) (Q : Refusal → Type 0) → before.remaining ≡ Some bytes → before.failures ≡ 0 → after.failures ≡ 0 → out ≡ written → MatchOption o (Scripted quantum i before after written j r) Q → IfNone o (Whole quantum i bytes out j r)
+answers_whole None quantum i j before after bytes out written r Q known b a wrote s = answers_all quantum i j before after bytes out written r known b a wrote s
+answers_whole (Some e) quantum i j before after bytes out written r Q known b a wrote s = tt
+
+pub refuses_unread : (o : Option Refusal) (A : Type 0) (i j : ImageView) (before after : InputView) (out written : List ℕ) (r : Result ℕ Refusal) → out ≡ written → MatchOption o A (λ e. (r ≡ Err e) × (after ≡ before) × (written ≡ []) × (j ≡ i)) → IfSome o (λ e. (r ≡ Err e) × (out ≡ []) × (j ≡ i))
+refuses_unread None A i j before after out written r wrote s = tt
+refuses_unread (Some e) A i j before after out written r wrote s = (s.0, wrote ∙ s.2, s.3)

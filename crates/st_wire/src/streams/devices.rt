@@ -1,0 +1,137 @@
+//! Devices over what std reads from and writes to.
+ghost use Rattle.std.specs.Prelude.{◌≡◌, ◌≤◌, IfOk, OnOk, OnErr};
+ghost use Rattle.std.specs.Io.{ReadsAtMost, WritesAtMost};
+ghost use Rattle.std.specs.Io.KnownBytes.{Keeps, ReadConsumes, WriteAppends};
+ghost use Rattle.st_wire.specs.Streams.{one_more};
+
+use super::{Input, Output, ReadFailed, WriteFailed};
+use std::io::{self, ErrorKind};
+
+/// One read, tried again where a signal interrupts it.
+fn read_from<R: io::Read>(reader: &mut R, buffer: &mut [u8]) -> Result<usize, ReadFailed>
+    ensures fits { ReadsAtMost result buffer.new }
+    ensures gives { ReadConsumes (R.remaining reader.old) (R.remaining reader.new) result buffer.new }
+{
+    for _ in 0..u64::MAX {
+        match reader.read(buffer) {
+            Ok(count) => return Ok(count),
+            Err(error) => {
+                if error.kind() != ErrorKind::Interrupted {
+                    return Err(ReadFailed);
+                }
+            }
+        }
+    }
+    Err(ReadFailed)
+}
+
+/// One write, tried again where a signal interrupts it. It fails where the writer takes none of the bytes.
+fn write_to<W: io::Write>(writer: &mut W, bytes: &[u8]) -> Result<usize, WriteFailed>
+    ensures some { IfOk result (λ n. 1 ≤ n) }
+    ensures within { WritesAtMost result bytes.now }
+    ensures writes { WriteAppends (W.contents writer.old) (W.contents writer.new) result bytes.now }
+{
+    for _ in 0..u64::MAX {
+        match writer.write(bytes) {
+            Ok(0) => return Err(WriteFailed),
+            Ok(count) => return Ok(count),
+            Err(error) => {
+                if error.kind() != ErrorKind::Interrupted {
+                    return Err(WriteFailed);
+                }
+            }
+        }
+    }
+    Err(WriteFailed)
+}
+
+/// What std reads from, as standard input, a file or a socket. What it will give is known where std knows it.
+///
+/// A read that a signal interrupts is no failure and is not counted apart: it is tried again within the same read, as
+/// std's own `read_to_end` does, and only the 2^64th interruption of one read is a failure. Every other error is one.
+#[derive(Drop)]
+pub struct Reader<R> {
+    inner: R,
+    failures: u64,
+    reads: u64,
+}
+
+impl<R: io::Read> Reader<R> {
+    /// A device that has not been read.
+    pub fn new(inner: R) -> Reader<R>
+        ensures inner { result.inner ≡ inner }
+        ensures unfailed { result.failures ≡ 0 }
+        ensures unread { result.reads ≡ 0 }
+    {
+        Reader {
+            inner,
+            failures: 0,
+            reads: 0,
+        }
+    }
+}
+
+impl<R: io::Read> Input for Reader<R> {
+    ghost remaining = { λ r. R.remaining r.inner };
+
+    ghost failures = { λ r. r.failures };
+
+    ghost reads = { λ r. r.reads };
+
+    fn read(&mut self, buffer: &mut [u8]) -> Result<usize, ReadFailed> {
+        self.reads = self.reads.wrapping_add(1);
+        let result = read_from(&mut self.inner, buffer);
+        if result.is_err() {
+            self.failures = self.failures.wrapping_add(1);
+        }
+        result
+    }
+}
+
+/// What std writes to, as standard output, a file or a socket. What has been written is known where std knows it.
+///
+/// A write that a signal interrupts is no failure: it is tried again, and only the 2^64th interruption of one write is
+/// a failure. Every other error is one, and so is a write of which no byte is taken. A writer with a buffer fails where
+/// the buffer cannot be written out, and that may be after the write that filled it: see [`Writer::flush`].
+#[derive(Drop)]
+pub struct Writer<W> {
+    inner: W,
+    failures: u64,
+}
+
+impl<W: io::Write> Writer<W> {
+    /// A device that has not been written to.
+    pub fn new(inner: W) -> Writer<W>
+        ensures inner { result.inner ≡ inner }
+        ensures unfailed { result.failures ≡ 0 }
+    {
+        Writer { inner, failures: 0 }
+    }
+
+    /// Writes out what the writer holds back in a buffer. What has been written to the device is the same after it.
+    pub fn flush(&mut self) -> Result<(), WriteFailed>
+        ensures kept { Keeps (W.contents self.old.inner) (W.contents self.new.inner) }
+        ensures unfailed { OnOk result (self.new.failures ≡ self.old.failures) }
+        ensures failed { OnErr result (self.new.failures ≡ one_more self.old.failures) }
+    {
+        if self.inner.flush().is_ok() {
+            return Ok(());
+        }
+        self.failures = self.failures.wrapping_add(1);
+        Err(WriteFailed)
+    }
+}
+
+impl<W: io::Write> Output for Writer<W> {
+    ghost contents = { λ w. W.contents w.inner };
+
+    ghost failures = { λ w. w.failures };
+
+    fn write(&mut self, bytes: &[u8]) -> Result<usize, WriteFailed> {
+        let result = write_to(&mut self.inner, bytes);
+        if result.is_err() {
+            self.failures = self.failures.wrapping_add(1);
+        }
+        result
+    }
+}

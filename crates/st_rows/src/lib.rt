@@ -7,6 +7,8 @@ mod classes;
 #[cfg(test)]
 mod compiling;
 #[cfg(test)]
+mod devices;
+#[cfg(test)]
 mod images;
 #[cfg(test)]
 mod memory;
@@ -18,3 +20,5 @@ mod reading;
 mod scripts;
 #[cfg(test)]
 mod steps;
+#[cfg(test)]
+mod wire;

@@ -5,4 +5,3 @@ pub mod Quanta
 pub mod Arguments
 pub mod BadLine
 pub mod Scripting
-pub mod InMemory

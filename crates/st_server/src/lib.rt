@@ -11,5 +11,3 @@ pub mod scripts;
 mod serving;
 pub mod sessions;
 pub mod settings;
-#[cfg(test)]
-mod tests;

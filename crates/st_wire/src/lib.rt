@@ -10,5 +10,3 @@ mod line;
 pub mod names;
 pub mod replies;
 pub mod streams;
-#[cfg(test)]
-mod tests;

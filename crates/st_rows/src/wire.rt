@@ -1,13 +1,13 @@
 //! The lines of a first run, lines that are refused, and each form of reply.
-use crate::commands::{Argument, Command, read_command};
-use crate::replies::{Answered, Reply, SiteReport, SiteState, reply_text};
-use crate::streams::{
-    Input, MemoryInput, MemoryOutput, Output, ReadFailed, Reader, WriteFailed, Writer, write_all,
-};
 use st_classes::faults::Fault;
 use st_classes::refusals::{ImagePlace, Limited, Refusal, SourceFault};
 use st_classes::seq::Seq;
 use st_classes::values::ActorId;
+use st_wire::commands::{Argument, Command, read_command};
+use st_wire::replies::{Answered, Reply, SiteReport, SiteState, reply_text};
+use st_wire::streams::{
+    Input, MemoryInput, MemoryOutput, Output, ReadFailed, Reader, WriteFailed, Writer, write_all,
+};
 use std::alloc::{AllocError, Global};
 use std::io::{self, ErrorKind, Read, Write};
 use std::test::Fail;

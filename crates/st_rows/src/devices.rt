@@ -4,11 +4,11 @@ ghost use Rattle.st_classes.specs.Refusals.{first_of};
 ghost use Rattle.st_classes.specs.declared.refusals.Refusal.TheVariants.{NoMemory, ReadFault};
 ghost use Rattle.st_server.specs.Scripts.{AnswersLines, script_rules, with_settings};
 
-use crate::scripts::script_on;
-use crate::settings::ScriptSettings;
 use st_classes::refusals::Refusal;
 use st_image::image::Image;
 use st_image::settings::Settings;
+use st_server::scripts::script_on;
+use st_server::settings::ScriptSettings;
 use st_wire::streams::{MemoryInput, MemoryOutput, Output, Reader, WriteFailed, Writer};
 use std::alloc::{AllocError, Global};
 use std::io::{self, ErrorKind, Read};

@@ -65,6 +65,7 @@ impl Model for Version {
 
 impl Version {
     /// What stands of every class table.
+    #[inline]
     fn kept(&self)
         ensures { IsKept self.now }
     {
@@ -72,6 +73,7 @@ impl Version {
     }
 
     /// The methods of every class table are sound.
+    #[inline]
     fn methods_known(&self)
         ensures { AllSound self.now }
     {
@@ -80,6 +82,7 @@ impl Version {
 
     /// What callers may know of every class table: each edit was accepted after those before it, its methods are sound, and the
     /// limits hold.
+    #[inline]
     pub fn known(&self)
         ensures lawful { AreLawful self.now }
         ensures sound { AllSound self.now }

@@ -23,7 +23,7 @@ use std::alloc::Global;
 ///
 /// `BadSource`, with the kind `BadToken` and the offset 0, says that the tree has no code: a variable is no instance variable of
 /// the class, or there are more than 1,024 instructions. No name is interned then. `TooMany` says that there is no room for all
-/// the names; those that fitted stay, and so they do where memory runs out.
+/// the names; the first ones stay, and so they do where memory runs out.
 pub fn compile(
     alloc: Global,
     tree: &MethodTree,

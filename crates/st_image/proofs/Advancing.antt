@@ -19,7 +19,8 @@ use Rattle.st_image.specs.declared.messages.Message.{Message}
 use Rattle.st_image.specs.declared.settings.Settings.{Settings}
 use Rattle.st_image.specs.declared.items.Item.{Item}
 use Rattle.st_image.specs.declared.items.Item.TheVariants.{Begun, Ran}
-use Rattle.st_image.specs.Worlds.{World, Being, pending, is_idle, with_actor}
+use Rattle.st_turn.specs.Idling.{is_idle}
+use Rattle.st_image.specs.Worlds.{World, Being, pending, with_actor}
 use Rattle.st_image.specs.Next.{next, begun_at, begun_by, beginning, steps, with_result, only_if}
 use Rattle.st_image.specs.Images.{ImageView, world, world_of, no_room, advance_rules, advanced, only_begun, HasStopped, idle_at, beginnings}
 use Rattle.st_image.specs.Ready.{is_ready, is_ready_at}

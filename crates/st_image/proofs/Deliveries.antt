@@ -13,7 +13,8 @@ use Rattle.st_turn.specs.declared.body.Body.{Body}
 use Rattle.st_image.specs.declared.messages.Message.{Message}
 use Rattle.st_image.specs.declared.items.Item.{Item}
 use Rattle.st_image.specs.declared.items.Item.TheVariants.{Edited, Created, Posted, Closed, Begun, Ran}
-use Rattle.st_image.specs.Worlds.{World, Being, start, pending, with_actor, is_idle}
+use Rattle.st_turn.specs.Idling.{is_idle}
+use Rattle.st_image.specs.Worlds.{World, Being, start, pending, with_actor}
 use Rattle.st_image.specs.Next.{next, replay, only_if, edited, created, new_being, posted_to, accepting, closed, begun_by, begun_at, beginning, ran, ran_at, steps}
 use Rattle.st_image.specs.Delivery.{IsPrefixOf, BeginsInOrder, OnlyGrow, Delivers}
 use Rattle.st_image.proofs.Places.{same_or_not, at_all, get_set_same, get_set_other, get_left}

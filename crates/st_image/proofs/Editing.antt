@@ -13,7 +13,7 @@ use Rattle.st_image.specs.declared.items.Item.{Item}
 use Rattle.st_image.specs.declared.items.Item.TheVariants.{Edited}
 use Rattle.st_image.specs.Worlds.{World}
 use Rattle.st_image.specs.Images.{world_of, edits_in, run_rules, no_room}
-use Rattle.st_image.specs.Lasting.{IsSoundEdit}
+use Rattle.st_classes.specs.Lawful.{IsSoundEdit}
 use Rattle.st_image.specs.Kepts.{Kept}
 use Rattle.st_image.specs.Keeping.{Shows, IsImage}
 use Rattle.st_image.proofs.Lists.{off, off_append, first_here, first_later}

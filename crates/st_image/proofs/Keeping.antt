@@ -22,13 +22,15 @@ use Rattle.st_image.specs.declared.messages.Message.{Message}
 use Rattle.st_image.specs.declared.settings.Settings.{Settings}
 use Rattle.st_image.specs.declared.items.Item.{Item}
 use Rattle.st_image.specs.declared.items.Item.TheVariants.{Edited, Created, Posted, Closed, Begun, Ran}
-use Rattle.st_image.specs.Worlds.{World, Being, start, pending, is_idle, with_actor}
+use Rattle.st_turn.specs.Idling.{is_idle}
+use Rattle.st_image.specs.Worlds.{World, Being, start, pending, with_actor}
 use Rattle.st_image.specs.Posting.{post_rules}
 use Rattle.st_image.specs.Next.{next, replay, only_if, edited, created, new_being, fresh_body, posted_to, accepting, with_last, begun_at, begun_by, beginning, ran, ran_at, steps, with_result}
 use Rattle.st_image.specs.Images.{world_of, edits_in, ImageView, image_post_rules, create_rules, no_room}
 use Rattle.st_image.specs.Ready.{is_ready, is_ready_at}
 use Rattle.st_image.specs.Delivery.{BeginsInOrder}
-use Rattle.st_image.specs.Lasting.{IsWorld, IsBeing, IsSoundItem, IsSoundEdit}
+use Rattle.st_classes.specs.Lawful.{IsSoundEdit}
+use Rattle.st_image.specs.Lasting.{IsWorld, IsBeing, IsSoundItem}
 use Rattle.st_image.specs.Kepts.{Kept, kept_of, new_kept, taken_in, started, begun_first, stepped_to, has, HasAlso}
 use Rattle.st_image.specs.Keeping.{Shows, IsImage}
 use Rattle.st_image.proofs.Replays.{lawful_push}

@@ -26,11 +26,13 @@ use Rattle.st_turn.specs.Fitting.{Given, Fits, FitsStepped, IsThere, has_instanc
 use Rattle.st_image.specs.declared.messages.Message.{Message}
 use Rattle.st_image.specs.declared.items.Item.{Item}
 use Rattle.st_image.specs.declared.items.Item.TheVariants.{Edited, Created, Posted, Closed, Begun, Ran}
-use Rattle.st_image.specs.Worlds.{World, Being, start, pending, with_actor, is_idle}
+use Rattle.st_turn.specs.Idling.{is_idle}
+use Rattle.st_image.specs.Worlds.{World, Being, start, pending, with_actor}
 use Rattle.st_image.specs.Posting.{argument_fits, message_fits, message_suits, post_rules, box_rules}
 use Rattle.st_image.specs.Next.{next, only_if, edited, created, new_being, fresh_body, posted_to, accepting, closed, begun_by, begun_at, beginning, ran, ran_at, steps, body_after, with_result}
 use Rattle.st_image.specs.Delivery.{BeginsInOrder}
-use Rattle.st_image.specs.Lasting.{given, IsBeing, BeginsWithKernel, IsSoundEdit, IsSoundItem, IsWorld}
+use Rattle.st_classes.specs.Lawful.{IsSoundEdit}
+use Rattle.st_image.specs.Lasting.{given, IsBeing, BeginsWithKernel, IsSoundItem, IsWorld}
 use Rattle.st_classes.specs.declared.refusals.Refusal.{Refusal}
 use Rattle.st_classes.specs.declared.refusals.Refusal.TheVariants.{BadArguments}
 use Rattle.st_classes.specs.Refusals.{Rule}

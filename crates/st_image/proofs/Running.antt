@@ -16,7 +16,7 @@ use Rattle.st_turn.specs.Views.{FramesView}
 use Rattle.st_turn.specs.Frames.{Effect, goes, stores, sends, answers, fails, effect}
 use Rattle.st_turn.specs.Steps.{Stepped, Told, next, ended, outer, step, step_in, run_frames, performed, followed, After, more, over, outside, limit, after, seen}
 use Rattle.st_turn.specs.Fitting.{Given, Fits, FitsPhase, FitsStepped, Runs, IsFrame}
-use Rattle.st_image.specs.Worlds.{is_idle}
+use Rattle.st_turn.specs.Idling.{is_idle}
 use Rattle.st_image.specs.Next.{steps, body_after}
 use Rattle.st_image.specs.Keeping.{CanRun}
 use Rattle.st_turn.proofs.Keeping.{step_fits}

@@ -10,7 +10,8 @@ use Rattle.st_classes.specs.declared.values.ClassId.{ClassId}
 use Rattle.st_classes.specs.declared.edits.Edit.{Edit}
 use Rattle.st_turn.specs.declared.body.Body.{Body}
 use Rattle.st_image.specs.declared.messages.Message.{Message}
-use Rattle.st_image.specs.Worlds.{World, Being, pending, is_idle}
+use Rattle.st_turn.specs.Idling.{is_idle}
+use Rattle.st_image.specs.Worlds.{World, Being, pending}
 use Rattle.st_image.specs.Next.{accepting, beginning, new_being, fresh_body, with_result}
 use Rattle.st_image.specs.Delivery.{BeginsInOrder}
 use Rattle.st_image.specs.Ready.{is_ready, is_ready_at}

@@ -14,7 +14,8 @@ use Rattle.st_image.specs.declared.messages.Message.{Message}
 use Rattle.st_image.specs.declared.items.Item.{Item}
 use Rattle.st_image.specs.declared.items.Item.TheVariants.{Edited, Created, Posted, Closed, Begun, Ran}
 use Rattle.st_image.specs.declared.settings.Settings.{Settings}
-use Rattle.st_image.specs.Worlds.{World, Being, start, pending, is_idle}
+use Rattle.st_turn.specs.Idling.{is_idle}
+use Rattle.st_image.specs.Worlds.{World, Being, start, pending}
 use Rattle.st_image.specs.Posting.{post_rules}
 use Rattle.st_image.specs.Next.{replay}
 

@@ -44,10 +44,3 @@ pub record IsImage (names : List (List ℕ)) (edits : List Edit) (actors : List 
 -- a body fits a table whose edits are lawful and sound, so that its steps fit it too
 abbrev pub CanRun : List Edit → ActorId → Body → Type 0
 CanRun edits a b = (given : Given) × AreLawful edits × AllSuit given.names edits × AllSound edits × (arity_at given.names does_not_understand ≡ Some 1) × (a.0 < given.actors) × Fits given edits b
-
--- what is true of every image: its history is lawful and no longer than its limit, and its world has what every world has
-pub record IsLawful (i : ImageView) : Type 0 where
-  pub lawful : replay i.names start i.history ≡ Some (world i)
-  pub standing : IsWorld i.names (world i)
-  pub few_items : length i.history ≤ i.limit
-  pub few_actors : length (world i).actors ≤ 65536

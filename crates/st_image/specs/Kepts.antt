@@ -15,9 +15,10 @@ use Rattle.st_classes.specs.declared.values.ActorId.{ActorId}
 use Rattle.st_image.specs.declared.items.Item.{Item}
 use Rattle.st_image.specs.declared.items.Item.TheVariants.{Ran}
 use Rattle.st_image.specs.Images.{beginnings}
-use Rattle.st_image.specs.Worlds.{Being, pending, is_idle}
+use Rattle.st_turn.specs.Idling.{is_idle}
+use Rattle.st_image.specs.Worlds.{Being, pending}
 use Rattle.st_image.specs.Next.{with_result, steps}
-use Rattle.st_image.specs.Ready.{way}
+use Rattle.st_image.specs.Ready.{is_no_later}
 
 -- an actor without the messages that it began: what is pending, and how many it accepted
 pub record Kept : Type 0 where
@@ -77,10 +78,10 @@ has numbers a = contains nat_cmp numbers a
 abbrev pub HasAlso : BTreeSet ℕ → BTreeSet ℕ → ℕ → Bool → Type 0
 HasAlso old new a is_in = (b : ℕ) → has new b ≡ (if nat_eq a b then is_in else has old b)
 
--- the first number of a set in cyclic order from a number, of however many numbers
+-- the first number of a set in cyclic order from a number
 pub record IsNext (numbers : BTreeSet ℕ) (from a : ℕ) : Type 0 where
   pub there : has numbers a ≡ true
-  pub nearest : (count b : ℕ) → a ≤ count → has numbers b ≡ true → way count from a ≤ way count from b
+  pub first : (b : ℕ) → has numbers b ≡ true → is_no_later from a b ≡ true
 
 -- the items of an advance: an idle actor begins a message, and some steps may be taken
 abbrev pub advance_items : ActorId → Bool → ℕ → List Item

@@ -1,16 +1,16 @@
 -- What is true of every world that a history leads to.
-use Rattle.std.specs.Prelude.{◌≡◌, ℕ, List, ◌++◌, length, true, All}
+use Rattle.std.specs.Prelude.{◌≡◌, ℕ, ◌≤◌, List, ◌++◌, length, true, Some, All}
 use Rattle.st_classes.specs.declared.edits.Edit.{Edit}
-use Rattle.st_classes.specs.declared.edits.Edit.TheVariants.{Define, Install, Remove}
-use Rattle.st_classes.specs.Methods.{IsSound}
 use Rattle.st_classes.specs.Kernel.{kernel_selectors}
 use Rattle.st_classes.specs.Classes.{class_count}
-use Rattle.st_classes.specs.Lawful.{AreLawful, AllSuit, AllSound}
+use Rattle.st_classes.specs.Lawful.{AreLawful, AllSuit, AllSound, IsSoundEdit}
 use Rattle.st_turn.specs.Fitting.{Given, Fits}
 use Rattle.st_image.specs.declared.messages.Message.{Message}
 use Rattle.st_image.specs.declared.items.Item.{Item}
 use Rattle.st_image.specs.declared.items.Item.TheVariants.{Edited, Created, Posted, Closed, Begun, Ran}
-use Rattle.st_image.specs.Worlds.{World, Being}
+use Rattle.st_image.specs.Worlds.{World, Being, start}
+use Rattle.st_image.specs.Next.{replay}
+use Rattle.st_image.specs.Images.{ImageView, world}
 use Rattle.st_image.specs.Posting.{message_fits}
 use Rattle.st_image.specs.Delivery.{BeginsInOrder}
 
@@ -28,12 +28,6 @@ pub record IsBeing (names : List (List ℕ)) (edits : List Edit) (actors : ℕ) 
 abbrev pub BeginsWithKernel : List (List ℕ) → Type 0
 BeginsWithKernel names = (more : List (List ℕ)) × (names ≡ kernel_selectors ++ more)
 
--- an installed method is sound
-abbrev pub IsSoundEdit : Edit → Type 0
-IsSoundEdit (Define name parent added) = Unit {0}
-IsSoundEdit (Install c m) = IsSound m
-IsSoundEdit (Remove c s) = Unit {0}
-
 abbrev pub IsSoundItem : Item → Type 0
 IsSoundItem (Edited e) = IsSoundEdit e
 IsSoundItem (Created c n) = Unit {0}
@@ -49,3 +43,10 @@ pub record IsWorld (names : List (List ℕ)) (w : World) : Type 0 where
   pub suited : AllSuit names w.edits
   pub sound : AllSound w.edits
   pub actors : All (IsBeing names w.edits (length w.actors)) w.actors
+
+-- what is true of every image: its history is lawful and no longer than its limit, and its world has what every world has
+pub record IsLawful (i : ImageView) : Type 0 where
+  pub lawful : replay i.names start i.history ≡ Some (world i)
+  pub standing : IsWorld i.names (world i)
+  pub few_items : length i.history ≤ i.limit
+  pub few_actors : length (world i).actors ≤ 65536

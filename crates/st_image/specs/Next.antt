@@ -19,7 +19,8 @@ use Rattle.st_image.specs.declared.messages.Sender.{Sender}
 use Rattle.st_image.specs.declared.messages.Sender.TheVariants.{Client, Actor}
 use Rattle.st_image.specs.declared.items.Item.{Item}
 use Rattle.st_image.specs.declared.items.Item.TheVariants.{Edited, Created, Posted, Closed, Begun, Ran}
-use Rattle.st_image.specs.Worlds.{World, Being, pending, is_idle, with_actor}
+use Rattle.st_turn.specs.Idling.{is_idle}
+use Rattle.st_image.specs.Worlds.{World, Being, pending, with_actor}
 use Rattle.st_image.specs.Posting.{post_rules}
 
 abbrev pub only_if : Bool → World → Option World

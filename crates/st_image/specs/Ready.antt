@@ -1,6 +1,7 @@
 -- Which actor is next.
-use Rattle.std.specs.Prelude.{◌≡◌, ℕ, ◌+◌, ◌-◌, ◌≤◌, ◌==◌, ◌||◌, length, Bool, true, false, not, Option, Some, None, nat_le, slice_get, if◌then◌else◌}
-use Rattle.st_image.specs.Worlds.{World, Being, pending, is_idle}
+use Rattle.std.specs.Prelude.{◌≡◌, ℕ, ◌==◌, ◌&&◌, ◌||◌, length, Bool, true, false, not, Option, Some, None, nat_le, slice_get, if◌then◌else◌}
+use Rattle.st_turn.specs.Idling.{is_idle}
+use Rattle.st_image.specs.Worlds.{World, Being, pending}
 
 -- an actor is in a turn, or has a message pending
 abbrev pub is_ready : Being → Bool
@@ -13,11 +14,11 @@ is_ready_at w a = ready_being (slice_get w.actors a)
     ready_being None = false
     ready_being (Some b) = is_ready b
 
--- how far a number is from another in cyclic order of so many numbers
-abbrev pub way : ℕ → ℕ → ℕ → ℕ
-way count from a = if nat_le from a then a - from else a + count - from
+-- in cyclic order of the numbers from one of them, a number comes no later than another: those from it on come first, and each part rises
+abbrev pub is_no_later : ℕ → ℕ → ℕ → Bool
+is_no_later from a b = if nat_le from b then nat_le from a && nat_le a b else nat_le from a || nat_le a b
 
--- a ready actor to which no ready actor is nearer
+-- a ready actor that comes no later than any other
 pub record IsNextReady (w : World) (from a : ℕ) : Type 0 where
   pub ready : is_ready_at w a ≡ true
-  pub nearest : (b : ℕ) → is_ready_at w b ≡ true → way (length w.actors) from a ≤ way (length w.actors) from b
+  pub first : (b : ℕ) → is_ready_at w b ≡ true → is_no_later from a b ≡ true

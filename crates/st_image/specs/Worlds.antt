@@ -1,12 +1,10 @@
 -- The world of an image: its class table, its actors with all that they accepted, and its clients.
-use Rattle.std.specs.Prelude.{ℕ, List, [], length, drop, Bool, true, false, slice_set}
+use Rattle.std.specs.Prelude.{ℕ, List, [], length, drop, Bool, true, slice_set}
 use Rattle.st_classes.specs.declared.values.ClassId.{ClassId}
 use Rattle.st_classes.specs.declared.values.ActorId.{ActorId}
 use Rattle.st_classes.specs.declared.edits.Edit.{Edit}
 use Rattle.st_turn.specs.declared.body.Body.{Body}
 use Rattle.st_turn.specs.declared.body.Outcome.{Outcome}
-use Rattle.st_turn.specs.declared.body.Phase.{Phase}
-use Rattle.st_turn.specs.declared.body.Phase.TheVariants.{Fresh, Start, Frames, Done}
 use Rattle.st_image.specs.declared.messages.Message.{Message}
 
 -- an actor (Agha 1986): its class, its mailbox, its body, its last number as a sender, every message that it accepted and every one that it began, and how its turns ended
@@ -33,13 +31,6 @@ pending b = drop (length b.begun) b.accepted
 -- the world of a new image
 abbrev pub start : World
 start = record { edits = []; actors = []; clients = λ _. 0 }
-
--- no turn is going on
-abbrev pub is_idle : Phase → Bool
-is_idle Fresh = true
-is_idle (Start s args) = false
-is_idle (Frames fs) = false
-is_idle (Done outcome) = true
 
 abbrev pub with_actor : World → ActorId → Being → World
 with_actor w a b = record w { actors = slice_set w.actors a.0 b }

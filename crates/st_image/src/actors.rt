@@ -3,7 +3,7 @@ ghost use Rattle.std.specs.Prelude.{◌≡◌, ◌⊎◌, ◌≤◌, ◌<◌, Is
 ghost use Rattle.st_image.specs.Keeping.{CanRun};
 ghost use Rattle.st_image.specs.Kepts.{started_body};
 ghost use Rattle.st_image.specs.Next.{steps};
-ghost use Rattle.st_image.specs.Worlds.{is_idle as idle};
+ghost use Rattle.st_turn.specs.Idling.{is_idle as idle};
 
 use crate::messages::Message;
 use crate::queues::Queue;
@@ -40,29 +40,16 @@ impl Progress {
     }
 }
 
-/// Whether no turn is going on.
-fn is_idle(phase: &Phase) -> bool
-    ensures { result ≡ idle phase.now }
-{
-    match phase {
-        Phase::Fresh | Phase::Done(_) => true,
-        Phase::Start { .. } | Phase::Frames(_) => false,
-    }
-}
-
 /// Begins the first of the pending messages where no turn is going on.
 fn start(body: &mut Body, pending: &mut VecDeque<Message>)
     ensures body { body.new ≡ started_body body.old pending.old.items }
     ensures pending { pending.new.items ≡ (if idle body.old.phase then drop 1 pending.old.items else pending.old.items) }
 {
-    if !is_idle(&body.phase) {
+    if !body.is_idle() {
         return;
     }
     if let Some(message) = pending.pop_front() {
-        body.phase = Phase::Start {
-            selector: message.selector,
-            args: message.args,
-        };
+        body.begin(message.selector, message.args);
     }
 }
 
@@ -81,7 +68,7 @@ fn run_steps(
     ensures cut { result.is_whole ≡ false → (result.steps < limit) × (idle body.new.phase ≡ false) }
 {
     let mut steps = 0;
-    'turn: while steps < limit && !is_idle(&body.phase) {
+    'turn: while steps < limit && !body.is_idle() {
         let Ok(_) = step_plain(body, alloc, actor, version) else {
             return Progress {
                 steps,
@@ -144,7 +131,7 @@ impl Actor {
     pub(crate) fn is_idle(&self) -> bool
         ensures { result ≡ idle self.now.body.phase }
     {
-        is_idle(&self.body.phase)
+        self.body.is_idle()
     }
 
     pub(crate) fn has_pending(&self) -> bool

@@ -72,7 +72,7 @@ impl Image {
     ghost use Rattle.st_image.specs.declared.items.Item.TheVariants.{Created as CreatedItem};
     ghost use Rattle.st_image.specs.Images.{appended, create_rules, new_image, no_room, outcome_at, settings_rules, world};
     ghost use Rattle.st_image.specs.Ready.{IsNextReady, is_ready_at};
-    ghost use Rattle.st_image.specs.Keeping.{IsLawful};
+    ghost use Rattle.st_image.specs.Lasting.{IsLawful};
 
     /// An image with the kernel's names and classes, no actors and no history.
     ///
@@ -101,7 +101,7 @@ impl Image {
         })
     }
 
-    /// Sets both numbers and nothing else. `BadArguments` says that one is out of its range, and changes nothing.
+    /// Sets both numbers and nothing else, on an image with no history. `BadArguments` says that one is out of its range, and changes nothing.
     pub fn set(&mut self, settings: Settings) -> Result<(), Refusal>
         requires { self.old.history ≡ [] }
         ensures { MatchResult result
@@ -151,7 +151,7 @@ impl Image {
 
     /// The number of a selector, which is put last in the names where it isn't there yet.
     ///
-    /// `BadName` says that the text is no selector, and `TooMany` that 8,192 names are there. A refused call changes nothing.
+    /// `BadName` says that the text is no selector, and `TooMany` that it isn't there and 8,192 names are. A refused call changes nothing.
     pub fn intern(&mut self, alloc: Global, text: &[u8]) -> Result<Selector, Refusal>
         ensures answers { Answers (first_of (intern_rules self.old.names text.now)) result (λ s. slice_get self.new.names s.0 ≡ Some text.now) }
         ensures names { OnOk result (self.new ≡ record self.old { names = interned self.old.names text.now }) }

@@ -8,7 +8,8 @@ use Rattle.st_reader.specs.declared.tokens.Lexeme.{Lexeme}
 use Rattle.st_reader.specs.Tokens.{tokens, is_character}
 use Rattle.st_reader.specs.Lexemes.{token_of}
 use Rattle.st_reader.specs.Trees.{Spells}
-use Rattle.st_reader.specs.Reading.{bad_source, Gives, method_of}
+use Rattle.st_reader.specs.Trees.{bad_source}
+use Rattle.st_reader.specs.Reading.{Gives, method_of}
 use Rattle.st_reader.proofs.Complete.{spelled, no_method, one_tree}
 
 abbrev same : MethodTree → MethodTree

@@ -13,7 +13,8 @@ use Rattle.st_reader.specs.declared.tokens.Lexeme.{Lexeme}
 use Rattle.st_reader.specs.Tokens.{Token, identifier, number, binary, mark, token}
 use Rattle.st_reader.specs.Lexemes.{token_of, text_at, is_kind, begins_kind}
 use Rattle.st_reader.specs.Trees.{operation_toks}
-use Rattle.st_reader.specs.Reading.{bad_source, Gives, Read, name, name_of, in_front, messages_of, operation_of, operations_of}
+use Rattle.st_reader.specs.Trees.{bad_source}
+use Rattle.st_reader.specs.Reading.{Gives, Read, name, name_of, in_front, messages_of, operation_of, operations_of}
 use Rattle.st_reader.proofs.Exact.{operation_sound}
 
 -- an error that is passed on

@@ -2,8 +2,7 @@
 use Rattle.std.specs.Prelude.{◌≡◌, ℕ, suc, ◌==◌, ◌^◌, ◌⊎◌, pos, neg_ℤ, List, [], ◌∷◌, ◌++◌, length, Option, Some, None, option_map, option_and_then, nat_lt, nat_le, if◌then◌else◌, codes, Result, Ok, Err}
 use Rattle.std.specs.Str.{bytes_eq}
 use Rattle.st_classes.specs.declared.refusals.Refusal.{Refusal}
-use Rattle.st_classes.specs.declared.refusals.Refusal.TheVariants.{NoMemory, BadSource}
-use Rattle.st_classes.specs.declared.refusals.SourceFault.TheVariants.{BadToken}
+use Rattle.st_classes.specs.declared.refusals.Refusal.TheVariants.{NoMemory}
 use Rattle.st_classes.specs.Selectors.{is_slot_name}
 use Rattle.st_reader.specs.declared.trees.Span.{Span}
 use Rattle.st_reader.specs.declared.trees.Name.{Name}
@@ -13,10 +12,7 @@ use Rattle.st_reader.specs.declared.trees.Term.{Term}
 use Rattle.st_reader.specs.declared.trees.Operation.{Operation}
 use Rattle.st_reader.specs.declared.trees.MethodTree.{MethodTree}
 use Rattle.st_reader.specs.Tokens.{Token, identifier, number, binary, mark}
-
--- the refusal of every text that spells no tree
-abbrev pub bad_source : Refusal
-bad_source = BadSource BadToken 0
+use Rattle.st_reader.specs.Trees.{bad_source}
 
 -- A function answers what reading gives, seen by view: a refusal only where it gives nothing, or for want of memory.
 abbrev pub Gives : {X Y : Type 0} → (X → Y) → Result X Refusal → Option Y → Type 0

@@ -1,6 +1,9 @@
 -- The texts that spell a tree.
 use Rattle.std.specs.Prelude.{◌≡◌, ℕ, ◌<◌, ◌≤◌, ◌^◌, ℤ, pos, negsuc, unsigned_abs, List, [], ◌∷◌, ◌++◌, length, true, Option, Some, None, codes}
 use Rattle.std.specs.List.{flat_map, list_all, AllByRecursion}
+use Rattle.st_classes.specs.declared.refusals.Refusal.{Refusal}
+use Rattle.st_classes.specs.declared.refusals.Refusal.TheVariants.{BadSource}
+use Rattle.st_classes.specs.declared.refusals.SourceFault.TheVariants.{BadToken}
 use Rattle.st_classes.specs.Selectors.{is_slot_name}
 use Rattle.st_reader.specs.declared.trees.Span.{Span}
 use Rattle.st_reader.specs.declared.trees.Name.{Name}
@@ -85,3 +88,7 @@ pub record Spells (tree : MethodTree) (text : List ℕ) : Type 0 where
   pub fits : Fits tree
   pub short : length text ≤ 4096
   pub characters : list_all is_character text ≡ true
+
+-- the refusal of a text that spells no tree; at this stage it says no more
+abbrev pub bad_source : Refusal
+bad_source = BadSource BadToken 0

@@ -2,8 +2,7 @@
 ghost use Rattle.std.specs.Prelude.{◌≡◌, ◌⊎◌, IfOk, IfErr};
 ghost use Rattle.st_classes.specs.declared.refusals.Refusal.TheVariants.{NoMemory};
 ghost use Rattle.st_reader.specs.declared.trees.MethodTree.{MethodTree};
-ghost use Rattle.st_reader.specs.Trees.{Spells};
-ghost use Rattle.st_reader.specs.Reading.{bad_source};
+ghost use Rattle.st_reader.specs.Trees.{Spells, bad_source};
 
 use crate::tokens::{self, BAD_SOURCE};
 use crate::trees::MethodTree;

@@ -91,3 +91,32 @@ fn interns(rt: HostRuntime) -> Result<(), Fail> {
     assert!(rt; matches!(bad, Err(Refusal::BadName)));
     Ok(())
 }
+
+/// An image with a class of no instance variables.
+fn with_class(alloc: Global) -> Result<Image, Refusal> {
+    let mut image = Image::new(alloc, Settings::DEFAULT)?;
+    let none = Seq::from_vec(Vec::new(alloc));
+    image.define(alloc, b"M", OBJECT, none)?;
+    Ok(image)
+}
+
+#[test]
+fn installs(rt: HostRuntime) -> Result<(), Fail> {
+    let mut image = with_class(rt.alloc())?;
+    assert_eq!(rt; image.install(rt.alloc(), ClassId(8), b"a ^3 + 4 * 2")?, 2);
+    assert_eq!(rt; image.history().len(), 2);
+    assert_eq!(rt; image.names().find(b"a"), Some(Selector(22)));
+    Ok(())
+}
+
+#[test]
+fn refuses_an_install(rt: HostRuntime) -> Result<(), Fail> {
+    let mut image = with_class(rt.alloc())?;
+    let unknown = image.install(rt.alloc(), ClassId(8), b"a ^x");
+    assert!(rt; matches!(unknown, Err(Refusal::BadSource { .. })), "no code");
+    let kernel = image.install(rt.alloc(), OBJECT, b"isNil ^3");
+    assert!(rt; matches!(kernel, Err(Refusal::KernelMethod)), "the kernel's");
+    assert_eq!(rt; image.names().len(), 22);
+    assert_eq!(rt; image.history().len(), 1);
+    Ok(())
+}

@@ -1,5 +1,5 @@
-//! Tests, all in one crate, so that no library is proved twice for them: each public call by hand, worked scripts with the
-//! replies that the definitions give them, and calls that find no memory.
+//! Tests, all in one crate, so that no library is proved twice for them: each public call by hand, and worked scripts with
+//! the replies that the definitions give them.
 #![tactic(auto)]
 
 #[cfg(test)]
@@ -10,8 +10,6 @@ mod compiling;
 mod devices;
 #[cfg(test)]
 mod images;
-#[cfg(test)]
-mod memory;
 #[cfg(test)]
 mod names;
 #[cfg(test)]

@@ -5,4 +5,5 @@ pub mod Frames
 pub mod Steps
 pub mod Fitting
 pub mod Meeting
+pub mod Idling
 pub mod Leaving

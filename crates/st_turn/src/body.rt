@@ -6,7 +6,7 @@ ghost use Rattle.st_turn.specs.declared.body.Phase.TheVariants as phase;
 ghost use Rattle.st_turn.specs.Frames.{slot_of, stored};
 ghost use Rattle.st_turn.specs.KernelMethods.{class_in};
 ghost use Rattle.st_turn.specs.Meeting.{HasSlot, IsAmong};
-ghost use Rattle.st_turn.specs.Leaving.{is_idle};
+ghost use Rattle.st_turn.specs.Idling.{is_idle};
 
 use crate::frame::Frames;
 use st_classes::faults::Fault;

@@ -3,7 +3,7 @@ ghost use Rattle.std.specs.Prelude.{◌≡◌, ◌⊎◌, ◌+◌, ◌<◌, ◌�
 ghost use Rattle.st_turn.specs.declared.body.Body.{Body as BodyOf};
 ghost use Rattle.st_image.specs.Keeping.{CanRun};
 ghost use Rattle.st_image.specs.Kepts.{Kept, Advances, HasAlso, advance_items, has, is_ready_kept, started, stepped_to, turn_after};
-ghost use Rattle.st_image.specs.Worlds.{is_idle as idle};
+ghost use Rattle.st_turn.specs.Idling.{is_idle as idle};
 
 use crate::actors::{Actor, Progress};
 use crate::image::Image;

@@ -29,7 +29,6 @@ impl Image {
     ghost use Rattle.st_classes.specs.Accepting.{edit_rules};
     ghost use Rattle.st_classes.specs.Suiting.{edit_suits};
     ghost use Rattle.st_classes.specs.Refusals.{first_of, Answers};
-    ghost use Rattle.st_image.specs.Lasting.{IsSoundEdit};
     ghost use Rattle.st_image.specs.declared.items.Item.TheVariants.{Edited as EditedItem};
     ghost use Rattle.st_image.specs.Images.{appended, image_define_rules, run_rules, world};
 
@@ -61,11 +60,11 @@ impl Image {
 
     /// Makes an edit. The answer is the number of edits.
     pub(super) fn edit(&mut self, alloc: Global, edit: Edit) -> Result<u32, Refusal>
-        requires suits { edit_suits self.old.names (world self.old).edits edit ≡ true }
-        requires sound { IsSoundEdit edit }
+        requires { edit_suits self.old.names (world self.old).edits edit ≡ true }
         ensures answers { Answers (first_of (edit_rules (world self.old).edits edit ++ run_rules self.old)) result (λ n. (self.new ≡ appended self.old (EditedItem edit ∷ [])) × (n ≡ length (world self.new).edits)) }
         ensures unchanged { OnErr result (self.new ≡ self.old) }
     {
+        edit.known();
         let version = match self.next_version(alloc, edit) {
             Ok(version) => version,
             Err(refusal) => return Err(refusal),

@@ -76,7 +76,6 @@ impl Image {
             Ok(method) => method,
             Err(refusal) => return Err(refusal),
         };
-        let _ = method.code();
         self.known();
         self.edit(alloc, Edit::Install { class, method })
     }

@@ -1,5 +1,5 @@
 use Rattle.std.proofs.Common.{arith, ◌≡◌, false, ℕ, ◌+◌, ◌≤◌, sym, ◌∙◌}
-use Rattle.st_image.specs.Worlds.{is_idle}
+use Rattle.st_turn.specs.Idling.{is_idle}
 use Rattle.st_image.proofs.Running.{Went, went, steps_more}
 use Rattle.st_image.proofs.actors.run_steps.Goals as goal
 

@@ -7,8 +7,8 @@ use Rattle.st_image.proofs.image.Image.install_tree.Goals as goal
 pub returns-in-Err-clause-answers : goal.returns-in-Err-clause-answers
 returns-in-Err-clause-answers c = tree_refused c.args.self.now c.args.class c.args.tree.now c.in-Err.refusal c.requires.class (search rules) c.in-Err.ensures.answers
 
-pub edit-requires-clause-suits : goal.edit-requires-clause-suits
-edit-requires-clause-suits c = subst (λ (v : World). suits c.compiled.new.self.names v.edits c.args.class c.in-Ok.method ≡ true) (sym c.compiled.ensures.world) c.in-Ok.ensures.answers.1.fitting
+pub edit-requires : goal.edit-requires
+edit-requires c = subst (λ (v : World). suits c.compiled.new.self.names v.edits c.args.class c.in-Ok.method ≡ true) (sym c.compiled.ensures.world) c.in-Ok.ensures.answers.1.fitting
 
 pub returns-clause-answers : goal.returns-clause-answers
 returns-clause-answers c = tree_installed c.args.self.now c.compiled.new.self c.edit.new.self c.args.class c.args.tree.now c.args.source c.in-Ok.method c.edit.result c.requires.class (search rules) c.in-Ok.ensures.answers.0 c.in-Ok.ensures.names c.compiled.ensures.world c.known.ensures.standing.kernel c.in-Ok.ensures.answers.1 c.edit.ensures.answers

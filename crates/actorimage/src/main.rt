@@ -9,41 +9,27 @@ use st_image::image::Image;
 use st_server::scripts::script_on;
 use st_server::settings::ScriptSettings;
 use st_wire::names::refusal_name;
-use st_wire::streams::{MemoryInput, MemoryOutput};
-use std::alloc::Global;
+use st_wire::streams::{Reader, Writer};
 use std::env;
-use std::io::{self, Read, Write};
+use std::io::{self, BufWriter};
 use std::process::ExitCode;
 
-/// Runs the commands of a text on a new image. The output gets the replies.
-fn run(
-    alloc: Global,
-    options: ScriptOptions,
-    text: Vec<u8>,
-    output: &mut MemoryOutput,
-) -> Result<u64, Refusal> {
+/// Runs the commands of standard input on a new image, with the replies on standard output.
+fn script<R: Input + Print + AllocGlobal>(rt: &R, options: ScriptOptions) -> Result<u64, Refusal> {
+    let alloc = rt.alloc();
     let settings = ScriptSettings {
         quantum: options.quantum,
         capacity: options.capacity,
         history: ScriptSettings::DEFAULT.history,
     };
     let image = Image::new(alloc, settings.of_image())?;
-    let mut input = MemoryInput::new(text);
-    let (_, result) = script_on(alloc, &mut input, output, settings, image);
-    result
-}
-
-/// The commands of standard input, run on a new image, with the replies on standard output.
-fn script<R: Input + Print + AllocGlobal>(rt: &R, options: ScriptOptions) -> Result<u64, Refusal> {
-    let alloc = rt.alloc();
-    let mut text = Vec::new(alloc);
-    if rt.reader().read_to_end(&mut text).is_err() {
-        return Err(Refusal::ReadFault);
-    }
-    let mut output = MemoryOutput::new(alloc);
-    let result = run(alloc, options, text, &mut output);
-    let mut out = io::writer(rt);
-    if out.write_all(output.as_slice()).is_err() || out.flush().is_err() {
+    let Ok(buffered) = BufWriter::new(alloc, io::writer(rt)) else {
+        return Err(Refusal::NoMemory);
+    };
+    let mut input = Reader::new(rt.reader());
+    let mut output = Writer::new(buffered);
+    let (_, result) = script_on(alloc, &mut input, &mut output, settings, image);
+    if output.flush().is_err() {
         return Err(Refusal::WriteFault);
     }
     result

@@ -34,7 +34,7 @@ fn write_to<W: io::Write>(writer: &mut W, bytes: &[u8]) -> Result<usize, WriteFa
     for _ in 0..u64::MAX {
         match writer.write(bytes) {
             Ok(0) => return Err(WriteFailed),
-            Ok(count) => return Ok(count),
+            Ok(taken) => return Ok(taken),
             Err(error) => {
                 if error.kind() != ErrorKind::Interrupted {
                     return Err(WriteFailed);

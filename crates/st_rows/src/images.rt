@@ -113,9 +113,15 @@ fn installs(rt: HostRuntime) -> Result<(), Fail> {
 fn refuses_an_install(rt: HostRuntime) -> Result<(), Fail> {
     let mut image = with_class(rt.alloc())?;
     let unknown = image.install(rt.alloc(), ClassId(8), b"a ^x");
-    assert!(rt; matches!(unknown, Err(Refusal::BadSource { .. })), "no code");
+    assert!(rt;
+        matches!(unknown, Err(Refusal::BadSource { .. })),
+        "no code"
+    );
     let kernel = image.install(rt.alloc(), OBJECT, b"isNil ^3");
-    assert!(rt; matches!(kernel, Err(Refusal::KernelMethod)), "the kernel's");
+    assert!(rt;
+        matches!(kernel, Err(Refusal::KernelMethod)),
+        "the kernel's"
+    );
     assert_eq!(rt; image.names().len(), 22);
     assert_eq!(rt; image.history().len(), 1);
     Ok(())

@@ -18,24 +18,49 @@ use Rattle.st_classes.specs.Walks.{own, user_method}
 abbrev pub is_closed : ClassId → Bool
 is_closed c = nat_le 1 c.0 && nat_lt c.0 8
 
+-- some text stands in the list twice
 abbrev pub has_twice : List (List ℕ) → Bool
 has_twice [] = false
 has_twice (text ∷ texts) = list_any (bytes_eq text) texts || has_twice texts
 
+-- a class name, and names of instance variables
 abbrev pub are_names : List ℕ → List (List ℕ) → Bool
 are_names name slots = is_class_name name && list_all is_slot_name slots
 
+-- a class table has 4,096 edits at most
 abbrev pub too_many_edits : List Edit → Rule
 too_many_edits edits = (nat_le 4096 (length edits), TooMany Edits)
 
+-- the refusals of a definition, in their order
 abbrev pub define_rules : List Edit → List ℕ → ClassId → List (List ℕ) → List Rule
-define_rules edits name parent added = (not (is_class edits parent), UnknownClass) ∷ (not (are_names name added), BadName) ∷ (is_closed parent, KernelClass) ∷ (is_some (class_named edits name), ClassExists) ∷ (has_twice (slots edits parent ++ added), SlotClash) ∷ (nat_le 64 (length (chain edits parent)), TooDeep) ∷ (nat_le 1024 (class_count edits), TooMany Classes) ∷ (nat_lt 64 (length (slots edits parent ++ added)), TooMany Slots) ∷ too_many_edits edits ∷ []
+define_rules edits name parent added =
+    (not (is_class edits parent), UnknownClass)
+    ∷ (not (are_names name added), BadName)
+    ∷ (is_closed parent, KernelClass)
+    ∷ (is_some (class_named edits name), ClassExists)
+    ∷ (has_twice (slots edits parent ++ added), SlotClash)
+    ∷ (nat_le 64 (length (chain edits parent)), TooDeep)
+    ∷ (nat_le 1024 (class_count edits), TooMany Classes)
+    ∷ (nat_lt 64 (length (slots edits parent ++ added)), TooMany Slots)
+    ∷ too_many_edits edits
+    ∷ []
 
+-- the refusals of an install, in their order
 abbrev pub install_rules : List Edit → ClassId → Selector → List Rule
-install_rules edits c s = (not (is_class edits c), UnknownClass) ∷ (is_some (kernel_method c s), KernelMethod) ∷ too_many_edits edits ∷ []
+install_rules edits c s =
+    (not (is_class edits c), UnknownClass)
+    ∷ (is_some (kernel_method c s), KernelMethod)
+    ∷ too_many_edits edits
+    ∷ []
 
+-- the refusals of a removal, in their order: only a user's method that the class has of its own is removed
 abbrev pub remove_rules : List Edit → ClassId → Selector → List Rule
-remove_rules edits c s = (not (is_class edits c), UnknownClass) ∷ (is_some (kernel_method c s), KernelMethod) ∷ (not (is_some (user_method (own edits c s))), NoSuchMethod) ∷ too_many_edits edits ∷ []
+remove_rules edits c s =
+    (not (is_class edits c), UnknownClass)
+    ∷ (is_some (kernel_method c s), KernelMethod)
+    ∷ (not (is_some (user_method (own edits c s))), NoSuchMethod)
+    ∷ too_many_edits edits
+    ∷ []
 
 -- the refusals of an edit, in their order
 abbrev pub edit_rules : List Edit → Edit → List Rule

@@ -12,6 +12,7 @@ use Rattle.st_classes.specs.Kernel.{kernel_method}
 use Rattle.st_classes.specs.Classes.{ClassDef, class_name, parent, chain, slots}
 use Rattle.st_classes.specs.Walks.{own, or_else}
 
+-- the method of a selector among pairs, the first that there is
 abbrev pub method_in : List (Selector × MethodId) → Selector → Option MethodId
 method_in methods s = lookup (λ (t : Selector). s.0 == t.0) methods
 

@@ -13,6 +13,7 @@ pub record ClassDef : Type 0 where
   pub parent : Option ClassId
   pub slots : List (List ℕ)
 
+-- a kernel class under Object, which adds no instance variable
 abbrev pub under_object : List ℕ → ClassDef
 under_object name = record { name = name; parent = Some (class 0); slots = [] }
 
@@ -31,12 +32,15 @@ defined (Remove c s ∷ edits) = defined edits
 abbrev pub classes : List Edit → List ClassDef
 classes edits = kernel_classes ++ defined edits
 
+-- the number of classes, the kernel's eight counted
 abbrev pub class_count : List Edit → ℕ
 class_count edits = length (classes edits)
 
+-- a number is a class's
 abbrev pub is_class : List Edit → ClassId → Bool
 is_class edits c = nat_lt c.0 (class_count edits)
 
+-- the superclass that a class names
 abbrev pub parent_in : List ClassDef → ClassId → Option ClassId
 parent_in cs c = option_and_then (λ d. d.parent) (slice_get cs c.0)
 
@@ -54,6 +58,7 @@ chain_of cs (suc n) (Some c) = c ∷ chain_of cs n (parent_in cs c)
 abbrev pub chain : List Edit → ClassId → List ClassId
 chain edits c = chain_of (classes edits) 64 (Some c)
 
+-- the instance variables that a class adds
 abbrev pub own_slots : List ClassDef → ClassId → List (List ℕ)
 own_slots cs c = slots_in (slice_get cs c.0)
   where
@@ -65,6 +70,7 @@ own_slots cs c = slots_in (slice_get cs c.0)
 abbrev pub slots : List Edit → ClassId → List (List ℕ)
 slots edits c = flat_map (own_slots (classes edits)) (reverse (chain edits c))
 
+-- the name of a class
 abbrev pub class_name : List Edit → ClassId → Option (List ℕ)
 class_name edits c = option_map (λ d. d.name) (slice_get (classes edits) c.0)
 

@@ -17,15 +17,19 @@ selector n = record { 0 = n }
 abbrev pub kernel_selectors : List (List ℕ)
 kernel_selectors = codes "==" ∷ codes "=" ∷ codes "class" ∷ codes "isNil" ∷ codes "doesNotUnderstand:" ∷ codes "+" ∷ codes "-" ∷ codes "*" ∷ codes "//" ∷ codes "\\\\" ∷ codes "<" ∷ codes ">" ∷ codes "<=" ∷ codes ">=" ∷ codes "not" ∷ codes "&" ∷ codes "post:" ∷ codes "post:with:" ∷ codes "post:with:with:" ∷ codes "close" ∷ codes "new" ∷ codes "newActor" ∷ []
 
+-- `doesNotUnderstand:`, name 4
 abbrev pub does_not_understand : Selector
 does_not_understand = selector 4
 
+-- the kernel's methods of Object, by the numbers of their selectors
 abbrev pub object_method : ℕ → Option Kernel
 object_method s = if s == 0 then Some Identical else (if s == 1 then Some Equal else (if s == 2 then Some ClassOf else (if s == 3 then Some IsNil else (if s == 4 then Some DoesNotUnderstand else None))))
 
+-- those of SmallInteger
 abbrev pub integer_method : ℕ → Option Kernel
 integer_method s = if s == 5 then Some Add else (if s == 6 then Some Subtract else (if s == 7 then Some Multiply else (if s == 8 then Some Quotient else (if s == 9 then Some Remainder else (if s == 10 then Some Less else (if s == 11 then Some Greater else (if s == 12 then Some LessOrEqual else (if s == 13 then Some GreaterOrEqual else None))))))))
 
+-- those of True and False
 abbrev pub boolean_method : ℕ → Option Kernel
 boolean_method s = if s == 14 then Some Not else (if s == 15 then Some And else None)
 

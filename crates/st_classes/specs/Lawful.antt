@@ -28,6 +28,7 @@ IsSoundEdit (Remove c s) = Unit {0}
 abbrev pub AllSound : List Edit → Type 0
 AllSound edits = (place : ℕ) (c : ClassId) (m : MethodParts) → slice_get edits place ≡ Some (Install c m) → IsSound m
 
+-- the method of an install
 abbrev pub method_in : Edit → Option MethodParts
 method_in (Define name parent slots) = None
 method_in (Install c m) = Some m

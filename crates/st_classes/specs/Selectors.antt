@@ -3,18 +3,23 @@ use Rattle.std.specs.Prelude.{ℕ, ◌+◌, ◌==◌, ◌&&◌, ◌||◌, List, 
 use Rattle.std.specs.List.{list_any, list_all}
 use Rattle.std.specs.Str.{bytes_eq}
 
+-- A to Z
 abbrev pub is_upper : ℕ → Bool
 is_upper b = nat_le 65 b && nat_le b 90
 
+-- a to z
 abbrev pub is_lower : ℕ → Bool
 is_lower b = nat_le 97 b && nat_le b 122
 
+-- 0 to 9
 abbrev pub is_digit : ℕ → Bool
 is_digit b = nat_le 48 b && nat_le b 57
 
+-- an ASCII letter
 abbrev pub is_letter : ℕ → Bool
 is_letter b = is_upper b || is_lower b
 
+-- what follows the first letter of an identifier
 abbrev pub is_letter_or_digit : ℕ → Bool
 is_letter_or_digit b = is_letter b || is_digit b
 
@@ -23,10 +28,12 @@ abbrev pub is_identifier : List ℕ → Bool
 is_identifier [] = false
 is_identifier (b ∷ bs) = is_letter b && list_all is_letter_or_digit bs && nat_le (length bs) 63
 
+-- a capital stands first
 abbrev pub begins_upper : List ℕ → Bool
 begins_upper [] = false
 begins_upper (b ∷ bs) = is_upper b
 
+-- an identifier with a capital first
 abbrev pub is_class_name : List ℕ → Bool
 is_class_name text = is_identifier text && begins_upper text
 
@@ -34,6 +41,7 @@ is_class_name text = is_identifier text && begins_upper text
 abbrev pub reserved_names : List (List ℕ)
 reserved_names = codes "self" ∷ codes "super" ∷ codes "nil" ∷ codes "true" ∷ codes "false" ∷ codes "thisActor" ∷ []
 
+-- one of the reserved names
 abbrev pub is_reserved : List ℕ → Bool
 is_reserved text = list_any (bytes_eq text) reserved_names
 
@@ -45,6 +53,7 @@ is_slot_name text = is_identifier text && not (begins_upper text) && not (is_res
 abbrev pub binary_characters : List ℕ
 binary_characters = codes "+-*/\\<>=~&,"
 
+-- one of those characters
 abbrev pub is_binary_character : ℕ → Bool
 is_binary_character b = list_any (λ c. c == b) binary_characters
 
@@ -79,6 +88,7 @@ keyword_arity (Some n) = if nat_le 1 n && nat_le n 8 then Some n else None
 abbrev pub arity_of : List ℕ → Option ℕ
 arity_of text = if is_identifier text then Some 0 else (if is_binary text then Some 1 else keyword_arity (keywords (parts text)))
 
+-- an identifier, a binary selector, or 1 to 8 keywords
 abbrev pub is_selector : List ℕ → Bool
 is_selector text = is_some (arity_of text)
 

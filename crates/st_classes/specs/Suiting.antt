@@ -17,6 +17,7 @@ use Rattle.st_classes.specs.Selectors.{arity_of}
 abbrev pub arity_at : List (List ℕ) → Selector → Option ℕ
 arity_at names s = option_and_then arity_of (slice_get names s.0)
 
+-- there is a number, and it is this one
 abbrev pub is_number : Option ℕ → ℕ → Bool
 is_number None n = false
 is_number (Some m) n = m == n

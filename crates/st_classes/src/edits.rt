@@ -58,6 +58,7 @@ impl Model for SharedEdit {
 impl SharedEdit {
     ghost use Rattle.std.specs.Prelude.{◌≡◌, IfOk};
 
+    /// An edit that may be shared from here on.
     pub fn new(alloc: Global, edit: Edit) -> Result<SharedEdit, AllocError>
         ensures { IfOk result (λ s. s ≡ edit) }
     {
@@ -75,6 +76,7 @@ impl SharedEdit {
         })
     }
 
+    /// The edit.
     #[inline]
     pub fn edit(&self) -> &Edit
         ensures { result.now ≡ self.now }

@@ -4,25 +4,34 @@ ghost use Rattle.st_classes.specs.Kernel.{kernel_method, object_method, integer_
 
 use crate::values::{ClassId, MethodId, Selector};
 
+/// The root of the classes.
 pub const OBJECT: ClassId = ClassId(0);
 
+/// Integers of 64 bits.
 pub const SMALL_INTEGER: ClassId = ClassId(1);
 
+/// The class of `true`.
 pub const TRUE: ClassId = ClassId(2);
 
+/// The class of `false`.
 pub const FALSE: ClassId = ClassId(3);
 
+/// The class of `nil`.
 pub const UNDEFINED_OBJECT: ClassId = ClassId(4);
 
+/// The class of symbols.
 pub const SYMBOL: ClassId = ClassId(5);
 
+/// References to actors.
 pub const ACTOR_REF: ClassId = ClassId(6);
 
+/// The class of classes.
 pub const CLASS: ClassId = ClassId(7);
 
 /// The number of kernel classes. The user's begin with it.
 pub const KERNEL_CLASSES: u16 = 8;
 
+/// The selector `doesNotUnderstand:`.
 pub const DOES_NOT_UNDERSTAND: Selector = Selector(4);
 
 /// A method of the kernel.

@@ -33,6 +33,7 @@ impl<T> Seq<T> {
         items
     }
 
+    /// The items.
     #[inline]
     pub fn as_slice(&self) -> &[T]
         ensures { result.now ≡ self.now }
@@ -40,6 +41,7 @@ impl<T> Seq<T> {
         self.items.as_slice()
     }
 
+    /// How many items there are.
     #[inline]
     pub fn len(&self) -> usize
         ensures { result ≡ length self.now }
@@ -47,6 +49,7 @@ impl<T> Seq<T> {
         self.items.len()
     }
 
+    /// Whether there are none.
     pub fn is_empty(&self) -> bool
         ensures { result ≡ (length self.now == 0) }
     {

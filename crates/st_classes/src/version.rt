@@ -129,6 +129,7 @@ impl Version {
         self.rows.of(class)
     }
 
+    /// The name of a class.
     pub fn class_name(&self, class: ClassId) -> Option<&[u8]>
         ensures { option_copied result ≡ class_name self.now class }
     {
@@ -149,6 +150,7 @@ impl Version {
         self.rows.get(class)?.superclass
     }
 
+    /// Whether there is a class of this number.
     pub fn is_class(&self, class: ClassId) -> bool
         ensures { result ≡ is_class self.now class }
     {
@@ -434,6 +436,11 @@ impl Version {
     /// The table with one edit more, or the first refusal that applies. This table stays as it is, and the two share what
     /// the edit leaves alone. A method is to suit its class for the names of the image, whatever they are. A refused edit
     /// is spent.
+    ///
+    /// Refusals of a definition, in this order: `UnknownClass`, `BadName`, `KernelClass`, `ClassExists`, `SlotClash`,
+    /// `TooDeep`, `TooMany` classes, instance variables or edits. Of an install: `UnknownClass`, `KernelMethod`, `TooMany`
+    /// edits. Of a removal: `UnknownClass`, `KernelMethod`, `NoSuchMethod` where the class has no method of its own for the
+    /// selector, `TooMany` edits.
     pub fn with_edit(&self, alloc: Global, edit: Edit) -> Result<Version, Refusal>
         requires { (names : List (List ℕ)) × (edit_suits names self.now edit ≡ true) }
         ensures { Answers (first_of (edit_rules self.now edit)) result (λ version. version ≡ self.now ++ edit ∷ []) }

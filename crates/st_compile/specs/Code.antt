@@ -23,6 +23,7 @@ abbrev pub instructions_of : List (List ℕ) → List (List ℕ) → List Word �
 instructions_of names slots [] = Some []
 instructions_of names slots (word ∷ words) = option_and_then (λ i. option_map (λ code. i ∷ code) (instructions_of names slots words)) (instruction_of names slots word)
 
+-- the code of a tree, where each of its names is there
 abbrev pub code_of : List (List ℕ) → List (List ℕ) → MethodTree → Option (List Instruction)
 code_of names slots tree = instructions_of names slots (tree_words tree)
 
@@ -35,6 +36,7 @@ is_known slots _ = true
 abbrev pub has_code : List (List ℕ) → MethodTree → Bool
 has_code slots tree = list_all (is_known slots) (tree_words tree) && nat_le (length (tree_words tree)) 1024
 
+-- the selector that a word needs a number for
 abbrev pub word_texts : Word → List (List ℕ)
 word_texts (Message text arguments) = text ∷ []
 word_texts _ = []

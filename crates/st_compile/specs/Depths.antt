@@ -13,5 +13,6 @@ term_depths depth term = depth ∷ map (λ message. depth + 1) term.messages
 abbrev pub operation_depths : Operation → List ℕ
 operation_depths operation = term_depths 1 operation.argument ++ 2 ∷ []
 
+-- the receiver stands above nothing, and each operation leaves one operand
 abbrev pub tree_depths : MethodTree → List ℕ
 tree_depths tree = term_depths 0 tree.first ++ flat_map operation_depths tree.operations ++ 1 ∷ []

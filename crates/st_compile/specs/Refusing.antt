@@ -26,6 +26,7 @@ no_code = BadSource BadToken 0
 abbrev pub names_rule : List (List ℕ) → List (List ℕ) → Rule
 names_rule names texts = (nat_lt 8192 (length (interned_all names texts)), TooMany Names)
 
+-- the refusals of one word, in their order
 abbrev pub word_rules : List (List ℕ) → List (List ℕ) → Word → List Rule
 word_rules slots names word = (not (is_known slots word), no_code) ∷ names_rule names (word_texts word) ∷ []
 

@@ -16,11 +16,13 @@ pub data Word : Type 0 where
   Message : List ℕ → ℕ → Word
   Return : Word
 
+-- a primary is pushed
 abbrev pub primary_word : Primary → Word
 primary_word (NumberLeaf value span minus) = Number value
 primary_word (ReceiverLeaf span) = Receiver
 primary_word (VariableLeaf name) = Variable name.text
 
+-- a unary message has no argument
 abbrev pub unary_word : Name → Word
 unary_word name = Message name.text 0
 

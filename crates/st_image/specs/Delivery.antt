@@ -5,6 +5,7 @@ use Rattle.st_image.specs.declared.items.Item.{Item}
 use Rattle.st_image.specs.Worlds.{World, Being, start}
 use Rattle.st_image.specs.Next.{replay}
 
+-- all the messages begin with some
 abbrev pub IsPrefixOf : List Message → List Message → Type 0
 IsPrefixOf some all = (rest : List Message) × (all ≡ some ++ rest)
 

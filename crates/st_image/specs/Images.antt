@@ -31,6 +31,7 @@ pub record ImageView : Type 0 where
 unfoldable pub world_of : List (List ℕ) → List Item → World
 world_of names history = unwrap_or (replay names start history) start
 
+-- the world of an image
 abbrev pub world : ImageView → World
 world i = world_of i.names i.history
 
@@ -48,6 +49,7 @@ edits_in (Ran a n ∷ is) = edits_in is
 abbrev pub new_image : Settings → ImageView
 new_image s = record { names = kernel_selectors; history = []; capacity = s.capacity; limit = s.history; turn = 0 }
 
+-- the image with items behind its history
 abbrev pub appended : ImageView → List Item → ImageView
 appended i items = record i { history = i.history ++ items }
 
@@ -65,12 +67,20 @@ no_room i n = (nat_lt i.limit (length i.history + n), HistoryFull)
 abbrev pub run_rules : ImageView → List Rule
 run_rules i = (nat_le 2048 (edits_in i.history), TooMany Edits) ∷ no_room i 1 ∷ []
 
+-- the refusals of a definition in an image, in their order
 abbrev pub image_define_rules : ImageView → List ℕ → ClassId → List (List ℕ) → List Rule
 image_define_rules i name parent added = define_rules (world i).edits name parent added ++ run_rules i
 
+-- the refusals of a new actor, in their order
 abbrev pub create_rules : ImageView → ClassId → List Rule
-create_rules i c = (not (is_class (world i).edits c), UnknownClass) ∷ (is_closed c, KernelClass) ∷ (nat_le 65536 (length (world i).actors), TooMany Actors) ∷ no_room i 1 ∷ []
+create_rules i c =
+    (not (is_class (world i).edits c), UnknownClass)
+    ∷ (is_closed c, KernelClass)
+    ∷ (nat_le 65536 (length (world i).actors), TooMany Actors)
+    ∷ no_room i 1
+    ∷ []
 
+-- the refusals of a post in an image, in their order
 abbrev pub image_post_rules : ImageView → ActorId → Message → List Rule
 image_post_rules i a m = post_rules i.names (world i) (slice_get (world i).actors a.0) m ++ no_room i 1 ∷ []
 
@@ -86,10 +96,12 @@ abbrev pub beginnings : ActorId → Bool → List Item
 beginnings a true = Begun a ∷ []
 beginnings a false = []
 
+-- the refusals of an advance, in their order: an idle actor needs a message, and the history room for its items
 abbrev pub advance_rules : ImageView → Option Being → List Rule
 advance_rules i None = (true, UnknownActor) ∷ []
 advance_rules i (Some b) = (is_idle b.body.phase && (length (pending b) == 0), NothingToDo) ∷ no_room i (if is_idle b.body.phase then 2 else 1) ∷ []
 
+-- an actor is idle, where it is there
 abbrev pub idle_at : Option Being → Bool
 idle_at None = true
 idle_at (Some b) = is_idle b.body.phase
@@ -112,6 +124,7 @@ HasStopped i a limit j = ((idle_at (slice_get (world i).actors a.0) ≡ true) ×
 
 -- ---- the outcome of a turn
 
+-- turn 0 is no turn; a turn that has no result yet has not ended
 abbrev pub outcome_in : List Outcome → ℕ → Result Outcome Refusal
 outcome_in results turn = if turn == 0 then Err Expired else or_pending (slice_get results (turn - 1))
   where
@@ -119,6 +132,7 @@ outcome_in results turn = if turn == 0 then Err Expired else or_pending (slice_g
     or_pending None = Err Pending
     or_pending (Some outcome) = Ok outcome
 
+-- the outcome of an actor's turn
 abbrev pub outcome_at : Option Being → ℕ → Result Outcome Refusal
 outcome_at None turn = Err UnknownActor
 outcome_at (Some b) turn = outcome_in b.results turn

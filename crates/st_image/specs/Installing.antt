@@ -29,7 +29,11 @@ is_kernel_text c text = has_kernel c (place_of kernel_selectors text)
 
 -- the refusals of an install that come before any name is interned
 abbrev pub source_rules : ImageView → ClassId → MethodTree → List Rule
-source_rules i c tree = (not (is_class (world i).edits c), UnknownClass) ∷ (is_kernel_text c tree.selector.text, KernelMethod) ∷ (not (has_code (slots (world i).edits c) tree), no_code) ∷ []
+source_rules i c tree =
+    (not (is_class (world i).edits c), UnknownClass)
+    ∷ (is_kernel_text c tree.selector.text, KernelMethod)
+    ∷ (not (has_code (slots (world i).edits c) tree), no_code)
+    ∷ []
 
 -- the refusals of an install of a text that spells a tree, in their order
 abbrev pub install_rules : ImageView → ClassId → MethodTree → List Rule
@@ -58,6 +62,7 @@ pub data RefusesInstall (i : ImageView) (c : ClassId) (text : List ℕ) (e : Ref
   unread : is_class (world i).edits c ≡ true → IsUnread text → e ≡ no_code → RefusesInstall i c text e
   first : (tree : MethodTree) → Spells tree text → first_of (install_rules i c tree) ≡ Some e → RefusesInstall i c text e
 
+-- an install is answered by the number of edits, where a tree that spells the text has its method installed, or by a refusal
 abbrev pub AnswersInstall : ImageView → ClassId → List ℕ → ImageView → Result ℕ Refusal → Type 0
 AnswersInstall i c text j (Ok n) = (tree : MethodTree) × Spells tree text × (first_of (install_rules i c tree) ≡ None) × Installs i c tree text j n
 AnswersInstall i c text j (Err e) = RefusesInstall i c text e

@@ -30,6 +30,7 @@ pub record Kept : Type 0 where
   pub accepted : ℕ
   pub results : List Outcome
 
+-- what is kept of an actor of the world
 abbrev pub kept_of : Being → Kept
 kept_of b = record { class = b.class; capacity = b.capacity; is_open = b.is_open; body = b.body; pending = pending b; accepted = length b.accepted; results = b.results }
 

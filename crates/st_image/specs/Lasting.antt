@@ -28,6 +28,7 @@ pub record IsBeing (names : List (List ℕ)) (edits : List Edit) (actors : ℕ) 
 abbrev pub BeginsWithKernel : List (List ℕ) → Type 0
 BeginsWithKernel names = (more : List (List ℕ)) × (names ≡ kernel_selectors ++ more)
 
+-- an item's edit, where it is one, is sound
 abbrev pub IsSoundItem : Item → Type 0
 IsSoundItem (Edited e) = IsSoundEdit e
 IsSoundItem (Created c n) = Unit {0}

@@ -30,6 +30,7 @@ from_client sender seq selector args = record { sender = Client sender; seq = se
 abbrev pub message_fits : List (List ℕ) → ℕ → ℕ → Message → Bool
 message_fits names classes actors m = is_number (arity_at names m.selector) (length m.args) && list_all (argument_fits names classes actors) m.args
 
+-- a message fits the world's classes and actors
 abbrev pub message_suits : List (List ℕ) → World → Message → Bool
 message_suits names w m = message_fits names (class_count w.edits) (length w.actors) m
 

@@ -7,6 +7,7 @@ use Rattle.st_image.specs.Worlds.{World, Being, pending}
 abbrev pub is_ready : Being → Bool
 is_ready b = not (is_idle b.body.phase) || not (length (pending b) == 0)
 
+-- the actor of a number is there, and is ready
 abbrev pub is_ready_at : World → ℕ → Bool
 is_ready_at w a = ready_being (slice_get w.actors a)
   where

@@ -32,5 +32,6 @@ pending b = drop (length b.begun) b.accepted
 abbrev pub start : World
 start = record { edits = []; actors = []; clients = λ _. 0 }
 
+-- the world with an actor in the place of another
 abbrev pub with_actor : World → ActorId → Being → World
 with_actor w a b = record w { actors = slice_set w.actors a.0 b }

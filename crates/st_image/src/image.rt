@@ -129,6 +129,7 @@ impl Image {
         self.history.as_slice()
     }
 
+    /// The selectors and symbols by their numbers.
     pub fn names(&self) -> &Names
         ensures { result.now ≡ self.now.names }
     {

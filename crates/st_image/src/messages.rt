@@ -6,7 +6,9 @@ use std::alloc::{AllocError, Global};
 /// Who sends a message.
 #[derive(Clone, Copy, PartialEq, Eq, Debug)]
 pub enum Sender {
+    /// A client by its number.
     Client(u16),
+    /// An actor of the image.
     Actor(ActorId),
 }
 

@@ -4,6 +4,7 @@ use Rattle.std.specs.Str.{is_utf8}
 use Rattle.st_classes.specs.declared.refusals.Refusal.{Refusal}
 use Rattle.st_classes.specs.declared.refusals.Refusal.TheVariants.{TooLong, BadCommand}
 
+-- a byte in front of the first line
 abbrev pub before_first : ℕ → List (List ℕ) → List (List ℕ)
 before_first b [] = (b ∷ []) ∷ []
 before_first b (part ∷ parts) = (b ∷ part) ∷ parts
@@ -19,6 +20,7 @@ last_line [] = []
 last_line (b ∷ []) = if b == 13 then [] else (b ∷ []) ∷ []
 last_line (b ∷ c ∷ bs) = (b ∷ c ∷ bs) ∷ []
 
+-- the lines, of which the last may be none
 abbrev pub lines_of : List (List ℕ) → List (List ℕ)
 lines_of [] = []
 lines_of (part ∷ []) = last_line part

@@ -36,6 +36,7 @@ StandsFor text names s = slice_get names s.0 ≡ Some text
 abbrev pub IsSymbol : List ℕ → List (List ℕ) → Value → Type 0
 IsSymbol text names v = (s : Selector) × (v ≡ value.Sym s) × StandsFor text names s
 
+-- the value of a class that is there
 abbrev pub class_value : Option ClassId → Result Value Refusal
 class_value None = Err UnknownClass
 class_value (Some c) = Ok (value.Class c)
@@ -49,6 +50,7 @@ Resolves i (argument.Symbol text) r k = Interns i text (IsSymbol text) r k
 Resolves i (argument.Class text) r k = (r ≡ class_value (class_named (world i).edits text)) × (k ≡ i)
 Resolves i (argument.Actor a) r k = (r ≡ Ok (value.Actor a)) × (k ≡ i)
 
+-- a value in front of others, where these are there
 abbrev pub with_first : Value → Result (List Value) Refusal → Result (List Value) Refusal
 with_first v (Ok vs) = Ok (v ∷ vs)
 with_first v (Err e) = Err e

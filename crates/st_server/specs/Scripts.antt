@@ -15,6 +15,7 @@ use Rattle.st_server.specs.Serving.{Replies}
 abbrev pub is_quantum : ℕ → Bool
 is_quantum quantum = nat_le 1 quantum && nat_le quantum 1024
 
+-- the refusals of a script's settings, in their order
 abbrev pub script_rules : ScriptSettings → List Rule
 script_rules s = (not (is_quantum s.quantum), BadArguments) ∷ settings_rules (record { capacity = s.capacity; history = s.history })
 

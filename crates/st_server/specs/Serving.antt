@@ -37,14 +37,17 @@ Settles first i r j done = (Refuses first r × (j ≡ i)) ⊎ ((first ≡ None) 
 abbrev pub NoClass : ImageView → Reply → ImageView → Type 0
 NoClass i r j = (r ≡ reply.Refused UnknownClass) × (j ≡ i)
 
+-- a class is defined under a superclass, or refused
 abbrev pub Defines : ImageView → List ℕ → List (List ℕ) → Reply → ImageView → ClassId → Type 0
 Defines i name slots r j parent = Settles (first_of (image_define_rules i name parent slots)) i r j ((j ≡ appended i (Edited (Define name parent slots) ∷ [])) × (r ≡ reply.Version (length (world j).edits)))
 
+-- an actor of a class is made, or refused
 abbrev pub Creates : ImageView → Reply → ImageView → ClassId → Type 0
 Creates i r j c = Settles (first_of (create_rules i c)) i r j ((j ≡ appended i (Created c i.capacity ∷ [])) × (r ≡ reply.Actor (record { 0 = length (world i).actors })))
 
 -- ---- a post: its selector and its arguments are resolved from the left, and then it is posted
 
+-- a message is posted, or refused
 abbrev pub PostsMessage : ImageView → ActorId → Message → Reply → ImageView → Type 0
 PostsMessage i a m r j = Settles (first_of (image_post_rules i a m)) i r j ((j ≡ appended i (Posted a m ∷ [])) × (r ≡ reply.Turn (accepted_by (slice_get (world j).actors a.0))))
 
@@ -54,6 +57,7 @@ PostsArguments i a args s sender seq r j = ((r ≡ reply.Refused NoMemory) × (j
     (λ vs. PostsMessage k a (from_client sender seq s vs) r j)
     (λ e. (r ≡ reply.Refused e) × (j ≡ k)))
 
+-- the selector is interned first
 abbrev pub Posts : ImageView → ActorId → List Argument → List ℕ → ℕ → ℕ → Reply → ImageView → Type 0
 Posts i a args text sender seq r j = (named : Result Selector Refusal) × (k : ImageView) × Interns i text (StandsFor text) named k × MatchResult named
     (λ s. PostsArguments k a args s sender seq r j)
@@ -61,6 +65,7 @@ Posts i a args text sender seq r j = (named : Result Selector Refusal) × (k : I
 
 -- ---- an install
 
+-- the reply to an edit
 abbrev pub version_or_refused : Result ℕ Refusal → Reply
 version_or_refused (Ok n) = reply.Version n
 version_or_refused (Err e) = reply.Refused e
@@ -71,6 +76,7 @@ InstallsMethod i source r j c = (result : Result ℕ Refusal) × (r ≡ version_
 
 -- ---- a run: so long as quanta are left and an actor is ready, the next ready one takes up to so many steps
 
+-- no actor is ready
 abbrev pub NoneReady : ImageView → Type 0
 NoneReady i = (a : ℕ) → is_ready_at (world i) a ≡ false
 
@@ -89,16 +95,19 @@ Runs quantum (suc left) i q s r j = (NoneReady i × (r ≡ reply.Ran q s) × (j 
 
 -- ---- an outcome
 
+-- the reply to a question for an outcome
 abbrev pub told : ImageView → Result Outcome Refusal → Reply
 told i (Ok (outcome.Answer v)) = reply.Answer (shown i v)
 told i (Ok (outcome.Fault f)) = reply.Fault f
 told i (Err e) = reply.Refused e
 
+-- the outcome is told, unless memory ran out
 abbrev pub Tells : ImageView → ActorId → ℕ → Reply → Type 0
 Tells i a turn r = (r ≡ reply.Refused NoMemory) ⊎ (r ≡ told i (outcome_at (slice_get (world i).actors a.0) turn))
 
 -- ---- any command
 
+-- by the command; the last three are not served yet
 abbrev pub Serves : ℕ → ImageView → Command → Reply → ImageView → Type 0
 Serves quantum i (command.Define name parent slots) r j = MatchOption (class_named (world i).edits parent) (NoClass i r j) (Defines i name slots r j)
 Serves quantum i (command.Method class source) r j = MatchOption (class_named (world i).edits class) (NoClass i r j) (InstallsMethod i source r j)

@@ -5,6 +5,7 @@ ghost use Rattle.st_turn.specs.Arithmetic.{floor_quotient, floor_remainder, has_
 use st_classes::faults::Fault;
 use st_classes::values::Value;
 
+/// The sum of two integers, or the fault `overflow`.
 #[inline]
 pub fn sum(x: i64, y: i64) -> Result<Value, Fault>
     ensures { result ≡ int_or_overflow (x +ℤ y) }
@@ -15,6 +16,7 @@ pub fn sum(x: i64, y: i64) -> Result<Value, Fault>
     }
 }
 
+/// The first less the second, or the fault `overflow`.
 #[inline]
 pub fn difference(x: i64, y: i64) -> Result<Value, Fault>
     ensures { result ≡ int_or_overflow (x -ℤ y) }
@@ -25,6 +27,7 @@ pub fn difference(x: i64, y: i64) -> Result<Value, Fault>
     }
 }
 
+/// The product of two integers, or the fault `overflow`.
 #[inline]
 pub fn product(x: i64, y: i64) -> Result<Value, Fault>
     ensures { result ≡ int_or_overflow (x *ℤ y) }

@@ -71,6 +71,7 @@ stats_in d = of_size 3 d (stats_from (text_at (codes "class") d) (text_at (codes
 abbrev pub form_in : Data → List ℕ → Option Command
 form_in d cmd = if bytes_eq cmd (codes "define") then define_in d else (if bytes_eq cmd (codes "method") then method_in d else (if bytes_eq cmd (codes "remove") then remove_in d else (if bytes_eq cmd (codes "actor") then new_actor_in d else (if bytes_eq cmd (codes "post") then post_in d else (if bytes_eq cmd (codes "close") then close_in d else (if bytes_eq cmd (codes "run") then run_in d else (if bytes_eq cmd (codes "outcome") then outcome_in d else (if bytes_eq cmd (codes "stats") then stats_in d else None))))))))
 
+-- the command of an object, by its `cmd`
 abbrev pub command_in : Data → Option Command
 command_in d = option_and_then (form_in d) (text_at (codes "cmd") d)
 
@@ -78,8 +79,10 @@ command_in d = option_and_then (form_in d) (text_at (codes "cmd") d)
 abbrev pub value_of : List ℕ → Option Data
 value_of line = if is_utf8 line then read line else None
 
+-- the command of a line, where its JSON value is one
 abbrev pub command_of : List ℕ → Option Command
 command_of line = option_and_then command_in (value_of line)
 
+-- the refusal of a line that is none
 abbrev pub command_rules : List ℕ → List Rule
 command_rules line = (not (is_some (command_of line)), BadCommand) ∷ []

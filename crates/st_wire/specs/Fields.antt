@@ -16,12 +16,15 @@ size (number n) = 0
 size (string s) = 0
 size (array items) = 0
 
+-- a text
 abbrev pub text : Data → Option (List ℕ)
 text = as_str
 
+-- the text of a key
 abbrev pub text_at : List ℕ → Data → Option (List ℕ)
 text_at key d = option_and_then text (get key d)
 
+-- one more, where both are there
 abbrev pub cons_of : {T : Type 0} → Option T → Option (List T) → Option (List T)
 cons_of (Some one) (Some rest) = Some (one ∷ rest)
 cons_of None rest = None
@@ -32,9 +35,11 @@ abbrev pub each_of : {T : Type 0} → (Data → Option T) → Items → Option (
 each_of f no_items = Some []
 each_of f (item d ds) = cons_of (f d) (each_of f ds)
 
+-- the texts of a key
 abbrev pub texts_at : List ℕ → Data → Option (List (List ℕ))
 texts_at key d = option_and_then (each_of text) (option_and_then as_array (get key d))
 
+-- a number in its range
 abbrev pub within : ℕ → ℕ → Option ℕ → Option ℕ
 within least most None = None
 within least most (Some n) = if nat_le least n && nat_le n most then Some n else None
@@ -43,12 +48,15 @@ within least most (Some n) = if nat_le least n && nat_le n most then Some n else
 abbrev pub whole_at : List ℕ → ℕ → ℕ → Data → Option ℕ
 whole_at key least most d = within least most (option_and_then as_u64 (option_and_then as_number (get key d)))
 
+-- an actor by its number
 abbrev pub actor : ℕ → ActorId
 actor n = record { 0 = n }
 
+-- the actor of a key
 abbrev pub actor_at : List ℕ → Data → Option ActorId
 actor_at key d = option_map actor (whole_at key 0 (2 ^ 32 - 1) d)
 
+-- a client's number of a key, to 65,535
 abbrev pub sender_at : List ℕ → Data → Option ℕ
 sender_at key = whole_at key 0 65535
 
@@ -56,6 +64,7 @@ sender_at key = whole_at key 0 65535
 abbrev pub number_at : List ℕ → Data → Option ℕ
 number_at key = whole_at key 0 (2 ^ 64 - 1)
 
+-- a number of quanta of a key, from 1 to 1,000,000
 abbrev pub quanta_at : List ℕ → Data → Option ℕ
 quanta_at key = whole_at key 1 1000000
 
@@ -65,6 +74,7 @@ named_by d (Some r) sym = option_map Actor (actor_at (codes "ref") d)
 named_by d None (Some s) = option_map Symbol (text_at (codes "sym") d)
 named_by d None None = option_map Class (text_at (codes "class") d)
 
+-- an argument that is an object: a reference, a symbol or a class
 abbrev pub named : Data → Option Argument
 named d = if size d == 1 then named_by d (get (codes "ref") d) (get (codes "sym") d) else None
 
@@ -77,5 +87,6 @@ argument (string s) = None
 argument (array items) = None
 argument (object members) = named (object members)
 
+-- the arguments of a key
 abbrev pub arguments_at : List ℕ → Data → Option (List Argument)
 arguments_at key d = option_and_then (each_of argument) (option_and_then as_array (get key d))

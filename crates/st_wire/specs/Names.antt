@@ -11,6 +11,7 @@ use Rattle.st_classes.specs.declared.refusals.ImagePlace.TheVariants as place
 use Rattle.st_classes.specs.declared.refusals.Refusal.{Refusal}
 use Rattle.st_classes.specs.declared.refusals.Refusal.TheVariants.{UnknownClass, ClassExists, KernelClass, KernelMethod, BadName, SlotClash, TooDeep, BadSource, NoSuchMethod, UnknownActor, Closed, Full, Old, BadArguments, NothingToDo, Stale, Changed, TooMany, Pending, Expired, BadCommand, TooLong, BadImage, HistoryFull, NoMemory, ReadFault, WriteFault}
 
+-- the names of the faults
 abbrev pub fault_name : Fault → List ℕ
 fault_name NotUnderstood = codes "notUnderstood"
 fault_name Overflow = codes "overflow"
@@ -22,6 +23,7 @@ fault_name HeapFull = codes "heapFull"
 fault_name LocalArgument = codes "localArgument"
 fault_name TooManyActors = codes "tooManyActors"
 
+-- the kinds of bad source
 abbrev pub kind_name : SourceFault → List ℕ
 kind_name TooLarge = codes "TooLarge"
 kind_name BadCharacter = codes "BadCharacter"
@@ -33,6 +35,7 @@ kind_name ReadOnly = codes "ReadOnly"
 kind_name BlockEscapes = codes "BlockEscapes"
 kind_name UnknownName = codes "UnknownName"
 
+-- what there may be too many of
 abbrev pub limited_name : Limited → List ℕ
 limited_name Classes = codes "classes"
 limited_name Slots = codes "slots"
@@ -41,6 +44,7 @@ limited_name Names = codes "names"
 limited_name Actors = codes "actors"
 limited_name Sessions = codes "sessions"
 
+-- the places of an image file
 abbrev pub place_name : ImagePlace → List ℕ
 place_name place.Json = codes "json"
 place_name place.Shape = codes "shape"
@@ -49,6 +53,7 @@ place_name place.Edits = codes "edits"
 place_name place.Actors = codes "actors"
 place_name place.Senders = codes "senders"
 
+-- the names of the refusals
 abbrev pub refusal_name : Refusal → List ℕ
 refusal_name UnknownClass = codes "UnknownClass"
 refusal_name ClassExists = codes "ClassExists"

@@ -14,6 +14,7 @@ use Rattle.st_wire.specs.declared.replies.Reply.{Reply}
 use Rattle.st_wire.specs.declared.replies.Reply.TheVariants as reply
 use Rattle.st_wire.specs.Names.{fault_name, kind_name, limited_name, place_name, refusal_name}
 
+-- a whole number
 abbrev pub whole : ℕ → Data
 whole n = number (unsigned n)
 
@@ -21,6 +22,7 @@ whole n = number (unsigned n)
 abbrev pub only : List ℕ → Data → Data
 only key d = object (member key d no_members)
 
+-- a value that an answer shows
 abbrev pub answered_data : Answered → Data
 answered_data (Int z) = number (of_integer z)
 answered_data (Boolean b) = boolean b
@@ -30,6 +32,7 @@ answered_data (Class text) = only (codes "class") (string text)
 answered_data (Actor a) = only (codes "ref") (whole a.0)
 answered_data (Local n) = only (codes "local") (whole n)
 
+-- the states of a site
 abbrev pub state_name : SiteState → List ℕ
 state_name Empty = codes "empty"
 state_name Mono = codes "mono"
@@ -40,6 +43,7 @@ state_name Mega = codes "mega"
 abbrev pub site_data : SiteReport → Data
 site_data s = object (member (codes "global") (whole s.global) (member (codes "selector") (string s.selector) (member (codes "sends") (whole s.sends) (member (codes "site") (whole s.site) (member (codes "state") (string (state_name s.state)) (member (codes "super") (boolean s.is_super) (member (codes "walk") (whole s.walk) no_members)))))))
 
+-- the reports of sites, one after the other
 abbrev pub site_items : List SiteReport → Items
 site_items [] = no_items
 site_items (s ∷ sites) = item (site_data s) (site_items sites)
@@ -53,9 +57,11 @@ refusal_fields (TooMany what) = member (codes "what") (string (limited_name what
 refusal_fields (BadImage place) = member (codes "place") (string (place_name place)) no_members
 refusal_fields _ = no_members
 
+-- a reply that is no refusal
 abbrev pub ok : Data → Data
 ok = only (codes "ok")
 
+-- the value of a reply
 abbrev pub reply_data : Reply → Data
 reply_data (reply.Version n) = ok (only (codes "version") (whole n))
 reply_data (reply.Actor a) = ok (only (codes "actor") (whole a.0))
@@ -67,5 +73,6 @@ reply_data (reply.Fault fault) = ok (only (codes "fault") (string (fault_name fa
 reply_data (reply.Sites sites) = ok (only (codes "sites") (array (site_items sites)))
 reply_data (reply.Refused refusal) = object (member (codes "error") (string (refusal_name refusal)) (refusal_fields refusal))
 
+-- the line of a reply: the compact text of its value, and a newline
 abbrev pub line_of : Reply → List ℕ
 line_of r = compact_text (reply_data r) ++ 10 ∷ []

@@ -15,5 +15,6 @@ pub record InputView : Type 0 where
   pub failures : ℕ
   pub reads : ℕ
 
+-- an input by what it shows
 abbrev pub input_view : {I : Type 0} → (I → Option (List ℕ)) → (I → ℕ) → (I → ℕ) → I → InputView
 input_view remaining failures reads i = record { remaining = remaining i; failures = failures i; reads = reads i }

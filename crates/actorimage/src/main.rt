@@ -11,7 +11,7 @@ use st_server::settings::ScriptSettings;
 use st_wire::names::refusal_name;
 use st_wire::streams::{Reader, Writer};
 use std::env;
-use std::io::{self, BufWriter};
+use std::io::{self, BufWriter, ErrorKind};
 use std::process::ExitCode;
 
 /// Runs the commands of standard input on a new image, with the replies on standard output.
@@ -35,23 +35,40 @@ fn script<R: Input + Print + AllocGlobal>(rt: &R, options: ScriptOptions) -> Res
     result
 }
 
+/// The words of the command line.
+fn words(rt: &HostRuntime) -> io::Result<Vec<String>> {
+    let words: Vec<String> = env::args(rt)?.collect(rt.alloc())?;
+    Ok(words)
+}
+
+/// Says why a script was refused. Where that cannot be written, the status still tells.
+fn refused(rt: &HostRuntime, refusal: Refusal) -> ExitCode {
+    let name = refusal_name(refusal);
+    let _ = eprintln!(rt; "actorimage: {name}");
+    ExitCode::from(1)
+}
+
 /// Runs what the command line asks for. The status is 0, 1 where a session was refused, or 2 for a refused command line.
 fn main(rt: HostRuntime) -> io::Result<ExitCode> {
-    let alloc = rt.alloc();
-    let words: Vec<String> = env::args(&rt)?.collect(alloc)?;
-    let options = match asked(alloc, &words) {
+    let words = match words(&rt) {
+        Ok(words) => words,
+        Err(error) if error.kind() == ErrorKind::OutOfMemory => {
+            return Ok(refused(&rt, Refusal::NoMemory));
+        }
+        Err(_) => {
+            let _ = eprintln!(rt; "actorimage: a word of the command line is no text");
+            return Ok(ExitCode::from(2));
+        }
+    };
+    let options = match asked(rt.alloc(), &words) {
         Ok(options) => options,
         Err(error) => {
-            error.print(&rt)?;
+            let _ = error.print(&rt);
             return Ok(ExitCode::from(error.exit_code() as u8));
         }
     };
     match script(&rt, options) {
         Ok(_) => Ok(ExitCode::SUCCESS),
-        Err(refusal) => {
-            let name = refusal_name(refusal);
-            eprintln!(rt; "actorimage: {name}")?;
-            Ok(ExitCode::from(1))
-        }
+        Err(refusal) => Ok(refused(&rt, refusal)),
     }
 }

@@ -2,19 +2,19 @@
 use Rattle.std.proofs.Common.{◌≡◌, ◌⊎◌, ℕ, ◌<◌, ◌≤◌, Bool, true, false, List, [], ◌∷◌, ◌++◌, length, Some, None, ltb, leb, Result, Ok, Err, slice_get, inl, inr, refl, sym, ap, ◌∙◌, arith}
 use Rattle.std.proofs.lemmas.List.{append_assoc, append-nil, length-append}
 use Rattle.std.proofs.lemmas.List.Sums.{fold-append}
-use Rattle.std.specs.Result.{OnOk}
+use Rattle.std.specs.Result.{OnOk, OnErr, IfErr}
 use Rattle.std.proofs.lemmas.List.{length_push}
 use Rattle.std.proofs.lemmas.Bool.{leb-true, ltb-true}
 use Rattle.std.proofs.lemmas.Bool.Decides.{nat_tests}
 use Rattle.std.proofs.lemmas.Option.{none-some}
 use Rattle.st_classes.specs.declared.values.Selector.{Selector}
 use Rattle.st_classes.specs.declared.refusals.Refusal.{Refusal}
-use Rattle.st_classes.specs.declared.refusals.Refusal.TheVariants.{NoMemory, TooMany}
+use Rattle.st_classes.specs.declared.refusals.Refusal.TheVariants.{NoMemory, BadName, TooMany}
 use Rattle.st_classes.specs.declared.refusals.Limited.TheVariants.{Names}
 use Rattle.st_classes.specs.Names.{is_name, interned, intern_rules, AreNames}
 use Rattle.st_classes.specs.Refusals.{first_of, Answers}
 use Rattle.st_classes.specs.Selectors.{is_selector, place_of}
-use Rattle.st_compile.specs.Refusing.{InternsFirst, interned_all, names_rule}
+use Rattle.st_compile.specs.Refusing.{InternsFirst, IsFull, interned_all, names_rule}
 use Rattle.st_compile.proofs.Places.{place-of_name}
 
 -- the one list begins with the other
@@ -96,6 +96,33 @@ pub grown_by : (old names texts : List (List ℕ)) → names ≡ interned_all ol
 grown_by old names texts e =
     let g = grows-interned_all old texts in
     (g.0, e ∙ g.1)
+
+-- ---- a full table
+
+full_rule : (names : List (List ℕ)) (text : List ℕ) → length names ≤ 8192 → first_of (intern_rules names text) ≡ Some (TooMany Names) → length names ≡ 8192
+full_rule names text few h = by (is_selector text) refl (is_name names text) refl (leb 8192 (length names)) refl
+  where
+    by : (u : Bool) → is_selector text ≡ u → (v : Bool) → is_name names text ≡ v → (w : Bool) → leb 8192 (length names) ≡ w → length names ≡ 8192
+    by false p v q w r =
+        let k : Some BadName ≡ Some (TooMany Names) = rw p at h in
+        cc
+    by true p true q w r =
+        let k : None ≡ Some (TooMany Names) = rw (p, q) at h in
+        absurd (none-some (TooMany Names) k)
+    by true p false q false r =
+        let k : None ≡ Some (TooMany Names) = rw (p, q, r) at h in
+        absurd (none-some (TooMany Names) k)
+    by true p false q true r = omega (arith, few, leb-true 8192 (length names) r)
+
+refused_full : (names : List (List ℕ)) (text : List ℕ) (e : Refusal) → length names ≤ 8192 → (e ≡ NoMemory) ⊎ (first_of (intern_rules names text) ≡ Some e) → IsFull names e
+refused_full names text e few (inl m) = λ t. let never : NoMemory ≡ TooMany Names = sym m ∙ t in cc
+refused_full names text e few (inr h) = λ t. full_rule names text few (h ∙ ap Some t)
+
+pub number_full : (names after : List (List ℕ)) (text : List ℕ) (r : Result Selector Refusal) → AreNames after → OnErr r (after ≡ names) → Answers (first_of (intern_rules names text)) r (λ s. slice_get after s.0 ≡ Some text) → IfErr r (λ e. IsFull after e)
+number_full names after text (Ok s) a same h = tt
+number_full names after text (Err e) a same h =
+    let few : length names ≤ 8192 = omega (arith, a.few, ap length same) in
+    rw same (refused_full names text e few h)
 
 -- ---- some first texts of a list
 

@@ -18,6 +18,10 @@ interned_all names texts = fold interned names texts
 abbrev pub InternsFirst : List (List ℕ) → List (List ℕ) → List (List ℕ) → Type 0
 InternsFirst names texts after = (done : List (List ℕ)) × (left : List (List ℕ)) × (texts ≡ done ++ left) × (after ≡ interned_all names done)
 
+-- where a call answers that there are too many names, the table is full
+abbrev pub IsFull : List (List ℕ) → Refusal → Type 0
+IsFull after e = e ≡ TooMany Names → length after ≡ 8192
+
 -- at this stage every fault of a tree is the same
 abbrev pub no_code : Refusal
 no_code = BadSource BadToken 0

@@ -1,11 +1,11 @@
 //! Methods of trees.
-ghost use Rattle.std.specs.Prelude.{◌≡◌, true, false, OnOk};
+ghost use Rattle.std.specs.Prelude.{◌≡◌, true, false, OnOk, IfErr};
 ghost use Rattle.st_classes.specs.Classes.{is_class, slots};
 ghost use Rattle.st_classes.specs.Refusals.{first_of, Answers};
 ghost use Rattle.st_reader.specs.Trees.{Spells};
 ghost use Rattle.st_compile.specs.Code.{has_code, selectors_of};
 ghost use Rattle.st_compile.specs.Compiled.{IsCompiled};
-ghost use Rattle.st_compile.specs.Refusing.{InternsFirst, interned_all, tree_rules};
+ghost use Rattle.st_compile.specs.Refusing.{InternsFirst, IsFull, interned_all, tree_rules};
 
 use crate::drafts::{Draft, NO_CODE};
 use crate::sites::sites_of;
@@ -23,7 +23,7 @@ use std::alloc::Global;
 ///
 /// `BadSource`, with the kind `BadToken` and the offset 0, says that the tree has no code: a variable is no instance variable of
 /// the class, or there are more than 1,024 instructions. No name is interned then. `TooMany` says that there is no room for all
-/// the names; the first ones stay, and so they do where memory runs out.
+/// the names; those that fitted stay. Where memory runs out, the first ones stay.
 pub fn compile(
     alloc: Global,
     tree: &MethodTree,
@@ -37,6 +37,7 @@ pub fn compile(
     ensures answers { Answers (first_of (tree_rules (slots version.now class) names.old tree.now)) result (λ method. IsCompiled names.new version.now class tree.now source method) }
     ensures names { OnOk result (names.new ≡ interned_all names.old (selectors_of tree.now)) }
     ensures some { InternsFirst names.old (selectors_of tree.now) names.new }
+    ensures full { IfErr result (λ e. IsFull names.new e) }
     ensures untouched { has_code (slots version.now class) tree.now ≡ false → names.new ≡ names.old }
 {
     version.known();

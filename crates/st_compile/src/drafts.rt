@@ -7,7 +7,7 @@ ghost use Rattle.st_classes.specs.Selectors.{is_selector, place_of};
 ghost use Rattle.st_compile.specs.Code.{has_selector, instruction_of, instructions_of, is_known, word_texts};
 ghost use Rattle.st_compile.specs.Depths.{term_depths, operation_depths, tree_depths};
 ghost use Rattle.st_compile.specs.Drafts.{word_of};
-ghost use Rattle.st_compile.specs.Refusing.{InternsFirst, interned_all, names_rule, word_rules};
+ghost use Rattle.st_compile.specs.Refusing.{InternsFirst, IsFull, interned_all, names_rule, word_rules};
 ghost use Rattle.st_compile.specs.Words.{primary_word, term_words, operation_words, tree_words};
 
 use st_classes::instructions::Instruction;
@@ -38,6 +38,7 @@ fn number_of(alloc: Global, text: &[u8], names: &mut Names) -> Result<Selector, 
     ensures answers { Answers (first_of (names_rule names.old (text.now ∷ []) ∷ [])) result (λ s. place_of names.new text.now ≡ Some s.0) }
     ensures names { OnOk result (names.new ≡ interned names.old text.now) }
     ensures unchanged { OnErr result (names.new ≡ names.old) }
+    ensures full { IfErr result (λ e. IsFull names.new e) }
 {
     let number = names.intern(alloc, text);
     names.known();
@@ -88,6 +89,7 @@ impl<'t> DraftWord<'t> {
         ensures answers { Answers (first_of (word_rules slots.now names.old (word_of self.entry))) result (λ i. instruction_of names.new slots.now (word_of self.entry) ≡ Some i) }
         ensures names { OnOk result (names.new ≡ interned_all names.old (word_texts (word_of self.entry))) }
         ensures unchanged { OnErr result (names.new ≡ names.old) }
+        ensures full { IfErr result (λ e. IsFull names.new e) }
     {
         names.known();
         Ok(match self {
@@ -190,6 +192,7 @@ impl<'t> Draft<'t> {
         ensures answers { Answers (first_of (names_rule names.old (flat_map word_texts (map word_of self.now.words.items)) ∷ [])) result (λ code. instructions_of names.new slots.now (map word_of self.now.words.items) ≡ Some code.items) }
         ensures names { OnOk result (names.new ≡ interned_all names.old (flat_map word_texts (map word_of self.now.words.items))) }
         ensures some { InternsFirst names.old (flat_map word_texts (map word_of self.now.words.items)) names.new }
+        ensures full { IfErr result (λ e. IsFull names.new e) }
     {
         names.known();
         let mut code = Vec::new(alloc);
@@ -218,6 +221,7 @@ impl<'t> Draft<'t> {
         ensures answers { Answers (first_of (names_rule names.old (selector.now ∷ flat_map word_texts (map word_of self.now.words.items)) ∷ [])) result (λ r. (place_of names.new selector.now ≡ Some r.0.0) × (instructions_of names.new slots.now (map word_of self.now.words.items) ≡ Some r.1.items)) }
         ensures names { OnOk result (names.new ≡ interned_all names.old (selector.now ∷ flat_map word_texts (map word_of self.now.words.items))) }
         ensures some { InternsFirst names.old (selector.now ∷ flat_map word_texts (map word_of self.now.words.items)) names.new }
+        ensures full { IfErr result (λ e. IsFull names.new e) }
     {
         let number = number_of(alloc, selector, names)?;
         let code = self.code(alloc, slots, names)?;

@@ -1,5 +1,5 @@
 -- What an install answers.
-use Rattle.std.proofs.Common.{arith, ◌≡◌, ◌⊎◌, ℕ, zero, suc, ◌<◌, ◌≤◌, ◌++◌, [], ◌∷◌, List, Bool, true, false, not, cond, eqb, Option, Some, None, Result, Ok, Err, OnErr, refl, ap, sym, ◌∙◌, subst, inl, inr, length, slice_get, option_map}
+use Rattle.std.proofs.Common.{arith, ◌≡◌, ◌⊎◌, ℕ, zero, suc, ◌<◌, ◌≤◌, ◌++◌, [], ◌∷◌, List, Bool, true, false, not, cond, eqb, Option, Some, None, Result, Ok, Err, OnErr, IfErr, ◌+◌, nat_le, nat_lt, refl, ap, sym, ◌∙◌, subst, inl, inr, length, slice_get, option_map}
 use Rattle.std.specs.Prelude.{is_some}
 use Rattle.std.specs.Str.{bytes_eq}
 use Rattle.std.proofs.lemmas.Bool.Decides.{nat_tests}
@@ -13,7 +13,8 @@ use Rattle.st_classes.specs.declared.edits.Edit.{Edit}
 use Rattle.st_classes.specs.declared.edits.Edit.TheVariants.{Install}
 use Rattle.st_classes.specs.declared.kernel.Kernel.{Kernel}
 use Rattle.st_classes.specs.declared.refusals.Refusal.{Refusal}
-use Rattle.st_classes.specs.declared.refusals.Refusal.TheVariants.{UnknownClass, KernelMethod, NoMemory}
+use Rattle.st_classes.specs.declared.refusals.Refusal.TheVariants.{UnknownClass, KernelMethod, TooMany, HistoryFull, NoMemory}
+use Rattle.st_classes.specs.declared.refusals.Limited.TheVariants.{Names, Edits}
 use Rattle.st_classes.specs.Refusals.{Rule, first_of, Answers}
 use Rattle.st_classes.specs.Kernel.{selector, kernel_selectors, kernel_method, object_method, integer_method, boolean_method}
 use Rattle.st_classes.specs.Selectors.{place_of}
@@ -23,15 +24,16 @@ use Rattle.st_classes.proofs.LawLists.{slice_get_old}
 use Rattle.st_reader.specs.declared.trees.MethodTree.{MethodTree}
 use Rattle.st_reader.specs.Trees.{Spells}
 use Rattle.st_compile.specs.Code.{has_code, selectors_of}
-use Rattle.st_compile.specs.Refusing.{InternsFirst, interned_all, names_rule, no_code, tree_rules}
+use Rattle.st_compile.specs.Refusing.{InternsFirst, IsFull, interned_all, names_rule, no_code, tree_rules}
 use Rattle.st_compile.specs.Compiled.{IsCompiled}
+use Rattle.st_compile.proofs.Interning.{first-all}
 use Rattle.st_compile.proofs.Places.{first, position-first, place-append, at-place}
 use Rattle.st_image.specs.declared.items.Item.{Item}
 use Rattle.st_image.specs.declared.items.Item.TheVariants.{Edited}
 use Rattle.st_image.specs.Worlds.{World}
-use Rattle.st_image.specs.Images.{ImageView, world, appended, run_rules}
+use Rattle.st_image.specs.Images.{ImageView, world, appended, edits_in, run_rules}
 use Rattle.st_image.specs.Lasting.{BeginsWithKernel}
-use Rattle.st_image.specs.Installing.{has_kernel, is_kernel_text, source_rules, install_rules, LeavesNames, with_names_of, Installs, RefusesInstall, memory, first as first_refusal, AnswersInstall}
+use Rattle.st_image.specs.Installing.{has_kernel, is_kernel_text, source_rules, install_rules, AddsNames, AddsAllNames, LeavesNames, with_names_of, Installs, RefusesInstall, memory, first as first_refusal, AnswersInstall}
 
 -- ---- kernel methods by text
 
@@ -178,13 +180,71 @@ source_allowed i c tree h k e =
     ∙ (skip (is_kernel_text c tree.selector.text) KernelMethod ((not (has_code (slots (world i).edits c) tree), no_code) ∷ []) k
     ∙ skip (not (has_code (slots (world i).edits c) tree)) no_code [] (is_not _ e))
 
-pub tree_left : (i j : ImageView) (c : ClassId) (tree : MethodTree) (text : List ℕ) → Spells tree text → is_class (world i).edits c ≡ true → is_kernel_text c tree.selector.text ≡ false → InternsFirst i.names (selectors_of tree) j.names → j ≡ record i { names = j.names } → (has_code (slots (world i).edits c) tree ≡ false → j ≡ i) → LeavesNames i c text j
-tree_left i j c tree text s h k some only untouched = by (has_code (slots (world i).edits c) tree) refl
-  where
-    by : (b : Bool) → has_code (slots (world i).edits c) tree ≡ b → LeavesNames i c text j
-    by true e = inr (tree, s, source_allowed i c tree h k e, some, only)
-    by false e = inl (untouched e)
+some_refusal : (d e : Refusal) → Some d ≡ Some e → d ≡ e
+some_refusal d e h = cc
 
-pub left_still : {T E : Type 0} (r : Result T E) (i j k : ImageView) (c : ClassId) (text : List ℕ) → OnErr r (k ≡ j) → LeavesNames i c text j → OnErr r (LeavesNames i c text k)
-left_still (Ok x) i j k c text e h = tt
-left_still (Err x) i j k c text e h = subst (LeavesNames i c text) (sym e) h
+-- where the names that the tree needs are too many, or its code has none
+tree_left_by : (i j : ImageView) (c : ClassId) (tree : MethodTree) (text : List ℕ) (e : Refusal) (code full : Bool) → has_code (slots (world i).edits c) tree ≡ code → nat_lt 8192 (length (interned_all i.names (selectors_of tree))) ≡ full → (code ≡ true → AddsNames i c text j) → (code ≡ false → j ≡ i) → IsFull j.names e → first_of (tree_rules (slots (world i).edits c) i.names tree) ≡ Some e → LeavesNames i c text e j
+tree_left_by i j c tree text e false full h f adds untouched is_full refused =
+    let now : Some no_code ≡ Some e = rw h at refused in
+    subst (λ (r : Refusal). LeavesNames i c text r j) (some_refusal no_code e now) (untouched refl)
+tree_left_by i j c tree text e true true h f adds untouched is_full refused =
+    let now : Some (TooMany Names) ≡ Some e = rw (h, f) at refused in
+    let same : TooMany Names ≡ e = some_refusal (TooMany Names) e now in
+    subst (λ (r : Refusal). LeavesNames i c text r j) same (adds refl, is_full (sym same))
+tree_left_by i j c tree text e true false h f adds untouched is_full refused =
+    let now : None ≡ Some e = rw (h, f) at refused in
+    cc
+
+no_memory_left : (i j : ImageView) (c : ClassId) (text : List ℕ) (e : Refusal) (code : Bool) → (code ≡ true → AddsNames i c text j) → (code ≡ false → j ≡ i) → e ≡ NoMemory → LeavesNames i c text e j
+no_memory_left i j c text e true adds untouched m = subst (λ (r : Refusal). LeavesNames i c text r j) (sym m) (inr (adds refl))
+no_memory_left i j c text e false adds untouched m = subst (λ (r : Refusal). LeavesNames i c text r j) (sym m) (inl (untouched refl))
+
+-- what is left where the tree is refused
+pub tree_left : (i j : ImageView) (c : ClassId) (tree : MethodTree) (text : List ℕ) (e : Refusal) → Spells tree text → is_class (world i).edits c ≡ true → is_kernel_text c tree.selector.text ≡ false → InternsFirst i.names (selectors_of tree) j.names → j ≡ record i { names = j.names } → (has_code (slots (world i).edits c) tree ≡ false → j ≡ i) → IsFull j.names e → (e ≡ NoMemory) ⊎ (first_of (tree_rules (slots (world i).edits c) i.names tree) ≡ Some e) → LeavesNames i c text e j
+tree_left i j c tree text e s h k some only untouched full refused =
+    let adds : has_code (slots (world i).edits c) tree ≡ true → AddsNames i c text j = λ b. (tree, s, source_allowed i c tree h k b, some, only) in
+    elim refused [
+      | inl m ↦ no_memory_left i j c text e (has_code (slots (world i).edits c) tree) adds untouched m
+      | inr f ↦ tree_left_by i j c tree text e (has_code (slots (world i).edits c) tree) (nat_lt 8192 (length (interned_all i.names (selectors_of tree)))) refl refl adds untouched full f
+    ]
+
+-- the refusals of an edit whose class is there and whose selector is no kernel method's
+edit_left_by : (i j : ImageView) (c : ClassId) (text : List ℕ) (e : Refusal) (t u v : Bool) → (es : List Edit) → nat_le 4096 (length es) ≡ t → nat_le 2048 (edits_in j.history) ≡ u → nat_lt j.limit (length j.history + 1) ≡ v → AddsAllNames i c text j → first_of (too_many_edits es ∷ run_rules j) ≡ Some e → LeavesNames i c text e j
+edit_left_by i j c text e true u v es a b d adds refused =
+    let now : Some (TooMany Edits) ≡ Some e = rw a at refused in
+    subst (λ (r : Refusal). LeavesNames i c text r j) (some_refusal (TooMany Edits) e now) adds
+edit_left_by i j c text e false true v es a b d adds refused =
+    let now : Some (TooMany Edits) ≡ Some e = rw (a, b) at refused in
+    subst (λ (r : Refusal). LeavesNames i c text r j) (some_refusal (TooMany Edits) e now) adds
+edit_left_by i j c text e false false true es a b d adds refused =
+    let now : Some HistoryFull ≡ Some e = rw (a, b, d) at refused in
+    subst (λ (r : Refusal). LeavesNames i c text r j) (some_refusal HistoryFull e now) adds
+edit_left_by i j c text e false false false es a b d adds refused =
+    let now : None ≡ Some e = rw (a, b, d) at refused in
+    cc
+
+-- what is left where the edit is refused
+pub edit_left : {T : Type 0} (r : Result T Refusal) (P : T → Type 0) (i j k : ImageView) (c : ClassId) (tree : MethodTree) (text : List ℕ) (m : MethodParts) → Spells tree text → is_class (world i).edits c ≡ true → is_kernel_text c tree.selector.text ≡ false → first_of (tree_rules (slots (world i).edits c) i.names tree) ≡ None → j ≡ with_names_of i tree → world j ≡ world i → BeginsWithKernel j.names → place_of j.names tree.selector.text ≡ Some m.selector.0 → OnErr r (k ≡ j) → Answers (first_of (edit_rules (world j).edits (Install c m) ++ run_rules j)) r P → IfErr r (λ e. LeavesNames i c text e k)
+edit_left (Ok x) P i j k c tree text m s h f t e w b at same a = tt
+edit_left (Err x) P i j k c tree text m s h f t e w b at same a =
+    let code : has_code (slots (world i).edits c) tree ≡ true = has_code_here (has_code (slots (world i).edits c) tree) refl in
+    let allowed : first_of (source_rules i c tree) ≡ None = source_allowed i c tree h f code in
+    let adds : AddsAllNames i c text j = (tree, s, allowed, e) in
+    let some : AddsNames i c text j = (tree, s, allowed, first-all i.names (selectors_of tree) j.names (ap (λ (v : ImageView). v.names) e), e ∙ ap (λ (ns : List (List ℕ)). record i { names = ns }) (sym (ap (λ (v : ImageView). v.names) e))) in
+    subst (λ (v : ImageView). LeavesNames i c text x v) (sym same) (elim a [
+      | inl none ↦ subst (λ (r : Refusal). LeavesNames i c text r j) (sym none) (inr some)
+      | inr first ↦
+          let free : is_some (kernel_method c m.selector) ≡ false = number_free j.names b c tree.selector.text m.selector at f in
+          let here : is_class (world j).edits c ≡ true = subst (λ (v : World). is_class v.edits c ≡ true) (sym w) h in
+          edit_left_by i j c text x (nat_le 4096 (length (world j).edits)) (nat_le 2048 (edits_in j.history)) (nat_lt j.limit (length j.history + 1)) (world j).edits refl refl refl adds (sym (edit_part (world j).edits j c m here free) ∙ first)
+    ])
+  where
+    has_code_here : (v : Bool) → has_code (slots (world i).edits c) tree ≡ v → has_code (slots (world i).edits c) tree ≡ true
+    has_code_here true g = g
+    has_code_here false g = let none : Some no_code ≡ None = rw g at t in cc
+
+-- what is left where no tree is read
+pub unread_left : (i : ImageView) (c : ClassId) (text : List ℕ) (e : Refusal) (P : Type 0) → (e ≡ NoMemory) ⊎ ((e ≡ no_code) × P) → LeavesNames i c text e i
+unread_left i c text e P (inl m) = subst (λ (r : Refusal). LeavesNames i c text r i) (sym m) (inl refl)
+unread_left i c text e P (inr b) = subst (λ (r : Refusal). LeavesNames i c text r i) (sym b.0) refl

@@ -4,7 +4,8 @@ use Rattle.st_classes.specs.declared.values.ClassId.{ClassId}
 use Rattle.st_classes.specs.declared.edits.Edit.TheVariants.{Install}
 use Rattle.st_classes.specs.declared.methods.MethodParts.{MethodParts}
 use Rattle.st_classes.specs.declared.refusals.Refusal.{Refusal}
-use Rattle.st_classes.specs.declared.refusals.Refusal.TheVariants.{UnknownClass, KernelMethod, NoMemory}
+use Rattle.st_classes.specs.declared.refusals.Refusal.TheVariants.{UnknownClass, KernelMethod, TooMany, HistoryFull, NoMemory}
+use Rattle.st_classes.specs.declared.refusals.Limited.TheVariants.{Names, Edits}
 use Rattle.st_classes.specs.Refusals.{Rule, first_of}
 use Rattle.st_classes.specs.Kernel.{selector, kernel_selectors, kernel_method}
 use Rattle.st_classes.specs.Selectors.{place_of}
@@ -39,13 +40,25 @@ source_rules i c tree =
 abbrev pub install_rules : ImageView → ClassId → MethodTree → List Rule
 install_rules i c tree = source_rules i c tree ++ names_rule i.names (selectors_of tree) ∷ too_many_edits (world i).edits ∷ run_rules i
 
--- what a refused install leaves: all as it was, or, where none of the first refusals applies, with names that the tree needs, in their order
-abbrev pub LeavesNames : ImageView → ClassId → List ℕ → ImageView → Type 0
-LeavesNames i c text j = (j ≡ i) ⊎ ((tree : MethodTree) × Spells tree text × (first_of (source_rules i c tree) ≡ None) × InternsFirst i.names (selectors_of tree) j.names × (j ≡ record i { names = j.names }))
-
 -- the image with the names that the tree needs
 abbrev pub with_names_of : ImageView → MethodTree → ImageView
 with_names_of i tree = record i { names = interned_all i.names (selectors_of tree) }
+
+-- some names that the tree needs were added, in their order, where none of the first refusals applies
+abbrev pub AddsNames : ImageView → ClassId → List ℕ → ImageView → Type 0
+AddsNames i c text j = (tree : MethodTree) × Spells tree text × (first_of (source_rules i c tree) ≡ None) × InternsFirst i.names (selectors_of tree) j.names × (j ≡ record i { names = j.names })
+
+-- all of them were added
+abbrev pub AddsAllNames : ImageView → ClassId → List ℕ → ImageView → Type 0
+AddsAllNames i c text j = (tree : MethodTree) × Spells tree text × (first_of (source_rules i c tree) ≡ None) × (j ≡ with_names_of i tree)
+
+-- what a refused install leaves: want of memory, some of the names or none; a full name table, those that fitted; too many edits and a full history, all of them; any other refusal, none
+abbrev pub LeavesNames : ImageView → ClassId → List ℕ → Refusal → ImageView → Type 0
+LeavesNames i c text NoMemory j = (j ≡ i) ⊎ AddsNames i c text j
+LeavesNames i c text (TooMany Names) j = AddsNames i c text j × (length j.names ≡ 8192)
+LeavesNames i c text (TooMany Edits) j = AddsAllNames i c text j
+LeavesNames i c text HistoryFull j = AddsAllNames i c text j
+LeavesNames i c text e j = j ≡ i
 
 -- the class has the method of the tree, and the answer is the number of edits
 abbrev pub Installs : ImageView → ClassId → MethodTree → List ℕ → ImageView → ℕ → Type 0

@@ -36,7 +36,7 @@ Whole quantum i bytes out j r = AnswersLines quantum i bytes out j r ⊎ (((r �
 
 answers_all : (quantum : ℕ) (i j : ImageView) (before after : InputView) (bytes out written : List ℕ) (r : Result ℕ Refusal) → before.remaining ≡ Some bytes → before.failures ≡ 0 → after.failures ≡ 0 → out ≡ written → Scripted quantum i before after written j r → Whole quantum i bytes out j r
 answers_all quantum i j before after bytes out written r known b a wrote (inl s) = inl (rw (wrote, ← (whole_text _ _ bytes s.0 known s.1.0)) s.2)
-answers_all quantum i j before after bytes out written r known b a wrote (inr s) = inr (stops_with r (length bytes) s.0 s.2 (why before after bytes s.1 s.0 b a (taken_short _ _ bytes s.1 known s.3.0) s.3.1), wrote ∙ s.4, s.5)
+answers_all quantum i j before after bytes out written r known b a wrote (inr s) = inr (stops_with r (length bytes) s.0 s.2 (why before after bytes s.1 s.0 b a (taken_short _ _ bytes s.1 known s.3.0) s.3.2), wrote ∙ s.4, s.5)
 
 pub answers_whole : (o : Option Refusal) (quantum : ℕ) (i j : ImageView) (before after : InputView) (bytes out written : List ℕ) (r : Result ℕ Refusal) (Q : Refusal → Type 0) → before.remaining ≡ Some bytes → before.failures ≡ 0 → after.failures ≡ 0 → out ≡ written → MatchOption o (Scripted quantum i before after written j r) Q → IfNone o (Whole quantum i bytes out j r)
 answers_whole None quantum i j before after bytes out written r Q known b a wrote s = answers_all quantum i j before after bytes out written r known b a wrote s

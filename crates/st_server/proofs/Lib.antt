@@ -1,3 +1,4 @@
+pub mod Counting
 pub mod FirstLine
 pub mod Going
 pub mod Ending

@@ -1,5 +1,5 @@
 -- The reply to a command, and the image that it leaves.
-use Rattle.std.specs.Prelude.{◌≡◌, ℕ, zero, suc, ◌+◌, ◌≤◌, ◌⊎◌, List, [], ◌∷◌, length, true, false, Option, Some, None, Result, Ok, Err, MatchOption, OnErr, MatchResult, slice_get}
+use Rattle.std.specs.Prelude.{◌≡◌, ℕ, zero, suc, ◌+◌, ◌≤◌, ◌⊎◌, List, [], ◌∷◌, length, true, false, Option, Some, None, Result, Ok, Err, MatchOption, IfErr, MatchResult, slice_get}
 use Rattle.st_classes.specs.declared.values.ClassId.{ClassId}
 use Rattle.st_classes.specs.declared.values.ActorId.{ActorId}
 use Rattle.st_classes.specs.declared.values.Selector.{Selector}
@@ -72,7 +72,7 @@ version_or_refused (Err e) = reply.Refused e
 
 -- the image's answer to an install; a refused one adds names alone
 abbrev pub InstallsMethod : ImageView → List ℕ → Reply → ImageView → ClassId → Type 0
-InstallsMethod i source r j c = (result : Result ℕ Refusal) × (r ≡ version_or_refused result) × AnswersInstall i c source j result × OnErr result (LeavesNames i c source j)
+InstallsMethod i source r j c = (result : Result ℕ Refusal) × (r ≡ version_or_refused result) × AnswersInstall i c source j result × IfErr result (λ e. LeavesNames i c source e j)
 
 -- ---- a run: so long as quanta are left and an actor is ready, the next ready one takes up to so many steps
 

@@ -12,7 +12,7 @@ use st_reader::trees::MethodTree;
 use std::alloc::Global;
 
 impl Image {
-    ghost use Rattle.std.specs.Prelude.{◌≡◌, true, false, OnOk, OnErr};
+    ghost use Rattle.std.specs.Prelude.{◌≡◌, true, false, OnOk, IfErr};
     ghost use Rattle.st_classes.specs.declared.refusals.Refusal.TheVariants.{KernelMethod};
     ghost use Rattle.st_classes.specs.Refusals.{first_of, Answers};
     ghost use Rattle.st_classes.specs.Classes.{is_class, slots};
@@ -20,7 +20,7 @@ impl Image {
     ghost use Rattle.st_reader.specs.Trees.{Spells};
     ghost use Rattle.st_compile.specs.Code.{has_code, selectors_of};
     ghost use Rattle.st_compile.specs.Compiled.{IsCompiled};
-    ghost use Rattle.st_compile.specs.Refusing.{InternsFirst, interned_all, tree_rules};
+    ghost use Rattle.st_compile.specs.Refusing.{InternsFirst, IsFull, interned_all, tree_rules};
     ghost use Rattle.st_image.specs.Images.{world};
     ghost use Rattle.st_image.specs.Installing.{AnswersInstall, Installs, LeavesNames, install_rules, is_kernel_text};
 
@@ -49,6 +49,7 @@ impl Image {
         ensures names { OnOk result (self.new ≡ record self.old { names = interned_all self.old.names (selectors_of tree.now) }) }
         ensures some { InternsFirst self.old.names (selectors_of tree.now) self.new.names }
         ensures only { self.new ≡ record self.old { names = self.new.names } }
+        ensures full { IfErr result (λ e. IsFull self.new.names e) }
         ensures untouched { has_code (slots (world self.old).edits class) tree.now ≡ false → self.new ≡ self.old }
         ensures world { world self.new ≡ world self.old }
     {
@@ -67,7 +68,7 @@ impl Image {
         requires spells { Spells tree.now source }
         ensures answers { Answers (first_of (install_rules self.old class tree.now)) result
             (λ n. Installs self.old class tree.now source self.new n) }
-        ensures refused { OnErr result (LeavesNames self.old class source self.new) }
+        ensures refused { IfErr result (λ e. LeavesNames self.old class source e self.new) }
     {
         if self.has_kernel_method(class, tree.selector.text.as_slice()) {
             return Err(Refusal::KernelMethod);
@@ -84,11 +85,11 @@ impl Image {
     ///
     /// Refusals, in this order: `UnknownClass`; `BadSource` where no tree spells the source; `KernelMethod` where the kernel
     /// has a method in the class for the selector; `BadSource` where the tree has no code in the class; `TooMany` names or
-    /// edits; `HistoryFull`. A refused install changes nothing but names: where the tree has code, those
-    /// of its selectors that were interned stay.
+    /// edits; `HistoryFull`. A refused install changes nothing but names: where it is refused for names,
+    /// those that fitted stay; for edits or the history, all that the method needs; for want of memory, some of them.
     pub fn install(&mut self, alloc: Global, class: ClassId, source: &[u8]) -> Result<u32, Refusal>
         ensures answers { AnswersInstall self.old class source.now self.new result }
-        ensures refused { OnErr result (LeavesNames self.old class source.now self.new) }
+        ensures refused { IfErr result (λ e. LeavesNames self.old class source.now e self.new) }
     {
         if !self.version.is_class(class) {
             return Err(Refusal::UnknownClass);

@@ -1,7 +1,7 @@
 use Rattle.std.proofs.Common.{◌≡◌, ap, sym, ◌∙◌, subst, true, rules}
 use Rattle.st_classes.specs.Suiting.{suits}
 use Rattle.st_image.specs.Worlds.{World}
-use Rattle.st_image.proofs.Installing.{tree_refused, tree_installed, tree_left, left_still}
+use Rattle.st_image.proofs.Installing.{tree_refused, tree_installed, tree_left, edit_left}
 use Rattle.st_image.proofs.image.Image.install_tree.Goals as goal
 
 pub returns-in-Err-clause-answers : goal.returns-in-Err-clause-answers
@@ -14,7 +14,7 @@ pub returns-clause-answers : goal.returns-clause-answers
 returns-clause-answers c = tree_installed c.args.self.now c.compiled.new.self c.edit.new.self c.args.class c.args.tree.now c.args.source c.in-Ok.method c.edit.result c.requires.class (search rules) c.in-Ok.ensures.answers.0 c.in-Ok.ensures.names c.compiled.ensures.world c.known.ensures.standing.kernel c.in-Ok.ensures.answers.1 c.edit.ensures.answers
 
 pub returns-in-Err-clause-refused : goal.returns-in-Err-clause-refused
-returns-in-Err-clause-refused c = tree_left c.args.self.now c.compiled.new.self c.args.class c.args.tree.now c.args.source c.requires.spells c.requires.class (search rules) c.compiled.ensures.some c.compiled.ensures.only c.compiled.ensures.untouched
+returns-in-Err-clause-refused c = tree_left c.args.self.now c.compiled.new.self c.args.class c.args.tree.now c.args.source c.in-Err.refusal c.requires.spells c.requires.class (search rules) c.compiled.ensures.some c.compiled.ensures.only c.compiled.ensures.untouched c.in-Err.ensures.full c.in-Err.ensures.answers
 
 pub returns-clause-refused : goal.returns-clause-refused
-returns-clause-refused c = left_still c.edit.result c.args.self.now c.compiled.new.self c.edit.new.self c.args.class c.args.source c.edit.ensures.unchanged (tree_left c.args.self.now c.compiled.new.self c.args.class c.args.tree.now c.args.source c.requires.spells c.requires.class (search rules) c.compiled.ensures.some c.compiled.ensures.only c.compiled.ensures.untouched)
+returns-clause-refused c = edit_left c.edit.result _ c.args.self.now c.compiled.new.self c.edit.new.self c.args.class c.args.tree.now c.args.source c.in-Ok.method c.requires.spells c.requires.class (search rules) c.in-Ok.ensures.answers.0 c.in-Ok.ensures.names c.compiled.ensures.world c.known.ensures.standing.kernel c.in-Ok.ensures.answers.1.selector c.edit.ensures.unchanged c.edit.ensures.answers

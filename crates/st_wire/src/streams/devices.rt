@@ -48,7 +48,7 @@ fn write_to<W: io::Write>(writer: &mut W, bytes: &[u8]) -> Result<usize, WriteFa
 /// What std reads from, as standard input, a file or a socket. What it will give is known where std knows it.
 ///
 /// A read that a signal interrupts is no failure and is not counted apart: it is tried again within the same read, as
-/// std's own `read_to_end` does, and only the 2^64th interruption of one read is a failure. Every other error is one.
+/// std's own `read_to_end` does, and only a read that is interrupted 2^64 - 1 times is a failure. Every other error is one.
 #[derive(Drop)]
 pub struct Reader<R> {
     inner: R,
@@ -90,8 +90,8 @@ impl<R: io::Read> Input for Reader<R> {
 
 /// What std writes to, as standard output, a file or a socket. What has been written is known where std knows it.
 ///
-/// A write that a signal interrupts is no failure: it is tried again, and only the 2^64th interruption of one write is
-/// a failure. Every other error is one, and so is a write of which no byte is taken. A writer with a buffer fails where
+/// A write that a signal interrupts is no failure: it is tried again, and only a write that is interrupted 2^64 - 1
+/// times is a failure. Every other error is one, and so is a write of which no byte is taken. A writer with a buffer fails where
 /// the buffer cannot be written out, and that may be after the write that filled it: see [`Writer::flush`].
 #[derive(Drop)]
 pub struct Writer<W> {

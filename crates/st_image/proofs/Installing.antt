@@ -243,8 +243,3 @@ edit_left (Err x) P i j k c tree text m s h f t e w b at same a =
     has_code_here : (v : Bool) → has_code (slots (world i).edits c) tree ≡ v → has_code (slots (world i).edits c) tree ≡ true
     has_code_here true g = g
     has_code_here false g = let none : Some no_code ≡ None = rw g at t in cc
-
--- what is left where no tree is read
-pub unread_left : (i : ImageView) (c : ClassId) (text : List ℕ) (e : Refusal) (P : Type 0) → (e ≡ NoMemory) ⊎ ((e ≡ no_code) × P) → LeavesNames i c text e i
-unread_left i c text e P (inl m) = subst (λ (r : Refusal). LeavesNames i c text r i) (sym m) (inl refl)
-unread_left i c text e P (inr b) = subst (λ (r : Refusal). LeavesNames i c text r i) (sym b.0) refl

@@ -160,10 +160,6 @@ all_suit_with names edits e l ok all h = λ place c m at. elim (slice_get_push e
   | inr w ↦ suits_later names edits (e ∷ []) c m l (accepted_class edits c m (subst (λ (x : Edit). first_of (edit_rules edits x) ≡ None) w.1 ok)) (subst (λ (x : Edit). edit_suits names edits x ≡ true) w.1 h)
 ]
 
--- an edit whose method is sound
-pub all_sound_with : (edits : List Edit) (e : Edit) → AllSound edits → ((c : ClassId) (m : MethodParts) → e ≡ Install c m → IsSound m) → AllSound (edits ++ e ∷ [])
-all_sound_with edits e all h = λ place c m at. elim (slice_get_push edits e (Install c m) place at) [ inl w ↦ all place c m w.1 | inr w ↦ h c m w.1 ]
-
 -- names that begin with the kernel's have `doesNotUnderstand:`, with one argument
 pub kernel_names_know : (more : List (List ℕ)) → arity_at (kernel_selectors ++ more) does_not_understand ≡ Some 1
 kernel_names_know more = refl

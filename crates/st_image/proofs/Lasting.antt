@@ -45,6 +45,7 @@ use Rattle.st_classes.proofs.LawLists.{slice_get_push}
 use Rattle.st_image.proofs.Places.{at_all}
 use Rattle.st_image.proofs.GrowingNames.{both_true, and_true, list_all_more, fits_more, all_suit_more}
 use Rattle.st_image.proofs.Deliveries.{let_through, accepting_begins, beginning_begins, nothing_begun}
+use Rattle.st_classes.proofs.Accepted.{sound_push}
 use Rattle.st_classes.proofs.LawGrowing.{lawful_with, class_count_grows, all_suit_with, kernel_names_know}
 use Rattle.st_turn.proofs.Keeping.{step_fits}
 use Rattle.st_turn.proofs.KeepingGrowth.{fresh_fits, begin_fits}
@@ -107,12 +108,6 @@ world_set names w v a c h b e f =
 none_from : {X : Type 0} (o : Option X) → is_none o ≡ true → o ≡ None
 none_from None e = refl
 none_from (Some x) e = cc
-
-sound_push : (edits : List Edit) (e : Edit) → AllSound edits → IsSoundEdit e → AllSound (edits ++ e ∷ [])
-sound_push edits e h s = λ place c m at. elim (slice_get_push edits e (Install c m) place at) [
-  | inl w ↦ h place c m w.1
-  | inr w ↦ subst IsSoundEdit w.1 s
-]
 
 edited_keeps : (names : List (List ℕ)) (w v : World) (e : Edit) → IsWorld names w → IsSoundEdit e → edited names w e ≡ Some v → IsWorld names v
 edited_keeps names w v e h s f =

@@ -3,6 +3,10 @@
 #![tactic(auto)]
 
 #[cfg(test)]
+mod around;
+#[cfg(test)]
+mod bad_lines;
+#[cfg(test)]
 mod classes;
 #[cfg(test)]
 mod compiling;
@@ -10,6 +14,10 @@ mod compiling;
 mod devices;
 #[cfg(test)]
 mod images;
+#[cfg(test)]
+mod limits;
+#[cfg(test)]
+mod longest_lines;
 #[cfg(test)]
 mod names;
 #[cfg(test)]

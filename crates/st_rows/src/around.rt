@@ -49,8 +49,9 @@ pub(crate) fn joined(alloc: Global, parts: &[&[u8]]) -> Result<Vec<u8>, Fail> {
 }
 
 /// Whether a session is answered by these replies, and ends so.
-pub(crate) fn says(
+pub(crate) fn says_within(
     alloc: Global,
+    settings: ScriptSettings,
     script: &[&[u8]],
     replies: &[&[u8]],
     end: Result<u64, Refusal>,
@@ -58,10 +59,29 @@ pub(crate) fn says(
     let mut input = MemoryInput::new(joined(alloc, script)?);
     let mut output = MemoryOutput::new(alloc);
     let image = Image::new(alloc, Settings::DEFAULT)?;
-    let settings = ScriptSettings::DEFAULT;
     let (_, result) = script_on(alloc, &mut input, &mut output, settings, image);
     let wanted = joined(alloc, replies)?;
     Ok(result == end && output.as_slice() == wanted.as_slice())
+}
+
+/// The same with the usual settings.
+pub(crate) fn says(
+    alloc: Global,
+    script: &[&[u8]],
+    replies: &[&[u8]],
+    end: Result<u64, Refusal>,
+) -> Result<bool, Fail> {
+    says_within(alloc, ScriptSettings::DEFAULT, script, replies, end)
+}
+
+/// Whether a line has this reply.
+pub(crate) fn gets(alloc: Global, line: &[u8], reply: &[u8]) -> Result<bool, Fail> {
+    says(
+        alloc,
+        &[BEFORE, line],
+        &[REPLIES_BEFORE, reply, b"\n"],
+        Ok(6),
+    )
 }
 
 /// Whether a line, in parts, has this reply, and the lines around it their usual ones.

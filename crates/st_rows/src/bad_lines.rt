@@ -1,5 +1,5 @@
 //! Lines that are refused. Each is asked in a session of its own, and leaves nothing.
-use crate::around::{BEFORE, REPLIES_BEFORE, ends, joined, leaves_nothing, says};
+use crate::around::{BEFORE, REPLIES_BEFORE, ends, gets, joined, leaves_nothing, says};
 use st_classes::refusals::Refusal;
 use std::test::Fail;
 
@@ -82,6 +82,8 @@ fn lines_of_other_shapes(rt: HostRuntime) -> Result<(), Fail> {
         "{\"cmd\":\"run\",\"quanta\":{}}",
         "{\"cmd\":\"run\",\"quanta\":true}",
         "{\"cmd\":\"run\",\"quanta\":-1}",
+        "{\"cmd\":\"run\",\"quanta\":0}",
+        "{\"cmd\":\"run\",\"quanta\":1000001}",
         "{\"cmd\":\"run\",\"quanta\":1e0}",
         "{\"cmd\":\"run\",\"quanta\":18446744073709551617}",
         "{\"cmd\":\"run\",\"quanta\":1,\"steps\":1}",
@@ -145,6 +147,7 @@ fn posts_of_other_shapes(rt: HostRuntime) -> Result<(), Fail> {
         r#""actor":0,"args":[],"selector":["a"],"sender":1,"seq":1"#,
         r#""actor":0,"args":[],"selector":{"sym":"a"},"sender":1,"seq":1"#,
         r#""actor":0,"args":[],"selector":"a","sender":-1,"seq":1"#,
+        r#""actor":0,"args":[],"selector":"a","sender":65536,"seq":1"#,
         r#""actor":0,"args":[],"selector":"a","sender":"1","seq":1"#,
         r#""actor":0,"args":[],"selector":"a","sender":1.0,"seq":1"#,
         r#""actor":0,"args":[],"selector":"a","sender":{"ref":0},"seq":1"#,
@@ -152,6 +155,7 @@ fn posts_of_other_shapes(rt: HostRuntime) -> Result<(), Fail> {
         r#""actor":0,"args":[],"selector":"a","sender":1,"seq":1e0"#,
         r#""actor":0,"args":[],"selector":"a","sender":1,"seq":-0"#,
         r#""actor":0,"args":[],"selector":"a","sender":1,"seq":null"#,
+        r#""actor":0,"args":[],"selector":"a","sender":1,"seq":18446744073709551616"#,
     ] {
         let line = [
             b"{\"cmd\":\"post\",".as_slice(),
@@ -314,6 +318,46 @@ fn commands_that_are_refused(rt: HostRuntime) -> Result<(), Fail> {
     ] {
         assert!(rt;
             leaves_nothing(rt.alloc(), &[line.as_bytes()], reply.as_bytes())?,
+            "{line}"
+        );
+    }
+    Ok(())
+}
+
+/// Commands at the ends of their ranges, and such as are spelled in another way.
+#[test]
+fn commands_that_are_taken(rt: HostRuntime) -> Result<(), Fail> {
+    let ran = "{\"ok\":{\"quanta\":0,\"steps\":0}}";
+    let turn = "{\"ok\":{\"turn\":2}}";
+    for (line, reply) in [
+        (r#"{"cmd":"run","quanta":1}"#, ran),
+        (r#"{"cmd":"run","quanta":1000000}"#, ran),
+        (r#"{"cmd":"\u0072un"}"#, ran),
+        (r#"{"\u0063md":"run"}"#, ran),
+        ("\t {\r\"cmd\" : \"run\" } \r", ran),
+        (
+            r#"{"actor":0,"args":[],"cmd":"post","selector":"a","sender":0,"seq":2}"#,
+            turn,
+        ),
+        (
+            r#"{"seq":18446744073709551615,"sender":65535,"selector":"a","cmd":"post","args":[],"actor":0}"#,
+            turn,
+        ),
+        (
+            r#"{"actor":0,"args":[-9223372036854775808],"cmd":"post","selector":"=","sender":1,"seq":2}"#,
+            turn,
+        ),
+        (
+            r#"{"actor":0,"args":[9223372036854775807],"cmd":"post","selector":"=","sender":1,"seq":2}"#,
+            turn,
+        ),
+        (
+            r#"{"actor":0,"args":[{"ref":0},{"sym":"\\\\"},{"class":"Class"},null,false],"cmd":"post","selector":"a:b:c:d:e:","sender":1,"seq":2}"#,
+            turn,
+        ),
+    ] {
+        assert!(rt;
+            gets(rt.alloc(), line.as_bytes(), reply.as_bytes())?,
             "{line}"
         );
     }

@@ -1,10 +1,12 @@
 //! What there may be at most, and the refusal of one more.
+use crate::around::says_within;
 use st_classes::kernel::OBJECT;
 use st_classes::refusals::{Limited, Refusal};
 use st_classes::seq::Seq;
 use st_classes::values::{ActorId, ClassId, Selector};
 use st_image::image::Image;
 use st_image::settings::Settings;
+use st_server::settings::ScriptSettings;
 use std::alloc::{AllocError, Global};
 use std::test::*;
 
@@ -179,5 +181,38 @@ fn history(rt: HostRuntime) -> Result<(), Fail> {
         };
         assert_eq!(rt; edit, wanted);
     }
+    Ok(())
+}
+
+/// A `run` that finds the history full says so and nothing else. What ran before stands, and what did not is pending.
+#[test]
+fn history_of_a_run(rt: HostRuntime) -> Result<(), Fail> {
+    let settings = ScriptSettings {
+        quantum: 256,
+        capacity: 2,
+        history: 6,
+    };
+    let lines = br#"{"class":"Object","cmd":"actor"}
+{"actor":0,"args":[],"cmd":"post","selector":"isNil","sender":1,"seq":1}
+{"actor":0,"args":[],"cmd":"post","selector":"class","sender":1,"seq":2}
+{"class":"Object","cmd":"actor"}
+{"cmd":"run"}
+{"actor":0,"cmd":"outcome","turn":1}
+{"actor":0,"cmd":"outcome","turn":2}
+{"class":"Object","cmd":"actor"}
+{"cmd":"run"}
+"#;
+    let replies = br#"{"ok":{"actor":0}}
+{"ok":{"turn":1}}
+{"ok":{"turn":2}}
+{"ok":{"actor":1}}
+{"error":"HistoryFull"}
+{"ok":{"answer":false}}
+{"error":"Pending"}
+{"error":"HistoryFull"}
+{"error":"HistoryFull"}
+"#;
+    let says = says_within(rt.alloc(), settings, &[lines], &[replies], Ok(9))?;
+    assert!(rt; says);
     Ok(())
 }

@@ -1,5 +1,5 @@
 //! The longest lines and texts, and those that are one byte longer.
-use crate::around::{BEFORE, REPLIES_BEFORE, ends, joined, leaves_nothing, says};
+use crate::around::{BEFORE, REPLIES_BEFORE, ends, gets, joined, leaves_nothing, says};
 use st_classes::refusals::Refusal;
 use std::alloc::Global;
 use std::test::Fail;
@@ -114,16 +114,6 @@ fn message(alloc: Global, selector: &[u8], args: &[u8]) -> Result<Vec<u8>, Fail>
     )
 }
 
-/// Whether a line has this reply.
-fn gets(alloc: Global, line: &[u8], reply: &[u8]) -> Result<bool, Fail> {
-    says(
-        alloc,
-        &[BEFORE, line],
-        &[REPLIES_BEFORE, reply, b"\n"],
-        Ok(6),
-    )
-}
-
 const BAD_NAME: &[u8] = b"{\"error\":\"BadName\"}";
 
 #[test]
@@ -163,6 +153,13 @@ fn longest_selectors(rt: HostRuntime) -> Result<(), Fail> {
     assert!(rt; gets(alloc, &fits, turn)?, "8 keywords");
     let longer = message(alloc, &word(alloc, b'u', 65)?, b"")?;
     assert!(rt; leaves_nothing(alloc, &[longer.as_slice()], BAD_NAME)?);
+    let long = word(alloc, b'u', 65)?;
+    let symbol = joined(alloc, &[b"{\"sym\":\"", long.as_slice(), b"\"}"])?;
+    let longer = message(alloc, b"=", &symbol)?;
+    assert!(rt;
+        leaves_nothing(alloc, &[longer.as_slice()], BAD_NAME)?,
+        "a symbol"
+    );
     let mut keyword = word(alloc, b'k', 65)?;
     keyword.push(b':')?;
     let longer = message(alloc, &keyword, b"1")?;

@@ -280,7 +280,7 @@ is_advanced names h s turn a t n e some =
 abbrev pub Stops : ImageView → ActorId → ℕ → ImageView → Type 0
 Stops i a limit j = (j ≡ i) ⊎ HasStopped i a limit j
 
-pub has_stopped : (names : List (List ℕ)) (h : List Item) (s : Settings) (turn : ℕ) (a : ActorId) (t : Bool) (n limit : ℕ) → t ≡ idle_at (slice_get (world_of names h).actors a.0) → (n < limit) × (idle_at (slice_get (world_of names (h ++ advance_items a t n)).actors a.0) ≡ false) → Stops (seen names h s turn) a limit (seen names (h ++ advance_items a t n) s (turn_after turn a t n))
-has_stopped names h s turn a true zero limit e l = inr (inl (sym e, refl))
-has_stopped names h s turn a false zero limit e l = inl (ap (λ (is : List Item). seen names is s turn) (append-nil h))
-has_stopped names h s turn a t (suc n) limit e l = inr (inr (suc n, omega arith, is_advanced names h s turn a t (suc n) e (omega arith), l))
+pub has_stopped : (names : List (List ℕ)) (h : List Item) (s : Settings) (turn : ℕ) (a : ActorId) (t : Bool) (n limit : ℕ) → first_of (advance_rules (seen names h s turn) (slice_get (world_of names h).actors a.0)) ≡ None → t ≡ idle_at (slice_get (world_of names h).actors a.0) → (n < limit) × (idle_at (slice_get (world_of names (h ++ advance_items a t n)).actors a.0) ≡ false) → Stops (seen names h s turn) a limit (seen names (h ++ advance_items a t n) s (turn_after turn a t n))
+has_stopped names h s turn a true zero limit allowed e l = inr (allowed, inl (sym e, refl))
+has_stopped names h s turn a false zero limit allowed e l = inl (ap (λ (is : List Item). seen names is s turn) (append-nil h))
+has_stopped names h s turn a t (suc n) limit allowed e l = inr (allowed, inr (suc n, omega arith, is_advanced names h s turn a t (suc n) e (omega arith), l))

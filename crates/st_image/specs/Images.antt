@@ -5,7 +5,7 @@ use Rattle.st_classes.specs.declared.values.ActorId.{ActorId}
 use Rattle.st_classes.specs.declared.refusals.Refusal.{Refusal}
 use Rattle.st_classes.specs.declared.refusals.Refusal.TheVariants.{UnknownClass, KernelClass, BadArguments, UnknownActor, NothingToDo, Pending, Expired, HistoryFull, TooMany}
 use Rattle.st_classes.specs.declared.refusals.Limited.TheVariants.{Edits, Actors}
-use Rattle.st_classes.specs.Refusals.{Rule}
+use Rattle.st_classes.specs.Refusals.{Rule, first_of}
 use Rattle.st_classes.specs.Kernel.{kernel_selectors}
 use Rattle.st_classes.specs.Classes.{is_class}
 use Rattle.st_classes.specs.Accepting.{is_closed, define_rules}
@@ -118,9 +118,9 @@ only_begun i a = record i { history = i.history ++ Begun a ∷ []; turn = a.0 + 
 abbrev pub GoesOn : ImageView → ActorId → ℕ → ℕ → Type 0
 GoesOn i a limit n = (n < limit) × (idle_at (slice_get (world i).actors a.0) ≡ false)
 
--- what want of memory in the middle of an advance leaves: an idle actor's message begun and no step taken, or the steps before it
+-- what want of memory leaves in the middle of an advance that nothing refuses: an idle actor's message begun and no step taken, or the steps before it
 abbrev pub HasStopped : ImageView → ActorId → ℕ → ImageView → Type 0
-HasStopped i a limit j = ((idle_at (slice_get (world i).actors a.0) ≡ true) × (j ≡ only_begun i a)) ⊎ ((n : ℕ) × (1 ≤ n) × (j ≡ advanced i a n) × GoesOn j a limit n)
+HasStopped i a limit j = (first_of (advance_rules i (slice_get (world i).actors a.0)) ≡ None) × (((idle_at (slice_get (world i).actors a.0) ≡ true) × (j ≡ only_begun i a)) ⊎ ((n : ℕ) × (1 ≤ n) × (j ≡ advanced i a n) × GoesOn j a limit n))
 
 -- ---- the outcome of a turn
 

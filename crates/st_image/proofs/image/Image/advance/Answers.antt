@@ -58,7 +58,7 @@ returns-clause-stands c =
     let g : HasAdvanced i.names i.version c.advance_at.new.actors.items c.advance_at.new.ready.numbers i.history.items i.edits_made i.settings c.args.actor t p.steps c.args.limit p.is_whole = has_advanced i.names i.version i.actors.items c.advance_at.new.actors.items i.ready.numbers c.advance_at.new.ready.numbers i.history.items i.edits_made i.settings c.args.actor l.0 t p.steps c.args.limit p.is_whole c.self.invariant l.1 c.requires.some c.is_idle-begins.ensures c.in-Ok.ensures.ok in
     let items : c.note.new.history.items ≡ i.history.items ++ advance_items c.args.actor t p.steps = grind (arith, common_steps) in
     rw c.answer.ensures (stopped p.is_whole p.steps _ (λ w.
-    let e0 : Stops (seen i.names i.history.items i.settings i.turn) c.args.actor c.args.limit (seen i.names (i.history.items ++ advance_items c.args.actor t p.steps) i.settings (turn_after i.turn c.args.actor t p.steps)) = has_stopped i.names i.history.items i.settings i.turn c.args.actor t p.steps c.args.limit g.idle (g.cut w) in
+    let e0 : Stops (seen i.names i.history.items i.settings i.turn) c.args.actor c.args.limit (seen i.names (i.history.items ++ advance_items c.args.actor t p.steps) i.settings (turn_after i.turn c.args.actor t p.steps)) = has_stopped i.names i.history.items i.settings i.turn c.args.actor t p.steps c.args.limit allowed g.idle (g.cut w) in
     let e1 : Stops (seen i.names i.history.items i.settings i.turn) c.args.actor c.args.limit (seen i.names c.note.new.history.items i.settings (turn_after i.turn c.args.actor t p.steps)) = subst (λ (is : List Item). Stops (seen i.names i.history.items i.settings i.turn) c.args.actor c.args.limit (seen i.names is i.settings (turn_after i.turn c.args.actor t p.steps))) (sym items) e0 in
     let e2 : Stops c.args.self.now c.args.actor c.args.limit (seen i.names c.note.new.history.items i.settings (turn_after i.turn c.args.actor t p.steps)) = subst (λ (v : ImageView). Stops v c.args.actor c.args.limit (seen i.names c.note.new.history.items i.settings (turn_after i.turn c.args.actor t p.steps))) c.self.view_is e1 in
     rw c.turn_after-self-inside.ensures (elim e2 [ inl e ↦ inl e | inr h ↦ inr (refl, h) ])))

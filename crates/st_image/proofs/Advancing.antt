@@ -92,6 +92,7 @@ with_ready names edits actors ready ready' h made s k e = record {
   world = k.world;
   counted = k.counted;
   numbers = k.numbers;
+  created = k.created;
   few_items = k.few_items;
   few_actors = k.few_actors;
   few_accepted = k.few_accepted;

@@ -11,7 +11,8 @@ use Rattle.st_classes.specs.Kernel.{kernel_selectors}
 use Rattle.st_image.specs.declared.settings.Settings.{Settings}
 use Rattle.st_image.specs.Images.{world_of, settings_rules}
 use Rattle.st_image.specs.Kepts.{Kept, has}
-use Rattle.st_image.specs.Keeping.{AreSettings, IsImage, Shows}
+use Rattle.st_image.specs.Lasting.{AreSettings, HasCapacity}
+use Rattle.st_image.specs.Keeping.{IsImage, Shows}
 use Rattle.st_image.proofs.Lasting.{start_is_world}
 use Rattle.st_image.proofs.Lists.{off, not_false}
 
@@ -44,6 +45,7 @@ new_is ready s h f = record {
   world = start_is_world kernel_selectors ([], sym (append-nil kernel_selectors));
   counted = refl;
   numbers = f;
+  created = All-nil (HasCapacity s.capacity);
   few_items = omega arith;
   few_actors = omega arith;
   few_accepted = All-nil (λ (k : Kept). k.accepted ≤ 0);

@@ -47,7 +47,7 @@ created names edits actors actors' ready h made s turn c k allowed e =
     let o3 = off (nat_le 65536 (length w.actors)) (TooMany Actors) room o2.1 in
     let inst : has_instances edits c ≡ true = subst (λ (es : List Edit). has_instances es c ≡ true) (sym k.shows.edits_are) (has_instances_by w.edits c o1.0 o2.0) in
     let count : length actors < 65536 = omega (arith, count_is edits actors ready w k.shows, fewer 65536 (length w.actors) o3.0) in
-    created_kept names edits actors actors' ready h made s c s.capacity k inst count (has_room s.history (length h) 1 _ o3.1) e
+    created_kept names edits actors actors' ready h made s c k inst count (has_room s.history (length h) 1 _ o3.1) e
 
 -- the body of a new actor with such instance variables
 abbrev pub fresh_with : ClassId → List (List ℕ) → Body

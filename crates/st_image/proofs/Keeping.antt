@@ -23,14 +23,14 @@ use Rattle.st_image.specs.declared.settings.Settings.{Settings}
 use Rattle.st_image.specs.declared.items.Item.{Item}
 use Rattle.st_image.specs.declared.items.Item.TheVariants.{Edited, Created, Posted, Closed, Begun, Ran}
 use Rattle.st_turn.specs.Idling.{is_idle}
-use Rattle.st_image.specs.Worlds.{World, Being, start, pending, with_actor}
+use Rattle.st_image.specs.Worlds.{World, Being, start, is_capacity, pending, with_actor}
 use Rattle.st_image.specs.Posting.{post_rules}
 use Rattle.st_image.specs.Next.{next, replay, only_if, edited, created, new_being, fresh_body, posted_to, accepting, with_last, begun_at, begun_by, beginning, ran, ran_at, steps, with_result}
 use Rattle.st_image.specs.Images.{world_of, edits_in, ImageView, image_post_rules, create_rules, no_room}
 use Rattle.st_image.specs.Ready.{is_ready, is_ready_at}
 use Rattle.st_image.specs.Delivery.{BeginsInOrder}
 use Rattle.st_classes.specs.Lawful.{IsSoundEdit}
-use Rattle.st_image.specs.Lasting.{IsWorld, IsBeing, IsSoundItem}
+use Rattle.st_image.specs.Lasting.{IsWorld, IsBeing, IsSoundItem, HasCapacity}
 use Rattle.st_image.specs.Kepts.{Kept, kept_of, new_kept, taken_in, started, begun_first, stepped_to, has, HasAlso}
 use Rattle.st_image.specs.Keeping.{Shows, IsImage}
 use Rattle.st_image.proofs.Replays.{lawful_push}
@@ -58,9 +58,9 @@ accept_more n actors h = All-weaker (λ (k : Kept). k.accepted ≤ n) (λ (k : K
 
 -- an image with an item more
 pushed : (names : List (List ℕ)) (edits edits' : List Edit) (actors actors' : List Kept) (ready ready' : BTreeSet ℕ) (h : List Item) (made made' : ℕ) (s : Settings) (i : Item) (v : World)
-    → IsImage names edits actors ready h made s → IsSoundItem i → next names (world_of names h) i ≡ Some v → Shows edits' actors' ready' v → made' ≡ made + edits_in (i ∷ []) → length h + 1 ≤ s.history → length actors' ≤ 65536 → AcceptAtMost (length h + 1) actors'
+    → IsImage names edits actors ready h made s → IsSoundItem i → HasCapacity s.capacity i → next names (world_of names h) i ≡ Some v → Shows edits' actors' ready' v → made' ≡ made + edits_in (i ∷ []) → length h + 1 ≤ s.history → length actors' ≤ 65536 → AcceptAtMost (length h + 1) actors'
     → IsImage names edits' actors' ready' (h ++ i ∷ []) made' s × (world_of names (h ++ i ∷ []) ≡ v)
-pushed names edits edits' actors actors' ready ready' h made made' s i v k sound n shows count room few acc =
+pushed names edits edits' actors actors' ready ready' h made made' s i v k sound sized n shows count room few acc =
     let both = lawful_push names h i v k.lawful n in
     let len : length (h ++ i ∷ []) ≡ length h + 1 = length-append h (i ∷ []) in (
       record {
@@ -69,6 +69,7 @@ pushed names edits edits' actors actors' ready ready' h made made' s i v k sound
         world = subst (IsWorld names) (sym both.1) (next_keeps names (world_of names h) v i k.world sound n);
         counted = count ∙ ap (λ (x : ℕ). x + edits_in (i ∷ [])) k.counted ∙ sym (edits_in_append h (i ∷ []));
         numbers = k.numbers;
+        created = All-push (HasCapacity s.capacity) h i k.created sized;
         few_items = subst (λ (x : ℕ). x ≤ s.history) (sym len) room;
         few_actors = few;
         few_accepted = subst (λ (x : ℕ). AcceptAtMost x actors') (sym len) acc;
@@ -108,30 +109,33 @@ not_true true e = cc
 pub has_instances_by : (edits : List Edit) (c : ClassId) → not (is_class edits c) ≡ false → is_closed c ≡ false → has_instances edits c ≡ true
 has_instances_by edits c e f = and_true (is_class edits c) (not (is_closed c)) (not_false (is_class edits c) e) (not_true (is_closed c) f)
 
-pub created_kept : (names : List (List ℕ)) (edits : List Edit) (actors actors' : List Kept) (ready : BTreeSet ℕ) (h : List Item) (made : ℕ) (s : Settings) (c : ClassId) (n : ℕ)
-    → IsImage names edits actors ready h made s → has_instances edits c ≡ true → length actors < 65536 → length h + 1 ≤ s.history → actors' ≡ actors ++ new_kept c n (fresh_body edits c) ∷ []
-    → IsImage names edits actors' ready (h ++ Created c n ∷ []) made s
-created_kept names edits actors actors' ready h made s c n k inst few room e =
+capacity_is : (n : ℕ) → 1 ≤ n → n ≤ 1024 → is_capacity n ≡ true
+capacity_is n h k = and_true (nat_le 1 n) (nat_le n 1024) (grind (arith, nat_tests)) (grind (arith, nat_tests))
+
+pub created_kept : (names : List (List ℕ)) (edits : List Edit) (actors actors' : List Kept) (ready : BTreeSet ℕ) (h : List Item) (made : ℕ) (s : Settings) (c : ClassId)
+    → IsImage names edits actors ready h made s → has_instances edits c ≡ true → length actors < 65536 → length h + 1 ≤ s.history → actors' ≡ actors ++ new_kept c s.capacity (fresh_body edits c) ∷ []
+    → IsImage names edits actors' ready (h ++ Created c s.capacity ∷ []) made s
+created_kept names edits actors actors' ready h made s c k inst few room e =
     let w : World = world_of names h in
-    let b : Being = new_being w.edits c n in
+    let b : Being = new_being w.edits c s.capacity in
     let v : World = record w { actors = w.actors ++ b ∷ [] } in
     let inst' : has_instances w.edits c ≡ true = subst (λ (es : List Edit). has_instances es c ≡ true) k.shows.edits_are inst in
-    let now : next names w (Created c n) ≡ Some v = through (has_instances w.edits c) v inst' in
-    let here : actors' ≡ actors ++ kept_of b ∷ [] = e ∙ ap (λ (es : List Edit). actors ++ new_kept c n (fresh_body es c) ∷ []) k.shows.edits_are in
-    let more : length actors' ≤ 65536 = rw e (omega (arith, length-append actors (new_kept c n (fresh_body edits c) ∷ []))) in
+    let now : next names w (Created c s.capacity) ≡ Some v = through (has_instances w.edits c && is_capacity s.capacity) v (and_true (has_instances w.edits c) (is_capacity s.capacity) inst' (capacity_is s.capacity k.numbers.some_capacity k.numbers.few_messages)) in
+    let here : actors' ≡ actors ++ kept_of b ∷ [] = e ∙ ap (λ (es : List Edit). actors ++ new_kept c s.capacity (fresh_body es c) ∷ []) k.shows.edits_are in
+    let more : length actors' ≤ 65536 = rw e (omega (arith, length-append actors (new_kept c s.capacity (fresh_body edits c) ∷ []))) in
     let acc : AcceptAtMost (length h + 1) (actors ++ kept_of b ∷ []) = All-push (λ (x : Kept). x.accepted ≤ length h + 1) actors (kept_of b) (accept_more (length h) actors k.few_accepted) (omega arith) in
-    (pushed names edits edits actors actors' ready ready h made made s (Created c n) v k tt now (shows_push edits actors actors' ready w v b k.shows refl refl here refl) (omega arith) room more (subst (AcceptAtMost (length h + 1)) (sym here) acc)).0
+    (pushed names edits edits actors actors' ready ready h made made s (Created c s.capacity) v k tt refl now (shows_push edits actors actors' ready w v b k.shows refl refl here refl) (omega arith) room more (subst (AcceptAtMost (length h + 1)) (sym here) acc)).0
 
 -- ---- one actor changed
 
 set_keeps : (names : List (List ℕ)) (edits : List Edit) (actors actors' : List Kept) (ready ready' : BTreeSet ℕ) (h : List Item) (made : ℕ) (s : Settings) (a : ℕ) (b c : Being) (i : Item) (v : World)
-    → IsImage names edits actors ready h made s → slice_get (world_of names h).actors a ≡ Some b → IsSoundItem i → edits_in (i ∷ []) ≡ 0 → next names (world_of names h) i ≡ Some v → v.edits ≡ (world_of names h).edits → v.actors ≡ slice_set (world_of names h).actors a c → length c.accepted ≤ length h + 1 → actors' ≡ slice_set actors a (kept_of c) → HasAlso ready ready' a (is_ready c) → length h + 1 ≤ s.history
+    → IsImage names edits actors ready h made s → slice_get (world_of names h).actors a ≡ Some b → IsSoundItem i → HasCapacity s.capacity i → edits_in (i ∷ []) ≡ 0 → next names (world_of names h) i ≡ Some v → v.edits ≡ (world_of names h).edits → v.actors ≡ slice_set (world_of names h).actors a c → length c.accepted ≤ length h + 1 → actors' ≡ slice_set actors a (kept_of c) → HasAlso ready ready' a (is_ready c) → length h + 1 ≤ s.history
     → IsImage names edits actors' ready' (h ++ i ∷ []) made s × (world_of names (h ++ i ∷ []) ≡ v)
-set_keeps names edits actors actors' ready ready' h made s a b c i v k at sound none now same set few here queue room =
+set_keeps names edits actors actors' ready ready' h made s a b c i v k at sound sized none now same set few here queue room =
     let count : length actors' ≤ 65536 = rw here (omega (arith, length-set actors a (kept_of c), k.few_actors)) in
     let acc : AcceptAtMost (length h + 1) (slice_set actors a (kept_of c)) = All-set (λ (x : Kept). x.accepted ≤ length h + 1) actors a (kept_of c) few (accept_more (length h) actors k.few_accepted) in
     let shows : Shows edits actors' ready' v = shows_set edits actors actors' ready ready' (world_of names h) v a b c k.shows at same set here queue in
-    pushed names edits edits actors actors' ready ready' h made made s i v k sound now shows (omega (arith, none)) room count (subst (AcceptAtMost (length h + 1)) (sym here) acc)
+    pushed names edits edits actors actors' ready ready' h made made s i v k sound sized now shows (omega (arith, none)) room count (subst (AcceptAtMost (length h + 1)) (sym here) acc)
 
 accepted_at : (names : List (List ℕ)) (edits : List Edit) (actors : List Kept) (ready : BTreeSet ℕ) (h : List Item) (made : ℕ) (s : Settings) (a : ℕ) (b : Being) → IsImage names edits actors ready h made s → slice_get (world_of names h).actors a ≡ Some b → length b.accepted ≤ length h
 accepted_at names edits actors ready h made s a b k at = at_all (λ (x : Kept). x.accepted ≤ length h) actors a (kept_of b) k.few_accepted (kept_at edits actors ready (world_of names h) a b k.shows at)
@@ -150,7 +154,7 @@ posted_kept names edits actors actors' ready ready' h made s a b m k at allowed 
     let few : length (accepting b m).accepted ≤ length h + 1 = omega (arith, accepted_at names edits actors ready h made s a.0 b k at, more) in
     let here' : actors' ≡ slice_set actors a.0 (kept_of (accepting b m)) = here ∙ ap (slice_set actors a.0) (sym (kept_accepting b m order)) in
     let queue' : HasAlso ready ready' a.0 (is_ready (accepting b m)) = subst (HasAlso ready ready' a.0) (sym (ready_accepting b m order)) queue in
-    let r = set_keeps names edits actors actors' ready ready' h made s a.0 b (accepting b m) (Posted a m) v k at tt refl now refl refl few here' queue' room in
+    let r = set_keeps names edits actors actors' ready ready' h made s a.0 b (accepting b m) (Posted a m) v k at tt tt refl now refl refl few here' queue' room in
     (r.0, ap (λ (x : World). slice_get x.actors a.0) r.1 ∙ get_set_same w.actors a.0 b (accepting b m) at)
 
 -- ---- a message begins
@@ -164,7 +168,7 @@ begun_kept names edits actors ready h made s a b m ms k at idle first room queue
     let now : next names w (Begun a) ≡ Some v = ap (begun_at w a) at ∙ ap (begun_by w a b) first ∙ through (is_idle b.body.phase) v idle in
     let few : length (beginning b m).accepted ≤ length h + 1 = omega (arith, accepted_at names edits actors ready h made s a.0 b k at) in
     let here : slice_set actors a.0 (begun_first (kept_of b)) ≡ slice_set actors a.0 (kept_of (beginning b m)) = ap (slice_set actors a.0) (sym (kept_beginning b m ms first)) in
-    let r = set_keeps names edits actors (slice_set actors a.0 (begun_first (kept_of b))) ready ready h made s a.0 b (beginning b m) (Begun a) v k at tt refl now refl refl few here queue room in
+    let r = set_keeps names edits actors (slice_set actors a.0 (begun_first (kept_of b))) ready ready h made s a.0 b (beginning b m) (Begun a) v k at tt tt refl now refl refl few here queue room in
     (r.0, ap (λ (x : World). slice_get x.actors a.0) r.1 ∙ get_set_same w.actors a.0 b (beginning b m) at)
 
 -- ---- steps
@@ -186,7 +190,7 @@ ran_kept names edits actors ready ready' h made s a b n body k at some taken roo
     let taken' : steps w.edits a n b.body ≡ Some body = subst (λ (es : List Edit). steps es a n b.body ≡ Some body) k.shows.edits_are taken in
     let now : next names w (Ran a n) ≡ Some v = ap (ran_at w a n) at ∙ ap (λ (x : Bool). cond x (ran w a b (steps w.edits a n b.body)) None) (positive n some) ∙ ap (ran w a b) taken' in
     let few : length c.accepted ≤ length h + 1 = omega (arith, accepted_at names edits actors ready h made s a.0 b k at) in
-    let r = set_keeps names edits actors (slice_set actors a.0 (stepped_to (kept_of b) body)) ready ready' h made s a.0 b c (Ran a n) v k at tt refl now refl refl few refl queue room in
+    let r = set_keeps names edits actors (slice_set actors a.0 (stepped_to (kept_of b) body)) ready ready' h made s a.0 b c (Ran a n) v k at tt tt refl now refl refl few refl queue room in
     (r.0, ap (λ (x : World). slice_get x.actors a.0) r.1 ∙ get_set_same w.actors a.0 b c at)
 
 -- ---- an edit
@@ -202,7 +206,7 @@ edited_kept names edits edits' actors ready h made made' s e k sound allowed sui
     let last : w.edits ++ e ∷ [] ≡ edits' = ap (λ (es : List Edit). es ++ e ∷ []) (sym same) ∙ sym after in
     let now : next names w (Edited e) ≡ Some v = through (is_none (first_of (edit_rules w.edits e)) && edit_suits names w.edits e) (record w { edits = w.edits ++ e ∷ [] }) ok ∙ ap (λ (es : List Edit). Some (record w { edits = es })) last in
     let shows : Shows edits' actors ready v = record { edits_are = refl; actors_are = k.shows.actors_are; ready_are = k.shows.ready_are } in
-    pushed names edits edits' actors actors ready ready h made made' s (Edited e) v k sound now shows (omega (arith, count)) room k.few_actors (accept_more (length h) actors k.few_accepted)
+    pushed names edits edits' actors actors ready ready h made made' s (Edited e) v k sound tt now shows (omega (arith, count)) room k.few_actors (accept_more (length h) actors k.few_accepted)
 
 -- ---- how many edits there are
 

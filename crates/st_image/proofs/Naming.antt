@@ -28,6 +28,7 @@ more_kept names more edits actors ready h made s k =
         world = subst (IsWorld (names ++ more)) (sym m.1) (names_keep names more (world_of names h) k.world);
         counted = k.counted;
         numbers = k.numbers;
+        created = k.created;
         few_items = k.few_items;
         few_actors = k.few_actors;
         few_accepted = k.few_accepted;

@@ -15,7 +15,7 @@ use Rattle.st_image.specs.declared.items.Item.{Item}
 use Rattle.st_image.specs.declared.items.Item.TheVariants.{Edited, Created, Posted, Closed, Begun, Ran}
 use Rattle.st_image.specs.declared.settings.Settings.{Settings}
 use Rattle.st_turn.specs.Idling.{is_idle}
-use Rattle.st_image.specs.Worlds.{World, Being, start, pending}
+use Rattle.st_image.specs.Worlds.{World, Being, start, is_capacity, pending}
 use Rattle.st_image.specs.Posting.{post_rules}
 use Rattle.st_image.specs.Next.{replay}
 
@@ -57,7 +57,7 @@ appended i items = record i { history = i.history ++ items }
 
 -- the capacity is from 1 to 1,024, and the history from 1 to 1,000,000
 abbrev pub settings_rules : Settings → List Rule
-settings_rules s = (not (nat_le 1 s.capacity && nat_le s.capacity 1024) || not (nat_le 1 s.history && nat_le s.history 1000000), BadArguments) ∷ []
+settings_rules s = (not (is_capacity s.capacity) || not (nat_le 1 s.history && nat_le s.history 1000000), BadArguments) ∷ []
 
 -- no room for so many items more
 abbrev pub no_room : ImageView → ℕ → Rule

@@ -14,7 +14,7 @@ use Rattle.st_image.specs.Worlds.{World, start}
 use Rattle.st_image.specs.Next.{replay}
 use Rattle.st_image.specs.Images.{ImageView, world_of, world, edits_in}
 use Rattle.st_image.specs.Ready.{is_ready_at}
-use Rattle.st_image.specs.Lasting.{IsWorld}
+use Rattle.st_image.specs.Lasting.{AreSettings, HasCapacity, IsWorld}
 use Rattle.st_image.specs.Kepts.{Kept, kept_of, has}
 
 -- the class table, the actors and the ready ones are a world's
@@ -23,13 +23,6 @@ pub record Shows (edits : List Edit) (actors : List Kept) (ready : BTreeSet ℕ)
   pub actors_are : actors ≡ map kept_of w.actors
   pub ready_are : (a : ℕ) → has ready a ≡ is_ready_at w a
 
--- the numbers of a run are within their limits
-pub record AreSettings (s : Settings) : Type 0 where
-  pub some_capacity : 1 ≤ s.capacity
-  pub few_messages : s.capacity ≤ 1024
-  pub some_history : 1 ≤ s.history
-  pub few_items : s.history ≤ 1000000
-
 -- the history is lawful, what is kept is the world that it leads to, and all numbers are within their limits
 pub record IsImage (names : List (List ℕ)) (edits : List Edit) (actors : List Kept) (ready : BTreeSet ℕ) (history : List Item) (made : ℕ) (settings : Settings) : Type 0 where
   pub lawful : replay names start history ≡ Some (world_of names history)
@@ -37,6 +30,7 @@ pub record IsImage (names : List (List ℕ)) (edits : List Edit) (actors : List 
   pub world : IsWorld names (world_of names history)
   pub counted : made ≡ edits_in history
   pub numbers : AreSettings settings
+  pub created : All (HasCapacity settings.capacity) history
   pub few_items : length history ≤ settings.history
   pub few_actors : length actors ≤ 65536
   pub few_accepted : All (λ (k : Kept). k.accepted ≤ length history) actors

@@ -20,7 +20,7 @@ use Rattle.st_image.specs.declared.messages.Sender.TheVariants.{Client, Actor}
 use Rattle.st_image.specs.declared.items.Item.{Item}
 use Rattle.st_image.specs.declared.items.Item.TheVariants.{Edited, Created, Posted, Closed, Begun, Ran}
 use Rattle.st_turn.specs.Idling.{is_idle}
-use Rattle.st_image.specs.Worlds.{World, Being, pending, with_actor}
+use Rattle.st_image.specs.Worlds.{World, Being, is_capacity, pending, with_actor}
 use Rattle.st_image.specs.Posting.{post_rules}
 
 -- a world, under a condition
@@ -43,9 +43,9 @@ fresh_body edits c = record { objects = record { class = c; slots = replicate (l
 abbrev pub new_being : List Edit → ClassId → ℕ → Being
 new_being edits c capacity = record { class = c; capacity = capacity; is_open = true; body = fresh_body edits c; last = 0; accepted = []; begun = []; results = [] }
 
--- only Object and a user's classes have actors
+-- only Object and a user's classes have actors, and each mailbox has a capacity
 abbrev pub created : World → ClassId → ℕ → Option World
-created w c capacity = only_if (has_instances w.edits c) (record w { actors = w.actors ++ new_being w.edits c capacity ∷ [] })
+created w c capacity = only_if (has_instances w.edits c && is_capacity capacity) (record w { actors = w.actors ++ new_being w.edits c capacity ∷ [] })
 
 -- ---- a message goes last in what its actor accepted
 

@@ -1,5 +1,5 @@
 -- The world of an image: its class table, its actors with all that they accepted, and its clients.
-use Rattle.std.specs.Prelude.{ℕ, List, [], length, drop, Bool, true, slice_set}
+use Rattle.std.specs.Prelude.{ℕ, ◌&&◌, List, [], length, drop, Bool, true, nat_le, slice_set}
 use Rattle.st_classes.specs.declared.values.ClassId.{ClassId}
 use Rattle.st_classes.specs.declared.values.ActorId.{ActorId}
 use Rattle.st_classes.specs.declared.edits.Edit.{Edit}
@@ -23,6 +23,10 @@ pub record World : Type 0 where
   pub edits : List Edit
   pub actors : List Being
   pub clients : ℕ → ℕ
+
+-- the capacity of a mailbox: from 1 to 1,024 messages
+abbrev pub is_capacity : ℕ → Bool
+is_capacity n = nat_le 1 n && nat_le n 1024
 
 -- the messages that an actor accepted and has not begun
 abbrev pub pending : Being → List Message

@@ -5,6 +5,7 @@ pub mod KeepingMoves
 pub mod KeepingArrivals
 pub mod Keeping
 pub mod KeepingGrowth
+pub mod Leading
 pub mod Meets
 pub mod Stepping
 pub mod Flooring

@@ -16,7 +16,12 @@ use Rattle.st_image.specs.declared.items.Item.TheVariants.{Edited, Created, Post
 use Rattle.st_turn.specs.Idling.{is_idle}
 use Rattle.st_image.specs.Worlds.{World, Being, start, pending, with_actor}
 use Rattle.st_image.specs.Next.{next, replay, only_if, edited, created, new_being, posted_to, accepting, closed, begun_by, begun_at, beginning, ran, ran_at, steps}
-use Rattle.st_image.specs.Delivery.{IsPrefixOf, BeginsInOrder, OnlyGrow, Delivers}
+use Rattle.st_image.specs.Images.{ImageView, world}
+use Rattle.st_image.specs.Lasting.{IsLawful}
+use Rattle.st_image.specs.Delivery.{IsPrefixOf, BeginsInOrder, HasGrown, OnlyGrow, Delivers, HasDelivered}
+use Rattle.st_turn.specs.declared.body.Outcome.{Outcome}
+use Rattle.st_turn.specs.declared.body.Phase.{Phase}
+use Rattle.st_turn.specs.declared.body.Phase.TheVariants.{Fresh, Start, Frames, Done}
 use Rattle.st_image.proofs.Places.{same_or_not, at_all, get_set_same, get_set_other, get_left}
 use Rattle.st_image.proofs.Replays.{replay_append}
 
@@ -27,34 +32,44 @@ let_through false w v e = cc
 
 -- ---- prefixes
 
-pub prefix_refl : (xs : List Message) → IsPrefixOf xs xs
+pub prefix_refl : {X : Type 0} → (xs : List X) → IsPrefixOf xs xs
 prefix_refl xs = ([], sym (append-nil xs))
 
-pub prefix_more : (xs ys zs : List Message) → IsPrefixOf xs ys → IsPrefixOf ys zs → IsPrefixOf xs zs
-prefix_more xs ys zs p q = (p.0 ++ q.0, q.1 ∙ ap (λ (l : List Message). l ++ q.0) p.1 ∙ append_assoc xs p.0 q.0)
+pub prefix_more : {X : Type 0} → (xs ys zs : List X) → IsPrefixOf xs ys → IsPrefixOf ys zs → IsPrefixOf xs zs
+prefix_more xs ys zs p q = (p.0 ++ q.0, q.1 ∙ ap (λ (l : List _). l ++ q.0) p.1 ∙ append_assoc xs p.0 q.0)
 
 -- ---- what only grows
 
+grown_refl : (b : Being) → HasGrown b b
+grown_refl b = record { accepted = prefix_refl b.accepted; begun = prefix_refl b.begun; results = prefix_refl b.results }
+
+grown_more : (b c d : Being) → HasGrown b c → HasGrown c d → HasGrown b d
+grown_more b c d f g = record {
+  accepted = prefix_more b.accepted c.accepted d.accepted f.accepted g.accepted;
+  begun = prefix_more b.begun c.begun d.begun f.begun g.begun;
+  results = prefix_more b.results c.results d.results f.results g.results;
+}
+
 grow_refl : (xs : List Being) → OnlyGrow xs xs
-grow_refl xs = λ a b e. (b, e, prefix_refl b.accepted)
+grow_refl xs = λ a b e. (b, e, grown_refl b)
 
 grow_more : (xs ys zs : List Being) → OnlyGrow xs ys → OnlyGrow ys zs → OnlyGrow xs zs
-grow_more xs ys zs f g = λ a b e. let p = f a b e in let q = g a p.0 p.1 in (q.0, q.1, prefix_more b.accepted p.0.accepted q.0.accepted p.2 q.2)
+grow_more xs ys zs f g = λ a b e. let p = f a b e in let q = g a p.0 p.1 in (q.0, q.1, grown_more b p.0 q.0 p.2 q.2)
 
 grow_push : (xs : List Being) (c : Being) → OnlyGrow xs (xs ++ c ∷ [])
-grow_push xs c = λ a b e. (b, get_left xs (c ∷ []) a b e, prefix_refl b.accepted)
+grow_push xs c = λ a b e. (b, get_left xs (c ∷ []) a b e, grown_refl b)
 
-grow_set : (xs : List Being) (k : ℕ) (b c : Being) → slice_get xs k ≡ Some b → IsPrefixOf b.accepted c.accepted → OnlyGrow xs (slice_set xs k c)
+grow_set : (xs : List Being) (k : ℕ) (b c : Being) → slice_get xs k ≡ Some b → HasGrown b c → OnlyGrow xs (slice_set xs k c)
 grow_set xs k b c at p = λ a d e. elim (same_or_not a k) [
   | inl s ↦ let here : slice_get xs a ≡ Some b = subst (λ (n : ℕ). slice_get xs n ≡ Some b) (sym s) at in
       let same : b ≡ d = cc in
-      (c, subst (λ (n : ℕ). slice_get (slice_set xs k c) n ≡ Some c) (sym s) (get_set_same xs k b c at), subst (λ (x : Being). IsPrefixOf x.accepted c.accepted) same p)
-  | inr f ↦ (d, get_set_other xs a k d c f e, prefix_refl d.accepted)
+      (c, subst (λ (n : ℕ). slice_get (slice_set xs k c) n ≡ Some c) (sym s) (get_set_same xs k b c at), subst (λ (x : Being). HasGrown x c) same p)
+  | inr f ↦ (d, get_set_other xs a k d c f e, grown_refl d)
 ]
 
 -- ---- one item
 
--- an item keeps the order, and what was accepted
+-- an item keeps the order, and actors only grow
 pub record Keeps (w v : World) : Type 0 where
   pub begins : All BeginsInOrder w.actors → All BeginsInOrder v.actors
   pub grows : OnlyGrow w.actors v.actors
@@ -65,7 +80,7 @@ keeps_actors w v e = record {
   grows = subst (λ (xs : List Being). OnlyGrow w.actors xs) (sym e) (grow_refl w.actors);
 }
 
-keeps_set : (w : World) (a : ActorId) (b c : Being) (v : World) → slice_get w.actors a.0 ≡ Some b → (BeginsInOrder b → BeginsInOrder c) → IsPrefixOf b.accepted c.accepted → v.actors ≡ slice_set w.actors a.0 c → Keeps w v
+keeps_set : (w : World) (a : ActorId) (b c : Being) (v : World) → slice_get w.actors a.0 ≡ Some b → (BeginsInOrder b → BeginsInOrder c) → HasGrown b c → v.actors ≡ slice_set w.actors a.0 c → Keeps w v
 keeps_set w a b c v at f p e = record {
   begins = λ h. subst (λ (xs : List Being). All BeginsInOrder xs) (sym e) (All-set BeginsInOrder w.actors a.0 c (f (at_all BeginsInOrder w.actors a.0 b h at)) h);
   grows = subst (λ (xs : List Being). OnlyGrow w.actors xs) (sym e) (grow_set w.actors a.0 b c at p);
@@ -88,11 +103,11 @@ accepting_begins b m h = (h.0 ++ m ∷ [], ap (λ (l : List Message). l ++ m ∷
 
 keeps_posted : (names : List (List ℕ)) (w v : World) (a : ActorId) (m : Message) (o : Option Being) → slice_get w.actors a.0 ≡ o → posted_to names w a m o ≡ Some v → Keeps w v
 keeps_posted names w v a m None at h = cc
-keeps_posted names w v a m (Some b) at h = let t = let_through _ _ v h in keeps_set w a b (accepting b m) v at (accepting_begins b m) (m ∷ [], refl) (ap (λ (x : World). x.actors) (sym t.1))
+keeps_posted names w v a m (Some b) at h = let t = let_through _ _ v h in keeps_set w a b (accepting b m) v at (accepting_begins b m) (record { accepted = (m ∷ [], refl); begun = prefix_refl b.begun; results = prefix_refl b.results }) (ap (λ (x : World). x.actors) (sym t.1))
 
 keeps_closed : (w v : World) (a : ActorId) (o : Option Being) → slice_get w.actors a.0 ≡ o → closed w a o ≡ Some v → Keeps w v
 keeps_closed w v a None at h = cc
-keeps_closed w v a (Some b) at h = let t = let_through _ _ v h in keeps_set w a b (record b { is_open = false }) v at (λ p. p) (prefix_refl b.accepted) (ap (λ (x : World). x.actors) (sym t.1))
+keeps_closed w v a (Some b) at h = let t = let_through _ _ v h in keeps_set w a b (record b { is_open = false }) v at (λ p. p) (record { accepted = prefix_refl b.accepted; begun = prefix_refl b.begun; results = prefix_refl b.results }) (ap (λ (x : World). x.actors) (sym t.1))
 
 -- what was begun, and then the first that is pending
 pub beginning_begins : (b : Being) (m : Message) (ms : List Message) → pending b ≡ m ∷ ms → BeginsInOrder b → BeginsInOrder (beginning b m)
@@ -103,17 +118,23 @@ beginning_begins b m ms e h =
 
 keeps_begun_by : (w v : World) (a : ActorId) (b : Being) (ms : List Message) → slice_get w.actors a.0 ≡ Some b → pending b ≡ ms → begun_by w a b ms ≡ Some v → Keeps w v
 keeps_begun_by w v a b [] at e h = cc
-keeps_begun_by w v a b (m ∷ ms) at e h = let t = let_through _ _ v h in keeps_set w a b (beginning b m) v at (beginning_begins b m ms e) (prefix_refl b.accepted) (ap (λ (x : World). x.actors) (sym t.1))
+keeps_begun_by w v a b (m ∷ ms) at e h = let t = let_through _ _ v h in keeps_set w a b (beginning b m) v at (beginning_begins b m ms e) (record { accepted = prefix_refl b.accepted; begun = (m ∷ [], refl); results = prefix_refl b.results }) (ap (λ (x : World). x.actors) (sym t.1))
 
 keeps_begun : (w v : World) (a : ActorId) (o : Option Being) → slice_get w.actors a.0 ≡ o → begun_at w a o ≡ Some v → Keeps w v
 keeps_begun w v a None at h = cc
 keeps_begun w v a (Some b) at h = keeps_begun_by w v a b (pending b) at refl h
 
+results_grow : (phase : Phase) (results : List Outcome) → IsPrefixOf results (with_result phase results)
+results_grow Fresh results = prefix_refl results
+results_grow (Start s args) results = prefix_refl results
+results_grow (Frames fs) results = prefix_refl results
+results_grow (Done outcome) results = (outcome ∷ [], refl)
+
 keeps_ran_to : (w v : World) (a : ActorId) (b : Being) (o : Option Body) → slice_get w.actors a.0 ≡ Some b → ran w a b o ≡ Some v → Keeps w v
 keeps_ran_to w v a b None at h = cc
 keeps_ran_to w v a b (Some body) at h =
     let t : with_actor w a (record b { body = body; results = with_result body.phase b.results }) ≡ v = cc in
-    keeps_set w a b (record b { body = body; results = with_result body.phase b.results }) v at (λ p. p) (prefix_refl b.accepted) (ap (λ (x : World). x.actors) (sym t))
+    keeps_set w a b (record b { body = body; results = with_result body.phase b.results }) v at (λ p. p) (record { accepted = prefix_refl b.accepted; begun = prefix_refl b.begun; results = results_grow body.phase b.results }) (ap (λ (x : World). x.actors) (sym t))
 
 keeps_ran_some : (w v : World) (a : ActorId) (n : ℕ) (b : Being) (c : Bool) → slice_get w.actors a.0 ≡ Some b → cond c (ran w a b (steps w.edits a n b.body)) None ≡ Some v → Keeps w v
 keeps_ran_some w v a n b true at h = keeps_ran_to w v a b (steps w.edits a n b.body) at h
@@ -155,3 +176,16 @@ delivers names first later v w f h =
     let two : Keeps v w = replay_keeps_order names v w later rest in
     let all : All BeginsInOrder v.actors = one.begins (All-nil BeginsInOrder) in
     (all, two.begins all, two.grows)
+
+-- the first items of a lawful history are a lawful history
+first_lawful : (names : List (List ℕ)) (later : List Item) (w : World) (o p : Option World) → p ≡ o → option_and_then (λ v. replay names v later) o ≡ Some w → (v : World) × (p ≡ Some v)
+first_lawful names later w None p e h = cc
+first_lawful names later w (Some v) p e h = (v, e)
+
+-- delivery in an image
+pub has_delivered : (i : ImageView) → IsLawful i → HasDelivered i
+has_delivered i h first later e =
+    let whole : replay i.names start (first ++ later) ≡ Some (world i) = subst (λ (is : List Item). replay i.names start is ≡ Some (world i)) e h.lawful in
+    let f = first_lawful i.names later (world i) (replay i.names start first) (replay i.names start first) refl (sym (replay_append i.names start first later) ∙ whole) in
+    let d = delivers i.names first later f.0 (world i) f.1 whole in
+    (f.0, f.1, d.0, d.2)

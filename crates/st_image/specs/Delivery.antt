@@ -1,22 +1,32 @@
--- Delivery: what an actor has begun is a prefix of what its mailbox accepted, and what it accepted only grows.
+-- Delivery: what an actor has begun is a prefix of what its mailbox accepted, and what it accepted, began and answered only grows.
 use Rattle.std.specs.Prelude.{◌≡◌, ℕ, List, ◌++◌, Option, Some, slice_get, All}
-use Rattle.st_image.specs.declared.messages.Message.{Message}
 use Rattle.st_image.specs.declared.items.Item.{Item}
 use Rattle.st_image.specs.Worlds.{World, Being, start}
 use Rattle.st_image.specs.Next.{replay}
+use Rattle.st_image.specs.Images.{ImageView, world}
 
--- all the messages begin with some
-abbrev pub IsPrefixOf : List Message → List Message → Type 0
-IsPrefixOf some all = (rest : List Message) × (all ≡ some ++ rest)
+-- a list begins with another
+abbrev pub IsPrefixOf : {X : Type 0} → List X → List X → Type 0
+IsPrefixOf {X} some all = (rest : List X) × (all ≡ some ++ rest)
 
 -- what the actor has begun is a prefix of what it accepted
 abbrev pub BeginsInOrder : Being → Type 0
 BeginsInOrder b = IsPrefixOf b.begun b.accepted
 
--- the actors of one list are in the other, where they have accepted what they had, and perhaps more
+-- an actor has accepted and begun what it had, and perhaps more, and its turns have ended as they had
+pub record HasGrown (b c : Being) : Type 0 where
+  pub accepted : IsPrefixOf b.accepted c.accepted
+  pub begun : IsPrefixOf b.begun c.begun
+  pub results : IsPrefixOf b.results c.results
+
+-- the actors of one list are in the other, and have only grown
 abbrev pub OnlyGrow : List Being → List Being → Type 0
-OnlyGrow actors later = (a : ℕ) (b : Being) → slice_get actors a ≡ Some b → (c : Being) × (slice_get later a ≡ Some c) × IsPrefixOf b.accepted c.accepted
+OnlyGrow actors later = (a : ℕ) (b : Being) → slice_get actors a ≡ Some b → (c : Being) × (slice_get later a ≡ Some c) × HasGrown b c
 
 -- over each prefix of a lawful history
 abbrev pub Delivers : Type 0
 Delivers = (names : List (List ℕ)) (first later : List Item) (v w : World) → replay names start first ≡ Some v → replay names start (first ++ later) ≡ Some w → All BeginsInOrder v.actors × All BeginsInOrder w.actors × OnlyGrow v.actors w.actors
+
+-- over each prefix of an image's own history
+abbrev pub HasDelivered : ImageView → Type 0
+HasDelivered i = (first later : List Item) → i.history ≡ first ++ later → (v : World) × (replay i.names start first ≡ Some v) × All BeginsInOrder v.actors × OnlyGrow v.actors (world i).actors

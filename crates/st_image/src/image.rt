@@ -29,8 +29,8 @@ fn kept_at(actors: &Vec<Actor>, actor: ActorId) -> Option<&Actor>
     actors.get(actor.0 as usize)
 }
 
-/// Whatever happens, the messages that an actor has begun are the first ones that its mailbox accepted, in their order, and
-/// what a mailbox accepted stays accepted.
+/// Whatever happens, the messages that an actor has begun are the first ones that its mailbox accepted, in their order; what a
+/// mailbox accepted stays accepted, what an actor began stays begun, and how its turns ended stays so.
 pub fn delivery()
     ensures { Delivers }
 {}
@@ -72,6 +72,7 @@ impl Image {
     ghost use Rattle.st_image.specs.declared.items.Item.TheVariants.{Created as CreatedItem};
     ghost use Rattle.st_image.specs.Images.{appended, create_rules, new_image, no_room, outcome_at, settings_rules, world};
     ghost use Rattle.st_image.specs.Ready.{IsNextReady, is_ready_at};
+    ghost use Rattle.st_image.specs.Delivery.{HasDelivered};
     ghost use Rattle.st_image.specs.Lasting.{IsLawful};
 
     /// An image with the kernel's names and classes, no actors and no history.
@@ -120,6 +121,13 @@ impl Image {
         ensures { IsLawful self.now }
     {
         let _ = &self.names;
+    }
+
+    /// That so it was in this image, since each prefix of its history.
+    pub fn delivered(&self)
+        ensures { HasDelivered self.now }
+    {
+        self.known();
     }
 
     /// All that happened, in order.

@@ -70,9 +70,9 @@ abbrev pub version_or_refused : Result ℕ Refusal → Reply
 version_or_refused (Ok n) = reply.Version n
 version_or_refused (Err e) = reply.Refused e
 
--- the image's answer to an install; a refused one adds names alone
+-- the image's answer to an install; a refused one adds names alone, at the same world
 abbrev pub InstallsMethod : ImageView → List ℕ → Reply → ImageView → ClassId → Type 0
-InstallsMethod i source r j c = (result : Result ℕ Refusal) × (r ≡ version_or_refused result) × AnswersInstall i c source j result × IfErr result (λ e. LeavesNames i c source e j)
+InstallsMethod i source r j c = (result : Result ℕ Refusal) × (r ≡ version_or_refused result) × AnswersInstall i c source j result × IfErr result (λ e. LeavesNames i c source e j × (world j ≡ world i))
 
 -- ---- a run: so long as quanta are left and an actor is ready, the next ready one takes up to so many steps
 

@@ -12,7 +12,7 @@ use st_reader::trees::MethodTree;
 use std::alloc::Global;
 
 impl Image {
-    ghost use Rattle.std.specs.Prelude.{◌≡◌, true, false, OnOk, IfErr};
+    ghost use Rattle.std.specs.Prelude.{◌≡◌, true, false, OnOk, OnErr, IfErr};
     ghost use Rattle.st_classes.specs.declared.refusals.Refusal.TheVariants.{KernelMethod};
     ghost use Rattle.st_classes.specs.Refusals.{first_of, Answers};
     ghost use Rattle.st_classes.specs.Classes.{is_class, slots};
@@ -69,6 +69,7 @@ impl Image {
         ensures answers { Answers (first_of (install_rules self.old class tree.now)) result
             (λ n. Installs self.old class tree.now source self.new n) }
         ensures refused { IfErr result (λ e. LeavesNames self.old class source e self.new) }
+        ensures world { OnErr result (world self.new ≡ world self.old) }
     {
         if self.has_kernel_method(class, tree.selector.text.as_slice()) {
             return Err(Refusal::KernelMethod);
@@ -90,6 +91,7 @@ impl Image {
     pub fn install(&mut self, alloc: Global, class: ClassId, source: &[u8]) -> Result<u32, Refusal>
         ensures answers { AnswersInstall self.old class source.now self.new result }
         ensures refused { IfErr result (λ e. LeavesNames self.old class source.now e self.new) }
+        ensures world { OnErr result (world self.new ≡ world self.old) }
     {
         if !self.version.is_class(class) {
             return Err(Refusal::UnknownClass);

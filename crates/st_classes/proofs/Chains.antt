@@ -4,8 +4,7 @@ use Rattle.std.specs.List.{flat_map}
 use Rattle.std.proofs.lemmas.Grind.{reverse_onto, flat_map-append}
 use Rattle.std.proofs.lemmas.Option.{option_and_then_some, slice_get_within}
 use Rattle.st_classes.specs.declared.values.ClassId.{ClassId}
-use Rattle.st_classes.specs.Classes.{ClassDef, parent_in, chain_of, own_slots}
-use Rattle.st_classes.specs.Tables.{IsForest}
+use Rattle.st_classes.specs.Classes.{IsForest, ClassDef, parent_in, chain_of, own_slots}
 
 pub slice_get_old : {X : Type 0} (xs ys : List X) (i : ℕ) → i < length xs → slice_get (xs ++ ys) i ≡ slice_get xs i
 slice_get_old [] ys i h = absurd (omega (arith, h))

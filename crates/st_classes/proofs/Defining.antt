@@ -14,10 +14,10 @@ use Rattle.st_classes.specs.declared.class_rows.ClassRow.{ClassRow}
 use Rattle.st_classes.specs.Kernel.{class, kernel_method}
 use Rattle.st_classes.specs.Refusals.{first_of}
 use Rattle.st_classes.specs.Accepting.{define_rules}
-use Rattle.st_classes.specs.Classes.{ClassDef, classes, class_count, class_named, is_class, chain, own_slots, parent_in, chain_of}
+use Rattle.st_classes.specs.Classes.{IsForest, ClassDef, classes, class_count, class_named, is_class, chain, own_slots, parent_in, chain_of}
 use Rattle.st_classes.specs.Walks.{or_else}
 use Rattle.st_classes.specs.ClassRows.{IsRow, IsUnder, row_method}
-use Rattle.st_classes.specs.Tables.{IsForest, IsKept, AreRows}
+use Rattle.st_classes.specs.Tables.{IsKept, AreRows}
 use Rattle.st_classes.proofs.Chains.{slice_get_push, slice_get_old, slice_get_last, forest_push, chain_old, chain_new, slots_old, slots_new}
 use Rattle.st_classes.proofs.Growing.{classes_push, own_push, lawful_push, few_push, NoneApply, none_apply}
 

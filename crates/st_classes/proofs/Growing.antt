@@ -19,11 +19,11 @@ use Rattle.st_classes.specs.declared.class_rows.ClassRow.{ClassRow}
 use Rattle.st_classes.specs.Kernel.{class, kernel_method}
 use Rattle.st_classes.specs.Refusals.{Rule, first_of}
 use Rattle.st_classes.specs.Accepting.{edit_rules}
-use Rattle.st_classes.specs.Classes.{ClassDef, kernel_classes, defined, classes, class_count, is_class, own_slots, parent_in, chain_of}
+use Rattle.st_classes.specs.Classes.{IsForest, ClassDef, kernel_classes, defined, classes, class_count, is_class, own_slots, parent_in, chain_of}
 use Rattle.st_classes.specs.Walks.{own, own_from, decided, is_at, or_else}
 use Rattle.st_classes.specs.Lawful.{AreLawful}
 use Rattle.st_classes.specs.ClassRows.{IsRow, Puts, row_method, row_own}
-use Rattle.st_classes.specs.Tables.{IsForest, IsKept, AreRows, IsAt}
+use Rattle.st_classes.specs.Tables.{IsKept, AreRows, IsAt}
 use Rattle.st_classes.proofs.Chains.{slice_get_push}
 
 -- ---- the classes and the own methods of one edit more

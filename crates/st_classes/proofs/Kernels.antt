@@ -8,10 +8,10 @@ use Rattle.st_classes.specs.declared.values.MethodId.{MethodId}
 use Rattle.st_classes.specs.Walks.{or_else}
 use Rattle.st_classes.specs.declared.class_rows.ClassRow.{ClassRow}
 use Rattle.st_classes.specs.Kernel.{class, kernel_method}
-use Rattle.st_classes.specs.Classes.{ClassDef, kernel_classes, slots, parent_in, chain_of}
+use Rattle.st_classes.specs.Classes.{IsForest, ClassDef, kernel_classes, slots, parent_in, chain_of}
 use Rattle.st_classes.specs.ClassRows.{IsRow, IsPlain, row_method}
 use Rattle.st_classes.specs.Lawful.{AllSound}
-use Rattle.st_classes.specs.Tables.{IsForest, IsKept, AreRows}
+use Rattle.st_classes.specs.Tables.{IsKept, AreRows}
 use Rattle.st_classes.proofs.Defining.{kernel_none}
 
 kernel_parent : (n : ℕ) (p : ClassId) → parent_in kernel_classes (class n) ≡ Some p → (p ≡ class 0) × (chain_of kernel_classes 64 (Some (class n)) ≡ class n ∷ chain_of kernel_classes 64 (Some (class 0)))

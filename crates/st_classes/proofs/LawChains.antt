@@ -10,15 +10,10 @@ use Rattle.st_classes.specs.declared.edits.Edit.TheVariants.{Define, Install, Re
 use Rattle.st_classes.specs.declared.refusals.Refusal.TheVariants.{UnknownClass, TooDeep}
 use Rattle.st_classes.specs.Refusals.{first_of}
 use Rattle.st_classes.specs.Kernel.{class}
-use Rattle.st_classes.specs.Classes.{ClassDef, kernel_classes, defined, classes, class_count, is_class, parent, parent_in, chain_of, chain, own_slots, slots}
+use Rattle.st_classes.specs.Classes.{IsForest, ClassDef, kernel_classes, defined, classes, class_count, is_class, parent, parent_in, chain_of, chain, own_slots, slots}
 use Rattle.st_classes.specs.Accepting.{is_closed, edit_rules}
 use Rattle.st_classes.specs.Lawful.{AreLawful}
 use Rattle.st_classes.proofs.LawLists.{slice_get_old, slice_get_push, take_at_place, no_rule}
-
--- each superclass is a class, and its chain is the rest of the chain
-pub record IsGrounded (cs : List ClassDef) : Type 0 where
-  pub closed : (c p : ClassId) → parent_in cs c ≡ Some p → p.0 < length cs
-  pub chains : (c p : ClassId) → parent_in cs c ≡ Some p → chain_of cs 64 (Some c) ≡ c ∷ chain_of cs 64 (Some p)
 
 -- a chain that ends within its bound is whole
 pub chain_whole : (cs : List ClassDef) (n : ℕ) (o : Option ClassId) → length (chain_of cs (suc n) o) ≤ n → chain_of cs n o ≡ chain_of cs (suc n) o
@@ -36,20 +31,20 @@ chain_of_old cs ds f zero o h = refl
 chain_of_old cs ds f (suc n) None h = refl
 chain_of_old cs ds f (suc n) (Some c) h = ap (λ (xs : List ClassId). c ∷ xs) (ap (chain_of (cs ++ ds) n) (parent_of_old cs ds c (h c refl)) ∙ chain_of_old cs ds f n (parent_in cs c) (λ p e. f c p e))
 
-pub chain_of_some : (cs ds : List ClassDef) → IsGrounded cs → (n : ℕ) (c : ClassId) → c.0 < length cs → chain_of (cs ++ ds) n (Some c) ≡ chain_of cs n (Some c)
+pub chain_of_some : (cs ds : List ClassDef) → IsForest cs → (n : ℕ) (c : ClassId) → c.0 < length cs → chain_of (cs ++ ds) n (Some c) ≡ chain_of cs n (Some c)
 chain_of_some cs ds g n c h = chain_of_old cs ds g.closed n (Some c) (λ d e. let s : c ≡ d = cc in subst (λ (x : ClassId). x.0 < length cs) s h)
 
 -- the superclass in a list with one class more
 parent_in_push : (cs : List ClassDef) (d : ClassDef) (c p : ClassId) → parent_in (cs ++ d ∷ []) c ≡ Some p → ((c.0 < length cs) × (parent_in cs c ≡ Some p)) ⊎ ((c.0 ≡ length cs) × (d.parent ≡ Some p))
 parent_in_push cs d c p e = option_and_then_some (λ (x : ClassDef). x.parent) (slice_get (cs ++ d ∷ []) c.0) p e (λ x at up. elim (slice_get_push cs d x c.0 at) [ inl w ↦ inl (w.0, ap (option_and_then (λ (y : ClassDef). y.parent)) w.1 ∙ up) | inr w ↦ inr (w.0, ap (λ (y : ClassDef). y.parent) w.1 ∙ up) ])
 
-new_chain : (cs : List ClassDef) (d : ClassDef) (c p : ClassId) → IsGrounded cs → p.0 < length cs → length (chain_of cs 64 (Some p)) < 64 → parent_in (cs ++ d ∷ []) c ≡ Some p → chain_of (cs ++ d ∷ []) 64 (Some c) ≡ c ∷ chain_of (cs ++ d ∷ []) 64 (Some p)
+new_chain : (cs : List ClassDef) (d : ClassDef) (c p : ClassId) → IsForest cs → p.0 < length cs → length (chain_of cs 64 (Some p)) < 64 → parent_in (cs ++ d ∷ []) c ≡ Some p → chain_of (cs ++ d ∷ []) 64 (Some c) ≡ c ∷ chain_of (cs ++ d ∷ []) 64 (Some p)
 new_chain cs d c p g here short e =
     ap (λ (o : Option ClassId). c ∷ chain_of (cs ++ d ∷ []) 63 o) e
     ∙ ap (λ (xs : List ClassId). c ∷ xs) (chain_of_some cs (d ∷ []) g 63 p here ∙ chain_whole cs 63 (Some p) (omega (arith, short)) ∙ sym (chain_of_some cs (d ∷ []) g 64 p here))
 
-pub grounded_push : (cs : List ClassDef) (d : ClassDef) (p : ClassId) → IsGrounded cs → d.parent ≡ Some p → p.0 < length cs → length (chain_of cs 64 (Some p)) < 64 → IsGrounded (cs ++ d ∷ [])
-grounded_push cs d p g up here short = record {
+pub forest_push : (cs : List ClassDef) (d : ClassDef) (p : ClassId) → IsForest cs → d.parent ≡ Some p → p.0 < length cs → length (chain_of cs 64 (Some p)) < 64 → IsForest (cs ++ d ∷ [])
+forest_push cs d p g up here short = record {
   closed = λ c q e. elim (parent_in_push cs d c q e) [ inl w ↦ omega (arith, g.closed c q w.1, length-append cs (d ∷ [])) | inr w ↦ let s : p ≡ q = cc in subst (λ (x : ClassId). x.0 < length (cs ++ d ∷ [])) s (omega (arith, here, length-append cs (d ∷ []))) ];
   chains = λ c q e. elim (parent_in_push cs d c q e) [ inl w ↦ chain_of_some cs (d ∷ []) g 64 c w.0 ∙ g.chains c q w.1 ∙ ap (λ (xs : List ClassId). c ∷ xs) (sym (chain_of_some cs (d ∷ []) g 64 q (g.closed c q w.1))) | inr w ↦ let s : p ≡ q = cc in new_chain cs d c q g (subst (λ (x : ClassId). x.0 < length cs) s here) (subst (λ (x : ClassId). length (chain_of cs 64 (Some x)) < 64) s short) e ];
 }
@@ -66,8 +61,8 @@ above_kernel (suc (suc (suc (suc (suc (suc zero)))))) p e = cc
 above_kernel (suc (suc (suc (suc (suc (suc (suc zero))))))) p e = cc
 above_kernel (suc (suc (suc (suc (suc (suc (suc (suc n)))))))) p e = cc
 
-kernel_grounded : IsGrounded kernel_classes
-kernel_grounded = record {
+kernel_forest : IsForest kernel_classes
+kernel_forest = record {
   closed = λ c p e. subst (λ (x : ClassId). x.0 < length kernel_classes) (above_kernel c.0 p e) (omega arith);
   chains = λ c p e. ap (λ (o : Option ClassId). c ∷ chain_of kernel_classes 63 o) e ∙ subst (λ (x : ClassId). ◌≡◌ {A = List ClassId} (c ∷ chain_of kernel_classes 63 (Some x)) (c ∷ chain_of kernel_classes 64 (Some x))) (above_kernel c.0 p e) refl;
 }
@@ -89,24 +84,24 @@ accepted_parent es name up added h = (
   leb-false 64 (length (chain es up)) (no_rule (edit_rules es (Define name up added)) 5 (nat_le 64 (length (chain es up)), TooDeep) h refl),
 )
 
--- an accepted edit leaves the classes grounded
-pub grounded_after : (es : List Edit) (e : Edit) → IsGrounded (classes es) → first_of (edit_rules es e) ≡ None → IsGrounded (classes (es ++ e ∷ []))
-grounded_after es (Define name up added) g h =
+-- an accepted edit leaves the classes a forest
+pub forest_after : (es : List Edit) (e : Edit) → IsForest (classes es) → first_of (edit_rules es e) ≡ None → IsForest (classes (es ++ e ∷ []))
+forest_after es (Define name up added) g h =
     let a = accepted_parent es name up added h in
-    subst IsGrounded (sym (classes_append es (Define name up added ∷ []))) (grounded_push (classes es) (record { name = name; parent = Some up; slots = added }) up g refl a.0 a.1)
-grounded_after es (Install c m) g h = subst IsGrounded (sym (classes_append es (Install c m ∷ []) ∙ append-nil (classes es))) g
-grounded_after es (Remove c s) g h = subst IsGrounded (sym (classes_append es (Remove c s ∷ []) ∙ append-nil (classes es))) g
+    subst IsForest (sym (classes_append es (Define name up added ∷ []))) (forest_push (classes es) (record { name = name; parent = Some up; slots = added }) up g refl a.0 a.1)
+forest_after es (Install c m) g h = subst IsForest (sym (classes_append es (Install c m ∷ []) ∙ append-nil (classes es))) g
+forest_after es (Remove c s) g h = subst IsForest (sym (classes_append es (Remove c s ∷ []) ∙ append-nil (classes es))) g
 
-grounded_take : (edits : List Edit) → AreLawful edits → (n : ℕ) → n ≤ length edits → IsGrounded (classes (take n edits))
-grounded_take edits l zero h = kernel_grounded
-grounded_take [] l (suc n) h = absurd (omega (arith, h))
-grounded_take (d ∷ edits) l (suc n) h =
+forest_take : (edits : List Edit) → AreLawful edits → (n : ℕ) → n ≤ length edits → IsForest (classes (take n edits))
+forest_take edits l zero h = kernel_forest
+forest_take [] l (suc n) h = absurd (omega (arith, h))
+forest_take (d ∷ edits) l (suc n) h =
     let e = slice_get-get_or (d ∷ edits) n d (omega (arith, h)) in
-    subst (λ (es : List Edit). IsGrounded (classes es)) (sym (take_at_place (d ∷ edits) n _ e)) (grounded_after (take n (d ∷ edits)) _ (grounded_take (d ∷ edits) l n (omega (arith, h))) (l n _ e))
+    subst (λ (es : List Edit). IsForest (classes es)) (sym (take_at_place (d ∷ edits) n _ e)) (forest_after (take n (d ∷ edits)) _ (forest_take (d ∷ edits) l n (omega (arith, h))) (l n _ e))
 
 -- in lawful edits each superclass is a class, and its chain is the rest of the chain
-pub grounded : (edits : List Edit) → AreLawful edits → IsGrounded (classes edits)
-grounded edits l = subst (λ (es : List Edit). IsGrounded (classes es)) (take_all (length edits) edits (le_refl (length edits))) (grounded_take edits l (length edits) (le_refl (length edits)))
+pub forest : (edits : List Edit) → AreLawful edits → IsForest (classes edits)
+forest edits l = subst (λ (es : List Edit). IsForest (classes es)) (take_all (length edits) edits (le_refl (length edits))) (forest_take edits l (length edits) (le_refl (length edits)))
 
 -- ---- instance variables along a chain
 
@@ -117,10 +112,10 @@ pub slots_more : (cs : List ClassDef) (c : ClassId) (xs : List ClassId) → flat
 slots_more cs c xs = ap (flat_map (own_slots cs)) (reverse_cons c xs) ∙ flat_map-append (own_slots cs) (reverse xs) (c ∷ []) ∙ ap (λ (ys : List (List ℕ)). flat_map (own_slots cs) (reverse xs) ++ ys) (append-nil (own_slots cs c))
 
 pub chain_above : (edits : List Edit) (c p : ClassId) → AreLawful edits → parent edits c ≡ Some p → chain edits c ≡ c ∷ chain edits p
-chain_above edits c p l e = (grounded edits l).chains c p e
+chain_above edits c p l e = (forest edits l).chains c p e
 
 pub parent_is_class : (edits : List Edit) (c p : ClassId) → AreLawful edits → parent edits c ≡ Some p → p.0 < class_count edits
-parent_is_class edits c p l e = (grounded edits l).closed c p e
+parent_is_class edits c p l e = (forest edits l).closed c p e
 
 pub chain_at_top : (edits : List Edit) (c : ClassId) → parent edits c ≡ None → chain edits c ≡ c ∷ []
 chain_at_top edits c e = ap (λ (o : Option ClassId). c ∷ chain_of (classes edits) 63 o) e

@@ -16,14 +16,14 @@ use Rattle.st_classes.specs.declared.edits.Edit.TheVariants.{Install}
 use Rattle.st_classes.specs.declared.refusals.Refusal.TheVariants.{UnknownClass}
 use Rattle.st_classes.specs.Refusals.{first_of}
 use Rattle.st_classes.specs.Kernel.{class, kernel_selectors, does_not_understand}
-use Rattle.st_classes.specs.Classes.{ClassDef, defined, classes, class_count, is_class, parent_in, chain_of, own_slots, slots}
+use Rattle.st_classes.specs.Classes.{IsForest, ClassDef, defined, classes, class_count, is_class, parent_in, chain_of, own_slots, slots}
 use Rattle.st_classes.specs.Accepting.{edit_rules}
 use Rattle.st_classes.specs.Selectors.{arity_of}
 use Rattle.st_classes.specs.Suiting.{arity_at, is_number, literal_suits, instruction_suits, suits, edit_suits}
 use Rattle.st_classes.specs.Methods.{IsSound}
 use Rattle.st_classes.specs.Lawful.{AreLawful, AllSuit, AllSound, method_in, method_at}
 use Rattle.st_classes.proofs.LawLists.{slice_get_old, slice_get_push, slice_get_kept, take_old, take_whole, no_rule}
-use Rattle.st_classes.proofs.LawChains.{IsGrounded, grounded, chain_of_some, classes_append, slots_more}
+use Rattle.st_classes.proofs.LawChains.{forest, chain_of_some, classes_append, slots_more}
 
 -- ---- classes
 
@@ -54,12 +54,12 @@ slots_along_old cs ds f (suc n) (Some c) h =
     ∙ ap₂ (λ (xs ys : List (List ℕ)). xs ++ ys) (slots_along_old cs ds f n (parent_in cs c) (λ p e. f c p e)) (own_slots_old cs ds c.0 (h c refl))
     ∙ sym (slots_more cs c (chain_of cs n (parent_in cs c)))
 
-slots_in_old : (cs ds : List ClassDef) (c : ClassId) → IsGrounded cs → c.0 < length cs → flat_map (own_slots (cs ++ ds)) (reverse (chain_of (cs ++ ds) 64 (Some c))) ≡ flat_map (own_slots cs) (reverse (chain_of cs 64 (Some c)))
+slots_in_old : (cs ds : List ClassDef) (c : ClassId) → IsForest cs → c.0 < length cs → flat_map (own_slots (cs ++ ds)) (reverse (chain_of (cs ++ ds) 64 (Some c))) ≡ flat_map (own_slots cs) (reverse (chain_of cs 64 (Some c)))
 slots_in_old cs ds c g h = ap (λ (xs : List ClassId). flat_map (own_slots (cs ++ ds)) (reverse xs)) (chain_of_some cs ds g 64 c h) ∙ slots_along_old cs ds g.closed 64 (Some c) (λ d e. let s : c ≡ d = cc in subst (λ (x : ClassId). x.0 < length cs) s h)
 
 -- the instance variables of a class stay
 pub slots_stay : (edits more : List Edit) (c : ClassId) → AreLawful edits → c.0 < class_count edits → slots (edits ++ more) c ≡ slots edits c
-slots_stay edits more c l h = ap (λ (cs : List ClassDef). flat_map (own_slots cs) (reverse (chain_of cs 64 (Some c)))) (classes_append edits more) ∙ slots_in_old (classes edits) (defined more) c (grounded edits l) h
+slots_stay edits more c l h = ap (λ (cs : List ClassDef). flat_map (own_slots cs) (reverse (chain_of cs 64 (Some c)))) (classes_append edits more) ∙ slots_in_old (classes edits) (defined more) c (forest edits l) h
 
 -- the methods of a table stay
 pub method_stays : (edits more : List Edit) (m : MethodId) (p : MethodParts) → method_at edits m ≡ Some p → method_at (edits ++ more) m ≡ Some p

@@ -1,5 +1,5 @@
 -- The classes that a list of edits gives.
-use Rattle.std.specs.Prelude.{ℕ, List, [], ◌∷◌, ◌++◌, length, reverse, Bool, Option, Some, None, slice_get, zero, suc, nat_lt, option_map, option_and_then, position, codes}
+use Rattle.std.specs.Prelude.{◌≡◌, ◌<◌, ℕ, List, [], ◌∷◌, ◌++◌, length, reverse, Bool, Option, Some, None, slice_get, zero, suc, nat_lt, option_map, option_and_then, position, codes}
 use Rattle.std.specs.List.{flat_map}
 use Rattle.std.specs.Str.{bytes_eq}
 use Rattle.st_classes.specs.declared.values.ClassId.{ClassId}
@@ -54,9 +54,14 @@ chain_of cs zero o = []
 chain_of cs (suc n) None = []
 chain_of cs (suc n) (Some c) = c ∷ chain_of cs n (parent_in cs c)
 
--- a class, its superclass, and so on to Object. No chain has over 64 classes
+-- a class, its superclass, and so on to Object
 abbrev pub chain : List Edit → ClassId → List ClassId
 chain edits c = chain_of (classes edits) 64 (Some c)
+
+-- each superclass is a class, and the chain of a class is the class and its superclass's chain: no chain is cut off at 64 classes
+pub record IsForest (cs : List ClassDef) : Type 0 where
+  pub closed : (c p : ClassId) → parent_in cs c ≡ Some p → p.0 < length cs
+  pub chains : (c p : ClassId) → parent_in cs c ≡ Some p → chain_of cs 64 (Some c) ≡ c ∷ chain_of cs 64 (Some p)
 
 -- the instance variables that a class adds
 abbrev pub own_slots : List ClassDef → ClassId → List (List ℕ)

@@ -1,4 +1,4 @@
--- The lists of edits that a class table can have.
+-- Lists of edits that were accepted, and whose methods suit and are sound.
 use Rattle.std.specs.Prelude.{◌≡◌, ℕ, List, true, Option, Some, None, slice_get, take, option_and_then}
 use Rattle.st_classes.specs.declared.values.ClassId.{ClassId}
 use Rattle.st_classes.specs.declared.values.MethodId.{MethodId}

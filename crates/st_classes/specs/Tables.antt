@@ -8,16 +8,11 @@ use Rattle.st_classes.specs.Kernel.{class}
 use Rattle.st_classes.specs.declared.values.MethodId.{MethodId}
 use Rattle.st_classes.specs.declared.kernel.Found.{Found}
 use Rattle.st_classes.specs.declared.kernel.Found.TheVariants.{User}
-use Rattle.st_classes.specs.Classes.{ClassDef, defined, classes, class_count, parent_in, chain_of, class_named}
+use Rattle.st_classes.specs.Classes.{defined, classes, class_count, IsForest, class_named}
 use Rattle.st_classes.specs.Walks.{own, decided, is_at}
 use Rattle.st_classes.specs.Lawful.{AreLawful, AllSound}
 use Rattle.st_classes.specs.ClassRows.{IsRow}
 use Rattle.st_classes.specs.ClassIndexes.{Naming, named_in}
-
--- each superclass is a class, and its chain is the rest of the chain
-pub record IsForest (cs : List ClassDef) : Type 0 where
-  pub closed : (c p : ClassId) → parent_in cs c ≡ Some p → p.0 < length cs
-  pub chains : (c p : ClassId) → parent_in cs c ≡ Some p → chain_of cs 64 (Some c) ≡ c ∷ chain_of cs 64 (Some p)
 
 -- a row for each class, with what the edits say of it
 pub record AreRows (edits : List Edit) (rows : List ClassRow) : Type 0 where

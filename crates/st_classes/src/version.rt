@@ -14,7 +14,9 @@ ghost use Rattle.st_classes.specs.Classes.{
   class_count,
   class_name,
   class_named,
+  classes,
   defined,
+  IsForest,
   is_class,
   parent,
   slots,
@@ -80,12 +82,13 @@ impl Version {
         let _ = &self.edits;
     }
 
-    /// What callers may know of every class table: each edit was accepted after those before it, its methods are sound, and the
-    /// limits hold.
+    /// What callers may know of every class table: each edit was accepted after those before it, its methods are sound, no chain
+    /// has over 64 classes, and the limits hold.
     #[inline]
     pub fn known(&self)
         ensures lawful { AreLawful self.now }
         ensures sound { AllSound self.now }
+        ensures forest { IsForest (classes self.now) }
         ensures few { length self.now ≤ 4096 }
         ensures few_classes { class_count self.now ≤ 1024 }
     {

@@ -37,7 +37,8 @@ pub fn delivery()
 
 /// An image: a class table, actors, and the history that led to them.
 ///
-/// Contracts see its names, its history, and the numbers that are set. All else follows from the history.
+/// Contracts see its names, its history, the numbers that are set, and the number from which the next ready actor is looked for.
+/// All else follows from the history.
 #[derive(Drop)]
 pub struct Image {
     names: Names,

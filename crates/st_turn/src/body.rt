@@ -54,6 +54,21 @@ impl Objects {
         Ok(Objects { items })
     }
 
+    /// The objects of a vector. No memory is taken.
+    pub fn from_vec(items: Vec<Object>) -> Objects
+        ensures { result ≡ items.items }
+    {
+        Objects { items }
+    }
+
+    /// The vector of the objects. No memory is taken.
+    pub fn into_vec(self) -> Vec<Object>
+        ensures { result.items ≡ self }
+    {
+        let Objects { items } = self;
+        items
+    }
+
     #[inline]
     pub fn len(&self) -> usize
         ensures { result ≡ length self.now }

@@ -21,7 +21,7 @@ use Rattle.st_classes.specs.Accepting.{edit_rules}
 use Rattle.st_classes.specs.Selectors.{arity_of}
 use Rattle.st_classes.specs.Suiting.{arity_at, is_number, literal_suits, instruction_suits, suits, edit_suits}
 use Rattle.st_classes.specs.Methods.{IsSound}
-use Rattle.st_classes.specs.Lawful.{AreLawful, AllSuit, AllSound, method_in, method_at}
+use Rattle.st_classes.specs.Lawful.{AreLawful, AllSuit, AllSound, installed_method, method_at}
 use Rattle.st_classes.proofs.LawLists.{slice_get_old, slice_get_push, slice_get_kept, take_old, take_whole, no_rule}
 use Rattle.st_classes.proofs.LawChains.{forest, chain_of_some, classes_append, slots_more}
 
@@ -63,10 +63,10 @@ slots_stay edits more c l h = ap (λ (cs : List ClassDef). flat_map (own_slots c
 
 -- the methods of a table stay
 pub method_stays : (edits more : List Edit) (m : MethodId) (p : MethodParts) → method_at edits m ≡ Some p → method_at (edits ++ more) m ≡ Some p
-method_stays edits more m p h = option_and_then_some method_in (slice_get edits m.0) p h (λ e at is. ap (option_and_then method_in) (slice_get_kept edits more m.0 e at) ∙ is)
+method_stays edits more m p h = option_and_then_some installed_method (slice_get edits m.0) p h (λ e at is. ap (option_and_then installed_method) (slice_get_kept edits more m.0 e at) ∙ is)
 
 pub method_at_old : (edits more : List Edit) (m : MethodId) → m.0 < length edits → method_at (edits ++ more) m ≡ method_at edits m
-method_at_old edits more m h = ap (option_and_then method_in) (slice_get_old edits more m.0 h)
+method_at_old edits more m h = ap (option_and_then installed_method) (slice_get_old edits more m.0 h)
 
 -- the class of an accepted install is a class
 pub accepted_class : (edits : List Edit) (c : ClassId) (m : MethodParts) → first_of (edit_rules edits (Install c m)) ≡ None → c.0 < class_count edits

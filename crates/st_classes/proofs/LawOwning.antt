@@ -18,7 +18,7 @@ use Rattle.st_classes.specs.Kernel.{kernel_method, does_not_understand}
 use Rattle.st_classes.specs.Classes.{class_count, classes, own_slots, chain, parent, slots}
 use Rattle.st_classes.specs.Walks.{is_at, method_id, decided, own_from, own, or_else, first_own, walk, walk_from, super_walk, user_method, or_missing, target, super_target}
 use Rattle.st_classes.specs.Suiting.{arity_at, is_number, instruction_suits, suits}
-use Rattle.st_classes.specs.Lawful.{AreLawful, AllSuit, method_in, method_at}
+use Rattle.st_classes.specs.Lawful.{AreLawful, AllSuit, installed_method, method_at}
 use Rattle.st_classes.proofs.LawChains.{Begins, begins_more, chain_begins, slots_above}
 
 -- the numbers decide
@@ -85,7 +85,7 @@ found_user names edits c s m l all e =
     let u = own_user edits w.1 s m w.3 in
     let fit = all m.0 w.1 u.0 u.1 in
     let same : w.1 ≡ u.0.holder = sym (holder_is names edits w.1 u.0 fit) in
-    (u.0, ap (option_and_then method_in) u.1, u.2, subst (λ (h : ClassId). Begins (slots edits c) (slots edits h)) same (chain_begins edits l c w.1 w.0 w.2), subst (λ (h : ClassId). suits names edits h u.0 ≡ true) same fit, u.1 ∙ ap (λ (h : ClassId). Some (Install h u.0)) same)
+    (u.0, ap (option_and_then installed_method) u.1, u.2, subst (λ (h : ClassId). Begins (slots edits c) (slots edits h)) same (chain_begins edits l c w.1 w.0 w.2), subst (λ (h : ClassId). suits names edits h u.0 ≡ true) same fit, u.1 ∙ ap (λ (h : ClassId). Some (Install h u.0)) same)
 
 begins_wider : (names : List (List ℕ)) (edits : List Edit) (c d : ClassId) (s : Selector) (m : MethodId) → Begins (slots edits c) (slots edits d) → IsMethodFor names edits d s m → IsMethodFor names edits c s m
 begins_wider names edits c d s m b w = (w.0, w.1, w.2, begins_more (slots edits c) (slots edits d) (slots edits w.0.holder) b w.3, w.4, w.5)
@@ -127,13 +127,13 @@ super_target_is names edits holder c s l all b = or_missing_is names edits c s l
 abbrev pub IsInTable : List (List ℕ) → List Edit → MethodId → MethodParts → Type 0
 IsInTable names edits m p = (slice_get edits m.0 ≡ Some (Install p.holder p)) × (suits names edits p.holder p ≡ true)
 
-method_in_install : (e : Edit) (p : MethodParts) → method_in e ≡ Some p → (c : ClassId) × (e ≡ Install c p)
-method_in_install (Define name up added) p h = cc
-method_in_install (Install c q) p h = let s : q ≡ p = cc in (c, ap (λ (x : MethodParts). Install c x) s)
-method_in_install (Remove c s) p h = cc
+method_installed : (e : Edit) (p : MethodParts) → installed_method e ≡ Some p → (c : ClassId) × (e ≡ Install c p)
+method_installed (Define name up added) p h = cc
+method_installed (Install c q) p h = let s : q ≡ p = cc in (c, ap (λ (x : MethodParts). Install c x) s)
+method_installed (Remove c s) p h = cc
 
 pub installed_at : (edits : List Edit) (m : MethodId) (p : MethodParts) → method_at edits m ≡ Some p → (c : ClassId) × (slice_get edits m.0 ≡ Some (Install c p))
-installed_at edits m p h = option_and_then_some method_in (slice_get edits m.0) p h (λ e at is. let w = method_in_install e p is in (w.0, at ∙ ap (λ (x : Edit). Some x) w.1))
+installed_at edits m p h = option_and_then_some installed_method (slice_get edits m.0) p h (λ e at is. let w = method_installed e p is in (w.0, at ∙ ap (λ (x : Edit). Some x) w.1))
 
 pub in_table : (names : List (List ℕ)) (edits : List Edit) (m : MethodId) (p : MethodParts) → AllSuit names edits → method_at edits m ≡ Some p → IsInTable names edits m p
 in_table names edits m p all h =

@@ -13,12 +13,12 @@ use Rattle.st_classes.specs.Classes.{ClassDef, class_name, parent, chain, slots}
 use Rattle.st_classes.specs.Walks.{own, or_else}
 
 -- the method of a selector among pairs, the first that there is
-abbrev pub method_in : List (Selector × MethodId) → Selector → Option MethodId
-method_in methods s = lookup (λ (t : Selector). s.0 == t.0) methods
+abbrev pub method_for : List (Selector × MethodId) → Selector → Option MethodId
+method_for methods s = lookup (λ (t : Selector). s.0 == t.0) methods
 
 -- the user's method that a row has for a selector
 abbrev pub row_method : ClassRow → Selector → Option MethodId
-row_method row s = method_in row.methods s
+row_method row s = method_for row.methods s
 
 -- the method that a row's class has of its own: the user's, and else the kernel's
 abbrev pub row_own : ClassRow → ClassId → Selector → Option Found

@@ -29,11 +29,11 @@ abbrev pub AllSound : List Edit → Type 0
 AllSound edits = (place : ℕ) (c : ClassId) (m : MethodParts) → slice_get edits place ≡ Some (Install c m) → IsSound m
 
 -- the method of an install
-abbrev pub method_in : Edit → Option MethodParts
-method_in (Define name parent slots) = None
-method_in (Install c m) = Some m
-method_in (Remove c s) = None
+abbrev pub installed_method : Edit → Option MethodParts
+installed_method (Define name parent slots) = None
+installed_method (Install c m) = Some m
+installed_method (Remove c s) = None
 
 -- the method that was installed at a place of the list
 abbrev pub method_at : List Edit → MethodId → Option MethodParts
-method_at edits m = option_and_then method_in (slice_get edits m.0)
+method_at edits m = option_and_then installed_method (slice_get edits m.0)

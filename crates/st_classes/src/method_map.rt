@@ -1,7 +1,7 @@
 //! The user's methods of a class.
 ghost use Rattle.std.specs.Prelude.{◌≡◌, [], ◌==◌, if◌then◌else◌, Some, None, IfOk, OnOk};
 ghost use Rattle.st_classes.specs.declared.values.Selector.{Selector as SelectorOf};
-ghost use Rattle.st_classes.specs.ClassRows.{method_in};
+ghost use Rattle.st_classes.specs.ClassRows.{method_for};
 
 use crate::values::{MethodId, Selector};
 use std::alloc::{AllocError, Global};
@@ -35,7 +35,7 @@ impl MethodMap {
 
     #[inline]
     pub fn get(&self, selector: Selector) -> Option<MethodId>
-        ensures { result ≡ method_in self.now selector }
+        ensures { result ≡ method_for self.now selector }
     {
         self.methods.get(&selector).copied()
     }
@@ -51,7 +51,7 @@ impl MethodMap {
 
     /// Puts a method at a selector.
     fn put(&mut self, selector: Selector, method: MethodId) -> Result<(), AllocError>
-        ensures { OnOk result ((s : SelectorOf) → method_in self.new s ≡ (if selector.0 == s.0 then Some method else method_in self.old s)) }
+        ensures { OnOk result ((s : SelectorOf) → method_for self.new s ≡ (if selector.0 == s.0 then Some method else method_for self.old s)) }
     {
         self.methods.insert(selector, method)?;
         Ok(())
@@ -59,7 +59,7 @@ impl MethodMap {
 
     /// Takes away the method at a selector.
     fn take(&mut self, selector: Selector)
-        ensures { (s : SelectorOf) → method_in self.new s ≡ (if selector.0 == s.0 then None else method_in self.old s) }
+        ensures { (s : SelectorOf) → method_for self.new s ≡ (if selector.0 == s.0 then None else method_for self.old s) }
     {
         let _ = self.methods.remove(&selector);
     }
@@ -70,7 +70,7 @@ impl MethodMap {
         selector: Selector,
         method: Option<MethodId>,
     ) -> Result<MethodMap, AllocError>
-        ensures { IfOk result (λ copy. (s : SelectorOf) → method_in copy s ≡ (if selector.0 == s.0 then method else method_in self.now s)) }
+        ensures { IfOk result (λ copy. (s : SelectorOf) → method_for copy s ≡ (if selector.0 == s.0 then method else method_for self.now s)) }
     {
         let mut copy = self.again()?;
         match method {

@@ -33,7 +33,7 @@ use Rattle.st_image.specs.declared.items.Item.TheVariants.{Edited}
 use Rattle.st_image.specs.Worlds.{World}
 use Rattle.st_image.specs.Images.{ImageView, world, appended, edits_in, run_rules}
 use Rattle.st_image.specs.Lasting.{BeginsWithKernel}
-use Rattle.st_image.specs.Installing.{has_kernel, is_kernel_text, source_rules, install_rules, AddsNames, AddsAllNames, LeavesNames, with_names_of, Installs, RefusesInstall, memory, first as first_refusal, AnswersInstall}
+use Rattle.st_image.specs.Installing.{has_kernel, is_kernel_text, source_rules, image_install_rules, AddsNames, AddsAllNames, LeavesNames, with_names_of, Installs, RefusesInstall, memory, first as first_refusal, AnswersInstall}
 
 -- ---- kernel methods by text
 
@@ -133,13 +133,13 @@ is_not true e = refl
 is_not false e = cc
 
 -- behind the class and the kernel come the tree's refusals, and then those of an edit
-tree_part : (i : ImageView) (c : ClassId) (tree : MethodTree) → is_class (world i).edits c ≡ true → is_kernel_text c tree.selector.text ≡ false → first_of (install_rules i c tree) ≡ first_of (tree_rules (slots (world i).edits c) i.names tree ++ (too_many_edits (world i).edits ∷ run_rules i))
+tree_part : (i : ImageView) (c : ClassId) (tree : MethodTree) → is_class (world i).edits c ≡ true → is_kernel_text c tree.selector.text ≡ false → first_of (image_install_rules i c tree) ≡ first_of (tree_rules (slots (world i).edits c) i.names tree ++ (too_many_edits (world i).edits ∷ run_rules i))
 tree_part i c tree h k =
     skip (not (is_class (world i).edits c)) UnknownClass ((is_kernel_text c tree.selector.text, KernelMethod) ∷ (tree_rules (slots (world i).edits c) i.names tree ++ (too_many_edits (world i).edits ∷ run_rules i))) (is_not _ h)
     ∙ skip (is_kernel_text c tree.selector.text) KernelMethod (tree_rules (slots (world i).edits c) i.names tree ++ (too_many_edits (world i).edits ∷ run_rules i)) k
 
 -- the refusal of a tree is that of its install
-pub tree_refused : (i : ImageView) (c : ClassId) (tree : MethodTree) (e : Refusal) → is_class (world i).edits c ≡ true → is_kernel_text c tree.selector.text ≡ false → (e ≡ NoMemory) ⊎ (first_of (tree_rules (slots (world i).edits c) i.names tree) ≡ Some e) → (e ≡ NoMemory) ⊎ (first_of (install_rules i c tree) ≡ Some e)
+pub tree_refused : (i : ImageView) (c : ClassId) (tree : MethodTree) (e : Refusal) → is_class (world i).edits c ≡ true → is_kernel_text c tree.selector.text ≡ false → (e ≡ NoMemory) ⊎ (first_of (tree_rules (slots (world i).edits c) i.names tree) ≡ Some e) → (e ≡ NoMemory) ⊎ (first_of (image_install_rules i c tree) ≡ Some e)
 tree_refused i c tree e h k (inl m) = inl m
 tree_refused i c tree e h k (inr f) = inr (tree_part i c tree h k ∙ first_some (tree_rules (slots (world i).edits c) i.names tree) (too_many_edits (world i).edits ∷ run_rules i) e f)
 
@@ -157,17 +157,17 @@ answers_same f g P Q (Ok x) e h a = (sym e ∙ a.0, h x a.1)
 answers_same f g P Q (Err x) e h (inl m) = inl m
 answers_same f g P Q (Err x) e h (inr s) = inr (sym e ∙ s)
 
-pub tree_installed : (i j k : ImageView) (c : ClassId) (tree : MethodTree) (text : List ℕ) (m : MethodParts) (r : Result ℕ Refusal) → is_class (world i).edits c ≡ true → is_kernel_text c tree.selector.text ≡ false → first_of (tree_rules (slots (world i).edits c) i.names tree) ≡ None → j ≡ with_names_of i tree → world j ≡ world i → BeginsWithKernel j.names → IsCompiled j.names (world i).edits c tree text m → Answers (first_of (edit_rules (world j).edits (Install c m) ++ run_rules j)) r (λ n. (k ≡ appended j (Edited (Install c m) ∷ [])) × (n ≡ length (world k).edits)) → Answers (first_of (install_rules i c tree)) r (λ n. Installs i c tree text k n)
+pub tree_installed : (i j k : ImageView) (c : ClassId) (tree : MethodTree) (text : List ℕ) (m : MethodParts) (r : Result ℕ Refusal) → is_class (world i).edits c ≡ true → is_kernel_text c tree.selector.text ≡ false → first_of (tree_rules (slots (world i).edits c) i.names tree) ≡ None → j ≡ with_names_of i tree → world j ≡ world i → BeginsWithKernel j.names → IsCompiled j.names (world i).edits c tree text m → Answers (first_of (edit_rules (world j).edits (Install c m) ++ run_rules j)) r (λ n. (k ≡ appended j (Edited (Install c m) ∷ [])) × (n ≡ length (world k).edits)) → Answers (first_of (image_install_rules i c tree)) r (λ n. Installs i c tree text k n)
 tree_installed i j k c tree text m r h f t e w b p a =
     let free : is_some (kernel_method c m.selector) ≡ false = number_free j.names b c tree.selector.text m.selector p.selector f in
-    let mine : first_of (install_rules i c tree) ≡ first_of (too_many_edits (world i).edits ∷ run_rules i) = tree_part i c tree h f ∙ first_none (tree_rules (slots (world i).edits c) i.names tree) (too_many_edits (world i).edits ∷ run_rules i) t in
+    let mine : first_of (image_install_rules i c tree) ≡ first_of (too_many_edits (world i).edits ∷ run_rules i) = tree_part i c tree h f ∙ first_none (tree_rules (slots (world i).edits c) i.names tree) (too_many_edits (world i).edits ∷ run_rules i) t in
     let runs : run_rules j ≡ run_rules i = ap run_rules e in
     let theirs : first_of (edit_rules (world j).edits (Install c m) ++ run_rules j) ≡ first_of (too_many_edits (world i).edits ∷ run_rules i) =
     ap (λ (v : World). first_of (edit_rules v.edits (Install c m) ++ run_rules j)) w ∙ edit_part (world i).edits j c m h free ∙ ap (λ (rs : List Rule). first_of (too_many_edits (world i).edits ∷ rs)) runs in
     answers_same _ _ _ _ r (theirs ∙ sym mine) (λ n q. (m, subst (λ (ns : List (List ℕ)). IsCompiled ns (world i).edits c tree text m) (sym (ap (λ (v : ImageView). v.names) q.0)) p, q.0 ∙ ap (λ (v : ImageView). appended v (Edited (Install c m) ∷ [])) e, q.1)) a
 
 -- the answer of a tree that the text spells is the answer of its install
-pub install_answered : (i k : ImageView) (c : ClassId) (tree : MethodTree) (text : List ℕ) (r : Result ℕ Refusal) → Spells tree text → Answers (first_of (install_rules i c tree)) r (λ n. Installs i c tree text k n) → AnswersInstall i c text k r
+pub install_answered : (i k : ImageView) (c : ClassId) (tree : MethodTree) (text : List ℕ) (r : Result ℕ Refusal) → Spells tree text → Answers (first_of (image_install_rules i c tree)) r (λ n. Installs i c tree text k n) → AnswersInstall i c text k r
 install_answered i k c tree text (Ok n) s a = (tree, s, a.0, a.1)
 install_answered i k c tree text (Err e) s (inl m) = memory m
 install_answered i k c tree text (Err e) s (inr f) = first_refusal tree s f

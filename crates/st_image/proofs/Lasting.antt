@@ -25,7 +25,7 @@ use Rattle.st_turn.specs.declared.body.Object.{Object}
 use Rattle.st_turn.specs.declared.body.Outcome.{Outcome}
 use Rattle.st_turn.specs.declared.body.Phase.{Phase}
 use Rattle.st_turn.specs.declared.body.Phase.TheVariants.{Fresh, Start, Frames, Done}
-use Rattle.st_turn.specs.Steps.{Stepped, next as stepped, ended, outer, step, step_in}
+use Rattle.st_turn.specs.Steps.{Stepped, stepped, ended, outer, step, step_in}
 use Rattle.st_turn.specs.Fitting.{Given, Fits, FitsPhase, FitsStepped, IsThere, has_instances}
 use Rattle.st_image.specs.declared.messages.Message.{Message}
 use Rattle.st_image.specs.declared.items.Item.{Item}

@@ -14,7 +14,7 @@ use Rattle.st_turn.specs.declared.body.Stop.{Stop}
 use Rattle.st_turn.specs.declared.body.Stop.TheVariants.{More, Ended, Outer, Limit}
 use Rattle.st_turn.specs.Views.{FramesView}
 use Rattle.st_turn.specs.Frames.{Effect, goes, stores, sends, answers, fails, effect}
-use Rattle.st_turn.specs.Steps.{Stepped, Told, next, ended, outer, step, step_in, run_frames, performed, followed, After, more, over, outside, limit, after, seen}
+use Rattle.st_turn.specs.Steps.{Stepped, Told, stepped, ended, outer, step, step_in, run_frames, performed, followed, After, more, over, outside, limit, after, seen}
 use Rattle.st_turn.specs.Fitting.{Given, Fits, FitsPhase, FitsStepped, Runs, IsFrame}
 use Rattle.st_turn.specs.Idling.{is_idle}
 use Rattle.st_image.specs.Next.{steps, body_after}
@@ -22,7 +22,7 @@ use Rattle.st_image.specs.Keeping.{CanRun}
 use Rattle.st_turn.proofs.Keeping.{step_fits}
 
 abbrev IsTaken : Stepped → Type 0
-IsTaken s = (t : Told) × (s ≡ next t)
+IsTaken s = (t : Told) × (s ≡ stepped t)
 
 follows : (edits : List Edit) (objects : List Object) (m : MethodParts) (fs : FramesView) (e : Effect) → IsTaken (followed edits objects m fs e)
 follows edits objects m fs (goes f) = (_, refl)

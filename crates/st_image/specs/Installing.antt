@@ -37,8 +37,8 @@ source_rules i c tree =
     ∷ []
 
 -- the refusals of an install of a text that spells a tree, in their order
-abbrev pub install_rules : ImageView → ClassId → MethodTree → List Rule
-install_rules i c tree = source_rules i c tree ++ names_rule i.names (selectors_of tree) ∷ too_many_edits (world i).edits ∷ run_rules i
+abbrev pub image_install_rules : ImageView → ClassId → MethodTree → List Rule
+image_install_rules i c tree = source_rules i c tree ++ names_rule i.names (selectors_of tree) ∷ too_many_edits (world i).edits ∷ run_rules i
 
 -- the image with the names that the tree needs
 abbrev pub with_names_of : ImageView → MethodTree → ImageView
@@ -73,9 +73,9 @@ pub data RefusesInstall (i : ImageView) (c : ClassId) (text : List ℕ) (e : Ref
   memory : e ≡ NoMemory → RefusesInstall i c text e
   unknown : is_class (world i).edits c ≡ false → e ≡ UnknownClass → RefusesInstall i c text e
   unread : is_class (world i).edits c ≡ true → IsUnread text → e ≡ no_code → RefusesInstall i c text e
-  first : (tree : MethodTree) → Spells tree text → first_of (install_rules i c tree) ≡ Some e → RefusesInstall i c text e
+  first : (tree : MethodTree) → Spells tree text → first_of (image_install_rules i c tree) ≡ Some e → RefusesInstall i c text e
 
 -- an install is answered by the number of edits, where a tree that spells the text has its method installed, or by a refusal
 abbrev pub AnswersInstall : ImageView → ClassId → List ℕ → ImageView → Result ℕ Refusal → Type 0
-AnswersInstall i c text j (Ok n) = (tree : MethodTree) × Spells tree text × (first_of (install_rules i c tree) ≡ None) × Installs i c tree text j n
+AnswersInstall i c text j (Ok n) = (tree : MethodTree) × Spells tree text × (first_of (image_install_rules i c tree) ≡ None) × Installs i c tree text j n
 AnswersInstall i c text j (Err e) = RefusesInstall i c text e

@@ -12,7 +12,7 @@ use Rattle.st_turn.specs.declared.body.Body.{Body}
 use Rattle.st_turn.specs.declared.body.Outcome.{Outcome}
 use Rattle.st_turn.specs.declared.body.Phase.{Phase}
 use Rattle.st_turn.specs.declared.body.Phase.TheVariants.{Fresh, Start, Frames, Done}
-use Rattle.st_turn.specs.Steps.{Stepped, next as stepped, ended, outer, step}
+use Rattle.st_turn.specs.Steps.{Stepped, stepped, ended, outer, step}
 use Rattle.st_turn.specs.Fitting.{has_instances}
 use Rattle.st_image.specs.declared.messages.Message.{Message}
 use Rattle.st_image.specs.declared.messages.Sender.{Sender}

@@ -22,7 +22,7 @@ impl Image {
     ghost use Rattle.st_compile.specs.Compiled.{IsCompiled};
     ghost use Rattle.st_compile.specs.Refusing.{InternsFirst, IsFull, interned_all, tree_rules};
     ghost use Rattle.st_image.specs.Images.{world};
-    ghost use Rattle.st_image.specs.Installing.{AnswersInstall, Installs, LeavesNames, install_rules, is_kernel_text};
+    ghost use Rattle.st_image.specs.Installing.{AnswersInstall, Installs, LeavesNames, image_install_rules, is_kernel_text};
 
     /// Whether the kernel has a method in the class for the selector.
     fn has_kernel_method(&self, class: ClassId, selector: &[u8]) -> bool
@@ -66,7 +66,7 @@ impl Image {
     ) -> Result<u32, Refusal>
         requires class { is_class (world self.old).edits class ≡ true }
         requires spells { Spells tree.now source }
-        ensures answers { Answers (first_of (install_rules self.old class tree.now)) result
+        ensures answers { Answers (first_of (image_install_rules self.old class tree.now)) result
             (λ n. Installs self.old class tree.now source self.new n) }
         ensures refused { IfErr result (λ e. LeavesNames self.old class source e self.new) }
         ensures world { OnErr result (world self.new ≡ world self.old) }

@@ -1,5 +1,5 @@
 -- Counts of reads.
-use Rattle.std.proofs.Common.{arith, ◌≡◌, ℕ, zero, suc, ◌+◌, ◌%◌, ◌^◌, ◌<◌, ◌≤◌, refl}
+use Rattle.std.proofs.Common.{arith, ◌≡◌, ℕ, zero, suc, ◌+◌, ◌^◌, ◌<◌, refl}
 use Rattle.st_wire.specs.Streams.{InputView, one_more, so_many_more}
 use Rattle.st_server.specs.Reading.{ReadsFew}
 

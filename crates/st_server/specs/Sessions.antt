@@ -8,9 +8,9 @@ use Rattle.st_wire.specs.Replies.{line_of}
 use Rattle.st_wire.specs.Streams.{one_more}
 use Rattle.st_server.specs.Lines.{ends_with}
 
--- a reply that was not written whole: its text found no memory, or the device failed within it
+-- a reply that was not written whole: its text found no memory, or the device failed before its last byte
 abbrev pub Breaks : List ℕ → List ℕ → Refusal → Type 0
-Breaks text written e = ((written ≡ []) × (e ≡ NoMemory)) ⊎ (((rest : List ℕ) × (text ≡ written ++ rest)) × (e ≡ WriteFault))
+Breaks text written e = ((written ≡ []) × (e ≡ NoMemory)) ⊎ (((b : ℕ) × (rest : List ℕ) × (text ≡ written ++ b ∷ rest)) × (e ≡ WriteFault))
 
 -- a line that ends no session gets its reply, which is written whole; `answers i line r k` says that the handler i may give the reply r and be left as k
 abbrev pub IsAnswered : {S : Type 0} → (S → List ℕ → Reply → S → Type 0) → S → List ℕ → List ℕ → S → Type 0

@@ -3,7 +3,7 @@
 //! A device may fail. Each failure is counted, so that a caller who answers one can show it, and so is each read, so
 //! that a caller who gives up after many can. [`Reader`] and [`Writer`] are devices over what std reads from and writes
 //! to, as standard input and output, files and sockets; [`MemoryInput`] and [`MemoryOutput`] are bytes in memory.
-ghost use Rattle.std.specs.Prelude.{◌≡◌, ◌≤◌, ℕ, List, Option, length, take, IfOk, OnOk, OnErr};
+ghost use Rattle.std.specs.Prelude.{◌≡◌, ◌≤◌, ◌<◌, ℕ, List, Option, length, take, IfOk, OnOk, OnErr};
 ghost use Rattle.std.specs.Io.{ReadsAtMost, WritesAtMost};
 ghost use Rattle.std.specs.Io.KnownBytes.{Appends, ReadConsumes, WriteAppends};
 ghost use Rattle.st_wire.specs.Streams.{one_more};
@@ -60,11 +60,12 @@ pub trait Output {
         ensures failed { OnErr result (failures self.new ≡ one_more (failures self.old)) };
 }
 
-/// Writes all bytes. After a failure the first of them are written, and one failure is counted.
+/// Writes all bytes. It fails while some of them are unwritten: then the first of them are written, and one failure is
+/// counted.
 pub fn write_all<O: Output>(output: &mut O, bytes: &[u8]) -> Result<(), WriteFailed>
     ensures all { OnOk result (Appends (O.contents output.old) (O.contents output.new) bytes.now) }
     ensures unfailed { OnOk result (O.failures output.new ≡ O.failures output.old) }
-    ensures front { OnErr result ((n : ℕ) × (n ≤ length bytes.now)
+    ensures front { OnErr result ((n : ℕ) × (n < length bytes.now)
         × Appends (O.contents output.old) (O.contents output.new) (take n bytes.now)) }
     ensures failed { OnErr result (O.failures output.new ≡ one_more (O.failures output.old)) }
 {

@@ -1,5 +1,5 @@
 -- Counts of reads.
-use Rattle.std.proofs.Common.{arith, ◌≡◌, ℕ, zero, suc, ◌+◌, ◌^◌, ◌<◌, refl}
+use Rattle.std.proofs.Common.{arith, ◌≡◌, ℕ, zero, suc, ◌+◌, ◌^◌, ◌<◌, ◌≤◌, List, ◌++◌, length, length-append, ap, refl}
 use Rattle.st_wire.specs.Streams.{InputView, one_more, so_many_more}
 use Rattle.st_server.specs.Reading.{ReadsFew}
 
@@ -8,5 +8,5 @@ next_read zero now before after none some next = omega (arith, next, none refl)
 next_read (suc n) now before after none some next = omega (arith, next, some (omega arith))
 
 -- with the read that comes after some
-pub few_reads : (n now : ℕ) (before after : InputView) → n < 2 ^ 32 → (n ≡ 0 → now ≡ before.reads) → (0 < n → now ≡ so_many_more n before.reads) → after.reads ≡ one_more now → ReadsFew before after
-few_reads n now before after bound none some next = (n + 1, omega arith, omega (arith, bound), next_read n now before.reads after.reads none some next)
+pub few_reads : (n now : ℕ) (before after : InputView) (text bytes piece : List ℕ) → n < 2 ^ 32 → n ≤ length bytes → text ≡ bytes ++ piece → (n ≡ 0 → now ≡ before.reads) → (0 < n → now ≡ so_many_more n before.reads) → after.reads ≡ one_more now → ReadsFew before after text
+few_reads n now before after text bytes piece bound few whole none some next = (n + 1, omega arith, omega (arith, bound), omega (arith, few, ap length whole, length-append bytes piece), next_read n now before.reads after.reads none some next)

@@ -1,4 +1,4 @@
-use Rattle.std.proofs.Common.{rules, ◌≡◌, ℕ, ◌⊎◌, true, false, List, Result, Ok, Err, IsErr, IsErrAnd, IfErr, sym, ap, subst, ◌∙◌, inl, inr}
+use Rattle.std.proofs.Common.{rules, ◌≡◌, ℕ, ◌⊎◌, true, false, List, Result, Ok, Err, IsErr, IsErrAnd, IfErr, refl, sym, ap, subst, ◌∙◌, inl, inr}
 use Rattle.std.proofs.KnownBytes.{Consumes-trans}
 use Rattle.st_classes.specs.declared.refusals.Refusal.{Refusal}
 use Rattle.st_classes.specs.declared.refusals.Refusal.TheVariants.{NoMemory, ReadFault}
@@ -25,10 +25,11 @@ returns-in_err-count-clause-stopped g c =
     let after = view c.read_piece.new.input in
     let stops = λ (e : Refusal). (taken : List ℕ) × StopsReading before after taken e in
     refused_with c.from_residual.result _ stops c.from_residual.ensures.0 c.from_residual.ensures.1
-    (_, (Consumes-trans _ _ _ _ _ so_far.taken last.1, few_reads c.loop-reads.reads (g.I.Input.reads c.loop-reads.input) before after (search rules) so_far.unread so_far.counted c.read_piece.ensures.counted, why_stopped before after _ _ _ so_far.unfailed last.2))
+    (_, (Consumes-trans _ _ _ _ _ so_far.taken last.1, few_reads c.loop-reads.reads (g.I.Input.reads c.loop-reads.input) before after _ _ last.0 (search rules) so_far.many refl so_far.unread so_far.counted c.read_piece.ensures.counted, why_stopped before after _ _ _ so_far.unfailed last.2))
 
 pub returns-then-count-eq0-clause-all : goal.returns-then-count-eq0-clause-all
 returns-then-count-eq0-clause-all g c =
     let so_far = c.loop-reads.invariant in
     let view = input_view g.I.Input.remaining g.I.Input.failures g.I.Input.reads in
-    (search rules, search rules, few_reads c.loop-reads.reads (g.I.Input.reads c.loop-reads.input) (view c.args.input.now) (view c.read_piece.new.input) (search rules) so_far.unread so_far.counted c.read_piece.ensures.counted)
+    let piece = c.in_ok-count.ensures.adds in
+    (search rules, search rules, few_reads c.loop-reads.reads (g.I.Input.reads c.loop-reads.input) (view c.args.input.now) (view c.read_piece.new.input) _ _ piece.0 (search rules) so_far.many piece.2 so_far.unread so_far.counted c.read_piece.ensures.counted)

@@ -5,18 +5,19 @@ use Rattle.std.proofs.lemmas.Bool.Decides.{nat_tests}
 use Rattle.std.proofs.lemmas.List.{take_all, drop_all, length-drop}
 use Rattle.std.proofs.lemmas.List.Quantifiers.{position-Some}
 use Rattle.std.proofs.lemmas.List.Sums.{fails_before_first}
-use Rattle.st_server.specs.Lines.{before_first, parts, last_line, lines_of, lines}
+use Rattle.std.specs.List.{onto_first}
+use Rattle.st_server.specs.Lines.{parts, last_line, lines_of, lines}
 
 abbrev is_newline : ℕ → Bool
 is_newline b = b == 10
 
-lines_more : (line : List ℕ) (b : ℕ) (ps : List (List ℕ)) → lines_of (line ∷ before_first b ps) ≡ line ∷ lines_of (before_first b ps)
+lines_more : (line : List ℕ) (b : ℕ) (ps : List (List ℕ)) → lines_of (line ∷ onto_first b ps) ≡ line ∷ lines_of (onto_first b ps)
 lines_more line b [] = refl
 lines_more line b (p ∷ ps) = refl
 
 lines_next : (line text : List ℕ) → lines_of (line ∷ parts text) ≡ line ∷ lines text
 lines_next line [] = refl
-lines_next line (b ∷ bs) = elim (b == 10) as (λ t. lines_of (line ∷ (if t then [] ∷ parts bs else before_first b (parts bs))) ≡ line ∷ lines_of (if t then [] ∷ parts bs else before_first b (parts bs))) [ true ↦ refl | false ↦ lines_more line b (parts bs) ]
+lines_next line (b ∷ bs) = elim (b == 10) as (λ t. lines_of (line ∷ (if t then [] ∷ parts bs else onto_first b (parts bs))) ≡ line ∷ lines_of (if t then [] ∷ parts bs else onto_first b (parts bs))) [ true ↦ refl | false ↦ lines_more line b (parts bs) ]
 
 parts_cut : (text : List ℕ) (n : ℕ) → n < length text → is_newline (get_or text n 0) ≡ true → ((k : ℕ) → k < n → is_newline (get_or text k 0) ≡ false) → parts text ≡ take n text ∷ parts (drop (suc n) text)
 parts_cut [] n h e before = absurd (omega arith)
@@ -65,7 +66,7 @@ pub lines_none : (text : List ℕ) → position (λ b. b == 10) text ≡ None �
 lines_none text e is = lines_whole text e ∙ is
 
 -- there are no more lines than bytes
-more_short : (b : ℕ) (ps : List (List ℕ)) (n : ℕ) → length (lines_of ps) ≤ n → length (lines_of (before_first b ps)) ≤ suc n
+more_short : (b : ℕ) (ps : List (List ℕ)) (n : ℕ) → length (lines_of ps) ≤ n → length (lines_of (onto_first b ps)) ≤ suc n
 more_short b [] n h = elim (b == 13) as (λ t. length (if t then [] else (b ∷ []) ∷ []) ≤ suc n) [ true ↦ omega arith | false ↦ omega arith ]
 more_short b ([] ∷ []) n h = elim (b == 13) as (λ t. length (if t then [] else (b ∷ []) ∷ []) ≤ suc n) [ true ↦ omega arith | false ↦ omega arith ]
 more_short b ((c ∷ []) ∷ []) n h = omega arith
@@ -76,4 +77,4 @@ pub lines_short : (text : List ℕ) → length (lines text) ≤ length text
 lines_short [] = omega arith
 lines_short (b ∷ bs) =
     let h = lines_short bs in
-    elim (b == 10) as (λ t. length (lines_of (if t then [] ∷ parts bs else before_first b (parts bs))) ≤ suc (length bs)) [ true ↦ rw (lines_next [] bs) (omega arith) | false ↦ more_short b (parts bs) (length bs) h ]
+    elim (b == 10) as (λ t. length (lines_of (if t then [] ∷ parts bs else onto_first b (parts bs))) ≤ suc (length bs)) [ true ↦ rw (lines_next [] bs) (omega arith) | false ↦ more_short b (parts bs) (length bs) h ]

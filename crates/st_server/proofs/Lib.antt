@@ -1,5 +1,6 @@
 pub mod Counting
 pub mod FirstLine
+pub mod Parts
 pub mod Going
 pub mod Ending
 pub mod Quanta

@@ -1,18 +1,17 @@
 -- The lines of a text, and those that end a session.
-use Rattle.std.specs.Prelude.{ℕ, ◌==◌, List, [], ◌∷◌, length, Option, Some, None, nat_lt, if◌then◌else◌}
+use Rattle.std.specs.Prelude.{◌≡◌, ◌≢◌, ℕ, ◌==◌, List, [], ◌∷◌, All, length, Option, Some, None, nat_lt, if◌then◌else◌}
+use Rattle.std.specs.List.{slice_split, join_with_byte}
 use Rattle.std.specs.Str.{is_utf8}
 use Rattle.st_classes.specs.declared.refusals.Refusal.{Refusal}
 use Rattle.st_classes.specs.declared.refusals.Refusal.TheVariants.{TooLong, BadCommand}
 
--- a byte in front of the first line
-abbrev pub before_first : ℕ → List (List ℕ) → List (List ℕ)
-before_first b [] = (b ∷ []) ∷ []
-before_first b (part ∷ parts) = (b ∷ part) ∷ parts
-
--- the parts of a text between its newlines
+-- the parts of a text between its newlines, of which there is at least one
 abbrev pub parts : List ℕ → List (List ℕ)
-parts [] = [] ∷ []
-parts (b ∷ bs) = if b == 10 then [] ∷ parts bs else before_first b (parts bs)
+parts text = slice_split (λ b. b == 10) text
+
+-- no newline is left in the parts, and joined by newlines they are the text
+abbrev pub CutsAtNewlines : Type 0
+CutsAtNewlines = (text : List ℕ) → All (All (λ b. b ≢ 10)) (parts text) × (join_with_byte 10 (parts text) ≡ text)
 
 -- the last part is a line unless it is empty, or one carriage return alone
 abbrev pub last_line : List ℕ → List (List ℕ)
@@ -20,7 +19,7 @@ last_line [] = []
 last_line (b ∷ []) = if b == 13 then [] else (b ∷ []) ∷ []
 last_line (b ∷ c ∷ bs) = (b ∷ c ∷ bs) ∷ []
 
--- the lines, of which the last may be none
+-- the lines that some parts are, of which the last may be none; a text has always some
 abbrev pub lines_of : List (List ℕ) → List (List ℕ)
 lines_of [] = []
 lines_of (part ∷ []) = last_line part

@@ -4,7 +4,7 @@
 //! asked of the image as the line before left it.
 #![tactic(auto)]
 
-mod lines;
+pub mod lines;
 mod reading;
 mod resolving;
 pub mod scripts;

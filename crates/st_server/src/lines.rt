@@ -1,15 +1,20 @@
 //! Lines of a text.
 ghost use Rattle.std.specs.Prelude.{◌≡◌, [], ◌∷◌, ◌==◌, if◌then◌else◌, position, MatchOption};
-ghost use Rattle.st_server.specs.Lines.{ends_with, last_line, lines};
+ghost use Rattle.st_server.specs.Lines.{CutsAtNewlines, ends_with, last_line, lines};
 
 use st_classes::refusals::Refusal;
 use std::str;
 
 /// The most bytes of a line, its newline aside.
-pub const LINE: usize = 8192;
+pub(crate) const LINE: usize = 8192;
+
+/// A text is cut into lines at its newlines: no part has one, and the parts joined by newlines are the text.
+pub fn cutting()
+    ensures { CutsAtNewlines }
+{}
 
 /// Why a line ends the session, if it does.
-pub fn ending(line: &[u8]) -> Option<Refusal>
+pub(crate) fn ending(line: &[u8]) -> Option<Refusal>
     ensures { result ≡ ends_with line.now }
 {
     if line.len() > LINE {
@@ -40,7 +45,7 @@ fn is_line(rest: &[u8]) -> bool
 }
 
 /// Takes the first line off a text. What is left of it begins behind the newline.
-pub fn take_line(text: &[u8]) -> Option<(&[u8], &[u8])>
+pub(crate) fn take_line(text: &[u8]) -> Option<(&[u8], &[u8])>
     ensures { MatchOption result (lines text.now ≡ []) (λ t. lines text.now ≡ t.0.now ∷ lines t.1.now) }
 {
     match newline(text) {

@@ -4,6 +4,7 @@ pub mod Parts
 pub mod Going
 pub mod Ending
 pub mod Quanta
+pub mod Taken
 pub mod Arguments
 pub mod BadLine
 pub mod Scripting

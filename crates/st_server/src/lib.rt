@@ -11,3 +11,4 @@ pub mod scripts;
 mod serving;
 pub mod sessions;
 pub mod settings;
+pub mod totals;

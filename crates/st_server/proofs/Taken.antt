@@ -1,0 +1,47 @@
+-- What runs took.
+use Rattle.std.proofs.Common.{arith, ◌≡◌, ℕ, zero, suc, ◌+◌, ◌≤◌, ◌<◌, Bool, true, false, List, [], ◌∷◌, ◌++◌, All, length, sum, refl, sym, ap, subst, ◌∙◌, inl, inr, slice_get, append_assoc, append-nil}
+use Rattle.std.proofs.lemmas.List.Elements.{All-nil, All-cons}
+use Rattle.std.proofs.lemmas.List.Sums.{sum_by-cons}
+use Rattle.st_classes.specs.declared.values.ActorId.{ActorId}
+use Rattle.st_image.specs.declared.items.Item.{Item}
+use Rattle.st_image.specs.declared.items.Item.TheVariants.{Ran}
+use Rattle.st_image.specs.Images.{ImageView, beginnings, idle_at, world}
+use Rattle.st_wire.specs.declared.replies.Reply.TheVariants as reply
+use Rattle.st_server.specs.Serving.{NoneReady, Runs}
+use Rattle.st_server.specs.Totals.{quanta_in, RunsSayWhatTheyTook}
+
+-- what has still to be added where so many quanta and steps were taken before
+abbrev RunsFrom : ℕ → ℕ → ImageView → ℕ → ℕ → ℕ → ℕ → ImageView → Type 0
+RunsFrom quantum left i before taken q s j = (items : List Item) × (j.history ≡ i.history ++ items) × (before + length (quanta_in items) ≡ q) × (taken + sum (quanta_in items) ≡ s) × All (λ n. (1 ≤ n) × (n ≤ quantum)) (quanta_in items) × (q ≤ before + left) × (q < before + left → NoneReady j)
+
+same_quanta : (q s a b : ℕ) → reply.Ran q s ≡ reply.Ran a b → (q ≡ a) × (s ≡ b)
+same_quanta q s a b e = (cc, cc)
+
+-- where nothing more is taken
+stands : (quantum left before taken q s : ℕ) (i j : ImageView) → reply.Ran q s ≡ reply.Ran before taken → j ≡ i → (q < before + left → NoneReady i) → RunsFrom quantum left i before taken q s j
+stands quantum left before taken q s i j said same none =
+    let both = same_quanta q s before taken said in
+    ([], ap (λ (k : ImageView). k.history) same ∙ sym (append-nil i.history), omega (arith, both.0), omega (arith, both.1), All-nil (λ n. (1 ≤ n) × (n ≤ quantum)), omega (arith, both.0), λ fewer. subst NoneReady (sym same) (none fewer))
+
+-- the items of one quantum
+one_quantum : (a : ActorId) (n : ℕ) (b : Bool) (items : List Item) → quanta_in ((beginnings a b ++ Ran a n ∷ []) ++ items) ≡ n ∷ quanta_in items
+one_quantum a n true items = refl
+one_quantum a n false items = refl
+
+runs_from : (quantum left before taken q s : ℕ) (i j : ImageView) → Runs quantum left i before taken (reply.Ran q s) j → RunsFrom quantum left i before taken q s j
+runs_from quantum zero before taken q s i j (said, same) = stands quantum 0 before taken q s i j said same (λ fewer. let both = same_quanta q s before taken said in absurd (omega (arith, fewer, both.0)))
+runs_from quantum (suc left) before taken q s i j (inl (none, said, same)) = stands quantum (suc left) before taken q s i j said same (λ _. none)
+runs_from quantum (suc left) before taken q s i j (inr (inl (e, said, stops))) = cc
+runs_from quantum (suc left) before taken q s i j (inr (inr (n, k, takes, rest))) =
+    let more = runs_from quantum left (before + 1) (taken + n) q s k j rest in
+    let a = takes.0 in
+    let first = beginnings a (idle_at (slice_get (world i).actors a.0)) ++ Ran a n ∷ [] in
+    let one = one_quantum a n (idle_at (slice_get (world i).actors a.0)) more.0 in
+    let grown : j.history ≡ i.history ++ (first ++ more.0) = more.1 ∙ ap (λ (m : ImageView). m.history ++ more.0) takes.5 ∙ append_assoc i.history first more.0 in
+    let within = λ (m : ℕ). (1 ≤ m) × (m ≤ quantum) in
+    (first ++ more.0, grown, omega (arith, ap length one, more.2), omega (arith, ap sum one ∙ sum_by-cons (λ m. m) n (quanta_in more.0), more.3), subst (All within) (sym one) (All-cons within n (quanta_in more.0) (takes.3, takes.4) more.4), omega (arith, more.5), λ fewer. more.6 (omega (arith, fewer)))
+
+pub runs_say_what_they_took : RunsSayWhatTheyTook
+runs_say_what_they_took quantum quanta q s i j runs =
+    let all = runs_from quantum quanta 0 0 q s i j runs in
+    (all.0, all.1, omega (arith, all.2), omega (arith, all.3), all.4, omega (arith, all.5), λ fewer. all.6 (omega (arith, fewer)))

@@ -7,7 +7,7 @@ use Rattle.st_classes.specs.declared.values.Value.{Value}
 use Rattle.st_classes.specs.declared.edits.Edit.TheVariants.{Define}
 use Rattle.st_classes.specs.declared.refusals.Refusal.{Refusal}
 use Rattle.st_classes.specs.declared.refusals.Refusal.TheVariants.{NoMemory, UnknownClass, BadCommand}
-use Rattle.st_classes.specs.Refusals.{first_of}
+use Rattle.st_classes.specs.Refusals.{first_of, Answers}
 use Rattle.st_classes.specs.Classes.{class_named}
 use Rattle.st_turn.specs.declared.body.Outcome.{Outcome}
 use Rattle.st_turn.specs.declared.body.Outcome.TheVariants as outcome
@@ -27,7 +27,7 @@ use Rattle.st_server.specs.Resolving.{Interns, StandsFor, AllResolve, shown}
 
 -- the reply is a refusal, the first that applies or for want of memory
 abbrev pub Refuses : Option Refusal → Reply → Type 0
-Refuses first r = (e : Refusal) × (r ≡ reply.Refused e) × ((e ≡ NoMemory) ⊎ (first ≡ Some e))
+Refuses first r = (e : Refusal) × (r ≡ reply.Refused e) × Answers first (Err e) (λ (done : ⊥). ⊥)
 
 -- it is refused and changes nothing, or no refusal applies and it is done
 abbrev pub Settles : Option Refusal → ImageView → Reply → ImageView → Type 0 → Type 0

@@ -5,6 +5,7 @@
 #![tactic(auto)]
 
 pub mod lines;
+mod quantum;
 mod reading;
 mod resolving;
 pub mod scripts;

@@ -1,10 +1,11 @@
 //! Scripts.
-ghost use Rattle.std.specs.Prelude.{◌≡◌, ◌≤◌, ℕ, List, []};
+ghost use Rattle.std.specs.Prelude.{◌≡◌, ℕ, List, []};
 ghost use Rattle.std.specs.Io.KnownBytes.{Appends};
 ghost use Rattle.st_wire.specs.Streams.{input_view};
 ghost use Rattle.st_server.specs.Sessions.{end_of, failures_after};
 ghost use Rattle.st_server.specs.Scripts.{AnswersLines, Scripted, Script};
 
+use crate::quantum::Quantum;
 use crate::reading::read_all;
 use crate::serving::ImageHandler;
 use crate::sessions::session;
@@ -18,12 +19,10 @@ use std::alloc::Global;
 fn answer_lines<O: Output>(
     alloc: Global,
     output: &mut O,
-    quantum: u32,
+    quantum: Quantum,
     image: Image,
     text: &[u8],
 ) -> (Image, Result<u64, Refusal>)
-    requires some { 1 ≤ quantum }
-    requires few { quantum ≤ 1024 }
     ensures written { (written : List ℕ) × Appends (O.contents output.old) (O.contents output.new) written
         × AnswersLines quantum image text.now written result.0 result.1 }
     ensures failures { O.failures output.new ≡ failures_after (end_of result.1) (O.failures output.old) }
@@ -38,11 +37,9 @@ fn answer_input<I: Input, O: Output>(
     alloc: Global,
     input: &mut I,
     output: &mut O,
-    quantum: u32,
+    quantum: Quantum,
     image: Image,
 ) -> (Image, Result<u64, Refusal>)
-    requires some { 1 ≤ quantum }
-    requires few { quantum ≤ 1024 }
     ensures script { let before = input_view I.remaining I.failures I.reads input.old in
         let after = input_view I.remaining I.failures I.reads input.new in
         (written : List ℕ) × Appends (O.contents output.old) (O.contents output.new) written
@@ -77,11 +74,11 @@ pub fn script_on<I: Input, O: Output>(
         × Script settings image before after written result.0 result.1 }
     ensures failures { O.failures output.new ≡ failures_after (end_of result.1) (O.failures output.old) }
 {
-    if !settings.has_quantum() {
+    let Some(quantum) = Quantum::new(settings.quantum) else {
         return (image, Err(Refusal::BadArguments));
-    }
+    };
     if let Err(refusal) = image.set(settings.of_image()) {
         return (image, Err(refusal));
     }
-    answer_input(alloc, input, output, settings.quantum, image)
+    answer_input(alloc, input, output, quantum, image)
 }

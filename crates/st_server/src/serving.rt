@@ -5,6 +5,7 @@ ghost use Rattle.st_image.specs.Posting.{from_client};
 ghost use Rattle.st_image.specs.Images.{world};
 ghost use Rattle.st_server.specs.Serving.{NoClass, InstallsMethod, Defines, Creates, PostsMessage, PostsArguments, Posts, NoneReady, TakesQuantum, StopsAt, Runs, Tells, Serves, Replies};
 
+use crate::quantum::Quantum;
 use crate::resolving::{argument_values, shown};
 use crate::sessions::Handler;
 use st_classes::refusals::Refusal;
@@ -110,9 +111,7 @@ fn post(
 }
 
 /// Lets the next ready actor take a quantum, and says how many steps that was, or nothing where none is ready.
-fn take_quantum(image: &mut Image, alloc: Global, quantum: u32) -> Result<Option<u32>, Refusal>
-    requires some { 1 ≤ quantum }
-    requires few { quantum ≤ 1024 }
+fn take_quantum(image: &mut Image, alloc: Global, quantum: Quantum) -> Result<Option<u32>, Refusal>
     ensures { MatchResult result
         (λ taken. MatchOption taken (NoneReady image.old × (image.new ≡ image.old)) (λ n. TakesQuantum quantum image.old n image.new))
         (λ e. StopsAt quantum image.old e image.new) }
@@ -120,16 +119,14 @@ fn take_quantum(image: &mut Image, alloc: Global, quantum: u32) -> Result<Option
     let Some(actor) = image.next_ready() else {
         return Ok(None);
     };
-    match image.advance(alloc, actor, quantum) {
+    match image.advance(alloc, actor, quantum.steps()) {
         Ok(steps) => Ok(Some(steps)),
         Err(refusal) => Err(refusal),
     }
 }
 
 /// So long as quanta are left and an actor is ready, the next ready one takes a quantum.
-fn run(image: &mut Image, alloc: Global, quantum: u32, quanta: u32) -> Reply
-    requires some { 1 ≤ quantum }
-    requires few { quantum ≤ 1024 }
+fn run(image: &mut Image, alloc: Global, quantum: Quantum, quanta: u32) -> Reply
     ensures { Runs quantum quanta image.old 0 0 result image.new }
 {
     let mut steps = 0;
@@ -162,9 +159,7 @@ fn outcome(image: &Image, alloc: Global, actor: ActorId, turn: u64) -> Reply
 }
 
 /// The reply to a command.
-fn serve(image: &mut Image, alloc: Global, quantum: u32, command: Command) -> Reply
-    requires some { 1 ≤ quantum }
-    requires few { quantum ≤ 1024 }
+fn serve(image: &mut Image, alloc: Global, quantum: Quantum, command: Command) -> Reply
     ensures { Serves quantum image.old command result image.new }
 {
     match command {
@@ -201,9 +196,7 @@ fn serve(image: &mut Image, alloc: Global, quantum: u32, command: Command) -> Re
 }
 
 /// The reply to a line. One that is no command is BadCommand.
-fn reply_to(image: &mut Image, alloc: Global, quantum: u32, line: &[u8]) -> Reply
-    requires some { 1 ≤ quantum }
-    requires few { quantum ≤ 1024 }
+fn reply_to(image: &mut Image, alloc: Global, quantum: Quantum, line: &[u8]) -> Reply
     ensures { Replies quantum image.old line.now result image.new }
 {
     match read_command(alloc, line) {
@@ -216,10 +209,7 @@ fn reply_to(image: &mut Image, alloc: Global, quantum: u32, line: &[u8]) -> Repl
 #[derive(Drop)]
 pub struct ImageHandler {
     pub image: Image,
-    /// The steps of a quantum, 1 to 1,024.
-    pub quantum: u32,
-    ghost some: { 1 ≤ quantum },
-    ghost few: { quantum ≤ 1024 },
+    pub quantum: Quantum,
 }
 
 impl Handler for ImageHandler {

@@ -1,6 +1,5 @@
 //! What a script is set to.
-ghost use Rattle.std.specs.Prelude.{◌≡◌, ◌≤◌, IsTrue};
-ghost use Rattle.st_server.specs.Scripts.{is_quantum};
+ghost use Rattle.std.specs.Prelude.{◌≡◌};
 
 use st_image::settings::Settings;
 
@@ -21,13 +20,6 @@ impl ScriptSettings {
         capacity: Settings::DEFAULT.capacity,
         history: Settings::DEFAULT.history,
     };
-
-    /// Whether the quantum is in its range.
-    pub(crate) fn has_quantum(self) -> bool
-        ensures { result ≡ is_quantum self.quantum }
-    {
-        1 <= self.quantum && self.quantum <= 1024
-    }
 
     /// The numbers that are the image's.
     pub fn of_image(self) -> Settings

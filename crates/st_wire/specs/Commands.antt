@@ -1,7 +1,8 @@
 -- The command of a line.
-use Rattle.std.specs.Prelude.{ℕ, ◌==◌, List, [], ◌∷◌, codes, not, is_some, if◌then◌else◌, Option, Some, None, option_map, option_and_then}
+use Rattle.std.specs.Prelude.{ℕ, ◌==◌, ◌&&◌, Bool, true, List, [], ◌∷◌, length, codes, not, is_some, if◌then◌else◌, Option, Some, None, option_map, option_and_then}
 use Rattle.std.specs.Str.{is_utf8, bytes_eq}
 use Rattle.serde_json.specs.Data.{Data}
+use Rattle.serde_json.specs.Find.{get}
 use Rattle.serde_json.specs.Read.{read}
 use Rattle.st_classes.specs.declared.refusals.Refusal.TheVariants.{BadCommand}
 use Rattle.st_classes.specs.declared.values.ActorId.{ActorId}
@@ -11,63 +12,72 @@ use Rattle.st_wire.specs.declared.commands.Command.{Command}
 use Rattle.st_wire.specs.declared.commands.Command.TheVariants.{Define, Method, Remove, Actor, Post, Close, Run, Outcome, Stats}
 use Rattle.st_wire.specs.Fields.{size, text_at, texts_at, actor_at, sender_at, number_at, quanta_at, arguments_at}
 
--- the part that is there, where an object has so many keys
-abbrev pub of_size : ℕ → Data → Option Command → Option Command
-of_size n d command = if size d == n then command else None
+-- all of some keys are there
+abbrev pub has_all : List (List ℕ) → Data → Bool
+has_all [] d = true
+has_all (key ∷ keys) d = is_some (get key d) && has_all keys d
+
+-- a value is an object of just these keys, which differ: all are there, and no more keys than these
+abbrev pub has_just : List (List ℕ) → Data → Bool
+has_just keys d = size d == length keys && has_all keys d
+
+-- the part that is there, where an object has just these keys
+abbrev pub of_keys : List (List ℕ) → Data → Option Command → Option Command
+of_keys keys d command = if has_just keys d then command else None
 
 abbrev pub define_from : Option (List ℕ) → Option (List ℕ) → Option (List (List ℕ)) → Option Command
 define_from (Some name) (Some parent) (Some slots) = Some (Define name parent slots)
 define_from _ _ _ = None
 
 abbrev pub define_in : Data → Option Command
-define_in d = of_size 4 d (define_from (text_at (codes "name") d) (text_at (codes "super") d) (texts_at (codes "slots") d))
+define_in d = of_keys (codes "cmd" ∷ codes "name" ∷ codes "slots" ∷ codes "super" ∷ []) d (define_from (text_at (codes "name") d) (text_at (codes "super") d) (texts_at (codes "slots") d))
 
 abbrev pub method_from : Option (List ℕ) → Option (List ℕ) → Option Command
 method_from (Some class) (Some source) = Some (Method class source)
 method_from _ _ = None
 
 abbrev pub method_in : Data → Option Command
-method_in d = of_size 3 d (method_from (text_at (codes "class") d) (text_at (codes "source") d))
+method_in d = of_keys (codes "class" ∷ codes "cmd" ∷ codes "source" ∷ []) d (method_from (text_at (codes "class") d) (text_at (codes "source") d))
 
 abbrev pub remove_from : Option (List ℕ) → Option (List ℕ) → Option Command
 remove_from (Some class) (Some selector) = Some (Remove class selector)
 remove_from _ _ = None
 
 abbrev pub remove_in : Data → Option Command
-remove_in d = of_size 3 d (remove_from (text_at (codes "class") d) (text_at (codes "selector") d))
+remove_in d = of_keys (codes "class" ∷ codes "cmd" ∷ codes "selector" ∷ []) d (remove_from (text_at (codes "class") d) (text_at (codes "selector") d))
 
 abbrev pub new_actor_in : Data → Option Command
-new_actor_in d = of_size 2 d (option_map Actor (text_at (codes "class") d))
+new_actor_in d = of_keys (codes "class" ∷ codes "cmd" ∷ []) d (option_map Actor (text_at (codes "class") d))
 
 abbrev pub post_from : Option ActorId → Option (List Argument) → Option (List ℕ) → Option ℕ → Option ℕ → Option Command
 post_from (Some actor) (Some args) (Some selector) (Some sender) (Some seq) = Some (Post actor args selector sender seq)
 post_from _ _ _ _ _ = None
 
 abbrev pub post_in : Data → Option Command
-post_in d = of_size 6 d (post_from (actor_at (codes "actor") d) (arguments_at (codes "args") d) (text_at (codes "selector") d) (sender_at (codes "sender") d) (number_at (codes "seq") d))
+post_in d = of_keys (codes "actor" ∷ codes "args" ∷ codes "cmd" ∷ codes "selector" ∷ codes "sender" ∷ codes "seq" ∷ []) d (post_from (actor_at (codes "actor") d) (arguments_at (codes "args") d) (text_at (codes "selector") d) (sender_at (codes "sender") d) (number_at (codes "seq") d))
 
 abbrev pub close_in : Data → Option Command
-close_in d = of_size 2 d (option_map Close (actor_at (codes "actor") d))
+close_in d = of_keys (codes "actor" ∷ codes "cmd" ∷ []) d (option_map Close (actor_at (codes "actor") d))
 
 -- 1,000 quanta where none are given
 abbrev pub run_in : Data → Option Command
-run_in d = if size d == 1 then Some (Run 1000) else of_size 2 d (option_map Run (quanta_at (codes "quanta") d))
+run_in d = if has_just (codes "cmd" ∷ []) d then Some (Run 1000) else of_keys (codes "cmd" ∷ codes "quanta" ∷ []) d (option_map Run (quanta_at (codes "quanta") d))
 
 abbrev pub outcome_from : Option ActorId → Option ℕ → Option Command
 outcome_from (Some actor) (Some turn) = Some (Outcome actor turn)
 outcome_from _ _ = None
 
 abbrev pub outcome_in : Data → Option Command
-outcome_in d = of_size 3 d (outcome_from (actor_at (codes "actor") d) (number_at (codes "turn") d))
+outcome_in d = of_keys (codes "actor" ∷ codes "cmd" ∷ codes "turn" ∷ []) d (outcome_from (actor_at (codes "actor") d) (number_at (codes "turn") d))
 
 abbrev pub stats_from : Option (List ℕ) → Option (List ℕ) → Option Command
 stats_from (Some class) (Some selector) = Some (Stats class selector)
 stats_from _ _ = None
 
 abbrev pub stats_in : Data → Option Command
-stats_in d = of_size 3 d (stats_from (text_at (codes "class") d) (text_at (codes "selector") d))
+stats_in d = of_keys (codes "class" ∷ codes "cmd" ∷ codes "selector" ∷ []) d (stats_from (text_at (codes "class") d) (text_at (codes "selector") d))
 
--- the command of the form that `cmd` names; since a form's keys are all there and no more keys than these, there are just these
+-- the command of the form that `cmd` names
 abbrev pub form_in : Data → List ℕ → Option Command
 form_in d cmd = if bytes_eq cmd (codes "define") then define_in d else (if bytes_eq cmd (codes "method") then method_in d else (if bytes_eq cmd (codes "remove") then remove_in d else (if bytes_eq cmd (codes "actor") then new_actor_in d else (if bytes_eq cmd (codes "post") then post_in d else (if bytes_eq cmd (codes "close") then close_in d else (if bytes_eq cmd (codes "run") then run_in d else (if bytes_eq cmd (codes "outcome") then outcome_in d else (if bytes_eq cmd (codes "stats") then stats_in d else None))))))))
 

@@ -1,11 +1,10 @@
 //! Commands, and how they are read.
-ghost use Rattle.std.specs.Prelude.{◌≡◌, Some, Ok, Err, nat_eq, if◌then◌else◌};
+ghost use Rattle.std.specs.Prelude.{◌≡◌, Some, Ok, Err, map, if◌then◌else◌};
 ghost use Rattle.serde_json.specs.View.{view};
 ghost use Rattle.st_classes.specs.Refusals.{Answers, first_of};
 ghost use Rattle.st_classes.specs.declared.refusals.Refusal.TheVariants.{BadCommand};
-ghost use Rattle.st_wire.specs.Fields.{size as size_of};
 ghost use Rattle.st_wire.specs.Reading.{Reads};
-ghost use Rattle.st_wire.specs.Commands.{command_of, command_rules, command_in, define_in, method_in, remove_in, new_actor_in, post_in, close_in, run_in, outcome_in, stats_in};
+ghost use Rattle.st_wire.specs.Commands.{command_of, command_rules, has_just as has_just_keys, has_all as has_all_keys, command_in, define_in, method_in, remove_in, new_actor_in, post_in, close_in, run_in, outcome_in, stats_in};
 
 use crate::fields::{
     actor_at, arguments_at, quanta_at, sender_at, size, text_at, texts_at, whole_at,
@@ -113,11 +112,30 @@ fn read_object(alloc: Global, object: &Value) -> Result<Command, Refusal>
     }
 }
 
-// Refuses an object that has not so many keys.
-fn just_keys(object: &Value, count: usize) -> Result<(), Refusal>
-    ensures { result ≡ (if nat_eq (size_of (view object.now)) count then Ok tt else Err BadCommand) }
+// Whether a value is an object of just these keys.
+fn has_just(object: &Value, keys: &[&str]) -> bool
+    ensures { result ≡ has_just_keys (map (λ key. key.now) keys.now) (view object.now) }
 {
-    if size(object) == count {
+    size(object) == keys.len() && has_all(object, keys)
+}
+
+// Whether all of some keys are there.
+fn has_all(object: &Value, keys: &[&str]) -> bool
+    ensures { result ≡ has_all_keys (map (λ key. key.now) keys.now) (view object.now) }
+{
+    for key in keys {
+        if object.get(*key).is_none() {
+            return false;
+        }
+    }
+    true
+}
+
+// Refuses an object of other keys than these.
+fn just_keys(object: &Value, keys: &[&str]) -> Result<(), Refusal>
+    ensures { result ≡ (if has_just_keys (map (λ key. key.now) keys.now) (view object.now) then Ok tt else Err BadCommand) }
+{
+    if has_just(object, keys) {
         Ok(())
     } else {
         Err(Refusal::BadCommand)
@@ -127,7 +145,7 @@ fn just_keys(object: &Value, count: usize) -> Result<(), Refusal>
 fn define(alloc: Global, object: &Value) -> Result<Command, Refusal>
     ensures { Reads (define_in (view object.now)) result }
 {
-    just_keys(object, 4)?;
+    just_keys(object, &["cmd", "name", "slots", "super"])?;
     Ok(Command::Define {
         name: text_at(alloc, object, "name")?,
         parent: text_at(alloc, object, "super")?,
@@ -138,7 +156,7 @@ fn define(alloc: Global, object: &Value) -> Result<Command, Refusal>
 fn method(alloc: Global, object: &Value) -> Result<Command, Refusal>
     ensures { Reads (method_in (view object.now)) result }
 {
-    just_keys(object, 3)?;
+    just_keys(object, &["class", "cmd", "source"])?;
     Ok(Command::Method {
         class: text_at(alloc, object, "class")?,
         source: text_at(alloc, object, "source")?,
@@ -148,7 +166,7 @@ fn method(alloc: Global, object: &Value) -> Result<Command, Refusal>
 fn remove(alloc: Global, object: &Value) -> Result<Command, Refusal>
     ensures { Reads (remove_in (view object.now)) result }
 {
-    just_keys(object, 3)?;
+    just_keys(object, &["class", "cmd", "selector"])?;
     Ok(Command::Remove {
         class: text_at(alloc, object, "class")?,
         selector: text_at(alloc, object, "selector")?,
@@ -158,7 +176,7 @@ fn remove(alloc: Global, object: &Value) -> Result<Command, Refusal>
 fn new_actor(alloc: Global, object: &Value) -> Result<Command, Refusal>
     ensures { Reads (new_actor_in (view object.now)) result }
 {
-    just_keys(object, 2)?;
+    just_keys(object, &["class", "cmd"])?;
     Ok(Command::Actor {
         class: text_at(alloc, object, "class")?,
     })
@@ -167,7 +185,10 @@ fn new_actor(alloc: Global, object: &Value) -> Result<Command, Refusal>
 fn post(alloc: Global, object: &Value) -> Result<Command, Refusal>
     ensures { Reads (post_in (view object.now)) result }
 {
-    just_keys(object, 6)?;
+    just_keys(
+        object,
+        &["actor", "args", "cmd", "selector", "sender", "seq"],
+    )?;
     Ok(Command::Post {
         actor: actor_at(object, "actor")?,
         args: arguments_at(alloc, object, "args")?,
@@ -180,7 +201,7 @@ fn post(alloc: Global, object: &Value) -> Result<Command, Refusal>
 fn close(object: &Value) -> Result<Command, Refusal>
     ensures { Reads (close_in (view object.now)) result }
 {
-    just_keys(object, 2)?;
+    just_keys(object, &["actor", "cmd"])?;
     Ok(Command::Close {
         actor: actor_at(object, "actor")?,
     })
@@ -189,12 +210,12 @@ fn close(object: &Value) -> Result<Command, Refusal>
 fn run(object: &Value) -> Result<Command, Refusal>
     ensures { Reads (run_in (view object.now)) result }
 {
-    if size(object) == 1 {
+    if has_just(object, &["cmd"]) {
         return Ok(Command::Run {
             quanta: DEFAULT_QUANTA,
         });
     }
-    just_keys(object, 2)?;
+    just_keys(object, &["cmd", "quanta"])?;
     Ok(Command::Run {
         quanta: quanta_at(object, "quanta")?,
     })
@@ -203,7 +224,7 @@ fn run(object: &Value) -> Result<Command, Refusal>
 fn outcome(object: &Value) -> Result<Command, Refusal>
     ensures { Reads (outcome_in (view object.now)) result }
 {
-    just_keys(object, 3)?;
+    just_keys(object, &["actor", "cmd", "turn"])?;
     Ok(Command::Outcome {
         actor: actor_at(object, "actor")?,
         turn: whole_at(object, "turn", 0, u64::MAX)?,
@@ -213,7 +234,7 @@ fn outcome(object: &Value) -> Result<Command, Refusal>
 fn stats(alloc: Global, object: &Value) -> Result<Command, Refusal>
     ensures { Reads (stats_in (view object.now)) result }
 {
-    just_keys(object, 3)?;
+    just_keys(object, &["class", "cmd", "selector"])?;
     Ok(Command::Stats {
         class: text_at(alloc, object, "class")?,
         selector: text_at(alloc, object, "selector")?,

@@ -3,3 +3,4 @@ pub mod Objects
 pub mod Lines
 pub mod Written
 pub mod Parts
+pub mod KeyOrder

@@ -1,5 +1,7 @@
 -- The line of a reply.
-use Rattle.std.specs.Prelude.{ℕ, List, [], ◌∷◌, ◌++◌, codes}
+use Rattle.std.specs.Prelude.{◌≡◌, ℕ, ◌&&◌, Bool, true, false, List, [], ◌∷◌, ◌++◌, codes}
+use Rattle.std.specs.Ordering.{nat_cmp, match_ordering}
+use Rattle.std.specs.Cmp.Lexicographic.{slice_cmp}
 use Rattle.serde_json.specs.Data.{Data, null, boolean, number, string, array, object, unsigned, Items, no_items, item, Members, no_members, member}
 use Rattle.serde_json.specs.Find.{of_integer}
 use Rattle.serde_json.specs.Written.{compact_text}
@@ -39,7 +41,7 @@ state_name Mono = codes "mono"
 state_name Poly = codes "poly"
 state_name Mega = codes "mega"
 
--- keys stand in byte order
+-- the report of a site
 abbrev pub site_data : SiteReport → Data
 site_data s = object (member (codes "global") (whole s.global) (member (codes "selector") (string s.selector) (member (codes "sends") (whole s.sends) (member (codes "site") (whole s.site) (member (codes "state") (string (state_name s.state)) (member (codes "super") (boolean s.is_super) (member (codes "walk") (whole s.walk) no_members)))))))
 
@@ -76,3 +78,32 @@ reply_data (reply.Refused refusal) = object (member (codes "error") (string (ref
 -- the line of a reply: the compact text of its value, and a newline
 abbrev pub line_of : Reply → List ℕ
 line_of r = compact_text (reply_data r) ++ 10 ∷ []
+
+-- ---- keys in byte order
+
+-- a key comes before the next one, if there is a next one
+abbrev pub comes_first : List ℕ → Members → Bool
+comes_first k no_members = true
+comes_first k (member l d ms) = match_ordering (slice_cmp nat_cmp k l) true false false
+
+-- in each object, at every level, the keys rise in byte order
+abbrev mutual
+  pub keys_rise : Data → Bool
+  keys_rise null = true
+  keys_rise (boolean b) = true
+  keys_rise (number n) = true
+  keys_rise (string s) = true
+  keys_rise (array ds) = keys_rise_in_items ds
+  keys_rise (object ms) = keys_rise_in_members ms
+
+  pub keys_rise_in_items : Items → Bool
+  keys_rise_in_items no_items = true
+  keys_rise_in_items (item d ds) = keys_rise d && keys_rise_in_items ds
+
+  pub keys_rise_in_members : Members → Bool
+  keys_rise_in_members no_members = true
+  keys_rise_in_members (member k d ms) = keys_rise d && comes_first k ms && keys_rise_in_members ms
+
+-- so they do in each reply
+abbrev pub RepliesHaveKeysInOrder : Type 0
+RepliesHaveKeysInOrder = (r : Reply) → keys_rise (reply_data r) ≡ true

@@ -5,7 +5,7 @@ ghost use Rattle.std.specs.Prelude.{◌≡◌, ◌++◌, false, true, IfOk, OnOk
 ghost use Rattle.json.specs.Print.{quoted};
 ghost use Rattle.st_wire.specs.declared.replies.Reply.TheVariants.{Ran, Answer, Fault as FaultReply, Sites, Refused};
 ghost use Rattle.serde_json.specs.Written.{compact_text, items_text, members_text};
-ghost use Rattle.st_wire.specs.Replies.{line_of, reply_data, answered_data, state_name as name_of, site_data, site_items, refusal_fields};
+ghost use Rattle.st_wire.specs.Replies.{line_of, reply_data, answered_data, state_name as name_of, site_data, site_items, refusal_fields, RepliesHaveKeysInOrder};
 
 use crate::line::Line;
 use crate::names::{fault_name, kind_name, limited_name, place_name, refusal_name};
@@ -82,6 +82,11 @@ pub fn reply_text(alloc: Global, reply: &Reply) -> Result<Vec<u8>, AllocError>
     line.put("\n")?;
     Ok(line.into_bytes())
 }
+
+/// In each object that a reply writes, the keys stand in byte order.
+pub fn key_order()
+    ensures { RepliesHaveKeysInOrder }
+{}
 
 impl Reply {
     fn write(&self, line: &mut Line) -> Result<(), AllocError>

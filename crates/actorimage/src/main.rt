@@ -29,10 +29,10 @@ fn script<R: Input + Print + AllocGlobal>(rt: &R, options: ScriptOptions) -> Res
     let mut input = Reader::new(rt.reader());
     let mut output = Writer::new(buffered);
     let (_, result) = script_on(alloc, &mut input, &mut output, settings, image);
-    if output.flush().is_err() {
-        return Err(Refusal::WriteFault);
+    match output.finish() {
+        Ok(_) => result,
+        Err(_) => Err(Refusal::WriteFault),
     }
-    result
 }
 
 /// The words of the command line.

@@ -9,7 +9,7 @@ use st_wire::streams::{
     Input, MemoryInput, MemoryOutput, Output, ReadFailed, Reader, WriteFailed, Writer, write_all,
 };
 use std::alloc::{AllocError, Global};
-use std::io::{self, ErrorKind, Read, Write};
+use std::io::{self, BufWriter, ErrorKind, Read, Write};
 use std::test::Fail;
 
 fn read(alloc: Global, line: &str) -> Result<Command, Refusal> {
@@ -425,10 +425,25 @@ fn writes_to_a_device(rt: HostRuntime) -> Result<(), Fail> {
     };
     let mut output = Writer::new(&mut device);
     assert!(rt; write_all(&mut output, b"abc") == Ok(()));
-    assert!(rt; output.flush() == Ok(()));
     assert!(rt; output.write(b"d") == Err(WriteFailed));
     assert!(rt; write_all(&mut output, b"d") == Err(WriteFailed));
-    assert!(rt; output.flush() == Err(WriteFailed));
+    assert!(rt; device.taken.as_slice() == b"abc".as_slice());
+    Ok(())
+}
+
+#[test]
+fn finishes_a_buffered_device(rt: HostRuntime) -> Result<(), Fail> {
+    let alloc = rt.alloc();
+    let mut device = Taking {
+        taken: Vec::new(alloc),
+        turn: 0,
+    };
+    let mut output = Writer::new(BufWriter::new(alloc, &mut device)?);
+    assert!(rt; write_all(&mut output, b"abc") == Ok(()));
+    assert!(rt; output.finish().is_ok());
+    let mut output = Writer::new(BufWriter::new(alloc, &mut device)?);
+    assert!(rt; write_all(&mut output, b"d") == Ok(()));
+    assert!(rt; matches!(output.finish(), Err(WriteFailed)));
     assert!(rt; device.taken.as_slice() == b"abc".as_slice());
     Ok(())
 }

@@ -1,11 +1,11 @@
 //! Devices over what std reads from and writes to.
-ghost use Rattle.std.specs.Prelude.{◌≡◌, ◌≤◌, IfOk, OnOk, OnErr};
+ghost use Rattle.std.specs.Prelude.{◌≡◌, ◌≤◌, IfOk};
 ghost use Rattle.std.specs.Io.{ReadsAtMost, WritesAtMost};
 ghost use Rattle.std.specs.Io.KnownBytes.{Keeps, ReadConsumes, WriteAppends};
-ghost use Rattle.st_wire.specs.Streams.{one_more};
+ghost use Rattle.std.specs.Io.Buffered.{writer_contents};
 
 use super::{Input, Output, ReadFailed, WriteFailed};
-use std::io::{self, ErrorKind};
+use std::io::{self, BufWriter, ErrorKind};
 
 /// One read, tried again where a signal interrupts it.
 fn read_from<R: io::Read>(reader: &mut R, buffer: &mut [u8]) -> Result<usize, ReadFailed>
@@ -92,7 +92,7 @@ impl<R: io::Read> Input for Reader<R> {
 ///
 /// A write that a signal interrupts is no failure: it is tried again, and only a write that is interrupted 2^64 - 1
 /// times is a failure. Every other error is one, and so is a write of which no byte is taken. A writer with a buffer fails where
-/// the buffer cannot be written out, and that may be after the write that filled it: see [`Writer::flush`].
+/// the buffer cannot be written out, and that may be after the write that filled it: see [`Writer::finish`].
 #[derive(Drop)]
 pub struct Writer<W> {
     inner: W,
@@ -107,18 +107,15 @@ impl<W: io::Write> Writer<W> {
     {
         Writer { inner, failures: 0 }
     }
+}
 
-    /// Writes out what the writer holds back in a buffer. What has been written to the device is the same after it.
-    pub fn flush(&mut self) -> Result<(), WriteFailed>
-        ensures kept { Keeps (W.contents self.old.inner) (W.contents self.new.inner) }
-        ensures unfailed { OnOk result (self.new.failures ≡ self.old.failures) }
-        ensures failed { OnErr result (self.new.failures ≡ one_more self.old.failures) }
+impl<W: io::Write + Drop> Writer<BufWriter<W>> {
+    /// Writes out what the buffer holds back, and gives the writer behind it, which has then taken all that was written to
+    /// the device.
+    pub fn finish(self) -> Result<W, WriteFailed>
+        ensures { IfOk result (λ w. Keeps (writer_contents W.contents self.inner) (W.contents w)) }
     {
-        if self.inner.flush().is_ok() {
-            return Ok(());
-        }
-        self.failures = self.failures.wrapping_add(1);
-        Err(WriteFailed)
+        self.inner.into_inner().map_err(|_| WriteFailed)
     }
 }
 

@@ -3,7 +3,8 @@
 
 mod options;
 
-use crate::options::{ScriptOptions, asked};
+use crate::options::{ScriptOptions, asked, no_text};
+use clap::Error;
 use st_classes::refusals::Refusal;
 use st_image::image::Image;
 use st_server::scripts::script_on;
@@ -48,6 +49,12 @@ fn refused(rt: &HostRuntime, refusal: Refusal) -> ExitCode {
     ExitCode::from(1)
 }
 
+/// Shows why a command line was refused, or the help that it asked for. Where that cannot be written, the status still tells.
+fn shown(rt: &HostRuntime, error: Error) -> ExitCode {
+    let _ = error.print(rt);
+    ExitCode::from(error.exit_code() as u8)
+}
+
 /// Runs what the command line asks for. The status is 0, 1 where a session was refused, or 2 for a refused command line.
 fn main(rt: HostRuntime) -> io::Result<ExitCode> {
     let words = match words(&rt) {
@@ -55,17 +62,11 @@ fn main(rt: HostRuntime) -> io::Result<ExitCode> {
         Err(error) if error.kind() == ErrorKind::OutOfMemory => {
             return Ok(refused(&rt, Refusal::NoMemory));
         }
-        Err(_) => {
-            let _ = eprintln!(rt; "actorimage: a word of the command line is no text");
-            return Ok(ExitCode::from(2));
-        }
+        Err(_) => return Ok(shown(&rt, no_text(rt.alloc()).unwrap_or_else(Error::from))),
     };
     let options = match asked(rt.alloc(), &words) {
         Ok(options) => options,
-        Err(error) => {
-            let _ = error.print(&rt);
-            return Ok(ExitCode::from(error.exit_code() as u8));
-        }
+        Err(error) => return Ok(shown(&rt, error)),
     };
     match script(&rt, options) {
         Ok(_) => Ok(ExitCode::SUCCESS),

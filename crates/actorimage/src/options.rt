@@ -1,4 +1,5 @@
 //! The command line.
+use clap::error::ErrorKind;
 use clap::{Arg, ArgMatches, Command, Error, value_parser};
 use std::alloc::{AllocError, Global};
 
@@ -60,4 +61,12 @@ pub fn asked<'a>(alloc: Global, words: &'a [String]) -> Result<ScriptOptions, Er
         Some(script) => script_options(script),
         None => ScriptOptions::DEFAULT,
     })
+}
+
+/// The text that a command line is answered with where a word of it is no UTF-8.
+pub fn no_text(alloc: Global) -> Result<Error, AllocError> {
+    program(alloc)?.error(
+        ErrorKind::InvalidValue,
+        "invalid UTF-8 was detected in one or more arguments",
+    )
 }

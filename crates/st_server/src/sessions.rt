@@ -17,7 +17,7 @@ pub trait Handler {
     /// Which reply it may give to a line, and how that leaves it.
     ghost answers: { Self → List ℕ → ReplyOf → Self → Type 0 };
 
-    /// The reply to a line of at most 8,192 bytes of UTF-8.
+    /// The reply to a line. [`session`] asks for those to lines of at most 8,192 bytes of UTF-8 alone.
     fn reply(&mut self, alloc: Global, line: &[u8]) -> Reply
         ensures { answers self.old line.now result self.new };
 }

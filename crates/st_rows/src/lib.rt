@@ -23,6 +23,8 @@ mod names;
 #[cfg(test)]
 mod reading;
 #[cfg(test)]
+mod reply_names;
+#[cfg(test)]
 mod scripts;
 #[cfg(test)]
 mod steps;

@@ -20,8 +20,7 @@ use Rattle.st_classes.specs.Classes.{IsForest, ClassDef, defined, classes, class
 use Rattle.st_classes.specs.Accepting.{edit_rules}
 use Rattle.st_classes.specs.Selectors.{arity_of}
 use Rattle.st_classes.specs.Suiting.{arity_at, is_number, literal_suits, instruction_suits, suits, edit_suits}
-use Rattle.st_classes.specs.Methods.{IsSound}
-use Rattle.st_classes.specs.Lawful.{AreLawful, AllSuit, AllSound, installed_method, method_at}
+use Rattle.st_classes.specs.Lawful.{AreLawful, AllSuit, installed_method, method_at}
 use Rattle.st_classes.proofs.LawLists.{slice_get_old, slice_get_push, slice_get_kept, take_old, take_whole, no_rule}
 use Rattle.st_classes.proofs.LawChains.{forest, chain_of_some, classes_append, slots_more}
 

@@ -1,10 +1,9 @@
 -- Advances.
-use Rattle.std.proofs.Common.{arith, ◌≡◌, ℕ, zero, suc, ◌+◌, ◌-◌, ◌<◌, ◌≤◌, ◌++◌, [], ◌∷◌, List, length, drop, Option, Some, None, Bool, true, false, cond, refl, ap, sym, ◌∙◌, subst, slice_get, slice_set, length-append, nat_eq, nat_lt, ◌⊎◌, inl, inr, append-nil, append_assoc, Ok, Err, IfErr}
+use Rattle.std.proofs.Common.{arith, ◌≡◌, ℕ, zero, suc, ◌+◌, ◌<◌, ◌≤◌, ◌++◌, [], ◌∷◌, List, length, Option, Some, None, Bool, true, false, cond, refl, ap, sym, ◌∙◌, subst, slice_get, slice_set, length-append, nat_eq, ◌⊎◌, inl, inr, append-nil, append_assoc, Ok, Err, IfErr}
 use Rattle.std.specs.Prelude.{not, ◌&&◌, ◌||◌, ◌==◌, IsTrue}
 use Rattle.std.specs.BTreeSet.{BTreeSet}
 use Rattle.std.proofs.Math.Dec.{eqb-suc-zero}
 use Rattle.std.proofs.lemmas.Bool.Decides.{nat_tests}
-use Rattle.std.proofs.lemmas.Grind.{common_steps}
 use Rattle.std.proofs.lemmas.Option.{slice_get_within}
 use Rattle.st_classes.specs.declared.values.ActorId.{ActorId}
 use Rattle.st_classes.specs.declared.edits.Edit.{Edit}
@@ -22,15 +21,15 @@ use Rattle.st_image.specs.declared.items.Item.TheVariants.{Begun, Ran}
 use Rattle.st_turn.specs.Idling.{is_idle}
 use Rattle.st_image.specs.Worlds.{World, Being, pending, with_actor}
 use Rattle.st_image.specs.Next.{next, begun_at, begun_by, beginning, steps, with_result, only_if}
-use Rattle.st_image.specs.Images.{ImageView, world, world_of, no_room, advance_rules, advanced, only_begun, HasStopped, idle_at, beginnings}
+use Rattle.st_image.specs.Images.{ImageView, world_of, no_room, advance_rules, advanced, HasStopped, idle_at, beginnings}
 use Rattle.st_image.specs.Ready.{is_ready, is_ready_at}
-use Rattle.st_image.specs.Lasting.{IsWorld, IsBeing, given}
+use Rattle.st_image.specs.Lasting.{IsWorld, given}
 use Rattle.st_image.specs.Kepts.{Kept, kept_of, started, begun_first, stepped_to, is_ready_kept, has, HasAlso, advance_items, turn_after, Advances}
 use Rattle.st_image.specs.Keeping.{Shows, IsImage, CanRun}
 use Rattle.st_image.proofs.Places.{get_set_same}
 use Rattle.st_image.proofs.Lists.{off, set_at_same, set_twice}
 use Rattle.st_image.proofs.Showing.{kept_beginning, started_idle, started_busy}
-use Rattle.st_image.proofs.Keeping.{being_at, kept_at, has_room, begun_kept, ran_kept, with_body}
+use Rattle.st_image.proofs.Keeping.{being_at, kept_at, has_room, begun_kept, ran_kept}
 use Rattle.st_image.proofs.Posting.{seen}
 use Rattle.st_image.proofs.Lasting.{next_keeps, kernel_known}
 

@@ -1,9 +1,8 @@
 -- New images.
-use Rattle.std.proofs.Common.{arith, ◌≡◌, ℕ, ◌≤◌, [], List, Bool, true, false, None, refl, nat_le, append-nil, sym}
+use Rattle.std.proofs.Common.{arith, ◌≡◌, ℕ, ◌≤◌, [], Bool, true, false, None, refl, nat_le, append-nil, sym}
 use Rattle.std.specs.Prelude.{not, ◌&&◌, ◌||◌}
 use Rattle.std.specs.BTreeSet.{BTreeSet}
 use Rattle.std.proofs.lemmas.Bool.Decides.{nat_tests}
-use Rattle.std.proofs.lemmas.Grind.{common_steps}
 use Rattle.std.proofs.lemmas.List.Elements.{All-nil}
 use Rattle.st_classes.specs.declared.refusals.Refusal.TheVariants.{BadArguments}
 use Rattle.st_classes.specs.Refusals.{first_of}
@@ -12,9 +11,9 @@ use Rattle.st_image.specs.declared.settings.Settings.{Settings}
 use Rattle.st_image.specs.Images.{world_of, settings_rules}
 use Rattle.st_image.specs.Kepts.{Kept, has}
 use Rattle.st_image.specs.Lasting.{AreSettings, HasCapacity}
-use Rattle.st_image.specs.Keeping.{IsImage, Shows}
+use Rattle.st_image.specs.Keeping.{IsImage}
 use Rattle.st_image.proofs.Lasting.{start_is_world}
-use Rattle.st_image.proofs.Lists.{off, not_false}
+use Rattle.st_image.proofs.Lists.{off}
 
 or_off : (a b : Bool) → (not a || not b) ≡ false → (a ≡ true) × (b ≡ true)
 or_off true true e = (refl, refl)

@@ -1,8 +1,6 @@
 -- Laws of bodies, for the names and the number of actors of a world.
-use Rattle.std.proofs.Common.{subst, le_refl, append-nil, ◌≡◌, ℕ, ◌≤◌, ◌<◌, ◌++◌, [], ◌∷◌, List, None, Some, length, true, refl}
+use Rattle.std.proofs.Common.{subst, le_refl, append-nil, ℕ, ◌≤◌, ◌++◌, [], ◌∷◌, List, length, refl}
 use Rattle.st_classes.specs.declared.edits.Edit.{Edit}
-use Rattle.st_classes.specs.Refusals.{first_of}
-use Rattle.st_classes.specs.Accepting.{edit_rules}
 use Rattle.st_classes.specs.Lawful.{AreLawful, AllSuit}
 use Rattle.st_classes.proofs.LawGrowing.{extends_self, extends_more}
 use Rattle.st_turn.specs.declared.body.Body.{Body}

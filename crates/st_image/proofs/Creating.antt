@@ -1,10 +1,9 @@
 -- New actors.
-use Rattle.std.proofs.Common.{arith, ◌≡◌, ℕ, ◌+◌, ◌<◌, ◌≤◌, ◌++◌, [], ◌∷◌, List, length, map, Option, None, Bool, true, false, refl, ap, sym, ◌∙◌, subst, nat_le, replicate}
+use Rattle.std.proofs.Common.{arith, ◌≡◌, ℕ, ◌<◌, ◌++◌, [], ◌∷◌, List, length, None, true, false, ap, sym, ◌∙◌, subst, nat_le, replicate}
 use Rattle.std.specs.Prelude.{not}
 use Rattle.std.specs.BTreeSet.{BTreeSet}
 use Rattle.std.proofs.lemmas.List.{length-map}
 use Rattle.std.proofs.lemmas.Bool.Decides.{nat_tests}
-use Rattle.std.proofs.lemmas.Grind.{common_steps}
 use Rattle.st_classes.specs.declared.values.ClassId.{ClassId}
 use Rattle.st_classes.specs.declared.edits.Edit.{Edit}
 use Rattle.st_classes.specs.declared.refusals.Refusal.TheVariants.{UnknownClass, KernelClass, TooMany}

@@ -1,6 +1,6 @@
 -- Each item keeps the order of delivery.
-use Rattle.std.proofs.Common.{arith, ◌≡◌, ◌≢◌, ℕ, ◌++◌, [], ◌∷◌, List, Option, Some, None, refl, ap, sym, ◌∙◌, subst, length, slice_get, slice_set, Bool, true, false, append_assoc, drop, take, option_and_then, ◌⊎◌, inl, inr, append-nil}
-use Rattle.std.specs.Prelude.{All, is_none, ◌&&◌}
+use Rattle.std.proofs.Common.{◌≡◌, ℕ, ◌++◌, [], ◌∷◌, List, Option, Some, None, refl, ap, sym, ◌∙◌, subst, length, slice_get, slice_set, Bool, true, false, append_assoc, drop, option_and_then, inl, inr, append-nil}
+use Rattle.std.specs.Prelude.{All}
 use Rattle.std.proofs.lemmas.List.Elements.{All-set, All-push, All-nil}
 use Rattle.std.proofs.Math.Seq.{drop-append_seam}
 use Rattle.std.specs.Prelude.{nat_lt}
@@ -13,7 +13,6 @@ use Rattle.st_turn.specs.declared.body.Body.{Body}
 use Rattle.st_image.specs.declared.messages.Message.{Message}
 use Rattle.st_image.specs.declared.items.Item.{Item}
 use Rattle.st_image.specs.declared.items.Item.TheVariants.{Edited, Created, Posted, Closed, Begun, Ran}
-use Rattle.st_turn.specs.Idling.{is_idle}
 use Rattle.st_image.specs.Worlds.{World, Being, start, pending, with_actor}
 use Rattle.st_image.specs.Next.{next, replay, only_if, edited, created, new_being, posted_to, accepting, closed, begun_by, begun_at, beginning, ran, ran_at, steps}
 use Rattle.st_image.specs.Images.{ImageView, world}

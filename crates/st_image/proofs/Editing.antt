@@ -1,5 +1,5 @@
 -- Edits.
-use Rattle.std.proofs.Common.{arith, ◌≡◌, ℕ, ◌+◌, ◌-◌, slice_get, length-append, ◌<◌, ◌≤◌, ◌++◌, [], ◌∷◌, List, length, Option, Some, None, Bool, true, false, refl, ap, sym, ◌∙◌, subst, nat_le, ◌⊎◌, inl, inr, Result, Ok, Err}
+use Rattle.std.proofs.Common.{arith, ◌≡◌, ℕ, ◌+◌, ◌-◌, slice_get, length-append, ◌++◌, [], ◌∷◌, List, length, Some, None, true, refl, ap, sym, ◌∙◌, subst, nat_le, ◌⊎◌, inl, inr}
 use Rattle.st_classes.specs.declared.edits.Edit.{Edit}
 use Rattle.st_classes.specs.declared.refusals.Refusal.{Refusal}
 use Rattle.st_classes.specs.declared.refusals.Refusal.TheVariants.{NoMemory, TooMany}
@@ -15,7 +15,7 @@ use Rattle.st_image.specs.Worlds.{World}
 use Rattle.st_image.specs.Images.{world_of, edits_in, run_rules, no_room}
 use Rattle.st_classes.specs.Lawful.{IsSoundEdit}
 use Rattle.st_image.specs.Kepts.{Kept}
-use Rattle.st_image.specs.Keeping.{Shows, IsImage}
+use Rattle.st_image.specs.Keeping.{IsImage}
 use Rattle.st_image.proofs.Lists.{off, off_append, first_here, first_later}
 use Rattle.st_image.proofs.Keeping.{edited_kept, has_room}
 use Rattle.st_image.proofs.Posting.{seen}

@@ -1,6 +1,6 @@
 -- More names leave every lawful history lawful.
-use Rattle.std.proofs.Common.{arith, ◌≡◌, ℕ, ◌++◌, [], ◌∷◌, List, Option, Some, None, refl, ap, sym, ◌∙◌, subst, length, slice_get, Bool, true, false, option_and_then, unwrap_or, length-append, ltb, ltb-true, cond}
-use Rattle.std.specs.Prelude.{◌&&◌, nat_lt, nat_le, not, is_none}
+use Rattle.std.proofs.Common.{arith, ◌≡◌, ℕ, ◌++◌, [], ◌∷◌, List, Option, Some, None, refl, ap, sym, ◌∙◌, length, slice_get, Bool, true, false, option_and_then, unwrap_or, length-append}
+use Rattle.std.specs.Prelude.{◌&&◌, nat_lt, not, is_none}
 use Rattle.std.proofs.lemmas.Bool.Decides.{nat_tests}
 use Rattle.std.specs.List.{list_all}
 use Rattle.st_classes.specs.declared.values.ActorId.{ActorId}
@@ -24,7 +24,7 @@ use Rattle.st_classes.specs.Lawful.{AllSuit}
 use Rattle.st_image.specs.declared.messages.Message.{Message}
 use Rattle.st_image.specs.declared.items.Item.{Item}
 use Rattle.st_image.specs.declared.items.Item.TheVariants.{Edited, Created, Posted, Closed, Begun, Ran}
-use Rattle.st_image.specs.Worlds.{World, Being, start, pending, with_actor}
+use Rattle.st_image.specs.Worlds.{World, Being, start, with_actor}
 use Rattle.st_image.specs.Posting.{argument_fits, message_fits, message_suits, post_rules, box_rules}
 use Rattle.st_image.specs.Next.{next, replay, only_if, edited, posted_to, accepting, with_last}
 use Rattle.st_image.specs.Images.{world_of}

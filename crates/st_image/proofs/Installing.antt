@@ -1,5 +1,5 @@
 -- What an install answers.
-use Rattle.std.proofs.Common.{arith, ◌≡◌, ◌⊎◌, ℕ, zero, suc, ◌<◌, ◌≤◌, ◌++◌, [], ◌∷◌, List, Bool, true, false, not, cond, eqb, Option, Some, None, Result, Ok, Err, OnErr, IfErr, ◌+◌, nat_le, nat_lt, refl, ap, sym, ◌∙◌, subst, inl, inr, length, slice_get, option_map}
+use Rattle.std.proofs.Common.{arith, ◌≡◌, ◌⊎◌, ℕ, zero, suc, ◌<◌, ◌++◌, [], ◌∷◌, List, Bool, true, false, not, cond, eqb, Option, Some, None, Result, Ok, Err, OnErr, IfErr, ◌+◌, nat_le, nat_lt, refl, ap, sym, ◌∙◌, subst, inl, inr, length, slice_get, option_map}
 use Rattle.std.specs.Prelude.{is_some}
 use Rattle.std.specs.Str.{bytes_eq}
 use Rattle.std.proofs.lemmas.Bool.Decides.{nat_tests}
@@ -24,16 +24,15 @@ use Rattle.st_classes.proofs.LawLists.{slice_get_old}
 use Rattle.st_reader.specs.declared.trees.MethodTree.{MethodTree}
 use Rattle.st_reader.specs.Trees.{Spells}
 use Rattle.st_compile.specs.Code.{has_code, selectors_of}
-use Rattle.st_compile.specs.Refusing.{InternsFirst, IsFull, interned_all, names_rule, no_code, tree_rules}
+use Rattle.st_compile.specs.Refusing.{InternsFirst, IsFull, interned_all, no_code, tree_rules}
 use Rattle.st_compile.specs.Compiled.{IsCompiled}
 use Rattle.st_compile.proofs.Interning.{first-all}
 use Rattle.st_compile.proofs.Places.{first, position-first, place-append, at-place}
-use Rattle.st_image.specs.declared.items.Item.{Item}
 use Rattle.st_image.specs.declared.items.Item.TheVariants.{Edited}
 use Rattle.st_image.specs.Worlds.{World}
 use Rattle.st_image.specs.Images.{ImageView, world, appended, edits_in, run_rules}
 use Rattle.st_image.specs.Lasting.{BeginsWithKernel}
-use Rattle.st_image.specs.Installing.{has_kernel, is_kernel_text, source_rules, image_install_rules, AddsNames, AddsAllNames, LeavesNames, with_names_of, Installs, RefusesInstall, memory, first as first_refusal, AnswersInstall}
+use Rattle.st_image.specs.Installing.{has_kernel, is_kernel_text, source_rules, image_install_rules, AddsNames, AddsAllNames, LeavesNames, with_names_of, Installs, memory, first as first_refusal, AnswersInstall}
 
 -- ---- kernel methods by text
 

@@ -1,18 +1,17 @@
 -- Each item keeps an image the replay of its history.
-use Rattle.std.proofs.Common.{arith, ◌≡◌, ℕ, ◌+◌, ◌<◌, ◌≤◌, ◌++◌, [], ◌∷◌, List, length, drop, map, Option, Some, None, Bool, true, false, cond, refl, ap, sym, ◌∙◌, subst, slice_get, slice_set, nat_eq, nat_le, nat_lt, length-append, append_assoc}
+use Rattle.std.proofs.Common.{arith, ◌≡◌, ℕ, ◌+◌, ◌<◌, ◌≤◌, ◌++◌, [], ◌∷◌, List, length, Option, Some, None, Bool, true, false, cond, refl, ap, sym, ◌∙◌, subst, slice_get, slice_set, nat_le, nat_lt, length-append}
 use Rattle.std.specs.Prelude.{All, not, ◌&&◌, is_none}
 use Rattle.std.specs.BTreeSet.{BTreeSet}
 use Rattle.std.specs.Option.{option_map}
 use Rattle.std.proofs.lemmas.Bool.Decides.{nat_tests}
-use Rattle.std.proofs.lemmas.Grind.{common_steps}
-use Rattle.std.proofs.lemmas.List.Elements.{All-set, All-push, All-weaker, All-nil}
+use Rattle.std.proofs.lemmas.List.Elements.{All-set, All-push, All-weaker}
 use Rattle.std.proofs.Math.ListN.{length-set}
-use Rattle.std.proofs.lemmas.Option.{slice_get-map, slice_get_within}
+use Rattle.std.proofs.lemmas.Option.{slice_get-map}
 use Rattle.st_classes.specs.declared.values.ClassId.{ClassId}
 use Rattle.st_classes.specs.declared.values.ActorId.{ActorId}
 use Rattle.st_classes.specs.declared.edits.Edit.{Edit}
 use Rattle.st_classes.specs.declared.refusals.Refusal.{Refusal}
-use Rattle.st_classes.specs.Refusals.{Rule, first_of}
+use Rattle.st_classes.specs.Refusals.{first_of}
 use Rattle.st_classes.specs.Classes.{is_class}
 use Rattle.st_classes.specs.Accepting.{is_closed, edit_rules}
 use Rattle.st_classes.specs.Suiting.{edit_suits}
@@ -23,21 +22,21 @@ use Rattle.st_image.specs.declared.settings.Settings.{Settings}
 use Rattle.st_image.specs.declared.items.Item.{Item}
 use Rattle.st_image.specs.declared.items.Item.TheVariants.{Edited, Created, Posted, Closed, Begun, Ran}
 use Rattle.st_turn.specs.Idling.{is_idle}
-use Rattle.st_image.specs.Worlds.{World, Being, start, is_capacity, pending, with_actor}
+use Rattle.st_image.specs.Worlds.{World, Being, is_capacity, pending, with_actor}
 use Rattle.st_image.specs.Posting.{post_rules}
-use Rattle.st_image.specs.Next.{next, replay, only_if, edited, created, new_being, fresh_body, posted_to, accepting, with_last, begun_at, begun_by, beginning, ran, ran_at, steps, with_result}
-use Rattle.st_image.specs.Images.{world_of, edits_in, ImageView, image_post_rules, create_rules, no_room}
-use Rattle.st_image.specs.Ready.{is_ready, is_ready_at}
+use Rattle.st_image.specs.Next.{next, only_if, new_being, fresh_body, posted_to, accepting, with_last, begun_at, begun_by, beginning, ran, ran_at, steps, with_result}
+use Rattle.st_image.specs.Images.{world_of, edits_in}
+use Rattle.st_image.specs.Ready.{is_ready}
 use Rattle.st_image.specs.Delivery.{BeginsInOrder}
 use Rattle.st_classes.specs.Lawful.{IsSoundEdit}
 use Rattle.st_image.specs.Lasting.{IsWorld, IsBeing, IsSoundItem, HasCapacity}
-use Rattle.st_image.specs.Kepts.{Kept, kept_of, new_kept, taken_in, started, begun_first, stepped_to, has, HasAlso}
+use Rattle.st_image.specs.Kepts.{Kept, kept_of, new_kept, taken_in, begun_first, stepped_to, HasAlso}
 use Rattle.st_image.specs.Keeping.{Shows, IsImage}
 use Rattle.st_image.proofs.Replays.{lawful_push}
 use Rattle.st_image.proofs.Places.{at_all, get_set_same}
 use Rattle.st_image.proofs.Lasting.{next_keeps}
-use Rattle.st_image.proofs.Lists.{off, off_append, not_false, set_at_same, set_twice}
-use Rattle.st_image.proofs.Showing.{shows_set, shows_push, begun_length, kept_accepting, ready_accepting, kept_beginning, pending_beginning}
+use Rattle.st_image.proofs.Lists.{off, not_false}
+use Rattle.st_image.proofs.Showing.{shows_set, shows_push, kept_accepting, ready_accepting, kept_beginning}
 
 -- ---- an item more
 

@@ -1,24 +1,20 @@
 -- Each item keeps what is true of every world.
-use Rattle.std.proofs.Common.{arith, ◌≡◌, ◌≢◌, ℕ, zero, suc, ◌+◌, ◌<◌, ◌≤◌, ◌++◌, [], ◌∷◌, List, Option, Some, None, refl, ap, sym, ◌∙◌, subst, length, slice_get, slice_set, Bool, true, false, append_assoc, append-nil, option_and_then, cond, drop, length-append, set, take}
-use Rattle.std.specs.Prelude.{All, is_none, ◌&&◌, nat_lt}
+use Rattle.std.proofs.Common.{arith, ◌≡◌, ℕ, zero, suc, ◌+◌, ◌<◌, ◌≤◌, ◌++◌, [], ◌∷◌, List, Option, Some, None, refl, ap, sym, ◌∙◌, subst, length, slice_get, slice_set, Bool, true, false, append_assoc, append-nil, option_and_then, cond, drop, length-append}
+use Rattle.std.specs.Prelude.{All, is_none, nat_lt}
 use Rattle.std.specs.List.{list_all}
 use Rattle.std.proofs.Math.ListN.{length-set}
 use Rattle.std.proofs.lemmas.Bool.Decides.{nat_tests}
 use Rattle.std.proofs.lemmas.List.Elements.{All-set, All-push, All-nil, All-cons}
-use Rattle.std.proofs.lemmas.Grind.{common_steps}
 use Rattle.st_classes.specs.declared.values.ActorId.{ActorId}
 use Rattle.st_classes.specs.declared.values.ClassId.{ClassId}
 use Rattle.st_classes.specs.declared.values.Value.{Value}
 use Rattle.st_classes.specs.declared.values.Value.TheVariants.{Int, Bool as Boolean, Nil, Sym, Class, Actor, Local}
-use Rattle.st_classes.specs.declared.methods.MethodParts.{MethodParts}
 use Rattle.st_classes.specs.declared.edits.Edit.{Edit}
-use Rattle.st_classes.specs.declared.edits.Edit.TheVariants.{Define, Install, Remove}
-use Rattle.st_classes.specs.Methods.{IsSound}
 use Rattle.st_classes.specs.Kernel.{kernel_selectors, does_not_understand}
 use Rattle.st_classes.specs.Refusals.{first_of}
 use Rattle.st_classes.specs.Accepting.{edit_rules}
 use Rattle.st_classes.specs.Classes.{class_count}
-use Rattle.st_classes.specs.Suiting.{arity_at, is_number, edit_suits}
+use Rattle.st_classes.specs.Suiting.{arity_at, is_number}
 use Rattle.st_classes.specs.Lawful.{AreLawful, AllSuit, AllSound}
 use Rattle.st_turn.specs.declared.body.Body.{Body}
 use Rattle.st_turn.specs.declared.body.Object.{Object}
@@ -32,8 +28,8 @@ use Rattle.st_image.specs.declared.items.Item.{Item}
 use Rattle.st_image.specs.declared.items.Item.TheVariants.{Edited, Created, Posted, Closed, Begun, Ran}
 use Rattle.st_turn.specs.Idling.{is_idle}
 use Rattle.st_image.specs.Worlds.{World, Being, start, is_capacity, pending, with_actor}
-use Rattle.st_image.specs.Posting.{argument_fits, message_fits, message_suits, post_rules, box_rules}
-use Rattle.st_image.specs.Next.{next, only_if, edited, created, new_being, fresh_body, posted_to, accepting, closed, begun_by, begun_at, beginning, ran, ran_at, steps, body_after, with_result}
+use Rattle.st_image.specs.Posting.{argument_fits, message_fits, message_suits, box_rules}
+use Rattle.st_image.specs.Next.{next, edited, created, new_being, posted_to, accepting, closed, begun_by, begun_at, beginning, ran, ran_at, steps, body_after, with_result}
 use Rattle.st_image.specs.Delivery.{BeginsInOrder}
 use Rattle.st_classes.specs.Lawful.{IsSoundEdit}
 use Rattle.st_image.specs.Lasting.{given, IsBeing, BeginsWithKernel, IsSoundItem, IsWorld}
@@ -44,8 +40,6 @@ use Rattle.std.specs.Prelude.{not}
 use Rattle.std.proofs.Common.{ltb-true, nat_le}
 use Rattle.std.proofs.lemmas.Bool.{eqb-true}
 use Rattle.std.proofs.lemmas.Option.{slice_get_within}
-use Rattle.std.proofs.Common.{inl, inr, ◌⊎◌, nat_eq}
-use Rattle.st_classes.proofs.LawLists.{slice_get_push}
 use Rattle.st_image.proofs.Places.{at_all}
 use Rattle.st_image.proofs.GrowingNames.{both_true, and_true, list_all_more, fits_more, all_suit_more}
 use Rattle.st_image.proofs.Deliveries.{let_through, accepting_begins, beginning_begins, nothing_begun}

@@ -1,8 +1,6 @@
 -- Lists, and lists of rules.
-use Rattle.std.proofs.Common.{arith, ◌≡◌, ℕ, zero, suc, ◌+◌, ◌<◌, ◌≤◌, ◌++◌, [], ◌∷◌, List, length, drop, map, Option, Some, None, Bool, true, false, cond, refl, ap, sym, ◌∙◌, slice_get, slice_set, nat_eq, nat_le, nat_lt, ◌⊎◌, inl, inr, Result, Ok, Err, OnOk, OnErr, add-one}
-use Rattle.std.specs.Prelude.{not, ◌&&◌}
-use Rattle.std.proofs.lemmas.Bool.Decides.{nat_tests}
-use Rattle.std.proofs.lemmas.Grind.{common_steps}
+use Rattle.std.proofs.Common.{◌≡◌, ℕ, zero, suc, ◌+◌, ◌++◌, [], ◌∷◌, List, drop, Some, None, Bool, true, false, refl, ap, sym, ◌∙◌, slice_get, slice_set, ◌⊎◌, inl, inr, Result, Ok, Err, OnOk, OnErr, add-one}
+use Rattle.std.specs.Prelude.{not}
 use Rattle.st_classes.specs.declared.refusals.Refusal.{Refusal}
 use Rattle.st_classes.specs.Refusals.{Rule, first_of}
 

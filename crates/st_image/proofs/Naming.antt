@@ -1,11 +1,10 @@
 -- More names leave an image the replay of its history.
-use Rattle.std.proofs.Common.{◌≡◌, ℕ, ◌++◌, [], ◌∷◌, List, Bool, true, false, cond, refl, ap, sym, ◌∙◌, subst, append-nil, ◌⊎◌, inl, inr, Result, Ok, Err, OnOk, OnErr}
+use Rattle.std.proofs.Common.{◌≡◌, ℕ, ◌++◌, [], ◌∷◌, List, Bool, true, false, cond, refl, sym, subst, Result, Ok, Err, OnOk, OnErr}
 use Rattle.std.specs.BTreeSet.{BTreeSet}
 use Rattle.st_classes.specs.declared.edits.Edit.{Edit}
 use Rattle.st_classes.specs.Names.{is_name, interned}
 use Rattle.st_image.specs.declared.settings.Settings.{Settings}
 use Rattle.st_image.specs.declared.items.Item.{Item}
-use Rattle.st_image.specs.Worlds.{World}
 use Rattle.st_image.specs.Images.{world_of}
 use Rattle.st_image.specs.Kepts.{Kept}
 use Rattle.st_image.specs.Lasting.{IsWorld}

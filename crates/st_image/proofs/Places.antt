@@ -1,10 +1,9 @@
 -- Places of lists.
-use Rattle.std.proofs.Common.{arith, ◌≡◌, ◌≢◌, ℕ, zero, suc, ◌<◌, ◌++◌, [], ◌∷◌, List, Option, Some, None, refl, ap, sym, ◌∙◌, subst, length, slice_get, slice_set, get_or, set, Bool, true, false, nat_eq, ◌⊎◌, inl, inr}
+use Rattle.std.proofs.Common.{◌≡◌, ◌≢◌, ℕ, zero, suc, ◌<◌, ◌++◌, [], ◌∷◌, List, Some, refl, ap, ◌∙◌, subst, length, slice_get, slice_set, set, ◌⊎◌, inl, inr}
 use Rattle.std.specs.Prelude.{All}
-use Rattle.std.proofs.lemmas.Option.{slice_get-get_or, slice_get_within, slice_get_past, get_or_from_slice_get}
+use Rattle.std.proofs.lemmas.Option.{slice_get-get_or, slice_get_within, get_or_from_slice_get}
 use Rattle.std.proofs.lemmas.List.{get_or-set_same, get_or-set_other}
 use Rattle.std.proofs.Math.ListN.{length-set}
-use Rattle.std.proofs.lemmas.Bool.{cases_lt}
 
 -- two numbers are equal or not
 pub same_or_not : (m n : ℕ) → (m ≡ n) ⊎ (m ≢ n)

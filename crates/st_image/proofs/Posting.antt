@@ -1,12 +1,11 @@
 -- Posts.
-use Rattle.std.proofs.Common.{arith, ◌≡◌, ℕ, zero, suc, ◌+◌, ◌<◌, ◌≤◌, ◌++◌, [], ◌∷◌, List, length, Option, Some, None, Bool, true, false, refl, ap, sym, ◌∙◌, subst, slice_get, slice_set, length-append}
+use Rattle.std.proofs.Common.{arith, ◌≡◌, ℕ, zero, suc, ◌+◌, ◌<◌, ◌++◌, [], ◌∷◌, List, length, Option, Some, None, Bool, true, refl, ap, sym, ◌∙◌, slice_get, slice_set, length-append}
 use Rattle.std.specs.Prelude.{not}
 use Rattle.std.specs.BTreeSet.{BTreeSet}
 use Rattle.std.specs.Option.{option_map}
 use Rattle.std.proofs.lemmas.Option.{slice_get-map}
 use Rattle.st_classes.specs.declared.values.ActorId.{ActorId}
 use Rattle.st_classes.specs.declared.edits.Edit.{Edit}
-use Rattle.st_classes.specs.declared.refusals.Refusal.{Refusal}
 use Rattle.st_classes.specs.declared.refusals.Refusal.TheVariants.{BadArguments}
 use Rattle.st_classes.specs.Refusals.{Rule, first_of}
 use Rattle.st_image.specs.declared.messages.Message.{Message}
@@ -15,7 +14,6 @@ use Rattle.st_image.specs.declared.items.Item.{Item}
 use Rattle.st_image.specs.declared.items.Item.TheVariants.{Posted}
 use Rattle.st_image.specs.Worlds.{World, Being}
 use Rattle.st_image.specs.Posting.{message_suits, post_rules}
-use Rattle.st_image.specs.Next.{accepting}
 use Rattle.st_image.specs.Images.{ImageView, world, world_of, image_post_rules, no_room, accepted_by}
 use Rattle.st_image.specs.Kepts.{Kept, kept_of, kept_rules, taken_in, HasAlso}
 use Rattle.st_image.specs.Keeping.{Shows, IsImage}

@@ -1,6 +1,5 @@
 -- A body that can run takes its next step, and can run after it.
-use Rattle.std.proofs.Common.{arith, ◌≡◌, ℕ, zero, suc, ◌+◌, ◌<◌, List, [], ◌∷◌, Option, Some, None, refl, ap, sym, ◌∙◌, subst, length, slice_get, true, false, option_and_then, add-one}
-use Rattle.std.proofs.lemmas.Option.{slice_get_within}
+use Rattle.std.proofs.Common.{arith, ◌≡◌, ℕ, zero, suc, ◌+◌, ◌<◌, List, [], ◌∷◌, Option, Some, None, refl, ap, sym, ◌∙◌, subst, length, slice_get, false, option_and_then, add-one}
 use Rattle.st_classes.specs.declared.values.ActorId.{ActorId}
 use Rattle.st_classes.specs.declared.methods.MethodParts.{MethodParts}
 use Rattle.st_classes.specs.declared.instructions.Instruction.{Instruction}
@@ -14,8 +13,8 @@ use Rattle.st_turn.specs.declared.body.Stop.{Stop}
 use Rattle.st_turn.specs.declared.body.Stop.TheVariants.{More, Ended, Outer, Limit}
 use Rattle.st_turn.specs.Views.{FramesView}
 use Rattle.st_turn.specs.Frames.{Effect, goes, stores, sends, answers, fails, effect}
-use Rattle.st_turn.specs.Steps.{Stepped, Told, stepped, ended, outer, step, step_in, run_frames, performed, followed, After, more, over, outside, limit, after, seen}
-use Rattle.st_turn.specs.Fitting.{Given, Fits, FitsPhase, FitsStepped, Runs, IsFrame}
+use Rattle.st_turn.specs.Steps.{Stepped, Told, stepped, step, step_in, run_frames, performed, followed, more, after, seen}
+use Rattle.st_turn.specs.Fitting.{Given, Fits, FitsPhase, FitsStepped, IsFrame}
 use Rattle.st_turn.specs.Idling.{is_idle}
 use Rattle.st_image.specs.Next.{steps, body_after}
 use Rattle.st_image.specs.Keeping.{CanRun}

@@ -1,21 +1,17 @@
 -- What is kept of a world, after a change of one actor or with one more.
-use Rattle.std.proofs.Common.{arith, ◌≡◌, ℕ, zero, suc, ◌+◌, ◌<◌, ◌≤◌, ◌++◌, [], ◌∷◌, List, length, drop, map, Option, Some, None, Bool, true, false, cond, refl, ap, sym, ◌∙◌, subst, slice_get, slice_set, nat_eq, length-append}
-use Rattle.std.specs.Prelude.{not, ◌&&◌, ◌||◌, ◌==◌}
+use Rattle.std.proofs.Common.{arith, ◌≡◌, ℕ, zero, suc, ◌+◌, ◌≤◌, ◌++◌, [], ◌∷◌, List, length, drop, map, Some, Bool, true, false, cond, refl, ap, sym, ◌∙◌, slice_get, slice_set, nat_eq, length-append}
+use Rattle.std.specs.Prelude.{not, ◌||◌, ◌==◌}
 use Rattle.std.specs.BTreeSet.{BTreeSet}
-use Rattle.std.proofs.lemmas.Bool.Decides.{nat_tests}
-use Rattle.std.proofs.lemmas.Grind.{common_steps}
 use Rattle.std.proofs.lemmas.List.{drop-append-le, map-set, map-append}
 use Rattle.std.proofs.Math.Dec.{eqb-suc-zero, eqb-zero-suc, eqb-suc-suc}
-use Rattle.st_classes.specs.declared.values.ClassId.{ClassId}
 use Rattle.st_classes.specs.declared.edits.Edit.{Edit}
-use Rattle.st_turn.specs.declared.body.Body.{Body}
 use Rattle.st_image.specs.declared.messages.Message.{Message}
 use Rattle.st_turn.specs.Idling.{is_idle}
 use Rattle.st_image.specs.Worlds.{World, Being, pending}
-use Rattle.st_image.specs.Next.{accepting, beginning, new_being, fresh_body, with_result}
+use Rattle.st_image.specs.Next.{accepting, beginning}
 use Rattle.st_image.specs.Delivery.{BeginsInOrder}
 use Rattle.st_image.specs.Ready.{is_ready, is_ready_at}
-use Rattle.st_image.specs.Kepts.{Kept, kept_of, new_kept, taken_in, started, begun_first, first_phase, stepped_to, has, HasAlso}
+use Rattle.st_image.specs.Kepts.{Kept, kept_of, taken_in, started, begun_first, first_phase, HasAlso}
 use Rattle.st_image.specs.Keeping.{Shows}
 use Rattle.st_image.proofs.Lists.{drop_first}
 

@@ -1,5 +1,5 @@
 -- Delivery: what an actor has begun is a prefix of what its mailbox accepted, and what it accepted, began and answered only grows.
-use Rattle.std.specs.Prelude.{◌≡◌, ℕ, List, ◌++◌, Option, Some, slice_get, All}
+use Rattle.std.specs.Prelude.{◌≡◌, ℕ, List, ◌++◌, Some, slice_get, All}
 use Rattle.st_image.specs.declared.items.Item.{Item}
 use Rattle.st_image.specs.Worlds.{World, Being, start}
 use Rattle.st_image.specs.Next.{replay}

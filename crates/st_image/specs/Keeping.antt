@@ -12,7 +12,7 @@ use Rattle.st_image.specs.declared.items.Item.{Item}
 use Rattle.st_image.specs.declared.settings.Settings.{Settings}
 use Rattle.st_image.specs.Worlds.{World, start}
 use Rattle.st_image.specs.Next.{replay}
-use Rattle.st_image.specs.Images.{ImageView, world_of, world, edits_in}
+use Rattle.st_image.specs.Images.{world_of, edits_in}
 use Rattle.st_image.specs.Ready.{is_ready_at}
 use Rattle.st_image.specs.Lasting.{AreSettings, HasCapacity, IsWorld}
 use Rattle.st_image.specs.Kepts.{Kept, kept_of, has}

@@ -1,5 +1,5 @@
 -- The world of an image: its class table, its actors with all that they accepted, and its clients.
-use Rattle.std.specs.Prelude.{ℕ, ◌&&◌, List, [], length, drop, Bool, true, nat_le, slice_set}
+use Rattle.std.specs.Prelude.{ℕ, ◌&&◌, List, [], length, drop, Bool, nat_le, slice_set}
 use Rattle.st_classes.specs.declared.values.ClassId.{ClassId}
 use Rattle.st_classes.specs.declared.values.ActorId.{ActorId}
 use Rattle.st_classes.specs.declared.edits.Edit.{Edit}

@@ -1,4 +1,4 @@
-use Rattle.std.proofs.Common.{arith, ◌≡◌, false, ℕ, ◌+◌, ◌≤◌, sym, ◌∙◌}
+use Rattle.std.proofs.Common.{arith, ◌≡◌, false, ◌+◌, ◌≤◌}
 use Rattle.st_turn.specs.Idling.{is_idle}
 use Rattle.st_image.proofs.Running.{Went, went, steps_more}
 use Rattle.st_image.proofs.actors.run_steps.Goals as goal

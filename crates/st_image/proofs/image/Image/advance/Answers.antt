@@ -1,12 +1,11 @@
-use Rattle.std.proofs.Common.{rules, arith, ◌≡◌, ◌⊎◌, inl, inr, ℕ, ◌+◌, ◌++◌, [], ◌∷◌, List, Bool, true, Some, None, refl, sym, ap, ◌∙◌, subst, slice_get}
+use Rattle.std.proofs.Common.{arith, ◌≡◌, inl, inr, ◌++◌, List, None, refl, sym, subst, slice_get}
 use Rattle.std.proofs.lemmas.Grind.{common_steps}
 use Rattle.st_classes.specs.Refusals.{first_of}
 use Rattle.st_image.specs.declared.items.Item.{Item}
-use Rattle.st_image.specs.Worlds.{Being}
 use Rattle.st_image.specs.Images.{ImageView, advance_rules, advanced, world, world_of}
 use Rattle.st_image.specs.Kepts.{advance_items, turn_after}
 use Rattle.st_image.proofs.Posting.{seen}
-use Rattle.st_image.proofs.Advancing.{Allowed, allowed_by, is_queued, runs, HasAdvanced, has_advanced, finished, stopped, is_advanced, Stops, has_stopped}
+use Rattle.st_image.proofs.Advancing.{allowed_by, is_queued, runs, HasAdvanced, has_advanced, finished, stopped, is_advanced, Stops, has_stopped}
 use Rattle.st_image.proofs.image.Image.advance.Goals as goal
 
 pub advance_at-requires-clause-ready : goal.advance_at-requires-clause-ready

@@ -1,5 +1,4 @@
-use Rattle.std.proofs.Common.{rules, arith, ◌≡◌, ℕ, List, length, ◌++◌, [], ◌∷◌, subst}
-use Rattle.std.proofs.lemmas.Grind.{common_steps}
+use Rattle.std.proofs.Common.{rules, ◌≡◌, ℕ, List, length, ◌++◌, [], ◌∷◌, subst}
 use Rattle.st_classes.specs.declared.edits.Edit.TheVariants.{Define}
 use Rattle.st_classes.specs.Accepting.{edit_rules}
 use Rattle.st_classes.specs.Refusals.{first_of, Answers}

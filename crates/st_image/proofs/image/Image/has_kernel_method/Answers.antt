@@ -1,4 +1,4 @@
-use Rattle.std.proofs.Common.{◌≡◌, ap, sym, ◌∙◌}
+use Rattle.std.proofs.Common.{ap, sym, ◌∙◌}
 use Rattle.std.specs.Prelude.{is_some}
 use Rattle.st_image.proofs.Installing.{kernel_found}
 use Rattle.st_image.proofs.image.Image.has_kernel_method.Goals as goal

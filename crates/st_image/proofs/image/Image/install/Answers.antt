@@ -1,7 +1,6 @@
 use Rattle.std.proofs.Common.{◌≡◌, List, ℕ, subst, rules}
 use Rattle.st_classes.specs.Refusals.{first_of, Answers}
-use Rattle.st_reader.specs.Trees.{Spells}
-use Rattle.st_image.specs.Installing.{AnswersInstall, Installs, image_install_rules}
+use Rattle.st_image.specs.Installing.{Installs, image_install_rules}
 use Rattle.st_image.proofs.Installing.{install_answered}
 use Rattle.st_image.proofs.image.Image.install.Goals as goal
 

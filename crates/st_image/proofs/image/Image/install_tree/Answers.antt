@@ -1,4 +1,4 @@
-use Rattle.std.proofs.Common.{◌≡◌, ap, sym, ◌∙◌, subst, true, rules}
+use Rattle.std.proofs.Common.{◌≡◌, sym, subst, true, rules}
 use Rattle.st_classes.specs.Suiting.{suits}
 use Rattle.st_image.specs.Worlds.{World}
 use Rattle.st_image.proofs.Installing.{tree_refused, tree_installed, tree_left, edit_left}

@@ -1,4 +1,4 @@
-use Rattle.std.proofs.Common.{◌≡◌, ap, ◌∙◌}
+use Rattle.std.proofs.Common.{ap, ◌∙◌}
 use Rattle.st_image.specs.Images.{ImageView, world}
 use Rattle.st_image.proofs.Naming.{IsRenamed, interned_kept}
 use Rattle.st_image.proofs.image.Image.intern.Goals as goal

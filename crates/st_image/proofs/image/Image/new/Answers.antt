@@ -1,4 +1,4 @@
-use Rattle.std.proofs.Common.{◌≡◌, sym}
+use Rattle.std.proofs.Common.{sym}
 use Rattle.st_image.proofs.Beginning.{new_is, settings_are}
 use Rattle.st_image.proofs.image.Image.new.Goals as goal
 

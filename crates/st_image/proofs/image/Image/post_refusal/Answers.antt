@@ -1,4 +1,4 @@
-use Rattle.std.proofs.Common.{◌≡◌, [], ◌∷◌, true, Some, None, sym, ◌∙◌}
+use Rattle.std.proofs.Common.{[], ◌∷◌, sym, ◌∙◌}
 use Rattle.st_image.specs.Images.{no_room}
 use Rattle.st_image.specs.Kepts.{kept_rules}
 use Rattle.st_image.proofs.Lists.{first_here, first_later}

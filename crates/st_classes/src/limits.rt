@@ -36,6 +36,9 @@ pub const FRAMES: usize = 128;
 /// Instructions of a method.
 pub const INSTRUCTIONS: usize = 1024;
 
+/// Parentheses and blocks within one another.
+pub const NESTING: u8 = 64;
+
 /// Bytes of a method's source.
 pub const SOURCE: usize = 4096;
 

@@ -1,5 +1,6 @@
 //! The name table.
-ghost use Rattle.std.specs.Prelude.{◌≡◌, ◌<◌, false, length, slice_get, map, is_some, option_map, IsTrue, IfOk, IfSome, OnOk, OnErr};
+ghost use Rattle.std.specs.Prelude.{◌≡◌, ◌<◌, false, length, slice_get, map, is_some, option_map, None, IsTrue, IfOk, IfErr, IfSome, OnOk, OnErr};
+ghost use Rattle.st_classes.specs.declared.refusals.Refusal.TheVariants.{NoMemory};
 ghost use Rattle.st_classes.specs.Accepting.{has_twice};
 ghost use Rattle.st_classes.specs.Kernel.{kernel_selectors, selector};
 ghost use Rattle.st_classes.specs.Names.{is_name, interned, intern_rules, texts_of, AreNames};
@@ -113,6 +114,7 @@ impl Names {
         ensures answers { Answers (first_of (intern_rules self.old text.now)) result (λ s. slice_get self.new s.0 ≡ Some text.now) }
         ensures names { OnOk result (self.new ≡ interned self.old text.now) }
         ensures unchanged { OnErr result (self.new ≡ self.old) }
+        ensures memory { IfErr result (λ e. e ≡ NoMemory → first_of (intern_rules self.old text.now) ≡ None) }
     {
         if let Some(place) = place_in(&self.texts, text) {
             return Ok(Selector(place as u16));

@@ -5,6 +5,7 @@ ghost use Rattle.std.specs.Str.{bytes_eq};
 ghost use Rattle.st_classes.specs.Selectors.{
   is_upper as upper,
   is_letter as letter,
+  is_digit as digit,
   is_letter_or_digit as letter_or_digit,
   is_identifier as identifier,
   begins_upper as upper_first,
@@ -28,16 +29,25 @@ fn is_upper(b: u8) -> bool
     b'A' <= b && b <= b'Z'
 }
 
-fn is_letter(b: u8) -> bool
+/// Whether a byte is an ASCII letter.
+pub fn is_letter(b: u8) -> bool
     ensures { result ≡ letter b }
 {
     is_upper(b) || b'a' <= b && b <= b'z'
 }
 
-fn is_letter_or_digit(b: u8) -> bool
+/// Whether a byte is a decimal digit.
+pub fn is_digit(b: u8) -> bool
+    ensures { result ≡ digit b }
+{
+    b'0' <= b && b <= b'9'
+}
+
+/// Whether a byte may follow the first letter of an identifier.
+pub fn is_letter_or_digit(b: u8) -> bool
     ensures { result ≡ letter_or_digit b }
 {
-    is_letter(b) || b'0' <= b && b <= b'9'
+    is_letter(b) || is_digit(b)
 }
 
 fn are_letters_or_digits(bytes: &[u8]) -> bool
@@ -59,7 +69,8 @@ pub fn is_identifier(text: &[u8]) -> bool
     is_letter(*first) && are_letters_or_digits(rest)
 }
 
-fn begins_upper(text: &[u8]) -> bool
+/// Whether a capital stands first.
+pub fn begins_upper(text: &[u8]) -> bool
     ensures { result ≡ upper_first text.now }
 {
     match text {
@@ -96,7 +107,8 @@ pub fn is_slot_name(text: &[u8]) -> bool
     !begins_upper(text) && is_identifier(text) && !is_reserved(text)
 }
 
-fn is_binary_character(b: u8) -> bool
+/// Whether a byte is a character of binary selectors.
+pub fn is_binary_character(b: u8) -> bool
     ensures { result ≡ binary_character b }
 {
     match b {

@@ -15,6 +15,8 @@ mod devices;
 #[cfg(test)]
 mod images;
 #[cfg(test)]
+mod interrupts;
+#[cfg(test)]
 mod limits;
 #[cfg(test)]
 mod longest_lines;
@@ -28,5 +30,9 @@ mod reply_names;
 mod scripts;
 #[cfg(test)]
 mod steps;
+#[cfg(test)]
+mod syntax;
+#[cfg(test)]
+mod tokens;
 #[cfg(test)]
 mod wire;

@@ -1,0 +1,46 @@
+-- What a text spells, by its tokens.
+use Rattle.std.proofs.Common.{◌≡◌, ℕ, ◌<◌, ◌≤◌, Bool, true, false, List, length, Option, Some, None, refl, sym, ap, subst, ◌∙◌, arith}
+use Rattle.std.specs.List.{list_all}
+use Rattle.st_syntax.specs.Tokens.{Token, IsCut, CutsOneWay, is_character, token_fits}
+use Rattle.st_syntax.specs.Syntax.{Method}
+use Rattle.st_syntax.specs.Grammar.{method_toks, IsMethod}
+use Rattle.st_syntax.specs.Reading.{method_of}
+use Rattle.st_syntax.specs.Spelling.{Spells}
+use Rattle.st_syntax.proofs.Sound.{method_sound}
+use Rattle.st_syntax.proofs.Complete.{method_complete}
+
+pub spelled : (text : List ℕ) (ts : List Token) (m : Method) → length text ≤ 4096 → list_all is_character text ≡ true → IsCut text ts → list_all token_fits ts ≡ true → method_of ts ≡ Some m → Spells m text
+spelled text ts m short plain cut fits read =
+    let s = method_sound ts m read in
+    record { short = short; characters = plain; cut = subst (IsCut text) (sym s.0) cut; fits = subst (λ (l : List Token). list_all token_fits l ≡ true) (sym s.0) fits; grammar = s.1 }
+
+some_method : (a b : Method) → Some a ≡ Some b → a ≡ b
+some_method a b e = cc
+
+module _ (one : CutsOneWay) where
+  -- the tokens of a method that a text spells are those into which it is cut
+  same_tokens : (text : List ℕ) (ts : List Token) (m : Method) → IsCut text ts → Spells m text → method_toks m ≡ ts
+  same_tokens text ts m cut spells = one text (method_toks m) ts spells.cut cut
+
+  pub one_method : (text : List ℕ) (ts : List Token) (m other : Method) → IsCut text ts → method_of ts ≡ Some m → Spells other text → other ≡ m
+  one_method text ts m other cut read spells =
+      some_method other m (sym (method_complete other spells.grammar) ∙ ap method_of (same_tokens text ts other cut spells) ∙ read)
+
+  pub no_method : (text : List ℕ) (ts : List Token) → IsCut text ts → method_of ts ≡ None → (m : Method) → Spells m text → ⊥
+  no_method text ts cut none m spells =
+      let both : Some m ≡ None = sym (method_complete m spells.grammar) ∙ ap method_of (same_tokens text ts m cut spells) ∙ none in
+      cc
+
+  pub no_fit : (text : List ℕ) (ts : List Token) → IsCut text ts → list_all token_fits ts ≡ false → (m : Method) → Spells m text → ⊥
+  no_fit text ts cut over m spells =
+      let e : false ≡ true = sym over ∙ ap (list_all token_fits) (sym (same_tokens text ts m cut spells)) ∙ spells.fits in
+      cc
+
+pub no_cut : (text : List ℕ) → ((ts : List Token) → IsCut text ts → ⊥) → (m : Method) → Spells m text → ⊥
+no_cut text none m spells = none (method_toks m) spells.cut
+
+pub too_long : (text : List ℕ) → 4096 < length text → (m : Method) → Spells m text → ⊥
+too_long text long m spells = let h = spells.short in omega arith
+
+pub no_character : (text : List ℕ) → list_all is_character text ≡ false → (m : Method) → Spells m text → ⊥
+no_character text bad m spells = let e : false ≡ true = sym bad ∙ spells.characters in cc

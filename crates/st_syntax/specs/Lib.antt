@@ -1,0 +1,9 @@
+pub mod Pieces
+pub mod Tokens
+pub mod Lexemes
+pub mod Cutting
+pub mod Syntax
+pub mod Views
+pub mod Grammar
+pub mod Reading
+pub mod Spelling

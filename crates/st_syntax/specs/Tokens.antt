@@ -1,0 +1,101 @@
+-- The tokens of a text.
+use Rattle.std.specs.Prelude.{◌≡◌, ℕ, ◌+◌, ◌*◌, ◌-◌, ◌&&◌, ◌||◌, List, [], ◌∷◌, ◌++◌, ◌<◌, length, drop, Bool, true, nat_le}
+use Rattle.std.specs.List.{fold}
+use Rattle.st_classes.specs.Selectors.{is_selector}
+use Rattle.st_syntax.specs.declared.trees.Span.{Span}
+use Rattle.st_syntax.specs.declared.trees.Name.{Name}
+use Rattle.st_syntax.specs.declared.tokens.Mark.{Mark as Sign}
+use Rattle.st_syntax.specs.declared.tokens.Kind.{Kind}
+use Rattle.st_syntax.specs.declared.tokens.Kind.TheVariants.{Identifier, Keyword, Assign, Binary, Number, Symbol, Mark}
+use Rattle.st_syntax.specs.declared.tokens.Piece.{Piece}
+use Rattle.st_syntax.specs.declared.tokens.Piece.TheVariants.{White, Comment, Token as Whole}
+use Rattle.st_syntax.specs.Pieces.{is_white, is_piece, may_stop}
+
+-- a token with its place; a keyword's text has its colon; a number is the value of its digits, and its minus is a token `-` of its own; a symbol's text has no `#`, and its place has it
+pub data Token : Type 0 where
+  identifier : Name → Token
+  keyword : Name → Token
+  assign : Span → Token
+  binary : Name → Token
+  number : ℕ → Span → Token
+  symbol : Name → Token
+  mark : Sign → Span → Token
+
+-- the number that decimal digits write
+abbrev pub digits_value : List ℕ → ℕ
+digits_value digits = fold (λ n d. n * 10 + (d - 48)) 0 digits
+
+-- a place from its ends
+abbrev pub span : ℕ → ℕ → Span
+span start end = record { start = start; end = end }
+
+-- a text with its place
+abbrev pub name : List ℕ → Span → Name
+name text place = record { text = text; span = place }
+
+-- the token of a kind with a text
+abbrev pub token : Kind → List ℕ → Span → Token
+token Identifier text place = identifier (name text place)
+token Keyword text place = keyword (name text place)
+token Assign text place = assign place
+token Binary text place = binary (name text place)
+token Number text place = number (digits_value text) place
+token Symbol text place = symbol (name (drop 1 text) place)
+token (Mark m) text place = mark m place
+
+-- the token of a piece: white space and comments have none
+abbrev pub piece_tokens : Piece → List ℕ → Span → List Token
+piece_tokens White text place = []
+piece_tokens Comment text place = []
+piece_tokens (Whole kind) text place = token kind text place ∷ []
+
+-- the tokens of pieces with their bytes that stand from a place on
+abbrev pub tokens_from : ℕ → List (Piece × List ℕ) → List Token
+tokens_from place [] = []
+tokens_from place (p ∷ ps) = piece_tokens p.0 p.1 (span place (place + length p.1)) ++ tokens_from (place + length p.1) ps
+
+-- the bytes of pieces, and those behind them
+abbrev pub bytes_of : List (Piece × List ℕ) → List ℕ → List ℕ
+bytes_of [] behind = behind
+bytes_of (p ∷ ps) behind = p.1 ++ bytes_of ps behind
+
+-- each piece is one of its kind, and may stop before what is behind it
+abbrev pub AreWhole : List (Piece × List ℕ) → List ℕ → Type 0
+AreWhole [] behind = Unit {0}
+AreWhole (p ∷ ps) behind = (is_piece p.0 p.1 ≡ true) × (may_stop p.0 p.1 (bytes_of ps behind) ≡ true) × AreWhole ps behind
+
+-- a text is a row of pieces, whose tokens these are, and bytes behind them
+pub record IsCutBefore (text : List ℕ) (ts : List Token) (behind : List ℕ) : Type 0 where
+  pub pieces : List (Piece × List ℕ)
+  pub joined : bytes_of pieces behind ≡ text
+  pub whole : AreWhole pieces behind
+  pub tokens : tokens_from 0 pieces ≡ ts
+
+-- a text is a row of pieces, whose tokens these are
+abbrev pub IsCut : List ℕ → List Token → Type 0
+IsCut text ts = IsCutBefore text ts []
+
+-- no piece that may stop begins a text
+abbrev pub BeginsNone : List ℕ → Type 0
+BeginsNone text = (p : Piece) (bytes behind : List ℕ) → bytes ++ behind ≡ text → is_piece p bytes ≡ true → may_stop p bytes behind ≡ true → ⊥
+
+-- a text is a row of pieces up to a place in it where none begins
+pub record StopsAt (text : List ℕ) (ts : List Token) (place : ℕ) : Type 0 where
+  pub before : IsCutBefore text ts (drop place text)
+  pub inside : place < length text
+  pub stuck : BeginsNone (drop place text)
+
+-- no text is cut in two ways
+abbrev pub CutsOneWay : Type 0
+CutsOneWay = (text : List ℕ) (a b : List Token) → IsCut text a → IsCut text b → a ≡ b
+
+-- an identifier has at most 64 bytes, with a colon at most 65, and a symbol's text is a selector
+abbrev pub token_fits : Token → Bool
+token_fits (identifier n) = nat_le (length n.text) 64
+token_fits (keyword n) = nat_le (length n.text) 65
+token_fits (symbol n) = is_selector n.text
+token_fits _ = true
+
+-- a byte that may stand in a source: white space, or a visible character
+abbrev pub is_character : ℕ → Bool
+is_character b = is_white b || (nat_le 33 b && nat_le b 126)

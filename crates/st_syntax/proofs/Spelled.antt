@@ -1,6 +1,9 @@
 -- What a text spells, by its tokens.
-use Rattle.std.proofs.Common.{◌≡◌, ℕ, ◌<◌, ◌≤◌, Bool, true, false, List, length, Option, Some, None, refl, sym, ap, subst, ◌∙◌, arith}
+use Rattle.std.proofs.Common.{◌≡◌, ℕ, ◌<◌, ◌≤◌, Bool, true, false, List, length, Option, Some, None, refl, sym, ap, subst, ◌∙◌, arith, ◌⊎◌, inl, inr}
 use Rattle.std.specs.List.{list_all}
+use Rattle.st_classes.specs.declared.refusals.Refusal.{Refusal}
+use Rattle.st_classes.specs.declared.refusals.Refusal.TheVariants.{BadSource, NoMemory, UnknownClass, ClassExists, KernelClass, KernelMethod, BadName, SlotClash, TooDeep, NoSuchMethod, UnknownActor, Closed, Full, Old, BadArguments, NothingToDo, Stale, Changed, TooMany, Pending, Expired, BadCommand, TooLong, BadImage, HistoryFull, ReadFault, WriteFault}
+use Rattle.st_syntax.specs.Faults.{IsBadSource, RefusesSource}
 use Rattle.st_syntax.specs.Tokens.{Token, IsCut, CutsOneWay, is_character, token_fits}
 use Rattle.st_syntax.specs.Syntax.{Method}
 use Rattle.st_syntax.specs.Grammar.{method_toks, IsMethod}
@@ -44,3 +47,34 @@ too_long text long m spells = let h = spells.short in omega arith
 
 pub no_character : (text : List ℕ) → list_all is_character text ≡ false → (m : Method) → Spells m text → ⊥
 no_character text bad m spells = let e : false ≡ true = sym bad ∙ spells.characters in cc
+
+-- ---- what a refused source is refused with
+
+pub said : {X : Type 0} (e : Refusal) → RefusesSource e → X → (e ≡ NoMemory) ⊎ (IsBadSource e × X)
+said (BadSource kind offset) r x = inr (tt, x)
+said NoMemory r x = inl refl
+said UnknownClass r x = absurd r
+said ClassExists r x = absurd r
+said KernelClass r x = absurd r
+said KernelMethod r x = absurd r
+said BadName r x = absurd r
+said SlotClash r x = absurd r
+said TooDeep r x = absurd r
+said NoSuchMethod r x = absurd r
+said UnknownActor r x = absurd r
+said Closed r x = absurd r
+said Full r x = absurd r
+said (Old n) r x = absurd r
+said BadArguments r x = absurd r
+said NothingToDo r x = absurd r
+said (Stale n) r x = absurd r
+said Changed r x = absurd r
+said (TooMany what) r x = absurd r
+said Pending r x = absurd r
+said Expired r x = absurd r
+said BadCommand r x = absurd r
+said TooLong r x = absurd r
+said (BadImage place) r x = absurd r
+said HistoryFull r x = absurd r
+said ReadFault r x = absurd r
+said WriteFault r x = absurd r

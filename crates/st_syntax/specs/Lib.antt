@@ -7,3 +7,4 @@ pub mod Views
 pub mod Grammar
 pub mod Reading
 pub mod Spelling
+pub mod Faults

@@ -1,8 +1,6 @@
 -- The texts that spell a method of the grammar.
 use Rattle.std.specs.Prelude.{◌≡◌, ℕ, ◌≤◌, List, length, true}
 use Rattle.std.specs.List.{list_all}
-use Rattle.st_classes.specs.declared.refusals.Refusal.{Refusal}
-use Rattle.st_classes.specs.declared.refusals.Refusal.TheVariants.{BadSource}
 use Rattle.st_syntax.specs.Tokens.{IsCut, is_character, token_fits}
 use Rattle.st_syntax.specs.Syntax.{Method}
 use Rattle.st_syntax.specs.Grammar.{method_toks, IsMethod}
@@ -14,8 +12,3 @@ pub record Spells (method : Method) (text : List ℕ) : Type 0 where
   pub cut : IsCut text (method_toks method)
   pub fits : list_all token_fits (method_toks method) ≡ true
   pub grammar : IsMethod method
-
--- the source is bad, whatever the kind and the place
-abbrev pub IsBadSource : Refusal → Type 0
-IsBadSource (BadSource kind offset) = Unit {0}
-IsBadSource _ = ⊥

@@ -17,8 +17,8 @@ pub fn is_white(b: u8) -> bool
     }
 }
 
-// Whether a byte may stand in a source at all.
-fn is_character(b: u8) -> bool
+/// Whether a byte may stand in a source at all.
+pub fn is_character(b: u8) -> bool
     ensures { result ≡ is_character b }
 {
     is_white(b) || 33 <= b && b <= 126

@@ -5,6 +5,7 @@
 #![tactic(auto)]
 
 mod characters;
+pub mod faults;
 mod parser;
 pub mod reader;
 pub mod tokens;

@@ -322,9 +322,9 @@ pub fn cut(alloc: Global, source: &[u8]) -> Result<Tokens, Refusal>
     })
 }
 
-// Whether a token is within its limits.
+/// Whether a token is within its limits.
 #[tactic(auto, unfolding(crate::specs::Lexemes::lexeme_fits))]
-fn fits(source: &[u8], lexeme: Lexeme) -> bool
+pub fn fits(source: &[u8], lexeme: Lexeme) -> bool
     ensures { result ≡ lexeme_fits source.now lexeme }
 {
     match lexeme.kind {

@@ -1,0 +1,126 @@
+//! Keyword messages, and which of them are compiled in place.
+use crate::faults::checks::{Check, Faults};
+use crate::faults::term::Term;
+use st_classes::limits;
+
+/// What the keywords so far say of compiling in place.
+#[derive(Clone, Copy)]
+pub enum Selector {
+    /// `ifTrue:`
+    IfTrue,
+    /// `ifFalse:`
+    IfFalse,
+    /// `ifTrue:ifFalse:` and `ifFalse:ifTrue:`
+    Either,
+    /// `and:` and `or:`
+    Logical,
+    /// `whileTrue:` and `whileFalse:`
+    Loop,
+    /// A selector that is always sent, or a message of a cascade.
+    Sent,
+}
+
+impl Selector {
+    /// Of a first keyword.
+    pub fn new(keyword: &[u8]) -> Self {
+        if keyword == b"ifTrue:".as_slice() {
+            Selector::IfTrue
+        } else if keyword == b"ifFalse:".as_slice() {
+            Selector::IfFalse
+        } else if keyword == b"and:".as_slice() || keyword == b"or:".as_slice() {
+            Selector::Logical
+        } else if keyword == b"whileTrue:".as_slice() || keyword == b"whileFalse:".as_slice() {
+            Selector::Loop
+        } else {
+            Selector::Sent
+        }
+    }
+
+    // With a further keyword.
+    fn followed_by(self, keyword: &[u8]) -> Self {
+        match (self, Selector::new(keyword)) {
+            (Selector::IfTrue, Selector::IfFalse) | (Selector::IfFalse, Selector::IfTrue) => {
+                Selector::Either
+            },
+            _ => Selector::Sent,
+        }
+    }
+
+    // Whether a message whose arguments are blocks is compiled in place.
+    fn is_inlined(self, receiver: Term) -> bool {
+        match (self, receiver) {
+            (Selector::Sent, _) => false,
+            (Selector::Loop, Term::Block(_)) => true,
+            (Selector::Loop, _) => false,
+            (_, Term::Other) => true,
+            (_, _) => false,
+        }
+    }
+}
+
+/// What the arguments so far are.
+#[derive(Clone, Copy, PartialEq, Eq, Debug)]
+enum Arguments {
+    Blocks,
+    Mixed,
+}
+
+/// A keyword message up to its last keyword.
+#[derive(Clone, Copy)]
+pub struct Keywords {
+    receiver: Term,
+    selector: Selector,
+    count: usize,
+    arguments: Arguments,
+    // The offset of the first block among receiver and arguments.
+    block: Option<u16>,
+}
+
+impl Keywords {
+    /// A message with its first keyword.
+    pub fn new(receiver: Term, selector: Selector) -> Self {
+        Keywords {
+            receiver,
+            selector,
+            count: 1,
+            arguments: Arguments::Blocks,
+            block: match receiver {
+                Term::Block(offset) => Some(offset),
+                Term::Super(_) | Term::Other => None,
+            },
+        }
+    }
+
+    /// A further keyword, and its offset.
+    pub fn add_keyword(&mut self, keyword: &[u8], offset: u16, faults: &mut Faults) {
+        if self.count >= limits::ARGUMENTS {
+            faults.note(Check::Sizes, offset);
+        }
+        self.count = self.count.saturating_add(1);
+        self.selector = self.selector.followed_by(keyword);
+    }
+
+    /// The argument of the last keyword.
+    pub fn add_argument(&mut self, argument: Term, faults: &mut Faults) {
+        argument.go_without_message(faults);
+        match argument {
+            Term::Block(offset) => self.block = Some(self.block.unwrap_or(offset)),
+            Term::Super(_) | Term::Other => self.arguments = Arguments::Mixed,
+        }
+    }
+
+    /// Takes the message into a cascade.
+    pub fn cascade(&mut self) {
+        self.selector = Selector::Sent;
+    }
+
+    /// Notes the blocks of a message that is sent.
+    pub fn end(&self, faults: &mut Faults) {
+        if self.arguments == Arguments::Blocks && self.selector.is_inlined(self.receiver) {
+            return;
+        }
+        if let Some(offset) = self.block {
+            faults.note(Check::Blocks, offset);
+        }
+    }
+}

@@ -1,0 +1,16 @@
+//! Why the reading of tokens goes no further.
+use std::alloc::AllocFailed;
+
+/// Why the reading of tokens goes no further.
+#[derive(Clone, Copy)]
+pub enum Stop {
+    /// No method has this token at this place.
+    Stuck,
+    NoMemory,
+}
+
+impl<T: Drop> From<AllocFailed<T>> for Stop {
+    fn from(_failed: AllocFailed<T>) -> Stop {
+        Stop::NoMemory
+    }
+}

@@ -1,4 +1,5 @@
 //! Methods of the whole grammar, and texts that are none.
+use st_syntax::inlining::Inlining;
 use st_syntax::reader::read;
 use std::alloc::Global;
 use std::test::*;
@@ -58,5 +59,22 @@ fn other_texts_have_none(rt: HostRuntime) -> Result<(), Fail> {
     for source in OTHERS {
         assert!(rt; !is_method(rt.alloc(), source));
     }
+    Ok(())
+}
+
+#[test]
+fn inlined_messages(rt: HostRuntime) -> Result<(), Fail> {
+    assert!(rt; Inlining::of_one(b"ifTrue:") == Some(Inlining::IfTrue));
+    assert!(rt; Inlining::of_one(b"ifFalse:") == Some(Inlining::IfFalse));
+    assert!(rt; Inlining::of_one(b"and:") == Some(Inlining::And));
+    assert!(rt; Inlining::of_one(b"or:") == Some(Inlining::Or));
+    assert!(rt; Inlining::of_one(b"whileTrue:") == Some(Inlining::WhileTrue));
+    assert!(rt; Inlining::of_one(b"whileFalse:") == Some(Inlining::WhileFalse));
+    assert!(rt; Inlining::of_one(b"iftrue:").is_none());
+    assert!(rt; Inlining::of_two(b"ifTrue:", b"ifFalse:") == Some(Inlining::IfTrueIfFalse));
+    assert!(rt; Inlining::of_two(b"ifFalse:", b"ifTrue:") == Some(Inlining::IfFalseIfTrue));
+    assert!(rt; Inlining::of_two(b"ifTrue:", b"ifTrue:").is_none());
+    assert!(rt; Inlining::WhileTrue.is_loop() && Inlining::WhileFalse.is_loop());
+    assert!(rt; !Inlining::And.is_loop());
     Ok(())
 }

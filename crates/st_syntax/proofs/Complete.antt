@@ -1,17 +1,16 @@
 -- The tokens of a tree are read as that tree.
-use Rattle.std.proofs.Common.{◌≡◌, ◌≢◌, ℕ, zero, suc, ◌+◌, ◌≤◌, ◌<◌, ◌^◌, ℤ, pos, negsuc, neg_ℤ, Bool, true, false, cond, List, [], ◌∷◌, ◌++◌, length, Option, Some, None, refl, sym, ap, subst, ◌∙◌, append_assoc, arith, codes, length-append, max}
+use Rattle.std.proofs.Common.{◌≡◌, ℕ, zero, suc, ◌+◌, ◌≤◌, ◌<◌, ◌^◌, ℤ, pos, negsuc, neg_ℤ, Bool, true, false, cond, List, [], ◌∷◌, ◌++◌, length, Option, Some, None, refl, sym, ap, subst, ◌∙◌, append_assoc, arith, length-append, max}
 use Rattle.std.specs.Prelude.{option_map, option_and_then, nat_lt, nat_le, ◌==◌}
 use Rattle.std.proofs.lemmas.Bool.{lt-ltb, le-leb, eq-eqb}
 use Rattle.st_syntax.specs.declared.trees.Span.{Span}
 use Rattle.st_syntax.specs.declared.trees.Name.{Name}
 use Rattle.st_syntax.specs.declared.trees.Target.{Target}
-use Rattle.st_syntax.specs.declared.tokens.Mark.{Mark}
 use Rattle.st_syntax.specs.declared.tokens.Mark.TheVariants.{OpenParenthesis, CloseParenthesis, OpenBlock, CloseBlock, Caret, Period, Semicolon, Bar}
 use Rattle.st_syntax.specs.Tokens.{Token}
 use Rattle.st_syntax.specs.Syntax.{Method, Expression, Message, Parts, Further, Statements, parenthesis, empty_block, block, send, cascade, name, unary, keywords, no_parts, part, no_further, further, last, answer, statement}
 use Rattle.st_syntax.specs.Views.{parts_of, further_of, assigns}
-use Rattle.st_syntax.specs.Grammar.{minus_toks, period_toks, toks, message_toks, parts_toks, further_toks, statements_toks, level, message_level, NumberFits, goes_to, count, IsSome, IsExpression, IsMessage, AreParts, AreFurther, AreStatements, nesting, message_nesting, parts_nesting, further_nesting, statements_nesting, method_toks, IsMethod, parameter_toks, pattern_toks, name_toks, temporaries_toks, body_toks, IsPattern, IsBody}
-use Rattle.st_syntax.specs.Reading.{Read, Parse, ◌>>=◌, in_front, literal_of, negative_of, unaries_of, targets_of, operand_of, term_of, operations_of, binary_of, with_parts, keyword_parts_of, chain_of, message_of, further_messages_of, with_further, value_of, expression_with, parenthesis_end, block_end, is_end, answered, statement_of, statements_with, group_with, filled_block_with, block_with, nothing, expression_of, group_of, block_of, method_of, parameter_of, parameters_of, pattern_of, names_of, temporaries_end, temporaries_of, whole, body_of}
+use Rattle.st_syntax.specs.Grammar.{period_toks, toks, message_toks, parts_toks, further_toks, statements_toks, level, NumberFits, goes_to, count, IsSome, IsExpression, IsMessage, AreParts, AreFurther, AreStatements, nesting, message_nesting, parts_nesting, further_nesting, statements_nesting, method_toks, IsMethod, parameter_toks, pattern_toks, name_toks, temporaries_toks, body_toks, IsPattern, IsBody}
+use Rattle.st_syntax.specs.Reading.{Read, Parse, in_front, literal_of, negative_of, unaries_of, targets_of, operand_of, term_of, operations_of, binary_of, with_parts, keyword_parts_of, chain_of, message_of, further_messages_of, with_further, value_of, expression_with, parenthesis_end, block_end, is_end, answered, statement_of, statements_with, group_with, filled_block_with, block_with, expression_of, group_of, block_of, method_of, parameters_of, pattern_of, names_of, temporaries_end, temporaries_of, whole, body_of}
 use Rattle.st_syntax.proofs.Shorter.{Keeps, found, with_tokens, term-shortens, group_of-keeps, block_of-keeps}
 use Rattle.std.proofs.Math.Nat.{le-max_left, le-max_right}
 use Rattle.std.proofs.lemmas.List.{append-nil}

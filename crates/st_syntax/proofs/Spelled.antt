@@ -1,12 +1,12 @@
 -- What a text spells, by its tokens.
-use Rattle.std.proofs.Common.{◌≡◌, ℕ, ◌<◌, ◌≤◌, Bool, true, false, List, length, Option, Some, None, refl, sym, ap, subst, ◌∙◌, arith, ◌⊎◌, inl, inr}
+use Rattle.std.proofs.Common.{◌≡◌, ℕ, ◌<◌, ◌≤◌, true, false, List, length, Some, None, refl, sym, ap, subst, ◌∙◌, arith, ◌⊎◌, inl, inr}
 use Rattle.std.specs.List.{list_all}
 use Rattle.st_classes.specs.declared.refusals.Refusal.{Refusal}
 use Rattle.st_classes.specs.declared.refusals.Refusal.TheVariants.{BadSource, NoMemory, UnknownClass, ClassExists, KernelClass, KernelMethod, BadName, SlotClash, TooDeep, NoSuchMethod, UnknownActor, Closed, Full, Old, BadArguments, NothingToDo, Stale, Changed, TooMany, Pending, Expired, BadCommand, TooLong, BadImage, HistoryFull, ReadFault, WriteFault}
 use Rattle.st_syntax.specs.Faults.{IsBadSource, RefusesSource}
 use Rattle.st_syntax.specs.Tokens.{Token, IsCut, CutsOneWay, is_character, token_fits}
 use Rattle.st_syntax.specs.Syntax.{Method}
-use Rattle.st_syntax.specs.Grammar.{method_toks, IsMethod}
+use Rattle.st_syntax.specs.Grammar.{method_toks}
 use Rattle.st_syntax.specs.Reading.{method_of}
 use Rattle.st_syntax.specs.Spelling.{Spells}
 use Rattle.st_syntax.proofs.Sound.{method_sound}

@@ -1,5 +1,5 @@
 -- The grammar: the tokens of a tree by one equation for each form, and how tightly each form binds.
-use Rattle.std.specs.Prelude.{◌≡◌, ◌≢◌, ℕ, suc, ◌+◌, ◌<◌, ◌≤◌, ◌^◌, ℤ, pos, negsuc, unsigned_abs, max, List, [], ◌∷◌, ◌++◌, length, Option, Some, None, codes}
+use Rattle.std.specs.Prelude.{◌≡◌, ℕ, suc, ◌<◌, ◌≤◌, ◌^◌, ℤ, pos, negsuc, unsigned_abs, max, List, [], ◌∷◌, ◌++◌, length, Option, Some, None, codes}
 use Rattle.st_syntax.specs.declared.trees.Span.{Span}
 use Rattle.st_syntax.specs.declared.trees.Name.{Name}
 use Rattle.std.specs.List.{flat_map}

@@ -6,6 +6,7 @@
 
 mod characters;
 pub mod faults;
+pub mod inlining;
 mod parser;
 pub mod reader;
 pub mod tokens;

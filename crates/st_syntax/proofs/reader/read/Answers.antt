@@ -1,8 +1,8 @@
-use Rattle.std.proofs.Common.{◌≡◌, ◌∙◌, ◌⊎◌, inr, sym, ap, subst, arith, Bool, true, false, List, ℕ, Option, Some, None}
+use Rattle.std.proofs.Common.{◌≡◌, arith, true, false, List, ℕ, Option, Some, None}
 use Rattle.std.specs.Prelude.{MatchOption}
 use Rattle.std.specs.List.{list_all}
 use Rattle.st_syntax.specs.declared.tokens.Lexeme.{Lexeme}
-use Rattle.st_syntax.specs.Tokens.{Token, IsCut, CutsOneWay, token_fits, is_character}
+use Rattle.st_syntax.specs.Tokens.{Token, IsCut, token_fits, is_character}
 use Rattle.st_syntax.specs.Lexemes.{tokens_of}
 use Rattle.st_syntax.specs.Reading.{method_of}
 use Rattle.st_syntax.specs.Views.{method_view}

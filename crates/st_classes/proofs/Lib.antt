@@ -1,4 +1,5 @@
 pub mod Keywords
+pub mod Flowing
 pub mod Naming
 pub mod LawLists
 pub mod LawChains

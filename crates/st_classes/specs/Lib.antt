@@ -2,6 +2,7 @@ pub mod Refusals
 pub mod Kernel
 pub mod Selectors
 pub mod Methods
+pub mod Ways
 pub mod Classes
 pub mod Walks
 pub mod Suiting

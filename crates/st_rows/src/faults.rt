@@ -3,10 +3,14 @@ mod accepted;
 mod refused;
 
 use crate::faults::accepted::METHODS;
-use crate::faults::refused::{
-    BAD_CHARACTERS, BAD_CHARACTERS_FIRST, BAD_PATTERNS, BAD_PATTERNS_FIRST, BAD_TOKENS,
-    BAD_TOKENS_FIRST, BLOCK_ESCAPES, DUPLICATE_NAMES, DUPLICATE_NAMES_FIRST, FILLED_UP, NESTED,
-    NESTED_FIRST, READ_ONLY, READ_ONLY_FIRST, TOO_LARGE, TOO_LARGE_FIRST,
+use crate::faults::refused::blocks::BLOCK_ESCAPES;
+use crate::faults::refused::limits::{FILLED_UP, NESTED, NESTED_FIRST, TOO_LARGE, TOO_LARGE_FIRST};
+use crate::faults::refused::names::{
+    DUPLICATE_NAMES, DUPLICATE_NAMES_FIRST, READ_ONLY, READ_ONLY_FIRST,
+};
+use crate::faults::refused::patterns::{BAD_PATTERNS, BAD_PATTERNS_FIRST};
+use crate::faults::refused::tokens::{
+    BAD_CHARACTERS, BAD_CHARACTERS_FIRST, BAD_TOKENS, BAD_TOKENS_FIRST,
 };
 use st_classes::refusals::{Refusal, SourceFault};
 use st_syntax::faults::source_fault;

@@ -2,7 +2,7 @@ use Rattle.std.proofs.Common.{◌≡◌, length}
 use Rattle.st_syntax.specs.Lexemes.{tokens_of}
 use Rattle.st_syntax.specs.Reading.{targets_of}
 use Rattle.st_syntax.proofs.Rows.{ahead}
-use Rattle.st_syntax.proofs.parser.targets.Given as goal
+use Rattle.st_syntax.proofs.parser.expressions.targets.Given as goal
 
 abbrev pub invariant-loop-variable : goal.invariant-loop-variable
 invariant-loop-variable l = targets_of (tokens_of l.source l.fn.lexemes) ≡ ahead l.targets.items (targets_of (tokens_of l.source l.rest))

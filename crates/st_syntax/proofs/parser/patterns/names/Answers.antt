@@ -3,7 +3,7 @@ use Rattle.st_syntax.specs.declared.trees.Name.{Name}
 use Rattle.st_syntax.specs.Lexemes.{tokens_of}
 use Rattle.st_syntax.specs.Reading.{names_of}
 use Rattle.st_syntax.proofs.Patterns.{names_step, names_done}
-use Rattle.st_syntax.proofs.parser.names.Goals as goal
+use Rattle.st_syntax.proofs.parser.patterns.names.Goals as goal
 
 pub loop-first-preserved : goal.loop-first-preserved
 loop-first-preserved c =

@@ -19,7 +19,7 @@ use Rattle.st_syntax.proofs.Parts.{parts_full, parts_fail, parts_step, parts_sma
 use Rattle.st_syntax.proofs.Further.{further_fail, further_step, further_smaller, further_done}
 use Rattle.st_syntax.proofs.Sentences.{caret_fail, caret_done, sentence_fail, sentence_last, sentence_end, sentence_step, sentence_smaller}
 use Rattle.st_syntax.proofs.Expressions.{expression_is, expression_chain, expression_parts, expression_further, expression_whole}
-use Rattle.st_syntax.proofs.parser.+read.Goals as goal
+use Rattle.st_syntax.proofs.parser.expressions.+read.Goals as goal
 
 -- ---- binary messages
 

@@ -4,7 +4,7 @@ use Rattle.st_syntax.specs.Lexemes.{tokens_of, seen}
 use Rattle.st_syntax.specs.Reading.{parameter_of, parameters_of}
 use Rattle.st_syntax.proofs.Patterns.{parameters_step, parameters_fail, parameters_full, parameters_done}
 use Rattle.st_syntax.proofs.Results.{gives_err}
-use Rattle.st_syntax.proofs.parser.parameters.Goals as goal
+use Rattle.st_syntax.proofs.parser.patterns.parameters.Goals as goal
 
 pub returns-then-len-ge-ARGUMENTS : goal.returns-then-len-ge-ARGUMENTS
 returns-then-len-ge-ARGUMENTS c =

@@ -2,7 +2,7 @@ use Rattle.std.proofs.Common.{◌≡◌, length}
 use Rattle.st_syntax.specs.Lexemes.{tokens_of}
 use Rattle.st_syntax.specs.Reading.{names_of}
 use Rattle.st_syntax.proofs.Rows.{ahead}
-use Rattle.st_syntax.proofs.parser.names.Given as goal
+use Rattle.st_syntax.proofs.parser.patterns.names.Given as goal
 
 abbrev pub invariant-loop-first : goal.invariant-loop-first
 invariant-loop-first l = names_of (tokens_of l.source l.fn.lexemes) ≡ ahead l.names.items (names_of (tokens_of l.source l.rest))

@@ -1,6 +1,6 @@
 use Rattle.st_syntax.proofs.Loops.{unaries_step, unaries_done}
 use Rattle.st_syntax.proofs.Seen.{unary_is}
-use Rattle.st_syntax.proofs.parser.unaries.Goals as goal
+use Rattle.st_syntax.proofs.parser.expressions.unaries.Goals as goal
 
 pub loop-first-preserved : goal.loop-first-preserved
 loop-first-preserved c =

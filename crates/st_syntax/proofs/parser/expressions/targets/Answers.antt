@@ -3,7 +3,7 @@ use Rattle.st_syntax.specs.declared.trees.Span.{Span}
 use Rattle.st_syntax.specs.declared.trees.Target.{Target}
 use Rattle.st_syntax.specs.Lexemes.{tokens_of}
 use Rattle.st_syntax.proofs.Loops.{targets_step, targets_done}
-use Rattle.st_syntax.proofs.parser.targets.Goals as goal
+use Rattle.st_syntax.proofs.parser.expressions.targets.Goals as goal
 
 pub loop-variable-preserved : goal.loop-variable-preserved
 loop-variable-preserved c =

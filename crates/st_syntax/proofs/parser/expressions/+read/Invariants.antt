@@ -3,7 +3,7 @@ use Rattle.std.specs.Prelude.{option_map}
 use Rattle.st_syntax.specs.Lexemes.{tokens_of}
 use Rattle.st_syntax.specs.Views.{chain_view, seen_parts, seen_further, seen_sentences, behind_sentences}
 use Rattle.st_syntax.specs.Reading.{in_front, operations_of, binary_of, keyword_parts_of, further_messages_of, statements_with, expression_of, group_of, block_of}
-use Rattle.st_syntax.proofs.parser.+read.Given as goal
+use Rattle.st_syntax.proofs.parser.expressions.+read.Given as goal
 
 abbrev pub decreases-group : goal.decreases-group
 decreases-group l = 12 * l.nesting + 1

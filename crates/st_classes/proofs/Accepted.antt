@@ -1,6 +1,7 @@
 -- An accepted edit of any kind.
 use Rattle.std.proofs.Common.{refl, ◌≡◌, ℕ, List, [], ◌∷◌, ◌++◌, Option, Some, None, true, false, ap, sym, subst, ◌∙◌, length, is_some, cond, inl, inr}
 use Rattle.std.specs.Str.{bytes_eq}
+use Rattle.std.proofs.lemmas.Bool.{not-false}
 use Rattle.st_classes.specs.declared.values.ClassId.{ClassId}
 use Rattle.st_classes.specs.declared.values.Selector.{Selector}
 use Rattle.st_classes.specs.declared.methods.MethodParts.{MethodParts}
@@ -15,9 +16,9 @@ use Rattle.st_classes.specs.Walks.{method_id}
 use Rattle.st_classes.specs.ClassIndexes.{Naming, named_in}
 use Rattle.st_classes.specs.Lawful.{AllSound, IsSoundEdit}
 use Rattle.st_classes.specs.Tables.{IsKept, AreRows, IsAt, IsNaming, IsTable}
-use Rattle.st_classes.proofs.Chains.{slice_get_push}
+use Rattle.st_classes.proofs.LawLists.{slice_get_push}
 use Rattle.st_classes.proofs.Growing.{classes_push, classes_same, kept_at, NoneApply, none_apply}
-use Rattle.st_classes.proofs.Defining.{no_such_class, new_def, false_from_not, kept_define}
+use Rattle.st_classes.proofs.Defining.{no_such_class, new_def, kept_define}
 use Rattle.st_classes.proofs.Indexing.{naming_push, class_in}
 
 none_from : {T : Type 0} (o : Option T) → is_some o ≡ false → o ≡ None
@@ -33,7 +34,7 @@ pub remove_is_at : (n : ℕ) (c : ClassId) (s : Selector) → IsAt (Remove c s) 
 remove_is_at n c s = record { no_class = refl; decides = λ found d t. refl }
 
 pub install_class : (es : List Edit) (c : ClassId) (s : Selector) → first_of (install_rules es c s) ≡ None → is_class es c ≡ true
-install_class es c s h = let r : NoneApply (install_rules es c s) = none_apply (install_rules es c s) h in false_from_not (is_class es c) r.0
+install_class es c s h = let r : NoneApply (install_rules es c s) = none_apply (install_rules es c s) h in not-false (is_class es c) r.0
 
 pub install_kernel : (es : List Edit) (c : ClassId) (s : Selector) → first_of (install_rules es c s) ≡ None → kernel_method c s ≡ None
 install_kernel es c s h = let r : NoneApply (install_rules es c s) = none_apply (install_rules es c s) h in none_from (kernel_method c s) r.1.0
@@ -46,10 +47,10 @@ pub kept_push : (es : List Edit) (e : Edit) → IsKept es → first_of (edit_rul
 kept_push es (Define name p added) k h = kept_define es name p added k h
 kept_push es (Install c m) k h =
     let r : NoneApply (install_rules es c m.selector) = none_apply (install_rules es c m.selector) h in
-    kept_at es (Install c m) c m.selector (Some (method_id (length es))) k (install_is_at (length es) c m) h (false_from_not (is_class es c) r.0) r.1.1.0
+    kept_at es (Install c m) c m.selector (Some (method_id (length es))) k (install_is_at (length es) c m) h (not-false (is_class es c) r.0) r.1.1.0
 kept_push es (Remove c s) k h =
     let r : NoneApply (remove_rules es c s) = none_apply (remove_rules es c s) h in
-    kept_at es (Remove c s) c s None k (remove_is_at (length es) c s) h (false_from_not (is_class es c) r.0) r.1.1.1.0
+    kept_at es (Remove c s) c s None k (remove_is_at (length es) c s) h (not-false (is_class es c) r.0) r.1.1.1.0
 
 -- ---- names
 

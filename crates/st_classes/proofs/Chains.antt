@@ -4,23 +4,9 @@ use Rattle.std.specs.List.{flat_map}
 use Rattle.std.proofs.lemmas.Grind.{reverse_onto, flat_map-append}
 use Rattle.std.proofs.lemmas.Option.{option_and_then_some, slice_get_within}
 use Rattle.st_classes.specs.declared.values.ClassId.{ClassId}
-use Rattle.st_classes.specs.Classes.{IsForest, ClassDef, parent_in, chain_of, own_slots}
-
-pub slice_get_old : {X : Type 0} (xs ys : List X) (i : ℕ) → i < length xs → slice_get (xs ++ ys) i ≡ slice_get xs i
-slice_get_old [] ys i h = absurd (omega (arith, h))
-slice_get_old (x ∷ xs) ys zero h = refl
-slice_get_old (x ∷ xs) ys (suc i) h = slice_get_old xs ys i (omega (arith, h))
-
-pub slice_get_last : {X : Type 0} (xs : List X) (y : X) → slice_get (xs ++ y ∷ []) (length xs) ≡ Some y
-slice_get_last [] y = refl
-slice_get_last (x ∷ xs) y = slice_get_last xs y
-
--- an item of a list with one more is an old one, or the new one
-pub slice_get_push : {X : Type 0} (xs : List X) (y x : X) (i : ℕ) → slice_get (xs ++ y ∷ []) i ≡ Some x → ((i < length xs) × (slice_get xs i ≡ Some x)) ⊎ ((i ≡ length xs) × (y ≡ x))
-slice_get_push [] y x zero h = inr (refl, cc)
-slice_get_push [] y x (suc i) h = cc
-slice_get_push (z ∷ xs) y x zero h = inl (omega arith, h)
-slice_get_push (z ∷ xs) y x (suc i) h = elim (slice_get_push xs y x i h) [ inl w ↦ inl (omega (arith, w.0), w.1) | inr w ↦ inr (omega (arith, w.0), w.1) ]
+use Rattle.st_classes.specs.Kernel.{class}
+use Rattle.st_classes.specs.Classes.{IsForest, ClassDef, kernel_classes, parent_in, chain_of, own_slots}
+use Rattle.st_classes.proofs.LawLists.{slice_get_old, slice_get_last, slice_get_push}
 
 -- a chain that ends within its bound is whole
 pub chain_more : (cs : List ClassDef) (n : ℕ) (o : Option ClassId) → length (chain_of cs (suc n) o) ≤ n → chain_of cs n o ≡ chain_of cs (suc n) o
@@ -68,9 +54,30 @@ forest_push cs d p f e l short = record {
   ];
 }
 
+-- ---- the kernel's classes
+
+-- the superclass of a kernel class is Object
+pub kernel_parent : (n : ℕ) (p : ClassId) → parent_in kernel_classes (class n) ≡ Some p → (p ≡ class 0) × (chain_of kernel_classes 64 (Some (class n)) ≡ class n ∷ chain_of kernel_classes 64 (Some (class 0)))
+kernel_parent zero p e = cc
+kernel_parent (suc zero) p e = (cc, refl)
+kernel_parent (suc (suc zero)) p e = (cc, refl)
+kernel_parent (suc (suc (suc zero))) p e = (cc, refl)
+kernel_parent (suc (suc (suc (suc zero)))) p e = (cc, refl)
+kernel_parent (suc (suc (suc (suc (suc zero))))) p e = (cc, refl)
+kernel_parent (suc (suc (suc (suc (suc (suc zero)))))) p e = (cc, refl)
+kernel_parent (suc (suc (suc (suc (suc (suc (suc zero))))))) p e = (cc, refl)
+kernel_parent (suc (suc (suc (suc (suc (suc (suc (suc n)))))))) p e = cc
+
+pub kernel_forest : IsForest kernel_classes
+kernel_forest = record {
+  closed = λ c p e. let k = kernel_parent c.0 p e in subst (λ (x : ClassId). x.0 < 8) (sym k.0) (omega arith);
+  chains = λ c p e. let k = kernel_parent c.0 p e in subst (λ (x : ClassId). chain_of kernel_classes 64 (Some c) ≡ c ∷ chain_of kernel_classes 64 (Some x)) (sym k.0) k.1;
+}
+
 -- ---- instance variables
 
-flat_map_up : (f : ClassId → List (List ℕ)) (c : ClassId) (xs : List ClassId) → flat_map f (reverse (c ∷ xs)) ≡ flat_map f (reverse xs) ++ f c
+-- what a chain has is what the chain above has, and then what its class has
+pub flat_map_up : (f : ClassId → List (List ℕ)) (c : ClassId) (xs : List ClassId) → flat_map f (reverse (c ∷ xs)) ≡ flat_map f (reverse xs) ++ f c
 flat_map_up f c xs = ap (flat_map f) (reverse_onto xs c []) ∙ flat_map-append f (reverse xs) (c ∷ []) ∙ ap (λ (ys : List (List ℕ)). flat_map f (reverse xs) ++ ys) (append-nil (f c))
 
 own_slots_old : (cs ds : List ClassDef) (c : ClassId) → c.0 < length cs → own_slots (cs ++ ds) c ≡ own_slots cs c

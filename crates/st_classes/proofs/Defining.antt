@@ -1,8 +1,8 @@
 -- One class more.
-use Rattle.std.proofs.Common.{arith, refl, ◌≡◌, ℕ, ◌+◌, ◌<◌, ◌≤◌, List, [], ◌∷◌, ◌++◌, Option, Some, None, Bool, true, false, not, nat_eq, nat_le, is_some, slice_get, suc, ap, sym, ◌∙◌, length, subst, length-append, option_map, option_and_then, inl, inr, reverse}
+use Rattle.std.proofs.Common.{arith, refl, ◌≡◌, ℕ, ◌+◌, ◌<◌, ◌≤◌, List, [], ◌∷◌, ◌++◌, Option, Some, None, false, nat_eq, nat_le, is_some, slice_get, suc, ap, sym, ◌∙◌, length, subst, length-append, option_map, option_and_then, inl, inr, reverse}
 use Rattle.std.proofs.lemmas.Bool.Decides.{nat_tests}
 use Rattle.std.specs.List.{flat_map}
-use borrow.Author.Tests.{ltb-true}
+use Rattle.std.proofs.lemmas.Bool.{ltb-true, not-false}
 use Rattle.st_classes.specs.declared.values.ClassId.{ClassId}
 use Rattle.st_classes.specs.declared.values.Selector.{Selector}
 use Rattle.st_classes.specs.declared.values.MethodId.{MethodId}
@@ -18,8 +18,10 @@ use Rattle.st_classes.specs.Classes.{IsForest, ClassDef, classes, class_count, c
 use Rattle.st_classes.specs.Walks.{or_else}
 use Rattle.st_classes.specs.ClassRows.{IsRow, IsUnder, row_method}
 use Rattle.st_classes.specs.Tables.{IsKept, AreRows}
-use Rattle.st_classes.proofs.Chains.{slice_get_push, slice_get_old, slice_get_last, forest_push, chain_old, chain_new, slots_old, slots_new}
-use Rattle.st_classes.proofs.Growing.{classes_push, own_push, lawful_push, few_push, NoneApply, none_apply}
+use Rattle.st_classes.proofs.LawLists.{slice_get_push, slice_get_old, slice_get_last}
+use Rattle.st_classes.proofs.LawGrowing.{lawful_with}
+use Rattle.st_classes.proofs.Chains.{forest_push, chain_old, chain_new, slots_old, slots_new}
+use Rattle.st_classes.proofs.Growing.{classes_push, own_push, few_push, NoneApply, none_apply}
 
 -- a superclass under which there is room for a class
 pub record HasRoom (es : List Edit) (p : ClassId) : Type 0 where
@@ -28,15 +30,11 @@ pub record HasRoom (es : List Edit) (p : ClassId) : Type 0 where
   pub few_classes : class_count es < 1024
   pub few : nat_le 4096 (length es) ≡ false
 
-pub false_from_not : (b : Bool) → not b ≡ false → b ≡ true
-false_from_not true h = refl
-false_from_not false h = cc
-
 pub has_room : (es : List Edit) (name : List ℕ) (p : ClassId) (added : List (List ℕ)) → first_of (define_rules es name p added) ≡ None → HasRoom es p
 has_room es name p added h =
     let r : NoneApply (define_rules es name p added) = none_apply (define_rules es name p added) h in
     record {
-      here = ltb-true p.0 (class_count es) (false_from_not (is_class es p) r.0);
+      here = ltb-true p.0 (class_count es) (not-false (is_class es p) r.0);
       shallow = below 64 (length (chain es p)) r.1.1.1.1.1.0;
       few_classes = below 1024 (class_count es) r.1.1.1.1.1.1.0;
       few = r.1.1.1.1.1.1.1.1.0;
@@ -59,7 +57,7 @@ kept_define es name p added k h =
     let room : HasRoom es p = has_room es name p added h in
     let more : length (classes (es ++ Define name p added ∷ [])) ≡ length (classes es) + 1 = ap (λ (cs : List ClassDef). length cs) (classes_push es (Define name p added)) ∙ length-append (classes es) (new_def name p added ∷ []) in
     record {
-      lawful = lawful_push es (Define name p added) k.lawful h;
+      lawful = lawful_with es (Define name p added) k.lawful h;
       forest = subst IsForest (sym (classes_push es (Define name p added))) (forest_push (classes es) (new_def name p added) p k.forest refl room.here room.shallow);
       beyond = λ c s g. own_push es (Define name p added) c s ∙ k.beyond c s (omega (arith, more, g));
       few = few_push es (Define name p added) room.few;

@@ -1,7 +1,5 @@
 -- One edit more.
-use Rattle.std.proofs.Common.{arith, rules, tests, refl, ◌≡◌, ◌≢◌, ℕ, ◌+◌, ◌<◌, ◌≤◌, ◌⊎◌, List, [], ◌∷◌, ◌++◌, Option, Some, None, Bool, true, false, cond, nat_eq, nat_le, slice_get, zero, suc, ap, sym, ◌∙◌, length, subst, length-append, take, option_map, inl, inr, append-nil, reverse}
-use Rattle.std.proofs.lemmas.List.{take-append-le}
-use Rattle.std.proofs.Math.Seq.{take-append_seam}
+use Rattle.std.proofs.Common.{arith, rules, tests, refl, ◌≡◌, ◌≢◌, ℕ, ◌+◌, ◌<◌, ◌≤◌, ◌⊎◌, List, [], ◌∷◌, ◌++◌, Option, Some, None, Bool, true, false, cond, nat_eq, nat_le, slice_get, zero, suc, ap, sym, ◌∙◌, length, subst, length-append, option_map, inl, inr, append-nil, reverse}
 use Rattle.std.proofs.Math.ListN.{set, length-set}
 use Rattle.std.proofs.lemmas.Bool.Decides.{nat_tests}
 use Rattle.std.specs.List.{flat_map}
@@ -11,7 +9,6 @@ use Rattle.st_classes.specs.declared.values.ClassId.{ClassId}
 use Rattle.st_classes.specs.declared.values.Selector.{Selector}
 use Rattle.st_classes.specs.declared.values.MethodId.{MethodId}
 use Rattle.st_classes.specs.declared.edits.Edit.{Edit}
-use Rattle.st_classes.specs.declared.edits.Edit.TheVariants.{Define, Install, Remove}
 use Rattle.st_classes.specs.declared.kernel.Kernel.{Kernel}
 use Rattle.st_classes.specs.declared.kernel.Found.{Found}
 use Rattle.st_classes.specs.declared.kernel.Found.TheVariants.{User, Kernel as FoundKernel}
@@ -19,26 +16,20 @@ use Rattle.st_classes.specs.declared.class_rows.ClassRow.{ClassRow}
 use Rattle.st_classes.specs.Kernel.{class, kernel_method}
 use Rattle.st_classes.specs.Refusals.{Rule, first_of}
 use Rattle.st_classes.specs.Accepting.{edit_rules}
-use Rattle.st_classes.specs.Classes.{IsForest, ClassDef, kernel_classes, defined, classes, class_count, is_class, own_slots, parent_in, chain_of}
+use Rattle.st_classes.specs.Classes.{IsForest, ClassDef, defined, classes, class_count, is_class, own_slots, parent_in, chain_of}
 use Rattle.st_classes.specs.Walks.{own, own_from, decided, is_at, or_else}
-use Rattle.st_classes.specs.Lawful.{AreLawful}
 use Rattle.st_classes.specs.ClassRows.{IsRow, Puts, row_method, row_own}
 use Rattle.st_classes.specs.Tables.{IsKept, AreRows, IsAt}
-use Rattle.st_classes.proofs.Chains.{slice_get_push}
+use Rattle.st_classes.proofs.LawChains.{classes_append}
+use Rattle.st_classes.proofs.LawGrowing.{lawful_with}
 
 -- ---- the classes and the own methods of one edit more
 
-defined_push : (es : List Edit) (e : Edit) → defined (es ++ e ∷ []) ≡ defined es ++ defined (e ∷ [])
-defined_push [] e = refl
-defined_push (Define name p added ∷ es) e = ap (λ (cs : List ClassDef). record { name = name; parent = Some p; slots = added } ∷ cs) (defined_push es e)
-defined_push (Install c m ∷ es) e = defined_push es e
-defined_push (Remove c s ∷ es) e = defined_push es e
-
 pub classes_push : (es : List Edit) (e : Edit) → classes (es ++ e ∷ []) ≡ classes es ++ defined (e ∷ [])
-classes_push es e = ap (λ (cs : List ClassDef). kernel_classes ++ cs) (defined_push es e)
+classes_push es e = classes_append es (e ∷ [])
 
 pub classes_same : (es : List Edit) (e : Edit) → defined (e ∷ []) ≡ [] → classes (es ++ e ∷ []) ≡ classes es
-classes_same es e h = ap (λ (cs : List ClassDef). kernel_classes ++ cs) (defined_push es e ∙ ap (λ (cs : List ClassDef). defined es ++ cs) h ∙ append-nil (defined es))
+classes_same es e h = classes_push es e ∙ ap (λ (cs : List ClassDef). classes es ++ cs) h ∙ append-nil (classes es)
 
 own_from_push : (es : List Edit) (e : Edit) (place : ℕ) (o : Option Found) (c : ClassId) (s : Selector) → own_from place o (es ++ e ∷ []) c s ≡ decided e (place + length es) (own_from place o es c s) c s
 own_from_push [] e place o c s = ap (λ (n : ℕ). decided e n o c s) (omega arith)
@@ -59,12 +50,6 @@ none_apply [] h = tt
 none_apply ((true, r) ∷ rules) h = cc
 none_apply ((false, r) ∷ rules) h = (refl, none_apply rules h)
 
-pub lawful_push : (es : List Edit) (e : Edit) → AreLawful es → first_of (edit_rules es e) ≡ None → AreLawful (es ++ e ∷ [])
-lawful_push es e l h = λ place x g. elim (slice_get_push es e x place g) [
-  | inl w ↦ ap (λ (ds : List Edit). first_of (edit_rules ds x)) (take-append-le place es (e ∷ []) (omega (arith, w.0))) ∙ l place x w.1
-  | inr w ↦ ap (λ (ds : List Edit). first_of (edit_rules ds x)) (ap (λ (n : ℕ). take n (es ++ e ∷ [])) w.0 ∙ take-append_seam es (e ∷ [])) ∙ ap (λ (d : Edit). first_of (edit_rules es d)) (sym w.1) ∙ h
-]
-
 pub few_push : (es : List Edit) (e : Edit) → nat_le 4096 (length es) ≡ false → length (es ++ e ∷ []) ≤ 4096
 few_push es e h = let few : length es < 4096 = search (rules, tests) in omega (arith, few, length-append es (e ∷ []))
 
@@ -81,7 +66,7 @@ kept_at es e d t o k a h i few =
     let same : classes (es ++ e ∷ []) ≡ classes es = classes_same es e a.no_class in
     let in_table : d.0 < class_count es = ltb-true d.0 (class_count es) i in
     record {
-      lawful = lawful_push es e k.lawful h;
+      lawful = lawful_with es e k.lawful h;
       forest = subst IsForest (sym same) k.forest;
       beyond = λ c s g. let above : class_count es ≤ c.0 = omega (arith, g, ap (λ (cs : List ClassDef). length cs) same) in own_at_other es e d t o a c s (λ x. omega (arith, x, above, in_table)) ∙ k.beyond c s above;
       few = few_push es e few;

@@ -1,5 +1,5 @@
 -- The table of no edits.
-use Rattle.std.proofs.Common.{arith, refl, ◌≡◌, ◌<◌, ℕ, zero, suc, List, [], ◌∷◌, ◌++◌, Option, Some, None, ap, sym, ◌∙◌, subst, length, slice_get, option_map, option_and_then, if◌then◌else◌, is_some}
+use Rattle.std.proofs.Common.{arith, refl, ◌≡◌, ℕ, zero, suc, List, [], ◌∷◌, ◌++◌, Option, Some, None, ap, sym, ◌∙◌, subst, length, slice_get, option_map, option_and_then, if◌then◌else◌, is_some}
 use Rattle.std.specs.List.{AllZip}
 use Rattle.st_classes.specs.declared.values.ClassId.{ClassId}
 use Rattle.st_classes.specs.declared.kernel.Found.TheVariants.{User, Kernel as FoundKernel}
@@ -8,28 +8,12 @@ use Rattle.st_classes.specs.declared.values.MethodId.{MethodId}
 use Rattle.st_classes.specs.Walks.{or_else}
 use Rattle.st_classes.specs.declared.class_rows.ClassRow.{ClassRow}
 use Rattle.st_classes.specs.Kernel.{class, kernel_method}
-use Rattle.st_classes.specs.Classes.{IsForest, ClassDef, kernel_classes, slots, parent_in, chain_of}
+use Rattle.st_classes.specs.Classes.{ClassDef, kernel_classes, slots, parent_in, chain_of}
 use Rattle.st_classes.specs.ClassRows.{IsRow, IsPlain, row_method}
 use Rattle.st_classes.specs.Lawful.{AllSound}
 use Rattle.st_classes.specs.Tables.{IsKept, AreRows}
+use Rattle.st_classes.proofs.Chains.{kernel_parent, kernel_forest}
 use Rattle.st_classes.proofs.Defining.{kernel_none}
-
-kernel_parent : (n : ℕ) (p : ClassId) → parent_in kernel_classes (class n) ≡ Some p → (p ≡ class 0) × (chain_of kernel_classes 64 (Some (class n)) ≡ class n ∷ chain_of kernel_classes 64 (Some (class 0)))
-kernel_parent zero p e = cc
-kernel_parent (suc zero) p e = (cc, refl)
-kernel_parent (suc (suc zero)) p e = (cc, refl)
-kernel_parent (suc (suc (suc zero))) p e = (cc, refl)
-kernel_parent (suc (suc (suc (suc zero)))) p e = (cc, refl)
-kernel_parent (suc (suc (suc (suc (suc zero))))) p e = (cc, refl)
-kernel_parent (suc (suc (suc (suc (suc (suc zero)))))) p e = (cc, refl)
-kernel_parent (suc (suc (suc (suc (suc (suc (suc zero))))))) p e = (cc, refl)
-kernel_parent (suc (suc (suc (suc (suc (suc (suc (suc n)))))))) p e = cc
-
-kernel_forest : IsForest kernel_classes
-kernel_forest = record {
-  closed = λ c p e. let k = kernel_parent c.0 p e in subst (λ (x : ClassId). x.0 < 8) (sym k.0) (omega arith);
-  chains = λ c p e. let k = kernel_parent c.0 p e in subst (λ (x : ClassId). chain_of kernel_classes 64 (Some c) ≡ c ∷ chain_of kernel_classes 64 (Some x)) (sym k.0) k.1;
-}
 
 pub kernel_kept : IsKept []
 kernel_kept = record {

@@ -1,71 +1,19 @@
--- Chains of superclasses, and the instance variables along them.
-use Rattle.std.proofs.Common.{arith, refl, ◌≡◌, ℕ, ◌<◌, ◌≤◌, ◌⊎◌, List, [], ◌∷◌, ◌++◌, Option, Some, None, slice_get, zero, suc, ap, sym, ◌∙◌, length, subst, length-append, append_assoc, append-nil, take, reverse, inl, inr, true, not, nat_lt, nat_le, ltb-true, leb-true, leb-false, option_and_then, flat_map, le_refl}
-use Rattle.std.proofs.lemmas.Option.{option_and_then_some, slice_get-get_or}
-use Rattle.std.proofs.lemmas.List.{take_all, reverse-append}
+-- Chains of superclasses in lawful edits, and the instance variables along them.
+use Rattle.std.proofs.Common.{arith, refl, ◌≡◌, ℕ, ◌<◌, ◌≤◌, List, [], ◌∷◌, ◌++◌, Option, Some, None, slice_get, zero, suc, ap, sym, ◌∙◌, length, subst, append_assoc, append-nil, take, reverse, true, not, nat_lt, nat_le, ltb-true, leb-true, leb-false, flat_map, le_refl}
+use Rattle.std.proofs.lemmas.Option.{slice_get-get_or}
+use Rattle.std.proofs.lemmas.List.{take_all}
 use Rattle.std.proofs.lemmas.Bool.{not-false, and_parts}
-use Rattle.std.proofs.lemmas.Grind.{flat_map-append}
 use Rattle.st_classes.specs.declared.values.ClassId.{ClassId}
 use Rattle.st_classes.specs.declared.edits.Edit.{Edit}
 use Rattle.st_classes.specs.declared.edits.Edit.TheVariants.{Define, Install, Remove}
 use Rattle.st_classes.specs.declared.refusals.Refusal.TheVariants.{UnknownClass, TooDeep}
 use Rattle.st_classes.specs.Refusals.{first_of}
 use Rattle.st_classes.specs.Kernel.{class}
-use Rattle.st_classes.specs.Classes.{IsForest, ClassDef, kernel_classes, defined, classes, class_count, is_class, parent, parent_in, chain_of, chain, own_slots, slots}
+use Rattle.st_classes.specs.Classes.{IsForest, ClassDef, kernel_classes, defined, classes, class_count, is_class, parent, chain_of, chain, own_slots, slots}
 use Rattle.st_classes.specs.Accepting.{is_closed, edit_rules}
 use Rattle.st_classes.specs.Lawful.{AreLawful}
-use Rattle.st_classes.proofs.LawLists.{slice_get_old, slice_get_push, take_at_place, no_rule}
-
--- a chain that ends within its bound is whole
-pub chain_whole : (cs : List ClassDef) (n : ℕ) (o : Option ClassId) → length (chain_of cs (suc n) o) ≤ n → chain_of cs n o ≡ chain_of cs (suc n) o
-chain_whole cs zero None h = refl
-chain_whole cs zero (Some c) h = absurd (omega (arith, h))
-chain_whole cs (suc n) None h = refl
-chain_whole cs (suc n) (Some c) h = ap (λ (xs : List ClassId). c ∷ xs) (chain_whole cs n (parent_in cs c) (omega (arith, h)))
-
-parent_of_old : (cs ds : List ClassDef) (c : ClassId) → c.0 < length cs → parent_in (cs ++ ds) c ≡ parent_in cs c
-parent_of_old cs ds c h = ap (option_and_then (λ (d : ClassDef). d.parent)) (slice_get_old cs ds c.0 h)
-
--- the chain of an old class
-pub chain_of_old : (cs ds : List ClassDef) → ((c p : ClassId) → parent_in cs c ≡ Some p → p.0 < length cs) → (n : ℕ) (o : Option ClassId) → ((c : ClassId) → o ≡ Some c → c.0 < length cs) → chain_of (cs ++ ds) n o ≡ chain_of cs n o
-chain_of_old cs ds f zero o h = refl
-chain_of_old cs ds f (suc n) None h = refl
-chain_of_old cs ds f (suc n) (Some c) h = ap (λ (xs : List ClassId). c ∷ xs) (ap (chain_of (cs ++ ds) n) (parent_of_old cs ds c (h c refl)) ∙ chain_of_old cs ds f n (parent_in cs c) (λ p e. f c p e))
-
-pub chain_of_some : (cs ds : List ClassDef) → IsForest cs → (n : ℕ) (c : ClassId) → c.0 < length cs → chain_of (cs ++ ds) n (Some c) ≡ chain_of cs n (Some c)
-chain_of_some cs ds g n c h = chain_of_old cs ds g.closed n (Some c) (λ d e. let s : c ≡ d = cc in subst (λ (x : ClassId). x.0 < length cs) s h)
-
--- the superclass in a list with one class more
-parent_in_push : (cs : List ClassDef) (d : ClassDef) (c p : ClassId) → parent_in (cs ++ d ∷ []) c ≡ Some p → ((c.0 < length cs) × (parent_in cs c ≡ Some p)) ⊎ ((c.0 ≡ length cs) × (d.parent ≡ Some p))
-parent_in_push cs d c p e = option_and_then_some (λ (x : ClassDef). x.parent) (slice_get (cs ++ d ∷ []) c.0) p e (λ x at up. elim (slice_get_push cs d x c.0 at) [ inl w ↦ inl (w.0, ap (option_and_then (λ (y : ClassDef). y.parent)) w.1 ∙ up) | inr w ↦ inr (w.0, ap (λ (y : ClassDef). y.parent) w.1 ∙ up) ])
-
-new_chain : (cs : List ClassDef) (d : ClassDef) (c p : ClassId) → IsForest cs → p.0 < length cs → length (chain_of cs 64 (Some p)) < 64 → parent_in (cs ++ d ∷ []) c ≡ Some p → chain_of (cs ++ d ∷ []) 64 (Some c) ≡ c ∷ chain_of (cs ++ d ∷ []) 64 (Some p)
-new_chain cs d c p g here short e =
-    ap (λ (o : Option ClassId). c ∷ chain_of (cs ++ d ∷ []) 63 o) e
-    ∙ ap (λ (xs : List ClassId). c ∷ xs) (chain_of_some cs (d ∷ []) g 63 p here ∙ chain_whole cs 63 (Some p) (omega (arith, short)) ∙ sym (chain_of_some cs (d ∷ []) g 64 p here))
-
-pub forest_push : (cs : List ClassDef) (d : ClassDef) (p : ClassId) → IsForest cs → d.parent ≡ Some p → p.0 < length cs → length (chain_of cs 64 (Some p)) < 64 → IsForest (cs ++ d ∷ [])
-forest_push cs d p g up here short = record {
-  closed = λ c q e. elim (parent_in_push cs d c q e) [ inl w ↦ omega (arith, g.closed c q w.1, length-append cs (d ∷ [])) | inr w ↦ let s : p ≡ q = cc in subst (λ (x : ClassId). x.0 < length (cs ++ d ∷ [])) s (omega (arith, here, length-append cs (d ∷ []))) ];
-  chains = λ c q e. elim (parent_in_push cs d c q e) [ inl w ↦ chain_of_some cs (d ∷ []) g 64 c w.0 ∙ g.chains c q w.1 ∙ ap (λ (xs : List ClassId). c ∷ xs) (sym (chain_of_some cs (d ∷ []) g 64 q (g.closed c q w.1))) | inr w ↦ let s : p ≡ q = cc in new_chain cs d c q g (subst (λ (x : ClassId). x.0 < length cs) s here) (subst (λ (x : ClassId). length (chain_of cs 64 (Some x)) < 64) s short) e ];
-}
-
--- the superclass of a kernel class is Object
-above_kernel : (n : ℕ) (p : ClassId) → parent_in kernel_classes (class n) ≡ Some p → class 0 ≡ p
-above_kernel zero p e = cc
-above_kernel (suc zero) p e = cc
-above_kernel (suc (suc zero)) p e = cc
-above_kernel (suc (suc (suc zero))) p e = cc
-above_kernel (suc (suc (suc (suc zero)))) p e = cc
-above_kernel (suc (suc (suc (suc (suc zero))))) p e = cc
-above_kernel (suc (suc (suc (suc (suc (suc zero)))))) p e = cc
-above_kernel (suc (suc (suc (suc (suc (suc (suc zero))))))) p e = cc
-above_kernel (suc (suc (suc (suc (suc (suc (suc (suc n)))))))) p e = cc
-
-kernel_forest : IsForest kernel_classes
-kernel_forest = record {
-  closed = λ c p e. subst (λ (x : ClassId). x.0 < length kernel_classes) (above_kernel c.0 p e) (omega arith);
-  chains = λ c p e. ap (λ (o : Option ClassId). c ∷ chain_of kernel_classes 63 o) e ∙ subst (λ (x : ClassId). ◌≡◌ {A = List ClassId} (c ∷ chain_of kernel_classes 63 (Some x)) (c ∷ chain_of kernel_classes 64 (Some x))) (above_kernel c.0 p e) refl;
-}
+use Rattle.st_classes.proofs.LawLists.{take_at_place, no_rule}
+use Rattle.st_classes.proofs.Chains.{forest_push, kernel_forest, flat_map_up}
 
 defined_append : (es fs : List Edit) → defined (es ++ fs) ≡ defined es ++ defined fs
 defined_append [] fs = refl
@@ -105,12 +53,6 @@ forest edits l = subst (λ (es : List Edit). IsForest (classes es)) (take_all (l
 
 -- ---- instance variables along a chain
 
-reverse_cons : {X : Type 0} (x : X) (xs : List X) → reverse (x ∷ xs) ≡ reverse xs ++ x ∷ []
-reverse_cons x xs = reverse-append (x ∷ []) xs
-
-pub slots_more : (cs : List ClassDef) (c : ClassId) (xs : List ClassId) → flat_map (own_slots cs) (reverse (c ∷ xs)) ≡ flat_map (own_slots cs) (reverse xs) ++ own_slots cs c
-slots_more cs c xs = ap (flat_map (own_slots cs)) (reverse_cons c xs) ∙ flat_map-append (own_slots cs) (reverse xs) (c ∷ []) ∙ ap (λ (ys : List (List ℕ)). flat_map (own_slots cs) (reverse xs) ++ ys) (append-nil (own_slots cs c))
-
 pub chain_above : (edits : List Edit) (c p : ClassId) → AreLawful edits → parent edits c ≡ Some p → chain edits c ≡ c ∷ chain edits p
 chain_above edits c p l e = (forest edits l).chains c p e
 
@@ -122,7 +64,7 @@ chain_at_top edits c e = ap (λ (o : Option ClassId). c ∷ chain_of (classes ed
 
 -- a class has the instance variables of its superclass, and then its own
 pub slots_above : (edits : List Edit) (c p : ClassId) → AreLawful edits → parent edits c ≡ Some p → slots edits c ≡ slots edits p ++ own_slots (classes edits) c
-slots_above edits c p l e = ap (λ (xs : List ClassId). flat_map (own_slots (classes edits)) (reverse xs)) (chain_above edits c p l e) ∙ slots_more (classes edits) c (chain edits p)
+slots_above edits c p l e = ap (λ (xs : List ClassId). flat_map (own_slots (classes edits)) (reverse xs)) (chain_above edits c p l e) ∙ flat_map_up (own_slots (classes edits)) c (chain edits p)
 
 -- a list begins with another
 abbrev pub Begins : List (List ℕ) → List (List ℕ) → Type 0

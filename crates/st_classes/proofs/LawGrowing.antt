@@ -1,5 +1,5 @@
 -- What stands of a class table stands of it with more edits and more names.
-use Rattle.std.proofs.Common.{arith, refl, ◌≡◌, ℕ, ◌+◌, ◌<◌, ◌≤◌, List, [], ◌∷◌, ◌++◌, Option, Some, None, slice_get, zero, suc, ap, ap₂, sym, ◌∙◌, length, subst, length-append, take, drop, take-append-drop, inl, inr, Bool, true, not, ◌&&◌, ◌==◌, nat_lt, ltb-true, lt-ltb, eq-eqb, eqb-true, reverse, option_and_then, flat_map, le_refl}
+use Rattle.std.proofs.Common.{arith, refl, ◌≡◌, ℕ, ◌+◌, ◌<◌, ◌≤◌, List, [], ◌∷◌, ◌++◌, Option, Some, None, slice_get, ap, ap₂, sym, ◌∙◌, length, subst, length-append, take, drop, take-append-drop, inl, inr, true, not, ◌&&◌, ◌==◌, nat_lt, ltb-true, lt-ltb, eq-eqb, eqb-true, reverse, option_and_then, flat_map, le_refl}
 use Rattle.std.specs.List.{list_all}
 use Rattle.std.proofs.lemmas.Bool.{not-false, and_parts, and_from}
 use Rattle.std.proofs.lemmas.Option.{option_and_then_some}
@@ -15,14 +15,15 @@ use Rattle.st_classes.specs.declared.edits.Edit.{Edit}
 use Rattle.st_classes.specs.declared.edits.Edit.TheVariants.{Install}
 use Rattle.st_classes.specs.declared.refusals.Refusal.TheVariants.{UnknownClass}
 use Rattle.st_classes.specs.Refusals.{first_of}
-use Rattle.st_classes.specs.Kernel.{class, kernel_selectors, does_not_understand}
-use Rattle.st_classes.specs.Classes.{IsForest, ClassDef, defined, classes, class_count, is_class, parent_in, chain_of, own_slots, slots}
+use Rattle.st_classes.specs.Kernel.{kernel_selectors, does_not_understand}
+use Rattle.st_classes.specs.Classes.{IsForest, ClassDef, defined, classes, class_count, is_class, chain_of, own_slots, slots}
 use Rattle.st_classes.specs.Accepting.{edit_rules}
 use Rattle.st_classes.specs.Selectors.{arity_of}
 use Rattle.st_classes.specs.Suiting.{arity_at, is_number, literal_suits, instruction_suits, suits, edit_suits}
 use Rattle.st_classes.specs.Lawful.{AreLawful, AllSuit, installed_method, method_at}
-use Rattle.st_classes.proofs.LawLists.{slice_get_old, slice_get_push, slice_get_kept, take_old, take_whole, no_rule}
-use Rattle.st_classes.proofs.LawChains.{forest, chain_of_some, classes_append, slots_more}
+use Rattle.st_classes.proofs.LawLists.{slice_get_old, slice_get_push, slice_get_kept, take_old, take_whole, list_all_weaker, no_rule}
+use Rattle.st_classes.proofs.Chains.{chain_old, slots_old}
+use Rattle.st_classes.proofs.LawChains.{forest, classes_append}
 
 -- ---- classes
 
@@ -40,21 +41,10 @@ class_count_grows edits more = omega (arith, ap (λ (cs : List ClassDef). length
 pub class_stays : (edits more : List Edit) (c : ClassId) → is_class edits c ≡ true → is_class (edits ++ more) c ≡ true
 class_stays edits more c h = lt-ltb c.0 (class_count (edits ++ more)) (omega (arith, ltb-true c.0 (class_count edits) h, class_count_grows edits more))
 
-own_slots_old : (cs ds : List ClassDef) (i : ℕ) → i < length cs → own_slots (cs ++ ds) (class i) ≡ own_slots cs (class i)
-own_slots_old [] ds i h = absurd (omega (arith, h))
-own_slots_old (d ∷ cs) ds zero h = refl
-own_slots_old (d ∷ cs) ds (suc i) h = own_slots_old cs ds i (omega (arith, h))
-
-slots_along_old : (cs ds : List ClassDef) → ((c p : ClassId) → parent_in cs c ≡ Some p → p.0 < length cs) → (n : ℕ) (o : Option ClassId) → ((c : ClassId) → o ≡ Some c → c.0 < length cs) → flat_map (own_slots (cs ++ ds)) (reverse (chain_of cs n o)) ≡ flat_map (own_slots cs) (reverse (chain_of cs n o))
-slots_along_old cs ds f zero o h = refl
-slots_along_old cs ds f (suc n) None h = refl
-slots_along_old cs ds f (suc n) (Some c) h =
-    slots_more (cs ++ ds) c (chain_of cs n (parent_in cs c))
-    ∙ ap₂ (λ (xs ys : List (List ℕ)). xs ++ ys) (slots_along_old cs ds f n (parent_in cs c) (λ p e. f c p e)) (own_slots_old cs ds c.0 (h c refl))
-    ∙ sym (slots_more cs c (chain_of cs n (parent_in cs c)))
-
 slots_in_old : (cs ds : List ClassDef) (c : ClassId) → IsForest cs → c.0 < length cs → flat_map (own_slots (cs ++ ds)) (reverse (chain_of (cs ++ ds) 64 (Some c))) ≡ flat_map (own_slots cs) (reverse (chain_of cs 64 (Some c)))
-slots_in_old cs ds c g h = ap (λ (xs : List ClassId). flat_map (own_slots (cs ++ ds)) (reverse xs)) (chain_of_some cs ds g 64 c h) ∙ slots_along_old cs ds g.closed 64 (Some c) (λ d e. let s : c ≡ d = cc in subst (λ (x : ClassId). x.0 < length cs) s h)
+slots_in_old cs ds c g h =
+    let here : (d : ClassId) → Some c ≡ Some d → d.0 < length cs = λ d e. let s : c ≡ d = cc in subst (λ (x : ClassId). x.0 < length cs) s h in
+    ap (λ (xs : List ClassId). flat_map (own_slots (cs ++ ds)) (reverse xs)) (chain_old cs ds g 64 (Some c) here) ∙ slots_old cs ds g 64 (Some c) here
 
 -- the instance variables of a class stay
 pub slots_stay : (edits more : List Edit) (c : ClassId) → AreLawful edits → c.0 < class_count edits → slots (edits ++ more) c ≡ slots edits c
@@ -92,12 +82,12 @@ extends_more names more = record {
   numbers = λ s n h. option_and_then_some arity_of (slice_get names s.0) n h (λ text at is. ap (option_and_then arity_of) (slice_get_kept names more s.0 text at) ∙ is);
 }
 
-number_grows : (names others : List (List ℕ)) → Extends names others → (s : Selector) (n : ℕ) → is_number (arity_at names s) n ≡ true → is_number (arity_at others s) n ≡ true
-number_grows names others x s n h = ap (λ (o : Option ℕ). is_number o n) (x.numbers s n (number_from (arity_at names s) n h)) ∙ eq-eqb n n refl
-  where
-    number_from : (o : Option ℕ) (k : ℕ) → is_number o k ≡ true → o ≡ Some k
-    number_from None k e = cc
-    number_from (Some j) k e = ap (λ (i : ℕ). Some i) (eqb-true j k e)
+pub number_is : (o : Option ℕ) (n : ℕ) → is_number o n ≡ true → o ≡ Some n
+number_is None n h = cc
+number_is (Some m) n h = ap (λ (k : ℕ). Some k) (eqb-true m n h)
+
+pub number_grows : (names others : List (List ℕ)) → Extends names others → (s : Selector) (n : ℕ) → is_number (arity_at names s) n ≡ true → is_number (arity_at others s) n ≡ true
+number_grows names others x s n h = ap (λ (o : Option ℕ). is_number o n) (x.numbers s n (number_is (arity_at names s) n h)) ∙ eq-eqb n n refl
 
 below_grows : (n k j : ℕ) → k ≤ j → nat_lt n k ≡ true → nat_lt n j ≡ true
 below_grows n k j h e = lt-ltb n j (omega (arith, h, ltb-true n k e))
@@ -127,10 +117,6 @@ instruction_grows names others count wide slots temps x w (Jump d) h = refl
 instruction_grows names others count wide slots temps x w (JumpFalse d) h = refl
 instruction_grows names others count wide slots temps x w (JumpTrue d) h = refl
 instruction_grows names others count wide slots temps x w Answer h = refl
-
-list_all_weaker : {X : Type 0} (f g : X → Bool) → ((x : X) → f x ≡ true → g x ≡ true) → (xs : List X) → list_all f xs ≡ true → list_all g xs ≡ true
-list_all_weaker f g h [] e = refl
-list_all_weaker f g h (x ∷ xs) e = let p = and_parts (f x) (list_all f xs) e in and_from (g x) (list_all g xs) (h x p.0) (list_all_weaker f g h xs p.1)
 
 -- a method that suits suits more names, and a table with more classes where its own has the same instance variables
 pub suits_grows : (names others : List (List ℕ)) (edits later : List Edit) (c : ClassId) (m : MethodParts) → Extends names others → class_count edits ≤ class_count later → slots later c ≡ slots edits c → suits names edits c m ≡ true → suits others later c m ≡ true

@@ -1,5 +1,7 @@
 -- Lists by their places.
-use Rattle.std.proofs.Common.{arith, refl, ◌≡◌, ℕ, ◌<◌, ◌≤◌, ◌⊎◌, List, [], ◌∷◌, ◌++◌, Option, Some, None, slice_get, zero, suc, ap, sym, ◌∙◌, length, take, inl, inr, Bool, true, false, if◌then◌else◌}
+use Rattle.std.proofs.Common.{arith, refl, ◌≡◌, ℕ, ◌<◌, ◌≤◌, ◌⊎◌, List, [], ◌∷◌, ◌++◌, Option, Some, None, slice_get, zero, suc, ap, sym, ◌∙◌, length, take, inl, inr, Bool, true, false, if◌then◌else◌, subst}
+use Rattle.std.specs.List.{list_all}
+use Rattle.std.proofs.lemmas.Bool.{and_parts, and_from}
 use Rattle.st_classes.specs.declared.refusals.Refusal.{Refusal}
 use Rattle.st_classes.specs.Refusals.{Rule, first_of}
 
@@ -44,6 +46,19 @@ take_old (x ∷ xs) ys (suc n) h = ap (λ zs. x ∷ zs) (take_old xs ys n (omega
 pub take_whole : {X : Type 0} (xs ys : List X) → take (length xs) (xs ++ ys) ≡ xs
 take_whole [] ys = refl
 take_whole (x ∷ xs) ys = ap (λ zs. x ∷ zs) (take_whole xs ys)
+
+-- a test that all items pass
+pub list_all_get : {X : Type 0} (test : X → Bool) (xs : List X) (k : ℕ) (x : X) → list_all test xs ≡ true → slice_get xs k ≡ Some x → test x ≡ true
+list_all_get test [] k x h at = cc
+list_all_get test (y ∷ xs) zero x h at = let s : y ≡ x = cc in subst (λ z. test z ≡ true) s (and_parts (test y) (list_all test xs) h).0
+list_all_get test (y ∷ xs) (suc k) x h at = list_all_get test xs k x (and_parts (test y) (list_all test xs) h).1 at
+
+-- a weaker test
+pub list_all_weaker : {X : Type 0} (f g : X → Bool) → ((x : X) → f x ≡ true → g x ≡ true) → (xs : List X) → list_all f xs ≡ true → list_all g xs ≡ true
+list_all_weaker f g h [] e = refl
+list_all_weaker f g h (x ∷ xs) e = let p = and_parts (f x) (list_all f xs) e in and_from (g x) (list_all g xs) (h x p.0) (list_all_weaker f g h xs p.1)
+
+-- ---- rules
 
 first_rule : (b : Bool) (r : Refusal) (o : Option Refusal) → (if b then Some r else o) ≡ None → (b ≡ false) × (o ≡ None)
 first_rule true r o h = cc

@@ -1,7 +1,7 @@
 -- Texts by their places.
-use Rattle.std.proofs.Common.{◌≡◌, ℕ, ◌+◌, ◌<◌, ◌≤◌, Bool, true, false, not, ◌||◌, cond, List, [], ◌∷◌, ◌++◌, length, map, take, get_or, refl, sym, ap, ◌∙◌, arith, ◌⊎◌, inl, inr, zero, suc, Some, None, slice_get, true≢false, lit≤, ◌&&◌, leb, Bor}
+use Rattle.std.proofs.Common.{◌≡◌, ℕ, ◌+◌, ◌<◌, ◌≤◌, Bool, true, false, not, ◌||◌, cond, List, [], ◌∷◌, ◌++◌, length, map, take, get_or, refl, sym, ap, ◌∙◌, arith, ◌⊎◌, inl, inr, zero, suc, Some, None, slice_get, true≢false, lit≤, leb, Bor}
 use Rattle.std.specs.Global.{Vec}
-use Rattle.std.specs.List.{list_any, list_all, position, prefix_len}
+use Rattle.std.specs.List.{list_any, position, prefix_len}
 use Rattle.std.specs.Str.{bytes_eq}
 use Rattle.std.proofs.lemmas.List.{length-map, map-append}
 use Rattle.std.proofs.lemmas.List.{take-append-le, length-take, length-append, take_more}
@@ -16,6 +16,7 @@ use Rattle.st_classes.specs.Kernel.{kernel_selectors}
 use Rattle.st_classes.specs.Names.{is_name, interned, intern_rules, texts_of, AreNames}
 use Rattle.st_classes.specs.Refusals.{first_of}
 use Rattle.st_classes.specs.Selectors.{is_selector, place_of}
+use Rattle.st_classes.proofs.LawLists.{slice_get_last, slice_get_push, list_all_get}
 
 module _ {X Y : Type 0} (f : X → Y) where
   prefix_len-map : (p : Y → Bool) (xs : List X) → prefix_len p (map f xs) ≡ prefix_len (λ x. p (f x)) xs
@@ -48,10 +49,6 @@ texts-insert_key vs v = by (list_any (same_bytes v) vs) refl
     by true e = rw (sym (found-of_texts v.items vs), e) refl
     by false e = rw (sym (found-of_texts v.items vs), e) (map-append (λ (w : Vec ℕ). w.items) vs (v ∷ []))
 
-and-parts : (a b : Bool) → (a && b) ≡ true → (a ≡ true) × (b ≡ true)
-and-parts true b h = (refl, h)
-and-parts false b h = absurd (true≢false (sym h))
-
 or-parts : (a b : Bool) → (a || b) ≡ false → (a ≡ false) × (b ≡ false)
 or-parts true b h = absurd (true≢false h)
 or-parts false b h = (refl, h)
@@ -66,26 +63,7 @@ place_of-at names text place h =
     let e : text ≡ get_or names place [] = (bytes_eq-Decides text (get_or names place [])).0 found.1 in
     slice_get-get_or names place [] found.0 ∙ ap Some (sym e)
 
--- an item of a list whose last one is known
-push-cases : {X : Type 0} (xs : List X) (x y : X) (i : ℕ) → slice_get (xs ++ x ∷ []) i ≡ Some y → (slice_get xs i ≡ Some y) ⊎ ((i ≡ length xs) × (x ≡ y))
-push-cases [] x y zero h = inr (refl, cc)
-push-cases [] x y (suc i) h = absurd (let e : None ≡ Some y = h in cc)
-push-cases (z ∷ xs) x y zero h = inl h
-push-cases (z ∷ xs) x y (suc i) h = elim (push-cases xs x y i h) [ inl old ↦ inl old | inr new ↦ inr (ap suc new.0, new.1) ]
-
-pub slice_get-push : {X : Type 0} (xs : List X) (x : X) → slice_get (xs ++ x ∷ []) (length xs) ≡ Some x
-slice_get-push [] x = refl
-slice_get-push (z ∷ xs) x = slice_get-push xs x
-
--- a test that all items pass, or none
-all-at : {X : Type 0} (p : X → Bool) (xs : List X) (i : ℕ) (x : X) → list_all p xs ≡ true → slice_get xs i ≡ Some x → p x ≡ true
-all-at p [] i x a h = absurd (let e : None ≡ Some x = h in cc)
-all-at p (y ∷ xs) zero x a h =
-    let e : Some y ≡ Some x = h in
-    let f : y ≡ x = cc in
-    ap p (sym f) ∙ (and-parts (p y) (list_all p xs) a).0
-all-at p (y ∷ xs) (suc i) x a h = all-at p xs i x (and-parts (p y) (list_all p xs) a).1 h
-
+-- a test that no item passes
 none-at : {X : Type 0} (p : X → Bool) (xs : List X) (i : ℕ) (x : X) → list_any p xs ≡ false → slice_get xs i ≡ Some x → p x ≡ false
 none-at p [] i x a h = absurd (let e : None ≡ Some x = h in cc)
 none-at p (y ∷ xs) zero x a h =
@@ -115,7 +93,7 @@ distinct-at (t ∷ ts) (suc a) (suc b) text d h k = ap suc (distinct-at ts a b t
 pub AreNames-kernel : AreNames kernel_selectors
 AreNames-kernel = record {
   kernel = refl;
-  selectors = λ place text h. all-at is_selector kernel_selectors place text refl h;
+  selectors = λ place text h. list_all_get is_selector kernel_selectors place text refl h;
   different = λ a b text h k. distinct-at kernel_selectors a b text refl h k;
   few = lit≤ tt;
 }
@@ -127,15 +105,15 @@ module _ (names : List (List ℕ)) (text : List ℕ) (old : AreNames names) wher
     kernel =
         let long : 22 ≤ length names = omega (arith, ap length old.kernel, length-take 22 names) in
         take-append-le 22 names (text ∷ []) long ∙ old.kernel;
-    selectors = λ place t h. elim (push-cases names text t place h) [ inl k ↦ old.selectors place t k | inr k ↦ ap is_selector (sym k.1) ∙ good ];
-    different = λ a b t h k. both a b t (push-cases names text t a h) (push-cases names text t b k);
+    selectors = λ place t h. elim (slice_get_push names text t place h) [ inl k ↦ old.selectors place t k.1 | inr k ↦ ap is_selector (sym k.1) ∙ good ];
+    different = λ a b t h k. both a b t (slice_get_push names text t a h) (slice_get_push names text t b k);
     few = omega (arith, length-append names (text ∷ []));
   }
     where
-      both : (a b : ℕ) (t : List ℕ) → (slice_get names a ≡ Some t) ⊎ ((a ≡ length names) × (text ≡ t)) → (slice_get names b ≡ Some t) ⊎ ((b ≡ length names) × (text ≡ t)) → a ≡ b
-      both a b t (inl h) (inl k) = old.different a b t h k
-      both a b t (inl h) (inr k) = absurd (absent names text a out (h ∙ ap Some (sym k.1)))
-      both a b t (inr h) (inl k) = absurd (absent names text b out (k ∙ ap Some (sym h.1)))
+      both : (a b : ℕ) (t : List ℕ) → ((a < length names) × (slice_get names a ≡ Some t)) ⊎ ((a ≡ length names) × (text ≡ t)) → ((b < length names) × (slice_get names b ≡ Some t)) ⊎ ((b ≡ length names) × (text ≡ t)) → a ≡ b
+      both a b t (inl h) (inl k) = old.different a b t h.1 k.1
+      both a b t (inl h) (inr k) = absurd (absent names text a out (h.1 ∙ ap Some (sym k.1)))
+      both a b t (inr h) (inl k) = absurd (absent names text b out (k.1 ∙ ap Some (sym h.1)))
       both a b t (inr h) (inr k) = h.0 ∙ sym k.0
 
 -- a text that is there is accepted, and stands at its place
@@ -153,7 +131,7 @@ module _ (names : List (List ℕ)) (text : List ℕ) (good : is_selector text �
   pub new_name : (first_of (intern_rules names text) ≡ None) × (slice_get (interned names text) (length names) ≡ Some text)
   new_name =
       let small : leb 8192 (length names) ≡ false = lt-leb _ _ room in
-      (rw (good, out, small) refl, rw out (slice_get-push names text))
+      (rw (good, out, small) refl, rw out (slice_get_last names text))
 
 -- the text that is read at a place
 pub texts-at : (vs : List (Vec ℕ)) (place : ℕ) (v : Vec ℕ) → place < length vs → v ≡ get_or vs place v → slice_get (texts_of vs) place ≡ Some v.items

@@ -20,7 +20,7 @@ use Rattle.st_image.specs.declared.items.Item.{Item}
 use Rattle.st_image.specs.declared.items.Item.TheVariants.{Begun, Ran}
 use Rattle.st_turn.specs.Idling.{is_idle}
 use Rattle.st_image.specs.Worlds.{World, Being, pending, with_actor}
-use Rattle.st_image.specs.Next.{next, begun_at, begun_by, beginning, steps, with_result, only_if}
+use Rattle.st_image.specs.Next.{next, begun_at, begun_by, beginning, steps, with_result}
 use Rattle.st_image.specs.Images.{ImageView, world_of, no_room, advance_rules, advanced, HasStopped, idle_at, beginnings}
 use Rattle.st_image.specs.Ready.{is_ready, is_ready_at}
 use Rattle.st_image.specs.Lasting.{IsWorld, given}
@@ -29,7 +29,7 @@ use Rattle.st_image.specs.Keeping.{Shows, IsImage, CanRun}
 use Rattle.st_image.proofs.Places.{get_set_same}
 use Rattle.st_image.proofs.Lists.{off, set_at_same, set_twice}
 use Rattle.st_image.proofs.Showing.{kept_beginning, started_idle, started_busy}
-use Rattle.st_image.proofs.Keeping.{being_at, kept_at, has_room, begun_kept, ran_kept}
+use Rattle.st_image.proofs.Keeping.{through, being_at, kept_at, has_room, begun_kept, ran_kept}
 use Rattle.st_image.proofs.Posting.{seen}
 use Rattle.st_image.proofs.Lasting.{next_keeps, kernel_known}
 
@@ -53,15 +53,11 @@ may_go b true e h = may_begin b (pending b) refl e h
 runs_at : (names : List (List ℕ)) (w : World) (a : ActorId) (b : Being) → IsWorld names w → slice_get w.actors a.0 ≡ Some b → CanRun w.edits a b.body
 runs_at names w a b h at = (given names (length w.actors), h.lawful, h.suited, h.sound, kernel_known names h.kernel, slice_get_within w.actors a.0 b at, (being_at names w a.0 b h at).fits)
 
-let_if : (t : Bool) (w : World) → t ≡ true → only_if t w ≡ Some w
-let_if true w e = refl
-let_if false w e = cc
-
 can_run : (names : List (List ℕ)) (w : World) (a : ActorId) (b : Being) → IsWorld names w → slice_get w.actors a.0 ≡ Some b → MayGo b → CanRun w.edits a (started (kept_of b)).body
 can_run names w a b h at (goes_on idle) = subst (λ (k : Kept). CanRun w.edits a k.body) (sym (started_busy (kept_of b) idle)) (runs_at names w a b h at)
 can_run names w a b h at (begins m ms idle first) =
     let v : World = with_actor w a (beginning b m) in
-    let now : next names w (Begun a) ≡ Some v = ap (begun_at w a) at ∙ ap (begun_by w a b) first ∙ let_if (is_idle b.body.phase) v idle in
+    let now : next names w (Begun a) ≡ Some v = ap (begun_at w a) at ∙ ap (begun_by w a b) first ∙ through (is_idle b.body.phase) v idle in
     let here : CanRun w.edits a (beginning b m).body = runs_at names v a (beginning b m) (next_keeps names w v (Begun a) h tt now) (get_set_same w.actors a.0 b (beginning b m) at) in
     subst (λ (k : Kept). CanRun w.edits a k.body) (kept_beginning b m ms first ∙ sym (started_idle (kept_of b) idle)) here
 

@@ -2,6 +2,7 @@
 use Rattle.std.proofs.Common.{arith, ◌≡◌, ℕ, ◌≤◌, [], Bool, true, false, None, refl, nat_le, append-nil, sym}
 use Rattle.std.specs.Prelude.{not, ◌&&◌, ◌||◌}
 use Rattle.std.specs.BTreeSet.{BTreeSet}
+use Rattle.std.proofs.lemmas.Bool.{and_parts}
 use Rattle.std.proofs.lemmas.Bool.Decides.{nat_tests}
 use Rattle.std.proofs.lemmas.List.Elements.{All-nil}
 use Rattle.st_classes.specs.declared.refusals.Refusal.TheVariants.{BadArguments}
@@ -20,11 +21,6 @@ or_off true true e = (refl, refl)
 or_off true false e = cc
 or_off false b e = cc
 
-and_on : (a b : Bool) → (a && b) ≡ true → (a ≡ true) × (b ≡ true)
-and_on true true e = (refl, refl)
-and_on true false e = cc
-and_on false b e = cc
-
 at_most : (m n : ℕ) → nat_le m n ≡ true → m ≤ n
 at_most m n e = grind (arith, nat_tests)
 
@@ -32,8 +28,8 @@ pub settings_are : (s : Settings) → first_of (settings_rules s) ≡ None → A
 settings_are s e =
     let o = off (not (nat_le 1 s.capacity && nat_le s.capacity 1024) || not (nat_le 1 s.history && nat_le s.history 1000000)) BadArguments [] e in
     let b = or_off (nat_le 1 s.capacity && nat_le s.capacity 1024) (nat_le 1 s.history && nat_le s.history 1000000) o.0 in
-    let c = and_on (nat_le 1 s.capacity) (nat_le s.capacity 1024) b.0 in
-    let h = and_on (nat_le 1 s.history) (nat_le s.history 1000000) b.1 in
+    let c = and_parts (nat_le 1 s.capacity) (nat_le s.capacity 1024) b.0 in
+    let h = and_parts (nat_le 1 s.history) (nat_le s.history 1000000) b.1 in
     record { some_capacity = at_most 1 s.capacity c.0; few_messages = at_most s.capacity 1024 c.1; some_history = at_most 1 s.history h.0; few_items = at_most s.history 1000000 h.1 }
 
 pub new_is : (ready : BTreeSet ℕ) (s : Settings) → ((a : ℕ) → has ready a ≡ false) → AreSettings s → IsImage kernel_selectors [] [] ready [] 0 s

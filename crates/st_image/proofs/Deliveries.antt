@@ -21,7 +21,8 @@ use Rattle.st_image.specs.Delivery.{IsPrefixOf, BeginsInOrder, HasGrown, OnlyGro
 use Rattle.st_turn.specs.declared.body.Outcome.{Outcome}
 use Rattle.st_turn.specs.declared.body.Phase.{Phase}
 use Rattle.st_turn.specs.declared.body.Phase.TheVariants.{Fresh, Start, Frames, Done}
-use Rattle.st_image.proofs.Places.{same_or_not, at_all, get_set_same, get_set_other, get_left}
+use Rattle.st_classes.proofs.LawLists.{slice_get_kept}
+use Rattle.st_image.proofs.Places.{same_or_not, at_all, get_set_same, get_set_other}
 use Rattle.st_image.proofs.Replays.{replay_append}
 
 -- what a condition lets through is what it was given
@@ -56,7 +57,7 @@ grow_more : (xs ys zs : List Being) → OnlyGrow xs ys → OnlyGrow ys zs → On
 grow_more xs ys zs f g = λ a b e. let p = f a b e in let q = g a p.0 p.1 in (q.0, q.1, grown_more b p.0 q.0 p.2 q.2)
 
 grow_push : (xs : List Being) (c : Being) → OnlyGrow xs (xs ++ c ∷ [])
-grow_push xs c = λ a b e. (b, get_left xs (c ∷ []) a b e, grown_refl b)
+grow_push xs c = λ a b e. (b, slice_get_kept xs (c ∷ []) a b e, grown_refl b)
 
 grow_set : (xs : List Being) (k : ℕ) (b c : Being) → slice_get xs k ≡ Some b → HasGrown b c → OnlyGrow xs (slice_set xs k c)
 grow_set xs k b c at p = λ a d e. elim (same_or_not a k) [

@@ -16,6 +16,7 @@ use Rattle.st_image.specs.Images.{world_of, edits_in, run_rules, no_room}
 use Rattle.st_classes.specs.Lawful.{IsSoundEdit}
 use Rattle.st_image.specs.Kepts.{Kept}
 use Rattle.st_image.specs.Keeping.{IsImage}
+use Rattle.st_classes.proofs.LawLists.{slice_get_last}
 use Rattle.st_image.proofs.Lists.{off, off_append, first_here, first_later}
 use Rattle.st_image.proofs.Keeping.{edited_kept, has_room}
 use Rattle.st_image.proofs.Posting.{seen}
@@ -48,10 +49,6 @@ edited names edits edits' actors ready h made s turn e k sound suits allowed aft
     let r = edited_kept names edits edits' actors ready h made (made + 1) s e k sound allowed' suits' (has_room s.history (length h) 1 _ o.1) (after ∙ ap (λ (es : List Edit). es ++ e ∷ []) back) refl in
     record { image = r.0; edits_are = ap (λ (w : World). w.edits) r.1 }
 
-get_last : {X : Type 0} (xs : List X) (x : X) → slice_get (xs ++ x ∷ []) (length xs) ≡ Some x
-get_last [] x = refl
-get_last (y ∷ xs) x = get_last xs x
-
 some_same : {X : Type 0} (x y : X) → Some x ≡ Some y → x ≡ y
 some_same x y e = cc
 
@@ -59,4 +56,4 @@ some_same x y e = cc
 pub last_is : (edits edits' : List Edit) (e f : Edit) → edits' ≡ edits ++ e ∷ [] → Some f ≡ slice_get edits' (length edits' - 1) → f ≡ e
 last_is edits edits' e f h g =
     let place : length edits' - 1 ≡ length edits = omega (arith, ap (λ (es : List Edit). length es) h, length-append edits (e ∷ [])) in
-    some_same f e (g ∙ ap (slice_get edits') place ∙ ap (λ (es : List Edit). slice_get es (length edits)) h ∙ get_last edits e)
+    some_same f e (g ∙ ap (slice_get edits') place ∙ ap (λ (es : List Edit). slice_get es (length edits)) h ∙ slice_get_last edits e)

@@ -2,25 +2,17 @@
 use Rattle.std.proofs.Common.{arith, ◌≡◌, ℕ, ◌++◌, [], ◌∷◌, List, Option, Some, None, refl, ap, sym, ◌∙◌, length, slice_get, Bool, true, false, option_and_then, unwrap_or, length-append}
 use Rattle.std.specs.Prelude.{◌&&◌, nat_lt, not, is_none}
 use Rattle.std.proofs.lemmas.Bool.Decides.{nat_tests}
-use Rattle.std.specs.List.{list_all}
 use Rattle.st_classes.specs.declared.values.ActorId.{ActorId}
-use Rattle.st_classes.specs.declared.values.ClassId.{ClassId}
-use Rattle.st_classes.specs.declared.values.Selector.{Selector}
 use Rattle.st_classes.specs.declared.values.Value.{Value}
 use Rattle.st_classes.specs.declared.values.Value.TheVariants.{Int, Bool as Boolean, Nil, Sym, Class, Actor, Local}
-use Rattle.st_classes.specs.declared.instructions.Instruction.{Instruction}
-use Rattle.st_classes.specs.declared.instructions.Instruction.TheVariants.{PushLit, PushSelf, PushActor, PushTemp, PushSlot, StoreTemp, StoreSlot, Pop, Dup, Send, SuperSend, Jump, JumpFalse, JumpTrue, Answer}
-use Rattle.st_classes.specs.declared.methods.MethodParts.{MethodParts}
 use Rattle.st_classes.specs.declared.edits.Edit.{Edit}
 use Rattle.st_classes.specs.declared.edits.Edit.TheVariants.{Define, Install, Remove}
 use Rattle.st_classes.specs.declared.refusals.Refusal.{Refusal}
 use Rattle.st_classes.specs.declared.refusals.Refusal.TheVariants.{BadArguments}
 use Rattle.st_classes.specs.Refusals.{Rule, first_of}
-use Rattle.st_classes.specs.Selectors.{arity_of}
 use Rattle.st_classes.specs.Classes.{class_count}
-use Rattle.st_classes.specs.Suiting.{arity_at, is_number, literal_suits, instruction_suits, suits, edit_suits}
+use Rattle.st_classes.specs.Suiting.{edit_suits}
 use Rattle.st_classes.specs.Accepting.{edit_rules}
-use Rattle.st_classes.specs.Lawful.{AllSuit}
 use Rattle.st_image.specs.declared.messages.Message.{Message}
 use Rattle.st_image.specs.declared.items.Item.{Item}
 use Rattle.st_image.specs.declared.items.Item.TheVariants.{Edited, Created, Posted, Closed, Begun, Ran}
@@ -28,77 +20,21 @@ use Rattle.st_image.specs.Worlds.{World, Being, start, with_actor}
 use Rattle.st_image.specs.Posting.{argument_fits, message_fits, message_suits, post_rules, box_rules}
 use Rattle.st_image.specs.Next.{next, replay, only_if, edited, posted_to, accepting, with_last}
 use Rattle.st_image.specs.Images.{world_of}
-use Rattle.st_image.proofs.Places.{get_left}
+use Rattle.std.proofs.lemmas.Bool.{and_parts, and_from, not-false}
+use Rattle.st_classes.proofs.LawLists.{list_all_weaker}
+use Rattle.st_classes.proofs.LawGrowing.{extends_more, number_grows, suits_more_names}
 
 -- ---- tests
-
-pub both_true : (a b : Bool) → (a && b) ≡ true → (a ≡ true) × (b ≡ true)
-both_true true true e = (refl, refl)
-both_true true false e = cc
-both_true false b e = cc
-
-pub and_true : (a b : Bool) → a ≡ true → b ≡ true → (a && b) ≡ true
-and_true true true e f = refl
-and_true true false e f = f
-and_true false b e f = e
-
-pub list_all_more : {X : Type 0} (p q : X → Bool) (xs : List X) → ((x : X) → p x ≡ true → q x ≡ true) → list_all p xs ≡ true → list_all q xs ≡ true
-list_all_more p q [] h e = refl
-list_all_more p q (x ∷ xs) h e = let t = both_true (p x) (list_all p xs) e in and_true (q x) (list_all q xs) (h x t.0) (list_all_more p q xs h t.1)
 
 less_more : (names more : List (List ℕ)) (n : ℕ) → nat_lt n (length names) ≡ true → nat_lt n (length (names ++ more)) ≡ true
 less_more names more n e = let h = length-append names more in grind (arith, nat_tests)
 
--- ---- arities, literals, instructions, methods
-
-number_at : (names more : List (List ℕ)) (s : Selector) (n : ℕ) (o : Option (List ℕ)) → slice_get names s.0 ≡ o → is_number (option_and_then arity_of o) n ≡ true → is_number (arity_at (names ++ more) s) n ≡ true
-number_at names more s n None at e = cc
-number_at names more s n (Some text) at e = let there : slice_get (names ++ more) s.0 ≡ Some text = get_left names more s.0 text at in rw there e
-
-pub number_more : (names more : List (List ℕ)) (s : Selector) (n : ℕ) → is_number (arity_at names s) n ≡ true → is_number (arity_at (names ++ more) s) n ≡ true
-number_more names more s n e = number_at names more s n (slice_get names s.0) refl e
-
-literal_more : (names more : List (List ℕ)) (count : ℕ) (v : Value) → literal_suits names count v ≡ true → literal_suits (names ++ more) count v ≡ true
-literal_more names more count (Int z) e = refl
-literal_more names more count (Boolean b) e = refl
-literal_more names more count Nil e = refl
-literal_more names more count (Sym s) e = less_more names more s.0 e
-literal_more names more count (Class c) e = e
-literal_more names more count (Actor a) e = e
-literal_more names more count (Local n) e = e
-
-instruction_more : (names more : List (List ℕ)) (count slots temps : ℕ) (i : Instruction) → instruction_suits names count slots temps i ≡ true → instruction_suits (names ++ more) count slots temps i ≡ true
-instruction_more names more count slots temps (PushLit v) e = literal_more names more count v e
-instruction_more names more count slots temps PushSelf e = e
-instruction_more names more count slots temps PushActor e = e
-instruction_more names more count slots temps (PushTemp i) e = e
-instruction_more names more count slots temps (PushSlot i) e = e
-instruction_more names more count slots temps (StoreTemp i) e = e
-instruction_more names more count slots temps (StoreSlot i) e = e
-instruction_more names more count slots temps Pop e = e
-instruction_more names more count slots temps Dup e = e
-instruction_more names more count slots temps (Send s n) e = number_more names more s n e
-instruction_more names more count slots temps (SuperSend s n) e = number_more names more s n e
-instruction_more names more count slots temps (Jump d) e = e
-instruction_more names more count slots temps (JumpFalse d) e = e
-instruction_more names more count slots temps (JumpTrue d) e = e
-instruction_more names more count slots temps Answer e = e
-
-three_true : (a b c : Bool) → ((a && b) && c) ≡ true → (a ≡ true) × (b ≡ true) × (c ≡ true)
-three_true a b c e = let t = both_true (a && b) c e in let u = both_true a b t.0 in (u.0, u.1, t.1)
-
-pub suits_more : (names more : List (List ℕ)) (edits : List Edit) (c : ClassId) (m : MethodParts) → suits names edits c m ≡ true → suits (names ++ more) edits c m ≡ true
-suits_more names more edits c m e =
-    let t = three_true _ _ _ e in
-    and_true _ _ (and_true _ _ t.0 (number_more names more m.selector m.arguments t.1)) (list_all_more _ _ m.code (λ i h. instruction_more names more _ _ _ i h) t.2)
+-- ---- edits
 
 pub edit_suits_more : (names more : List (List ℕ)) (edits : List Edit) (e : Edit) → edit_suits names edits e ≡ true → edit_suits (names ++ more) edits e ≡ true
 edit_suits_more names more edits (Define name parent added) h = refl
-edit_suits_more names more edits (Install c m) h = suits_more names more edits c m h
+edit_suits_more names more edits (Install c m) h = suits_more_names names more edits c m h
 edit_suits_more names more edits (Remove c s) h = refl
-
-pub all_suit_more : (names more : List (List ℕ)) (edits : List Edit) → AllSuit names edits → AllSuit (names ++ more) edits
-all_suit_more names more edits h = λ place c m at. suits_more names more edits c m (h place c m at)
 
 -- ---- messages
 
@@ -112,7 +48,7 @@ argument_more names more classes actors (Actor a) e = e
 argument_more names more classes actors (Local n) e = e
 
 pub fits_more : (names more : List (List ℕ)) (classes actors : ℕ) (m : Message) → message_fits names classes actors m ≡ true → message_fits (names ++ more) classes actors m ≡ true
-fits_more names more classes actors m e = let t = both_true _ _ e in and_true _ _ (number_more names more m.selector (length m.args) t.0) (list_all_more _ _ m.args (λ v h. argument_more names more classes actors v h) t.1)
+fits_more names more classes actors m e = let t = and_parts _ _ e in and_from _ _ (number_grows names (names ++ more) (extends_more names more) m.selector (length m.args) t.0) (list_all_weaker _ _ (λ v h. argument_more names more classes actors v h) m.args t.1)
 
 pub message_more : (names more : List (List ℕ)) (w : World) (m : Message) → message_suits names w m ≡ true → message_suits (names ++ more) w m ≡ true
 message_more names more w m e = fits_more names more (class_count w.edits) (length w.actors) m e
@@ -128,20 +64,16 @@ post_free : (b c : Bool) (r : Refusal) (rules : List Rule) → (b ≡ false → 
 post_free true c r rules h e = cc
 post_free false c r rules h e = rw (h refl) e
 
-not_false : (b : Bool) → not b ≡ false → b ≡ true
-not_false true e = refl
-not_false false e = cc
-
 not_true : (b : Bool) → b ≡ true → not b ≡ false
 not_true true e = refl
 not_true false e = cc
 
 posted_more : (names more : List (List ℕ)) (w v : World) (a : ActorId) (m : Message) (o : Option Being) → posted_to names w a m o ≡ Some v → posted_to (names ++ more) w a m o ≡ Some v
 posted_more names more w v a m None e = e
-posted_more names more w v a m (Some b) e = only_true (is_none (first_of (post_rules names w (Some b) m))) (is_none (first_of (post_rules (names ++ more) w (Some b) m))) (record (with_actor w a (accepting b m)) { clients = with_last w.clients m.sender m.seq }) v (λ h. post_free (not (message_suits names w m)) (not (message_suits (names ++ more) w m)) BadArguments (box_rules b) (λ f. not_true _ (message_more names more w m (not_false _ f))) h) e
+posted_more names more w v a m (Some b) e = only_true (is_none (first_of (post_rules names w (Some b) m))) (is_none (first_of (post_rules (names ++ more) w (Some b) m))) (record (with_actor w a (accepting b m)) { clients = with_last w.clients m.sender m.seq }) v (λ h. post_free (not (message_suits names w m)) (not (message_suits (names ++ more) w m)) BadArguments (box_rules b) (λ f. not_true _ (message_more names more w m (not-false _ f))) h) e
 
 edited_more : (names more : List (List ℕ)) (w v : World) (e : Edit) → edited names w e ≡ Some v → edited (names ++ more) w e ≡ Some v
-edited_more names more w v e h = only_true (is_none (first_of (edit_rules w.edits e)) && edit_suits names w.edits e) (is_none (first_of (edit_rules w.edits e)) && edit_suits (names ++ more) w.edits e) (record w { edits = w.edits ++ e ∷ [] }) v (λ f. let t = both_true _ _ f in and_true _ _ t.0 (edit_suits_more names more w.edits e t.1)) h
+edited_more names more w v e h = only_true (is_none (first_of (edit_rules w.edits e)) && edit_suits names w.edits e) (is_none (first_of (edit_rules w.edits e)) && edit_suits (names ++ more) w.edits e) (record w { edits = w.edits ++ e ∷ [] }) v (λ f. let t = and_parts _ _ f in and_from _ _ t.0 (edit_suits_more names more w.edits e t.1)) h
 
 pub next_more : (names more : List (List ℕ)) (w v : World) (i : Item) → next names w i ≡ Some v → next (names ++ more) w i ≡ Some v
 next_more names more w v (Edited e) h = edited_more names more w v e h

@@ -28,6 +28,7 @@ use Rattle.st_compile.specs.Refusing.{InternsFirst, IsFull, interned_all, no_cod
 use Rattle.st_compile.specs.Compiled.{IsCompiled}
 use Rattle.st_compile.proofs.Interning.{first-all}
 use Rattle.st_compile.proofs.Places.{first, position-first, place-append, at-place}
+use Rattle.st_image.proofs.Lists.{first_here, first_later}
 use Rattle.st_image.specs.declared.items.Item.TheVariants.{Edited}
 use Rattle.st_image.specs.Worlds.{World}
 use Rattle.st_image.specs.Images.{ImageView, world, appended, edits_in, run_rules}
@@ -111,22 +112,6 @@ pub skip : (b : Bool) (r : Refusal) (rules : List Rule) → b ≡ false → firs
 skip true r rules e = cc
 skip false r rules e = refl
 
-some_first : (b : Bool) (r e : Refusal) (o p : Option Refusal) → (o ≡ Some e → p ≡ Some e) → cond b (Some r) o ≡ Some e → cond b (Some r) p ≡ Some e
-some_first true r e o p f h = h
-some_first false r e o p f h = f h
-
-first_some : (rules more : List Rule) (e : Refusal) → first_of rules ≡ Some e → first_of (rules ++ more) ≡ Some e
-first_some [] more e h = cc
-first_some (rule ∷ rules) more e h = some_first rule.0 rule.1 e (first_of rules) (first_of (rules ++ more)) (first_some rules more e) h
-
-none_first : (b : Bool) (r : Refusal) (o p q : Option Refusal) → (o ≡ None → p ≡ q) → cond b (Some r) o ≡ None → cond b (Some r) p ≡ q
-none_first true r o p q f h = cc
-none_first false r o p q f h = f h
-
-first_none : (rules more : List Rule) → first_of rules ≡ None → first_of (rules ++ more) ≡ first_of more
-first_none [] more h = refl
-first_none (rule ∷ rules) more h = none_first rule.0 rule.1 (first_of rules) (first_of (rules ++ more)) (first_of more) (first_none rules more) h
-
 is_not : (b : Bool) → b ≡ true → not b ≡ false
 is_not true e = refl
 is_not false e = cc
@@ -140,7 +125,7 @@ tree_part i c tree h k =
 -- the refusal of a tree is that of its install
 pub tree_refused : (i : ImageView) (c : ClassId) (tree : MethodTree) (e : Refusal) → is_class (world i).edits c ≡ true → is_kernel_text c tree.selector.text ≡ false → (e ≡ NoMemory) ⊎ (first_of (tree_rules (slots (world i).edits c) i.names tree) ≡ Some e) → (e ≡ NoMemory) ⊎ (first_of (image_install_rules i c tree) ≡ Some e)
 tree_refused i c tree e h k (inl m) = inl m
-tree_refused i c tree e h k (inr f) = inr (tree_part i c tree h k ∙ first_some (tree_rules (slots (world i).edits c) i.names tree) (too_many_edits (world i).edits ∷ run_rules i) e f)
+tree_refused i c tree e h k (inr f) = inr (tree_part i c tree h k ∙ first_here (tree_rules (slots (world i).edits c) i.names tree) (too_many_edits (world i).edits ∷ run_rules i) e f)
 
 -- the number of a method's selector is no kernel method's
 number_free : (names : List (List ℕ)) → BeginsWithKernel names → (c : ClassId) (text : List ℕ) (s : Selector) → place_of names text ≡ Some s.0 → is_kernel_text c text ≡ false → is_some (kernel_method c s) ≡ false
@@ -159,7 +144,7 @@ answers_same f g P Q (Err x) e h (inr s) = inr (sym e ∙ s)
 pub tree_installed : (i j k : ImageView) (c : ClassId) (tree : MethodTree) (text : List ℕ) (m : MethodParts) (r : Result ℕ Refusal) → is_class (world i).edits c ≡ true → is_kernel_text c tree.selector.text ≡ false → first_of (tree_rules (slots (world i).edits c) i.names tree) ≡ None → j ≡ with_names_of i tree → world j ≡ world i → BeginsWithKernel j.names → IsCompiled j.names (world i).edits c tree text m → Answers (first_of (edit_rules (world j).edits (Install c m) ++ run_rules j)) r (λ n. (k ≡ appended j (Edited (Install c m) ∷ [])) × (n ≡ length (world k).edits)) → Answers (first_of (image_install_rules i c tree)) r (λ n. Installs i c tree text k n)
 tree_installed i j k c tree text m r h f t e w b p a =
     let free : is_some (kernel_method c m.selector) ≡ false = number_free j.names b c tree.selector.text m.selector p.selector f in
-    let mine : first_of (image_install_rules i c tree) ≡ first_of (too_many_edits (world i).edits ∷ run_rules i) = tree_part i c tree h f ∙ first_none (tree_rules (slots (world i).edits c) i.names tree) (too_many_edits (world i).edits ∷ run_rules i) t in
+    let mine : first_of (image_install_rules i c tree) ≡ first_of (too_many_edits (world i).edits ∷ run_rules i) = tree_part i c tree h f ∙ first_later (tree_rules (slots (world i).edits c) i.names tree) (too_many_edits (world i).edits ∷ run_rules i) t in
     let runs : run_rules j ≡ run_rules i = ap run_rules e in
     let theirs : first_of (edit_rules (world j).edits (Install c m) ++ run_rules j) ≡ first_of (too_many_edits (world i).edits ∷ run_rules i) =
     ap (λ (v : World). first_of (edit_rules v.edits (Install c m) ++ run_rules j)) w ∙ edit_part (world i).edits j c m h free ∙ ap (λ (rs : List Rule). first_of (too_many_edits (world i).edits ∷ rs)) runs in

@@ -35,7 +35,8 @@ use Rattle.st_image.specs.Keeping.{Shows, IsImage}
 use Rattle.st_image.proofs.Replays.{lawful_push}
 use Rattle.st_image.proofs.Places.{at_all, get_set_same}
 use Rattle.st_image.proofs.Lasting.{next_keeps}
-use Rattle.st_image.proofs.Lists.{off, not_false}
+use Rattle.std.proofs.lemmas.Bool.{and_from, not-false}
+use Rattle.st_image.proofs.Lists.{off}
 use Rattle.st_image.proofs.Showing.{shows_set, shows_push, kept_accepting, ready_accepting, kept_beginning}
 
 -- ---- an item more
@@ -76,7 +77,8 @@ pushed names edits edits' actors actors' ready ready' h made made' s i v k sound
       both.1,
     )
 
-through : (b : Bool) (w : World) → b ≡ true → only_if b w ≡ Some w
+-- what a condition that is met lets through
+pub through : (b : Bool) (w : World) → b ≡ true → only_if b w ≡ Some w
 through true w e = refl
 through false w e = cc
 
@@ -96,20 +98,15 @@ kept_at edits actors ready w a b s e = ap (λ (xs : List Kept). slice_get xs a) 
 
 -- ---- a new actor
 
-and_true : (a b : Bool) → a ≡ true → b ≡ true → (a && b) ≡ true
-and_true true true e f = refl
-and_true true false e f = cc
-and_true false b e f = cc
-
 not_true : (b : Bool) → b ≡ false → not b ≡ true
 not_true false e = refl
 not_true true e = cc
 
 pub has_instances_by : (edits : List Edit) (c : ClassId) → not (is_class edits c) ≡ false → is_closed c ≡ false → has_instances edits c ≡ true
-has_instances_by edits c e f = and_true (is_class edits c) (not (is_closed c)) (not_false (is_class edits c) e) (not_true (is_closed c) f)
+has_instances_by edits c e f = and_from (is_class edits c) (not (is_closed c)) (not-false (is_class edits c) e) (not_true (is_closed c) f)
 
 capacity_is : (n : ℕ) → 1 ≤ n → n ≤ 1024 → is_capacity n ≡ true
-capacity_is n h k = and_true (nat_le 1 n) (nat_le n 1024) (grind (arith, nat_tests)) (grind (arith, nat_tests))
+capacity_is n h k = and_from (nat_le 1 n) (nat_le n 1024) (grind (arith, nat_tests)) (grind (arith, nat_tests))
 
 pub created_kept : (names : List (List ℕ)) (edits : List Edit) (actors actors' : List Kept) (ready : BTreeSet ℕ) (h : List Item) (made : ℕ) (s : Settings) (c : ClassId)
     → IsImage names edits actors ready h made s → has_instances edits c ≡ true → length actors < 65536 → length h + 1 ≤ s.history → actors' ≡ actors ++ new_kept c s.capacity (fresh_body edits c) ∷ []
@@ -119,7 +116,7 @@ created_kept names edits actors actors' ready h made s c k inst few room e =
     let b : Being = new_being w.edits c s.capacity in
     let v : World = record w { actors = w.actors ++ b ∷ [] } in
     let inst' : has_instances w.edits c ≡ true = subst (λ (es : List Edit). has_instances es c ≡ true) k.shows.edits_are inst in
-    let now : next names w (Created c s.capacity) ≡ Some v = through (has_instances w.edits c && is_capacity s.capacity) v (and_true (has_instances w.edits c) (is_capacity s.capacity) inst' (capacity_is s.capacity k.numbers.some_capacity k.numbers.few_messages)) in
+    let now : next names w (Created c s.capacity) ≡ Some v = through (has_instances w.edits c && is_capacity s.capacity) v (and_from (has_instances w.edits c) (is_capacity s.capacity) inst' (capacity_is s.capacity k.numbers.some_capacity k.numbers.few_messages)) in
     let here : actors' ≡ actors ++ kept_of b ∷ [] = e ∙ ap (λ (es : List Edit). actors ++ new_kept c s.capacity (fresh_body es c) ∷ []) k.shows.edits_are in
     let more : length actors' ≤ 65536 = rw e (omega (arith, length-append actors (new_kept c s.capacity (fresh_body edits c) ∷ []))) in
     let acc : AcceptAtMost (length h + 1) (actors ++ kept_of b ∷ []) = All-push (λ (x : Kept). x.accepted ≤ length h + 1) actors (kept_of b) (accept_more (length h) actors k.few_accepted) (omega arith) in
@@ -201,7 +198,7 @@ edited_kept names edits edits' actors ready h made made' s e k sound allowed sui
     let w : World = world_of names h in
     let v : World = record w { edits = edits' } in
     let same : edits ≡ w.edits = k.shows.edits_are in
-    let ok : (is_none (first_of (edit_rules w.edits e)) && edit_suits names w.edits e) ≡ true = subst (λ (es : List Edit). (is_none (first_of (edit_rules es e)) && edit_suits names es e) ≡ true) same (and_true (is_none (first_of (edit_rules edits e))) (edit_suits names edits e) (none_is_none (first_of (edit_rules edits e)) allowed) suits) in
+    let ok : (is_none (first_of (edit_rules w.edits e)) && edit_suits names w.edits e) ≡ true = subst (λ (es : List Edit). (is_none (first_of (edit_rules es e)) && edit_suits names es e) ≡ true) same (and_from (is_none (first_of (edit_rules edits e))) (edit_suits names edits e) (none_is_none (first_of (edit_rules edits e)) allowed) suits) in
     let last : w.edits ++ e ∷ [] ≡ edits' = ap (λ (es : List Edit). es ++ e ∷ []) (sym same) ∙ sym after in
     let now : next names w (Edited e) ≡ Some v = through (is_none (first_of (edit_rules w.edits e)) && edit_suits names w.edits e) (record w { edits = w.edits ++ e ∷ [] }) ok ∙ ap (λ (es : List Edit). Some (record w { edits = es })) last in
     let shows : Shows edits' actors ready v = record { edits_are = refl; actors_are = k.shows.actors_are; ready_are = k.shows.ready_are } in

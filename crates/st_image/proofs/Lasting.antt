@@ -14,7 +14,7 @@ use Rattle.st_classes.specs.Kernel.{kernel_selectors, does_not_understand}
 use Rattle.st_classes.specs.Refusals.{first_of}
 use Rattle.st_classes.specs.Accepting.{edit_rules}
 use Rattle.st_classes.specs.Classes.{class_count}
-use Rattle.st_classes.specs.Suiting.{arity_at, is_number}
+use Rattle.st_classes.specs.Suiting.{arity_at}
 use Rattle.st_classes.specs.Lawful.{AreLawful, AllSuit, AllSound}
 use Rattle.st_turn.specs.declared.body.Body.{Body}
 use Rattle.st_turn.specs.declared.body.Object.{Object}
@@ -38,13 +38,14 @@ use Rattle.st_classes.specs.declared.refusals.Refusal.TheVariants.{BadArguments,
 use Rattle.st_classes.specs.Refusals.{Rule}
 use Rattle.std.specs.Prelude.{not}
 use Rattle.std.proofs.Common.{ltb-true, nat_le}
-use Rattle.std.proofs.lemmas.Bool.{eqb-true}
+use Rattle.std.proofs.lemmas.Bool.{and_parts, and_from}
 use Rattle.std.proofs.lemmas.Option.{slice_get_within}
 use Rattle.st_image.proofs.Places.{at_all}
-use Rattle.st_image.proofs.GrowingNames.{both_true, and_true, list_all_more, fits_more, all_suit_more}
+use Rattle.st_image.proofs.GrowingNames.{fits_more}
 use Rattle.st_image.proofs.Deliveries.{let_through, accepting_begins, beginning_begins, nothing_begun}
 use Rattle.st_classes.proofs.Accepted.{sound_push}
-use Rattle.st_classes.proofs.LawGrowing.{lawful_with, class_count_grows, all_suit_with, kernel_names_know}
+use Rattle.st_classes.proofs.LawLists.{list_all_weaker}
+use Rattle.st_classes.proofs.LawGrowing.{lawful_with, class_count_grows, number_is, all_suit_with, all_suit_more_names, kernel_names_know}
 use Rattle.st_turn.proofs.Keeping.{step_fits}
 use Rattle.st_turn.proofs.KeepingGrowth.{fresh_fits, begin_fits}
 use Rattle.st_turn.proofs.Leading.{IsBegun, Keeps, LeadsTo, keeps_refl, keeps_more, step_leads}
@@ -68,7 +69,7 @@ argument_later names c a c' a' h k (Actor n) e = grind (arith, nat_tests)
 argument_later names c a c' a' h k (Local n) e = e
 
 message_later : (names : List (List ℕ)) (classes actors classes' actors' : ℕ) → classes ≤ classes' → actors ≤ actors' → (m : Message) → message_fits names classes actors m ≡ true → message_fits names classes' actors' m ≡ true
-message_later names c a c' a' h k m e = let t = both_true _ _ e in and_true _ _ t.0 (list_all_more (argument_fits names c a) (argument_fits names c' a') m.args (argument_later names c a c' a' h k) t.1)
+message_later names c a c' a' h k m e = let t = and_parts _ _ e in and_from _ _ t.0 (list_all_weaker (argument_fits names c a) (argument_fits names c' a') (argument_later names c a c' a' h k) m.args t.1)
 
 -- ---- one actor
 
@@ -124,7 +125,7 @@ none_from (Some x) e = cc
 edited_keeps : (names : List (List ℕ)) (w v : World) (e : Edit) → IsWorld names w → IsSoundEdit e → edited names w e ≡ Some v → IsWorld names v
 edited_keeps names w v e h s f =
     let t = let_through _ _ v f in
-    let b = both_true _ _ t.0 in
+    let b = and_parts _ _ t.0 in
     let r : first_of (edit_rules w.edits e) ≡ None = none_from _ b.0 in
     subst (IsWorld names) t.1 (record {
       kernel = h.kernel;
@@ -140,8 +141,8 @@ at_most m n e = grind (arith, nat_tests)
 created_keeps : (names : List (List ℕ)) (w v : World) (c : ClassId) (n : ℕ) → IsWorld names w → created w c n ≡ Some v → IsWorld names v
 created_keeps names w v c n h f =
     let t = let_through _ _ v f in
-    let p = both_true (has_instances w.edits c) (is_capacity n) t.0 in
-    let q = both_true (nat_le 1 n) (nat_le n 1024) p.1 in
+    let p = and_parts (has_instances w.edits c) (is_capacity n) t.0 in
+    let q = and_parts (nat_le 1 n) (nat_le n 1024) p.1 in
     let one : length (w.actors ++ new_being w.edits c n ∷ []) ≡ length w.actors + 1 = length-append w.actors (new_being w.edits c n ∷ []) in
     let count : length w.actors ≤ length (w.actors ++ new_being w.edits c n ∷ []) = omega arith in
     let fresh : IsBeing names w.edits (length (w.actors ++ new_being w.edits c n ∷ [])) (new_being w.edits c n) = record {
@@ -218,10 +219,6 @@ closed_keeps names w v a (Some b) at h f =
 
 -- ---- a message that begins
 
-number_is : (o : Option ℕ) (n : ℕ) → is_number o n ≡ true → o ≡ Some n
-number_is None n e = cc
-number_is (Some m) n e = ap Some (eqb-true m n e)
-
 argument_there : (names : List (List ℕ)) (edits : List Edit) (actors objects : ℕ) (v : Value) → argument_fits names (class_count edits) actors v ≡ true → IsThere (given names actors) edits objects v
 argument_there names edits actors objects (Int z) e = tt
 argument_there names edits actors objects (Boolean b) e = tt
@@ -233,7 +230,7 @@ argument_there names edits actors objects (Local n) e = cc
 
 all_from_tests : {X : Type 0} (p : X → Bool) (P : X → Type 0) (xs : List X) → ((x : X) → p x ≡ true → P x) → list_all p xs ≡ true → All P xs
 all_from_tests p P [] f e = All-nil P
-all_from_tests p P (x ∷ xs) f e = let t = both_true (p x) (list_all p xs) e in All-cons P x xs (f x t.0) (all_from_tests p P xs f t.1)
+all_from_tests p P (x ∷ xs) f e = let t = and_parts (p x) (list_all p xs) e in All-cons P x xs (f x t.0) (all_from_tests p P xs f t.1)
 
 first_of_drop : {X : Type 0} (xs : List X) (n : ℕ) (x : X) (rest : List X) → drop n xs ≡ x ∷ rest → slice_get xs n ≡ Some x
 first_of_drop [] zero x rest e = cc
@@ -255,7 +252,7 @@ beginning_keeps names w v a b (m ∷ ms) at e h f =
     let t = let_through _ _ v f in
     let here : IsBeing names w.edits (length w.actors) b = at_all (IsBeing names w.edits (length w.actors)) w.actors a.0 b h.actors at in
     let suits : message_fits names (class_count w.edits) (length w.actors) m ≡ true = at_all (λ (x : Message). message_fits names (class_count w.edits) (length w.actors) x ≡ true) b.accepted (length b.begun) m here.mail (first_pending b m ms e) in
-    let both = both_true _ _ suits in
+    let both = and_parts _ _ suits in
     let fits : Fits (given names (length w.actors)) w.edits (beginning b m).body = begin_fits (given names (length w.actors)) w.edits b.body m.selector m.args here.fits (number_is _ _ both.0) (all_from_tests (argument_fits names (class_count w.edits) (length w.actors)) (IsThere (given names (length w.actors)) w.edits (length b.body.objects)) m.args (argument_there names w.edits (length w.actors) (length b.body.objects)) both.1) in
     world_set names w v a (beginning b m) h (record {
       fits = fits;
@@ -396,7 +393,7 @@ pub names_keep : (names more : List (List ℕ)) (w : World) → IsWorld names w 
 names_keep names more w h = record {
   kernel = kernel_more names more h.kernel;
   lawful = h.lawful;
-  suited = all_suit_more names more w.edits h.suited;
+  suited = all_suit_more_names names more w.edits h.suited;
   sound = h.sound;
   actors = all_map (IsBeing names w.edits (length w.actors)) (IsBeing (names ++ more) w.edits (length w.actors)) w.actors (λ b g. being_given names more w.edits (length w.actors) (length w.actors) b h.lawful h.suited (omega arith) g) h.actors;
 }

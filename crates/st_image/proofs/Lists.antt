@@ -1,6 +1,5 @@
 -- Lists, and lists of rules.
 use Rattle.std.proofs.Common.{◌≡◌, ℕ, zero, suc, ◌+◌, ◌++◌, [], ◌∷◌, List, drop, Some, None, Bool, true, false, refl, ap, sym, ◌∙◌, slice_get, slice_set, ◌⊎◌, inl, inr, Result, Ok, Err, OnOk, OnErr, add-one}
-use Rattle.std.specs.Prelude.{not}
 use Rattle.st_classes.specs.declared.refusals.Refusal.{Refusal}
 use Rattle.st_classes.specs.Refusals.{Rule, first_of}
 
@@ -24,10 +23,6 @@ pub first_later : (rules more : List Rule) → first_of rules ≡ None → first
 first_later [] more h = refl
 first_later ((true, e) ∷ rules) more h = cc
 first_later ((false, e) ∷ rules) more h = first_later rules more h
-
-pub not_false : (b : Bool) → not b ≡ false → b ≡ true
-not_false true h = refl
-not_false false h = cc
 
 pub set_at_same : {X : Type 0} (xs : List X) (k : ℕ) (x : X) → slice_get xs k ≡ Some x → slice_set xs k x ≡ xs
 set_at_same [] k x e = cc

@@ -1,5 +1,5 @@
 -- Places of lists.
-use Rattle.std.proofs.Common.{◌≡◌, ◌≢◌, ℕ, zero, suc, ◌<◌, ◌++◌, [], ◌∷◌, List, Some, refl, ap, ◌∙◌, subst, length, slice_get, slice_set, set, ◌⊎◌, inl, inr}
+use Rattle.std.proofs.Common.{◌≡◌, ◌≢◌, ℕ, zero, suc, ◌<◌, List, Some, refl, ap, ◌∙◌, subst, length, slice_get, slice_set, set, ◌⊎◌, inl, inr}
 use Rattle.std.specs.Prelude.{All}
 use Rattle.std.proofs.lemmas.Option.{slice_get-get_or, slice_get_within, get_or_from_slice_get}
 use Rattle.std.proofs.lemmas.List.{get_or-set_same, get_or-set_other}
@@ -22,16 +22,8 @@ get_set_same {X} xs k x v e =
     let inside : k < length (set xs k v) = rw length-set there in
     slice_get-get_or (set xs k v) k x inside ∙ ap Some (get_or-set_same xs k v x there)
 
-get_set_within : {X : Type 0} (xs : List X) (j k : ℕ) (y v : X) → j ≢ k → slice_get xs j ≡ Some y → slice_get (slice_set xs k v) j ≡ Some y
-get_set_within xs j k y v f e =
+pub get_set_other : {X : Type 0} (xs : List X) (j k : ℕ) (y v : X) → j ≢ k → slice_get xs j ≡ Some y → slice_get (slice_set xs k v) j ≡ Some y
+get_set_other xs j k y v f e =
     let there : j < length xs = slice_get_within xs j y e in
     let inside : j < length (set xs k v) = rw length-set there in
     slice_get-get_or (set xs k v) j y inside ∙ ap Some (get_or-set_other xs k j v y f ∙ get_or_from_slice_get xs j y y e)
-
-pub get_set_other : {X : Type 0} (xs : List X) (j k : ℕ) (y v : X) → j ≢ k → slice_get xs j ≡ Some y → slice_get (slice_set xs k v) j ≡ Some y
-get_set_other xs j k y v f e = get_set_within xs j k y v f e
-
-pub get_left : {X : Type 0} (xs ys : List X) (k : ℕ) (x : X) → slice_get xs k ≡ Some x → slice_get (xs ++ ys) k ≡ Some x
-get_left [] ys k x e = cc
-get_left (z ∷ xs) ys zero x e = e
-get_left (z ∷ xs) ys (suc k) x e = get_left xs ys k x e

@@ -1,203 +1,319 @@
--- The depths of a tree fit its code.
-use Rattle.std.proofs.Common.{◌≡◌, ℕ, zero, suc, ◌+◌, ◌-◌, ◌<◌, ◌≤◌, pos, negsuc, List, [], ◌∷◌, ◌++◌, length, map, Option, Some, None, slice_get, refl, sym, ap, ◌∙◌, subst, arith}
-use Rattle.std.specs.List.{flat_map}
-use Rattle.std.proofs.lemmas.List.{append_assoc}
-use Rattle.std.proofs.lemmas.Option.{same_Some, none-some}
-use Rattle.st_classes.specs.declared.instructions.Instruction.{Instruction}
-use Rattle.st_classes.specs.declared.instructions.Instruction.TheVariants.{PushLit, PushSelf, PushActor, PushTemp, PushSlot, StoreTemp, StoreSlot, Pop, Dup, Send, SuperSend, Jump, JumpFalse, JumpTrue, Answer}
-use Rattle.st_classes.specs.declared.values.Value.TheVariants.{Int}
-use Rattle.st_classes.specs.Methods.{DepthAt, IsFine}
-use Rattle.st_classes.specs.Selectors.{place_of}
-use Rattle.st_reader.specs.declared.trees.Name.{Name}
-use Rattle.st_reader.specs.declared.trees.Primary.{Primary}
-use Rattle.st_reader.specs.declared.trees.Primary.TheVariants.{Number as NumberLeaf, Receiver as ReceiverLeaf, Variable as VariableLeaf}
-use Rattle.st_reader.specs.declared.trees.Term.{Term}
-use Rattle.st_reader.specs.declared.trees.Operation.{Operation}
-use Rattle.st_reader.specs.declared.trees.MethodTree.{MethodTree}
-use Rattle.st_compile.specs.Words.{Word, Number, Receiver, Variable, Message, Return, primary_word, unary_word, term_words, operation_words, tree_words}
-use Rattle.st_compile.specs.Depths.{term_depths, operation_depths, tree_depths}
-use Rattle.st_compile.specs.Code.{instruction_of, instructions_of}
-use Rattle.st_compile.proofs.Resolving.{sent, instructions-parts}
+-- The depths of a code fit it, wherever it stands.
+use Rattle.std.proofs.Common.{◌≡◌, ℕ, suc, ◌+◌, ◌-◌, ◌<◌, ◌≤◌, pos, negsuc, List, [], ◌∷◌, ◌++◌, length, map, Bool, true, false, Option, Some, None, refl, sym, ap, ◌∙◌, subst, arith, append_assoc}
+use Rattle.st_classes.specs.declared.values.Value.{Value}
+use Rattle.st_classes.specs.declared.values.Value.TheVariants.{Nil, Bool as Boolean}
+use Rattle.st_classes.specs.Methods.{DepthAt}
+use Rattle.st_classes.specs.Ways.{on, branches, flow}
+use Rattle.st_classes.proofs.Flowing.{Fits}
+use Rattle.st_reader.specs.declared.inlining.Inlining.{Inlining}
+use Rattle.st_reader.specs.declared.inlining.Inlining.TheVariants.{IfTrue, IfFalse, IfTrueIfFalse, IfFalseIfTrue, And, Or, WhileTrue, WhileFalse}
+use Rattle.st_reader.specs.Syntax.{Expression, Message, Parts, Further, Statements, parenthesis, empty_block, block, send, cascade, name, unary, keywords, no_parts, part, no_further, further, last, answer, statement}
+use Rattle.st_reader.specs.Grammar.{count}
+use Rattle.st_reader.specs.Rules.{is_inlined, is_super}
+use Rattle.st_compile.specs.Words.{Word, Line, line, literal, symbol, variable, store, drop, repeat, jump, jump_false, jump_true, return}
+use Rattle.st_compile.specs.Equations.{joined, to, either, loop, plain, inlined, inlining_of, one_of, kept, code, sent, arguments, blocks, part_blocks, further_sent, statements_value}
+use Rattle.st_compile.specs.Flows.{word_flow}
 
--- the number of operands after a word
-abbrev pub after : ℕ → Word → ℕ
-after depth (Message text arguments) = depth - arguments
-after depth Return = depth
-after depth _ = depth + 1
+-- the depths of lines
+abbrev pub depths : List Line → List ℕ
+depths ls = map (λ l. l.depth) ls
 
--- the numbers before each word, where there are so many before the first
-abbrev pub running : ℕ → List Word → List ℕ
-running depth [] = []
-running depth (word ∷ words) = depth ∷ running (after depth word) words
+-- these depths stand from a place on
+abbrev pub HasDepths : List ℕ → ℕ → List ℕ → Type 0
+HasDepths whole place [] = Unit {0}
+HasDepths whole place (n ∷ ns) = DepthAt whole place n × HasDepths whole (place + 1) ns
 
--- each word finds its operands, and the last one, and only it, answers
-abbrev pub Runs : ℕ → List Word → Type 0
-Runs depth [] = ⊥
-Runs depth (Number value ∷ words) = (depth ≤ 64) × Runs (depth + 1) words
-Runs depth (Receiver ∷ words) = (depth ≤ 64) × Runs (depth + 1) words
-Runs depth (Variable text ∷ words) = (depth ≤ 64) × Runs (depth + 1) words
-Runs depth (Message text arguments ∷ words) = (depth ≤ 64) × (arguments < depth) × Runs (depth - arguments) words
-Runs depth (Return ∷ []) = (depth ≤ 64) × (0 < depth)
-Runs depth (Return ∷ word ∷ words) = ⊥
+-- each of these lines, from a place on, fits
+abbrev pub AllFit : List ℕ → ℕ → List Line → Type 0
+AllFit whole place [] = Unit {0}
+AllFit whole place (l ∷ ls) = Fits whole place (word_flow l.word) l.depth × AllFit whole (place + 1) ls
 
--- the numbers of a tree's words are the tree's
-after-primary : (depth : ℕ) (p : Primary) → after depth (primary_word p) ≡ depth + 1
-after-primary depth (NumberLeaf value span minus) = refl
-after-primary depth (ReceiverLeaf span) = refl
-after-primary depth (VariableLeaf name) = refl
+-- A code that begins with d operands and comes to its end with k: it isn't empty, and wherever it stands with k behind it, it fits.
+pub record IsCode (ls : List Line) (d k : ℕ) : Type 0 where
+  pub front : (l : Line) × (rest : List Line) × (ls ≡ l ∷ rest) × (l.depth ≡ d)
+  pub fits : (whole : List ℕ) (place : ℕ) → HasDepths whole place (depths ls ++ k ∷ []) → AllFit whole place ls
 
-less-zero : (n : ℕ) → n - 0 ≡ n
-less-zero n = omega arith
+at_place : (whole : List ℕ) (ns : List ℕ) (p q : ℕ) → p ≡ q → HasDepths whole p ns → HasDepths whole q ns
+at_place whole ns p q e h = subst (λ n. HasDepths whole n ns) e h
 
-running-messages : (depth : ℕ) (names : List Name) (words : List Word) → running depth (map unary_word names ++ words) ≡ map (λ name. depth) names ++ running depth words
-running-messages depth [] words = refl
-running-messages depth (name ∷ names) words = ap (λ (ds : List ℕ). depth ∷ ds) (ap (λ (d : ℕ). running d (map unary_word names ++ words)) (less-zero depth) ∙ running-messages depth names words)
+pub has_front : (whole : List ℕ) (place : ℕ) (a b : List ℕ) → HasDepths whole place (a ++ b) → HasDepths whole place a
+has_front whole place [] b h = tt
+has_front whole place (n ∷ a) b h = (h.0, has_front whole (place + 1) a b h.1)
 
-running-term : (depth : ℕ) (term : Term) (words : List Word) → running depth (term_words term ++ words) ≡ term_depths depth term ++ running (depth + 1) words
-running-term depth term words = ap (λ (ds : List ℕ). depth ∷ ds) (ap (λ (d : ℕ). running d (map unary_word term.messages ++ words)) (after-primary depth term.primary) ∙ running-messages (depth + 1) term.messages words)
+has_back : (whole : List ℕ) (place : ℕ) (a b : List ℕ) → HasDepths whole place (a ++ b) → HasDepths whole (place + length a) b
+has_back whole place [] b h = at_place whole b place (place + 0) (omega arith) h
+has_back whole place (n ∷ a) b h = at_place whole b (place + 1 + length a) (place + length (n ∷ a)) (omega arith) (has_back whole (place + 1) a b h.1)
 
-running-operation : (operation : Operation) (words : List Word) → running 1 (operation_words operation ++ words) ≡ operation_depths operation ++ running 1 words
-running-operation operation words =
-    let send = Message operation.selector.text 1 in
-    ap (running 1) (append_assoc (term_words operation.argument) (send ∷ []) words) ∙ (running-term 1 operation.argument (send ∷ words) ∙ sym (append_assoc (term_depths 1 operation.argument) (2 ∷ []) (running 1 words)))
+has_join : (whole : List ℕ) (place : ℕ) (a b : List ℕ) → HasDepths whole place a → HasDepths whole (place + length a) b → HasDepths whole place (a ++ b)
+has_join whole place [] b h k = at_place whole b (place + 0) place (omega arith) k
+has_join whole place (n ∷ a) b h k = (h.0, has_join whole (place + 1) a b h.1 (at_place whole b (place + length (n ∷ a)) (place + 1 + length a) (omega arith) k))
 
-running-operations : (operations : List Operation) (words : List Word) → running 1 (flat_map operation_words operations ++ words) ≡ flat_map operation_depths operations ++ running 1 words
-running-operations [] words = refl
-running-operations (operation ∷ operations) words =
-    ap (running 1) (append_assoc (operation_words operation) (flat_map operation_words operations) words) ∙ (running-operation operation (flat_map operation_words operations ++ words) ∙ (ap (λ (ds : List ℕ). operation_depths operation ++ ds) (running-operations operations words) ∙ sym (append_assoc (operation_depths operation) (flat_map operation_depths operations) (running 1 words))))
+fit_at : (whole : List ℕ) (ls : List Line) (p q : ℕ) → p ≡ q → AllFit whole p ls → AllFit whole q ls
+fit_at whole ls p q e h = subst (λ n. AllFit whole n ls) e h
 
-pub running-tree : (tree : MethodTree) → running 0 (tree_words tree) ≡ tree_depths tree
-running-tree tree =
-    let rest = flat_map operation_words tree.operations in
-    ap (running 0) (append_assoc (term_words tree.first) rest (Return ∷ [])) ∙ (running-term 0 tree.first (rest ++ Return ∷ []) ∙ (ap (λ (ds : List ℕ). term_depths 0 tree.first ++ ds) (running-operations tree.operations (Return ∷ [])) ∙ sym (append_assoc (term_depths 0 tree.first) (flat_map operation_depths tree.operations) (1 ∷ []))))
+pub fit_join : (whole : List ℕ) (place : ℕ) (a b : List Line) → AllFit whole place a → AllFit whole (place + length a) b → AllFit whole place (a ++ b)
+fit_join whole place [] b h k = fit_at whole b (place + 0) place (omega arith) k
+fit_join whole place (l ∷ a) b h k = (h.0, fit_join whole (place + 1) a b h.1 (fit_at whole b (place + length (l ∷ a)) (place + 1 + length a) (omega arith) k))
 
--- each word of a tree finds its operands
-runs-messages : (depth : ℕ) (names : List Name) (words : List Word) → 0 < depth → depth ≤ 64 → Runs depth words → Runs depth (map unary_word names ++ words)
-runs-messages depth [] words p l h = h
-runs-messages depth (name ∷ names) words p l h =
-    let P : ℕ → Type 0 = λ d. Runs d (map unary_word names ++ words) in
-    (l, p, subst P (sym (less-zero depth)) (runs-messages depth names words p l h))
+pub length_depths : (ls : List Line) → length (depths ls) ≡ length ls
+length_depths [] = refl
+length_depths (l ∷ ls) = ap suc (length_depths ls)
 
-runs-primary : (depth : ℕ) (p : Primary) (words : List Word) → depth ≤ 64 → Runs (depth + 1) words → Runs depth (primary_word p ∷ words)
-runs-primary depth (NumberLeaf value span minus) words l h = (l, h)
-runs-primary depth (ReceiverLeaf span) words l h = (l, h)
-runs-primary depth (VariableLeaf name) words l h = (l, h)
+pub depths_append : (a b : List Line) → depths (a ++ b) ≡ depths a ++ depths b
+depths_append [] b = refl
+depths_append (l ∷ a) b = ap (λ (ns : List ℕ). l.depth ∷ ns) (depths_append a b)
 
-runs-term : (depth : ℕ) (term : Term) (words : List Word) → depth ≤ 63 → Runs (depth + 1) words → Runs depth (term_words term ++ words)
-runs-term depth term words l h = runs-primary depth term.primary (map unary_word term.messages ++ words) (omega arith) (runs-messages (depth + 1) term.messages words (omega arith) (omega arith) h)
+-- the depths of two codes, and one behind them
+depths_two : (a b : List Line) (k : ℕ) → depths (a ++ b) ++ k ∷ [] ≡ depths a ++ (depths b ++ k ∷ [])
+depths_two a b k = ap (λ (ns : List ℕ). ns ++ k ∷ []) (depths_append a b) ∙ append_assoc (depths a) (depths b) (k ∷ [])
 
-runs-operation : (operation : Operation) (words : List Word) → Runs 1 words → Runs 1 (operation_words operation ++ words)
-runs-operation operation words h =
-    let send = Message operation.selector.text 1 in
-    let P : List Word → Type 0 = Runs 1 in
-    subst P (sym (append_assoc (term_words operation.argument) (send ∷ []) words)) (runs-term 1 operation.argument (send ∷ words) (omega arith) (omega arith, omega arith, h))
+-- where a code stands, its first depth stands
+pub begins : (ls : List Line) (d k : ℕ) (whole : List ℕ) (place : ℕ) (ns : List ℕ) → IsCode ls d k → HasDepths whole place (depths ls ++ ns) → DepthAt whole place d
+begins ls d k whole place ns c h =
+    let f = c.front in
+    let g : HasDepths whole place (depths (f.0 ∷ f.1) ++ ns) = subst (λ (x : List Line). HasDepths whole place (depths x ++ ns)) f.2 h in
+    subst (λ n. DepthAt whole place n) f.3 g.0
 
-runs-operations : (operations : List Operation) (words : List Word) → Runs 1 words → Runs 1 (flat_map operation_words operations ++ words)
-runs-operations [] words h = h
-runs-operations (operation ∷ operations) words h =
-    let P : List Word → Type 0 = Runs 1 in
-    subst P (sym (append_assoc (operation_words operation) (flat_map operation_words operations) words)) (runs-operation operation (flat_map operation_words operations ++ words) (runs-operations operations words h))
+-- a code before others whose first depth is its last
+before : (a b : List Line) (d m k : ℕ) (whole : List ℕ) (place : ℕ) → IsCode b m k → HasDepths whole place (depths a ++ (depths b ++ k ∷ [])) → HasDepths whole place (depths a ++ m ∷ [])
+before a b d m k whole place c h =
+    let back = has_back whole place (depths a) (depths b ++ k ∷ []) h in
+    has_join whole place (depths a) (m ∷ []) (has_front whole place (depths a) (depths b ++ k ∷ []) h) (begins b m k whole (place + length (depths a)) (k ∷ []) c back, tt)
 
-pub runs-tree : (tree : MethodTree) → Runs 0 (tree_words tree)
-runs-tree tree =
-    let rest = flat_map operation_words tree.operations in
-    let P : List Word → Type 0 = Runs 0 in
-    subst P (sym (append_assoc (term_words tree.first) rest (Return ∷ []))) (runs-term 0 tree.first (rest ++ Return ∷ []) (omega arith) (runs-operations tree.operations (Return ∷ []) (omega arith, omega arith)))
+pub join : (a b : List Line) (d m k : ℕ) → IsCode a d m → IsCode b m k → IsCode (a ++ b) d k
+join a b d m k x y = record {
+  front = (x.front.0, x.front.1 ++ b, ap (λ (ls : List Line). ls ++ b) x.front.2, x.front.3);
+  fits = λ whole place h.
+      let g : HasDepths whole place (depths a ++ (depths b ++ k ∷ [])) = subst (HasDepths whole place) (depths_two a b k) h in
+      let first = x.fits whole place (before a b d m k whole place y g) in
+      let back = at_place whole (depths b ++ k ∷ []) (place + length (depths a)) (place + length a) (omega (arith, length_depths a)) (has_back whole place (depths a) (depths b ++ k ∷ []) g) in
+      fit_join whole place a b first (y.fits whole (place + length a) back);
+}
 
--- one instruction in front changes nothing for those behind
-at-more : (d : ℕ) (ds : List ℕ) (n m x : ℕ) → m ≡ suc n → DepthAt ds n x → DepthAt (d ∷ ds) m x
-at-more d ds n m x e h = rw e h
+-- a line that goes on
+pub one : (d k : ℕ) (w : Word) → (takes : ℕ) → (gives : ℕ) → word_flow w ≡ flow takes gives on → takes ≤ d → k ≡ d - takes + gives → IsCode (line d w ∷ []) d k
+one d k w takes gives e le q = record {
+  front = (line d w, [], refl, refl);
+  fits = λ whole place h. (rw e (record { enough = le; arrives = subst (λ n. DepthAt whole (place + 1) n) q h.1.0 }), tt);
+}
 
-next-more : (d : ℕ) (ds : List ℕ) (place x : ℕ) → DepthAt ds (place + 1) x → DepthAt (d ∷ ds) (suc place + 1) x
-next-more d ds place x h = at-more d ds (place + 1) (suc place + 1) x (omega arith) h
+-- an answer
+pub ending : (d k : ℕ) → 0 < d → IsCode (line d return ∷ []) d k
+ending d k le = record {
+  front = (line d return, [], refl, refl);
+  fits = λ whole place h. (record { enough = omega (arith, le); arrives = tt }, tt);
+}
 
-jump-more : (d : ℕ) (ds : List ℕ) (place far x : ℕ) → DepthAt ds (place + 1 + far) x → DepthAt (d ∷ ds) (suc place + 1 + far) x
-jump-more d ds place far x h = at-more d ds (place + 1 + far) (suc place + 1 + far) x (omega arith) h
+depth_is : (whole : List ℕ) (place m n : ℕ) → m ≡ n → DepthAt whole place m → DepthAt whole place n
+depth_is whole place m n e h = subst (λ d. DepthAt whole place d) e h
 
-fine-more : (d : ℕ) (ds : List ℕ) (place : ℕ) (i : Instruction) (depth : ℕ) → IsFine ds place i depth → IsFine (d ∷ ds) (suc place) i depth
-fine-more d ds place (PushLit v) depth h = next-more d ds place (depth + 1) h
-fine-more d ds place PushSelf depth h = next-more d ds place (depth + 1) h
-fine-more d ds place PushActor depth h = next-more d ds place (depth + 1) h
-fine-more d ds place (PushTemp t) depth h = next-more d ds place (depth + 1) h
-fine-more d ds place (PushSlot s) depth h = next-more d ds place (depth + 1) h
-fine-more d ds place (StoreTemp t) depth h = (h.0, next-more d ds place depth h.1)
-fine-more d ds place (StoreSlot s) depth h = (h.0, next-more d ds place depth h.1)
-fine-more d ds place Pop depth h = (h.0, next-more d ds place (depth - 1) h.1)
-fine-more d ds place Dup depth h = (h.0, next-more d ds place (depth + 1) h.1)
-fine-more d ds place (Send s n) depth h = (h.0, next-more d ds place (depth - n) h.1)
-fine-more d ds place (SuperSend s n) depth h = (h.0, next-more d ds place (depth - n) h.1)
-fine-more d ds place (Jump (pos far)) depth h = jump-more d ds place far depth h
-fine-more d ds place (Jump (negsuc far)) depth h = (omega (arith, h.0), at-more d ds (place - far) (suc place - far) depth (omega (arith, h.0)) h.1)
-fine-more d ds place (JumpFalse far) depth h = (h.0, jump-more d ds place far (depth - 1) h.1, next-more d ds place (depth - 1) h.2)
-fine-more d ds place (JumpTrue far) depth h = (h.0, jump-more d ds place far (depth - 1) h.1, next-more d ds place (depth - 1) h.2)
-fine-more d ds place Answer depth h = h
+at_same : (whole : List ℕ) (p q n : ℕ) → p ≡ q → DepthAt whole p n → DepthAt whole q n
+at_same whole p q n e h = subst (λ x. DepthAt whole x n) e h
 
--- the first instruction finds its operands
-pub first-depth : (depth : ℕ) (words : List Word) → Runs depth words → DepthAt (running depth words) 0 depth
-first-depth depth [] h = absurd h
-first-depth depth (word ∷ words) h = refl
+-- a code without its front
+fits_here : (ls : List Line) (d k : ℕ) (whole : List ℕ) (p q : ℕ) → p ≡ q → IsCode ls d k → HasDepths whole q (depths ls ++ k ∷ []) → AllFit whole p ls
+fits_here ls d k whole p q e c h = fit_at whole ls q p (sym e) (c.fits whole q h)
 
-first-fine : (names slots : List (List ℕ)) (depth : ℕ) (word : Word) (words : List Word) (i : Instruction) → instruction_of names slots word ≡ Some i → Runs depth (word ∷ words) → IsFine (running depth (word ∷ words)) 0 i depth
-first-fine names slots depth (Number value) words i e h = rw (← same_Some (PushLit (Int value)) i e) (first-depth (depth + 1) words h.1)
-first-fine names slots depth Receiver words i e h = rw (← same_Some PushSelf i e) (first-depth (depth + 1) words h.1)
-first-fine names slots depth (Variable text) words i e h = by (place_of slots text) refl
-  where
-    by : (o : Option ℕ) → place_of slots text ≡ o → IsFine (running depth (Variable text ∷ words)) 0 i depth
-    by None q =
-        let k : None ≡ Some i = rw q at e in
-        absurd (none-some i k)
-    by (Some s) q =
-        let k : Some (PushSlot s) ≡ Some i = rw q at e in
-        rw (← same_Some (PushSlot s) i k) (first-depth (depth + 1) words h.1)
-first-fine names slots depth (Message text n) words i e h = by (place_of names text) refl
-  where
-    by : (o : Option ℕ) → place_of names text ≡ o → IsFine (running depth (Message text n ∷ words)) 0 i depth
-    by None q =
-        let k : None ≡ Some i = rw q at e in
-        absurd (none-some i k)
-    by (Some s) q =
-        let k : Some (sent n s) ≡ Some i = rw q at e in
-        rw (← same_Some (sent n s) i k) (h.1, first-depth (depth - n) words h.2)
-first-fine names slots depth Return [] i e h = rw (← same_Some Answer i e) h.1
-first-fine names slots depth Return (word ∷ words) i e h = absurd h
+-- One of two ways on: both leave one operand.
+either_rest : (branch : ℕ → Word) → ((n : ℕ) → word_flow (branch n) ≡ flow 1 0 (branches (pos n))) → (d : ℕ) (a b : List Line) → IsCode a d (d + 1) → IsCode b d (d + 1) → IsCode (line (d + 1) (branch (length a + 1)) ∷ (a ++ line (d + 1) (jump (pos (length b))) ∷ b)) (d + 1) (d + 1)
+either_rest branch e d a b x y =
+    let j = line (d + 1) (jump (pos (length b))) in
+    record {
+      front = (line (d + 1) (branch (length a + 1)), a ++ j ∷ b, refl, refl);
+      fits = λ whole place h.
+          let g : HasDepths whole (place + 1) (depths a ++ ((d + 1) ∷ (depths b ++ (d + 1) ∷ []))) = subst (HasDepths whole (place + 1)) (depths_two a (j ∷ b) (d + 1)) h.1 in
+          let la = length_depths a in
+          let lb = length_depths b in
+          let q = place + 1 + length (depths a) in
+          let back : HasDepths whole q ((d + 1) ∷ (depths b ++ (d + 1) ∷ [])) = has_back whole (place + 1) (depths a) ((d + 1) ∷ (depths b ++ (d + 1) ∷ [])) g in
+          let front = has_join whole (place + 1) (depths a) ((d + 1) ∷ []) (has_front whole (place + 1) (depths a) ((d + 1) ∷ (depths b ++ (d + 1) ∷ [])) g) (back.0, tt) in
+          let ends_here = has_back whole (q + 1) (depths b) ((d + 1) ∷ []) back.1 in
+          let begin_a = begins a d (d + 1) whole (place + 1) ((d + 1) ∷ (depths b ++ (d + 1) ∷ [])) x g in
+          let begin_b = begins b d (d + 1) whole (q + 1) ((d + 1) ∷ []) y back.1 in
+          let head : Fits whole place (word_flow (branch (length a + 1))) (d + 1) = rw (e (length a + 1)) (record {
+            enough = omega arith;
+            arrives = (depth_is whole (place + 1) d (d + 1 - 1 + 0) (omega arith) begin_a, (q + 1, omega (arith, la), depth_is whole (q + 1) d (d + 1 - 1 + 0) (omega arith) begin_b));
+          }) in
+          let middle : Fits whole q (word_flow (jump (pos (length b)))) (d + 1) = record {
+            enough = omega arith;
+            arrives = (q + 1 + length (depths b), omega (arith, lb), depth_is whole (q + 1 + length (depths b)) (d + 1) (d + 1 - 0 + 0) (omega arith) ends_here.0);
+          } in
+          let behind : AllFit whole (place + 1 + length a) (j ∷ b) = fit_at whole (j ∷ b) q (place + 1 + length a) (omega (arith, la)) (middle, y.fits whole (q + 1) back.1) in
+          (head, fit_join whole (place + 1) a (j ∷ b) (x.fits whole (place + 1) front) behind);
+    }
 
--- what stands of the words behind
-runs-behind : (depth : ℕ) (word other : Word) (words : List Word) → Runs depth (word ∷ other ∷ words) → Runs (after depth word) (other ∷ words)
-runs-behind depth (Number value) other words h = h.1
-runs-behind depth Receiver other words h = h.1
-runs-behind depth (Variable text) other words h = h.1
-runs-behind depth (Message text n) other words h = h.2
-runs-behind depth Return other words h = absurd h
+pub either_is : (branch : ℕ → Word) → ((n : ℕ) → word_flow (branch n) ≡ flow 1 0 (branches (pos n))) → (d : ℕ) (r a b : List Line) → IsCode r d (d + 1) → IsCode a d (d + 1) → IsCode b d (d + 1) → IsCode (either branch d r a b) d (d + 1)
+either_is branch e d r a b z x y = join r (line (d + 1) (branch (length a + 1)) ∷ (a ++ line (d + 1) (jump (pos (length b))) ∷ b)) d (d + 1) (d + 1) z (either_rest branch e d a b x y)
 
-runs-shallow : (depth : ℕ) (word : Word) (words : List Word) → Runs depth (word ∷ words) → depth ≤ 64
-runs-shallow depth (Number value) words h = h.0
-runs-shallow depth Receiver words h = h.0
-runs-shallow depth (Variable text) words h = h.0
-runs-shallow depth (Message text n) words h = h.0
-runs-shallow depth Return [] h = h.0
-runs-shallow depth Return (word ∷ words) h = absurd h
+-- A loop: its body leaves the depth as it was, and behind it stands nil.
+pub loop_is : (branch : ℕ → Word) → ((n : ℕ) → word_flow (branch n) ≡ flow 1 0 (branches (pos n))) → (d : ℕ) (c b : List Line) → IsCode c d (d + 1) → IsCode b d (d + 1) → IsCode (loop branch d c b) d (d + 1)
+loop_is branch e d c b x y =
+    let top = line (d + 1) (branch (length b + 2)) in
+    let again = line d (jump (negsuc (length c + length b + 2))) in
+    let tail = line (d + 1) drop ∷ again ∷ line d (literal Nil) ∷ [] in
+    record {
+      front = (x.front.0, x.front.1 ++ top ∷ (b ++ tail), ap (λ (ls : List Line). ls ++ top ∷ (b ++ tail)) x.front.2, x.front.3);
+      fits = λ whole place h.
+          let lc = length_depths c in
+          let lb = length_depths b in
+          let g : HasDepths whole place (depths c ++ ((d + 1) ∷ (depths (b ++ tail) ++ (d + 1) ∷ []))) = subst (HasDepths whole place) (depths_two c (top ∷ (b ++ tail)) (d + 1)) h in
+          let q = place + length (depths c) in
+          let back : HasDepths whole q ((d + 1) ∷ (depths (b ++ tail) ++ (d + 1) ∷ [])) = has_back whole place (depths c) ((d + 1) ∷ (depths (b ++ tail) ++ (d + 1) ∷ [])) g in
+          let front = has_join whole place (depths c) ((d + 1) ∷ []) (has_front whole place (depths c) ((d + 1) ∷ (depths (b ++ tail) ++ (d + 1) ∷ [])) g) (back.0, tt) in
+          let body_here : HasDepths whole (q + 1) (depths b ++ ((d + 1) ∷ d ∷ d ∷ (d + 1) ∷ [])) = subst (HasDepths whole (q + 1)) (depths_two b tail (d + 1)) back.1 in
+          let s = q + 1 + length (depths b) in
+          let end : HasDepths whole s ((d + 1) ∷ d ∷ d ∷ (d + 1) ∷ []) = has_back whole (q + 1) (depths b) ((d + 1) ∷ d ∷ d ∷ (d + 1) ∷ []) body_here in
+          let body_front = has_join whole (q + 1) (depths b) ((d + 1) ∷ []) (has_front whole (q + 1) (depths b) ((d + 1) ∷ d ∷ d ∷ (d + 1) ∷ []) body_here) (end.0, tt) in
+          let begin_c = begins c d (d + 1) whole place ((d + 1) ∷ (depths (b ++ tail) ++ (d + 1) ∷ [])) x g in
+          let begin_b = begins b d (d + 1) whole (q + 1) ((d + 1) ∷ d ∷ d ∷ (d + 1) ∷ []) y body_here in
+          let head : Fits whole q (word_flow (branch (length b + 2))) (d + 1) = rw (e (length b + 2)) (record {
+            enough = omega arith;
+            arrives = (depth_is whole (q + 1) d (d + 1 - 1 + 0) (omega arith) begin_b, (s + 1 + 1, omega (arith, lb), depth_is whole (s + 1 + 1) d (d + 1 - 1 + 0) (omega arith) end.1.1.0));
+          }) in
+          let dropped : Fits whole s (word_flow drop) (d + 1) = record { enough = omega arith; arrives = depth_is whole (s + 1) d (d + 1 - 1 + 0) (omega arith) end.1.0 } in
+          let back_again : Fits whole (s + 1) (word_flow (jump (negsuc (length c + length b + 2)))) d = record {
+            enough = omega arith;
+            arrives = (place, omega (arith, lb, lc), depth_is whole place d (d - 0 + 0) (omega arith) begin_c);
+          } in
+          let nothing : Fits whole (s + 1 + 1) (word_flow (literal Nil)) d = record { enough = omega arith; arrives = depth_is whole (s + 1 + 1 + 1) (d + 1) (d - 0 + 1) (omega arith) end.1.1.1.0 } in
+          let tail_fits : AllFit whole (q + 1 + length b) tail = fit_at whole tail s (q + 1 + length b) (omega (arith, lb)) (dropped, (back_again, (nothing, tt))) in
+          let rest = fit_join whole (q + 1) b tail (y.fits whole (q + 1) body_front) tail_fits in
+          fit_join whole place c (top ∷ (b ++ tail)) (x.fits whole place front) (fit_at whole (top ∷ (b ++ tail)) q (place + length c) (omega (arith, lc)) (head, rest));
+    }
 
-pub all_fine : (names slots : List (List ℕ)) (depth : ℕ) (words : List Word) (code : List Instruction) → instructions_of names slots words ≡ Some code → Runs depth words → (place : ℕ) (i : Instruction) (d : ℕ) → slice_get code place ≡ Some i → DepthAt (running depth words) place d → IsFine (running depth words) place i d
-all_fine names slots depth [] code e h place i d at before = absurd h
-all_fine names slots depth (word ∷ words) code e h zero i d at before =
-    let p = instructions-parts names slots word words code e in
-    let head : Some p.head ≡ Some i = rw p.whole at at in
-    let q : instruction_of names slots word ≡ Some i = p.head_is ∙ head in
-    rw (← same_Some depth d before) (first-fine names slots depth word words i q h)
-all_fine names slots depth (word ∷ []) code e h (suc place) i d at before = absurd (none-some d before)
-all_fine names slots depth (word ∷ other ∷ words) code e h (suc place) i d at before =
-    let p = instructions-parts names slots word (other ∷ words) code e in
-    let behind : slice_get p.tail place ≡ Some i = rw p.whole at at in
-    fine-more depth (running (after depth word) (other ∷ words)) place i d (all_fine names slots (after depth word) (other ∷ words) p.tail p.tail_is (runs-behind depth word other words h) place i d behind before)
+-- Messages and their arguments.
+length_more : (d n : ℕ) → d + suc n ≡ d + 1 + n
+length_more d n = omega arith
 
-pub all_shallow : (depth : ℕ) (words : List Word) → Runs depth words → (place d : ℕ) → DepthAt (running depth words) place d → d ≤ 64
-all_shallow depth [] h place d before = absurd h
-all_shallow depth (word ∷ words) h zero d before =
-    let l = runs-shallow depth word words h in
-    omega (arith, same_Some depth d before)
-all_shallow depth (word ∷ []) h (suc place) d before = absurd (none-some d before)
-all_shallow depth (word ∷ other ∷ words) h (suc place) d before = all_shallow (after depth word) (other ∷ words) (runs-behind depth word other words h) place d before
+goes_false : (n : ℕ) → word_flow (jump_false n) ≡ flow 1 0 (branches (pos n))
+goes_false n = refl
 
-pub length-running : (depth : ℕ) (words : List Word) → length (running depth words) ≡ length words
-length-running depth [] = refl
-length-running depth (word ∷ words) = ap suc (length-running (after depth word) words)
+goes_true : (n : ℕ) → word_flow (jump_true n) ≡ flow 1 0 (branches (pos n))
+goes_true n = refl
+
+to_flow : (up : Bool) (text : List ℕ) (n : ℕ) → word_flow (to up text n) ≡ flow (n + 1) 1 on
+to_flow true text n = refl
+to_flow false text n = refl
+
+-- a message with its arguments in place
+to_is : (up : Bool) (text : List ℕ) (d n : ℕ) → 0 < d → IsCode (line (d + n) (to up text n) ∷ []) (d + n) d
+to_is up text d n le = one (d + n) d (to up text n) (n + 1) 1 (to_flow up text n) (omega (arith, le)) (omega (arith, le))
+
+starts_at : (ls : List Line) (d e k : ℕ) → d ≡ e → IsCode ls d k → IsCode ls e k
+starts_at ls d e k q c = subst (λ n. IsCode ls n k) q c
+
+ends_at : (ls : List Line) (d k m : ℕ) → k ≡ m → IsCode ls d k → IsCode ls d m
+ends_at ls d k m q c = subst (λ n. IsCode ls d n) q c
+
+-- a value that stands for a block that isn't there
+plain_is : (d : ℕ) (v : Value) → IsCode (plain d v) d (d + 1)
+plain_is d v = one d (d + 1) (literal v) 0 1 refl (omega arith) (omega arith)
+
+-- a message to a receiver that stays
+kept_is : (d : ℕ) (ls : List Line) → 0 < d → IsCode ls (d + 1) (d + 1) → IsCode (kept d ls) d d
+kept_is d ls le c =
+    let dropped = one (d + 1) d drop 1 0 refl (omega arith) (omega arith) in
+    join (line d repeat ∷ []) (ls ++ line (d + 1) drop ∷ []) d (d + 1) d (one d (d + 1) repeat 1 2 refl le (omega (arith, le))) (join ls (line (d + 1) drop ∷ []) (d + 1) (d + 1) d c dropped)
+
+-- each block of a message
+abbrev pub AreBlocks : ℕ → List (List Line) → Type 0
+AreBlocks d [] = Unit {0}
+AreBlocks d (b ∷ bs) = IsCode b d (d + 1) × AreBlocks d bs
+
+inlined_is : (d : ℕ) (i : Option Inlining) (r : List Line) (bs : List (List Line)) → IsCode r d (d + 1) → AreBlocks d bs → IsCode (inlined d i r bs) d (d + 1)
+inlined_is d (Some IfTrue) r (v ∷ []) x y = either_is jump_false goes_false d r v (plain d Nil) x y.0 (plain_is d Nil)
+inlined_is d (Some IfFalse) r (v ∷ []) x y = either_is jump_true goes_true d r v (plain d Nil) x y.0 (plain_is d Nil)
+inlined_is d (Some IfTrueIfFalse) r (a ∷ b ∷ []) x y = either_is jump_false goes_false d r a b x y.0 y.1.0
+inlined_is d (Some IfFalseIfTrue) r (a ∷ b ∷ []) x y = either_is jump_true goes_true d r a b x y.0 y.1.0
+inlined_is d (Some And) r (v ∷ []) x y = either_is jump_false goes_false d r v (plain d (Boolean false)) x y.0 (plain_is d (Boolean false))
+inlined_is d (Some Or) r (v ∷ []) x y = either_is jump_true goes_true d r v (plain d (Boolean true)) x y.0 (plain_is d (Boolean true))
+inlined_is d (Some WhileTrue) r (b ∷ []) x y = loop_is jump_false goes_false d r b x y.0
+inlined_is d (Some WhileFalse) r (b ∷ []) x y = loop_is jump_true goes_true d r b x y.0
+inlined_is d None r bs x y = x
+inlined_is d (Some IfTrue) r [] x y = x
+inlined_is d (Some IfTrue) r (a ∷ b ∷ bs) x y = x
+inlined_is d (Some IfFalse) r [] x y = x
+inlined_is d (Some IfFalse) r (a ∷ b ∷ bs) x y = x
+inlined_is d (Some IfTrueIfFalse) r [] x y = x
+inlined_is d (Some IfTrueIfFalse) r (a ∷ []) x y = x
+inlined_is d (Some IfTrueIfFalse) r (a ∷ b ∷ c ∷ bs) x y = x
+inlined_is d (Some IfFalseIfTrue) r [] x y = x
+inlined_is d (Some IfFalseIfTrue) r (a ∷ []) x y = x
+inlined_is d (Some IfFalseIfTrue) r (a ∷ b ∷ c ∷ bs) x y = x
+inlined_is d (Some And) r [] x y = x
+inlined_is d (Some And) r (a ∷ b ∷ bs) x y = x
+inlined_is d (Some Or) r [] x y = x
+inlined_is d (Some Or) r (a ∷ b ∷ bs) x y = x
+inlined_is d (Some WhileTrue) r [] x y = x
+inlined_is d (Some WhileTrue) r (a ∷ b ∷ bs) x y = x
+inlined_is d (Some WhileFalse) r [] x y = x
+inlined_is d (Some WhileFalse) r (a ∷ b ∷ bs) x y = x
+
+append_nil : (ls : List Line) → ls ++ [] ≡ ls
+append_nil [] = refl
+append_nil (l ∷ ls) = ap (λ (xs : List Line). l ∷ xs) (append_nil ls)
+
+kept_sent : (d : ℕ) (m : Message) → IsCode (sent false (d + 2) m) (d + 2) (d + 2) → IsCode (kept (d + 1) (sent false (d + 2) m)) (d + 1) (d + 1)
+kept_sent d m c =
+    let e : d + 2 ≡ d + 1 + 1 = omega arith in
+    kept_is (d + 1) (sent false (d + 2) m) (omega arith) (starts_at (sent false (d + 2) m) (d + 2) (d + 1 + 1) (d + 1 + 1) e (ends_at (sent false (d + 2) m) (d + 2) (d + 2) (d + 1 + 1) e c))
+
+-- the further messages of a cascade, where there are any
+abbrev FurtherIs : ℕ → Further → Type 0
+FurtherIs d no_further = Unit {0}
+FurtherIs d (further place m ms) = IsCode (further_sent d (further place m ms)) d d
+
+sent_line : (up : Bool) (text : List ℕ) (d : ℕ) → 0 < d → IsCode (line d (to up text 0) ∷ []) (d + 0) d
+sent_line up text d le = starts_at (line d (to up text 0) ∷ []) d (d + 0) d (omega arith) (one d d (to up text 0) 1 1 (to_flow up text 0) le (omega (arith, le)))
+
+choose : (b : Bool) (x y : List Line) (d k : ℕ) → IsCode x d k → IsCode y d k → IsCode (one_of b x y) d k
+choose true x y d k a b = a
+choose false x y d k a b = b
+
+-- The code of an expression leaves one operand.
+mutual
+  pub code_is : (d : ℕ) (e : Expression) → IsCode (code d e) d (d + 1)
+  code_is d (Expression.number value place minus) = one d (d + 1) _ 0 1 refl (omega arith) (omega arith)
+  code_is d (Expression.symbol n) = one d (d + 1) (symbol n.text) 0 1 refl (omega arith) (omega arith)
+  code_is d (name n) = one d (d + 1) (variable n) 0 1 refl (omega arith) (omega arith)
+  code_is d (parenthesis opening e closing) = code_is d e
+  code_is d (empty_block opening closing) = plain_is d Nil
+  code_is d (block opening ss closing) = statements_is d ss
+  code_is d (send e m) =
+      choose (is_inlined e m) (inlined d (inlining_of m) (code d e) (blocks d m)) (code d e ++ sent (is_super e) (d + 1) m) d (d + 1) (inlined_is d (inlining_of m) (code d e) (blocks d m) (code_is d e) (blocks_are d m)) (join (code d e) (sent (is_super e) (d + 1) m) d (d + 1) (d + 1) (code_is d e) (sent_is (is_super e) (d + 1) m (omega arith)))
+  code_is d (cascade e m no_further) =
+      join (code d e) (kept (d + 1) (sent false (d + 2) m) ++ []) d (d + 1) (d + 1) (code_is d e) (subst (λ ls. IsCode ls (d + 1) (d + 1)) (sym (append_nil (kept (d + 1) (sent false (d + 2) m)))) (kept_sent d m (sent_is false (d + 2) m (omega arith))))
+  code_is d (cascade e m (further place next ms)) =
+      join (code d e) (kept (d + 1) (sent false (d + 2) m) ++ further_sent (d + 1) (further place next ms)) d (d + 1) (d + 1) (code_is d e) (join (kept (d + 1) (sent false (d + 2) m)) (further_sent (d + 1) (further place next ms)) (d + 1) (d + 1) (d + 1) (kept_sent d m (sent_is false (d + 2) m (omega arith))) (further_is (d + 1) (further place next ms) (omega arith)))
+  code_is d (Expression.assign n place e) = join (code d e) (line (d + 1) (store n) ∷ []) d (d + 1) (d + 1) (code_is d e) (one (d + 1) (d + 1) (store n) 1 1 refl (omega arith) (omega arith))
+
+  pub sent_is : (up : Bool) (d : ℕ) (m : Message) → 0 < d → IsCode (sent up d m) d d
+  sent_is up d (unary n) le = starts_at (line d (to up n.text 0) ∷ []) (d + 0) d d (omega arith) (sent_line up n.text d le)
+  sent_is up d (Message.binary n e) le = join (code d e) (line (d + 1) (to up n.text 1) ∷ []) d (d + 1) d (code_is d e) (to_is up n.text d 1 le)
+  sent_is up d (keywords ps) le = arguments_is d ps (line (d + count ps) (to up (joined ps) (count ps)) ∷ []) d (to_is up (joined ps) d (count ps) le)
+
+  arguments_is : (d : ℕ) (ps : Parts) (rest : List Line) (k : ℕ) → IsCode rest (d + count ps) k → IsCode (arguments d ps ++ rest) d k
+  arguments_is d no_parts rest k c = starts_at rest (d + 0) d k (omega arith) c
+  arguments_is d (part n e ps) rest k c =
+      subst (λ ls. IsCode ls d k) (sym (append_assoc (code d e) (arguments (d + 1) ps) rest)) (join (code d e) (arguments (d + 1) ps ++ rest) d (d + 1) k (code_is d e) (arguments_is (d + 1) ps rest k (starts_at rest (d + suc (count ps)) (d + 1 + count ps) k (length_more d (count ps)) c)))
+
+  blocks_are : (d : ℕ) (m : Message) → AreBlocks d (blocks d m)
+  blocks_are d (unary n) = tt
+  blocks_are d (Message.binary n e) = tt
+  blocks_are d (keywords ps) = part_blocks_are d ps
+
+  part_blocks_are : (d : ℕ) (ps : Parts) → AreBlocks d (part_blocks d ps)
+  part_blocks_are d no_parts = tt
+  part_blocks_are d (part n e ps) = (code_is d e, part_blocks_are d ps)
+
+  further_is : (d : ℕ) (ms : Further) → 0 < d → FurtherIs d ms
+  further_is d no_further le = tt
+  further_is d (further place m no_further) le = sent_is false d m le
+  further_is d (further place m (further after next ms)) le =
+      join (kept d (sent false (d + 1) m)) (further_sent d (further after next ms)) d d d (kept_is d (sent false (d + 1) m) le (sent_is false (d + 1) m (omega arith))) (further_is d (further after next ms) le)
+
+  pub statements_is : (d : ℕ) (ss : Statements) → IsCode (statements_value d ss) d (d + 1)
+  statements_is d (last e period) = code_is d e
+  statements_is d (answer caret e period) = join (code d e) (line (d + 1) return ∷ []) d (d + 1) (d + 1) (code_is d e) (ending (d + 1) (d + 1) (omega arith))
+  statements_is d (statement e period ss) =
+      join (code d e) (line (d + 1) drop ∷ statements_value d ss) d (d + 1) (d + 1) (code_is d e) (join (line (d + 1) drop ∷ []) (statements_value d ss) (d + 1) d (d + 1) (one (d + 1) d drop 1 0 refl (omega arith) (omega arith)) (statements_is d ss))

@@ -1,5 +1,5 @@
 -- The place of a text in a list of texts.
-use Rattle.std.proofs.Common.{◌≡◌, ℕ, zero, suc, ◌+◌, ◌<◌, Bool, true, false, cond, ltb, List, [], ◌∷◌, ◌++◌, length, Option, Some, None, slice_get, refl, sym, ap, ◌∙◌, arith}
+use Rattle.std.proofs.Common.{◌≡◌, ℕ, zero, suc, ◌+◌, ◌<◌, ◌≤◌, Bool, true, false, cond, ltb, List, [], ◌∷◌, ◌++◌, length, Option, Some, None, slice_get, map, refl, sym, ap, ◌∙◌, arith}
 use Rattle.std.specs.List.{position, position_or_len}
 use Rattle.std.specs.Option.{option_map}
 use Rattle.std.specs.Str.{bytes_eq}
@@ -9,6 +9,9 @@ use Rattle.std.proofs.lemmas.Option.{same_Some, none-some, slice_get_within}
 use Rattle.std.proofs.lemmas.Slice.Eq.{bytes_eq-Decides}
 use Rattle.st_classes.specs.Selectors.{place_of}
 use Rattle.st_classes.specs.Names.{AreNames}
+use Rattle.std.specs.Borrow.{Bor}
+use Rattle.st_reader.specs.declared.trees.Name.{Name}
+use Rattle.st_compile.specs.Naming.{named}
 
 -- the first place that passes, by recursion
 abbrev pub first : {X : Type 0} → (X → Bool) → List X → Option ℕ
@@ -107,3 +110,20 @@ place-within names text n h = slice_get_within names n text (at-place names text
 -- in a name table a text's place is where it stands
 pub place-of_name : (names : List (List ℕ)) → AreNames names → (text : List ℕ) (n : ℕ) → slice_get names n ≡ Some text → place_of names text ≡ Some n
 place-of_name names a text n h = position-first (bytes_eq text) names ∙ first-one (bytes_eq text) names n text h ((bytes_eq-Decides text text).1 refl) (λ m y q t. a.different m n text (q ∙ ap Some (sym (same_text text y t))) h)
+
+-- among names, by their texts
+place-named : (names : List (Bor Name)) (text : List ℕ) → first (λ n. bytes_eq text n.now.text) names ≡ first (bytes_eq text) (map (λ n. n.text) (named names))
+place-named [] text = refl
+place-named (n ∷ names) text = ap (λ (o : Option ℕ). cond (bytes_eq text n.now.text) (Some 0) (option_map suc o)) (place-named names text)
+
+pub local_place : (names : List (Bor Name)) (text : List ℕ) → position (λ n. bytes_eq text n.now.text) names ≡ place_of (map (λ n. n.text) (named names)) text
+local_place names text = position-first (λ n. bytes_eq text n.now.text) names ∙ (place-named names text ∙ sym (position-first (bytes_eq text) (map (λ n. n.text) (named names))))
+
+-- a place among few
+pub place_few : (names : List (List ℕ)) (text : List ℕ) (n : ℕ) → place_of names text ≡ Some n → length names ≤ 64 → n < 64
+place_few names text n h l = omega (arith, l, place-within names text n h)
+
+pub first-within : {X : Type 0} (p : X → Bool) (xs : List X) (n : ℕ) → first p xs ≡ Some n → n < length xs
+first-within p xs n h =
+    let r = at-first p xs n h in
+    slice_get_within xs n r.0 r.1

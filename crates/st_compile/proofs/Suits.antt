@@ -1,67 +1,149 @@
--- The code of a tree suits its class.
-use Rattle.std.proofs.Common.{◌≡◌, ℕ, ◌+◌, ◌<◌, true, ◌&&◌, List, [], ◌∷◌, length, Option, Some, None, nat_lt, eqb, eq-eqb, refl, ap, ◌∙◌, arith}
-use Rattle.std.specs.List.{list_all}
-use Rattle.std.specs.Option.{option_and_then}
-use Rattle.std.proofs.lemmas.Bool.{and_parts, and_from}
-use Rattle.std.proofs.lemmas.Bool.Decides.{nat_tests}
+-- The code of a method suits its class.
+use Rattle.std.proofs.Common.{◌≡◌, ℕ, ◌<◌, true, false, Bool, List, [], ◌∷◌, length, Option, Some, None, refl, sym, ap, ◌∙◌, arith}
+use Rattle.std.specs.Prelude.{codes}
+use Rattle.std.specs.List.{list_all, position}
+use Rattle.std.specs.Option.{option_map, option_and_then}
+use Rattle.std.specs.Str.{bytes_eq}
+use Rattle.std.proofs.lemmas.Bool.{and_parts, and_from, lt-ltb, ltb-true, false≢true}
 use Rattle.std.proofs.lemmas.Option.{same_Some, none-some}
 use Rattle.st_classes.specs.declared.values.ClassId.{ClassId}
-use Rattle.st_classes.specs.declared.values.Value.TheVariants.{Int}
+use Rattle.st_classes.specs.declared.values.Value.{Value}
+use Rattle.st_classes.specs.declared.values.Value.TheVariants.{Int, Bool as Boolean, Nil, Sym, Class, Actor, Local}
 use Rattle.st_classes.specs.declared.edits.Edit.{Edit}
 use Rattle.st_classes.specs.declared.instructions.Instruction.{Instruction}
-use Rattle.st_classes.specs.declared.instructions.Instruction.TheVariants.{PushLit, PushSelf, PushSlot, Answer}
-use Rattle.st_classes.specs.declared.methods.MethodParts.{MethodParts}
-use Rattle.st_classes.specs.Classes.{class_count, slots}
-use Rattle.st_classes.specs.Kernel.{selector}
+use Rattle.st_classes.specs.declared.instructions.Instruction.TheVariants.{PushLit, PushSelf, PushActor, PushTemp, PushSlot, StoreTemp, StoreSlot, Pop, Dup, Send, SuperSend, Jump, JumpFalse, JumpTrue, Answer}
+use Rattle.st_classes.specs.Classes.{class_count, class_named, classes}
+use Rattle.st_classes.specs.Kernel.{class, selector}
 use Rattle.st_classes.specs.Selectors.{place_of, arity_of}
-use Rattle.st_classes.specs.Suiting.{arity_at, is_number, instruction_suits, suits}
-use Rattle.st_compile.specs.Code.{has_selector, instruction_of, instructions_of, code_of}
-use Rattle.st_compile.specs.Words.{Word, Number, Receiver, Variable, Message, Return, tree_words}
-use Rattle.st_reader.specs.declared.trees.MethodTree.{MethodTree}
-use Rattle.st_compile.proofs.Selecting.{has_selectors}
-use Rattle.st_compile.proofs.Places.{at-place, place-within}
-use Rattle.st_compile.proofs.Resolving.{sent, instructions-parts}
+use Rattle.st_classes.specs.Suiting.{arity_at, is_number, instruction_suits, literal_suits}
+use Rattle.st_compile.specs.Proper.{word_fits}
+use Rattle.st_compile.specs.Resolving.{Scope, instruction_of, instructions_of, or_else, pushed, reserved, stored}
+use Rattle.st_compile.specs.Words.{Word, Line, literal, symbol, receiver, variable, store, drop, repeat, message, super_message, jump, jump_false, jump_true, return}
+use Rattle.st_compile.proofs.Places.{at-place, place-within, position-first, first-within}
+use Rattle.st_compile.proofs.Resolving.{instructions-parts}
 
 -- the selector at a text's place has the text's number of arguments
 pub arity-place : (names : List (List ℕ)) (text : List ℕ) (n s : ℕ) → place_of names text ≡ Some s → is_number (arity_of text) n ≡ true → is_number (arity_at names (selector s)) n ≡ true
 arity-place names text n s e h = ap (λ (o : Option (List ℕ)). is_number (option_and_then arity_of o) n) (at-place names text s e) ∙ h
 
-word_suits : (names variables : List (List ℕ)) (count : ℕ) (word : Word) (i : Instruction) → has_selector word ≡ true → instruction_of names variables word ≡ Some i → instruction_suits names count (length variables) 0 i ≡ true
-word_suits names variables count (Number value) i h e = rw (← same_Some (PushLit (Int value)) i e) refl
-word_suits names variables count Receiver i h e = rw (← same_Some PushSelf i e) refl
-word_suits names variables count (Variable text) i h e = by (place_of variables text) refl
+-- an instruction suits in a scope
+abbrev pub Suit : List (List ℕ) → Scope → Instruction → Type 0
+Suit names scope i = instruction_suits names (class_count scope.edits) (length scope.slots) (length scope.locals) i ≡ true
+
+-- an instruction that is there suits
+abbrev SuitsThere : List (List ℕ) → Scope → Option Instruction → Type 0
+SuitsThere names scope o = (i : Instruction) → o ≡ Some i → Suit names scope i
+
+there : (names : List (List ℕ)) (scope : Scope) (i : Instruction) → Suit names scope i → SuitsThere names scope (Some i)
+there names scope i s j e = rw (← same_Some i j e) s
+
+not_there : (names : List (List ℕ)) (scope : Scope) → SuitsThere names scope None
+not_there names scope j e = absurd (none-some j e)
+
+-- the number of a text, where it has one
+by_place : (names : List (List ℕ)) (scope : Scope) (texts : List (List ℕ)) (text : List ℕ) (f : ℕ → Instruction) → ((s : ℕ) → place_of texts text ≡ Some s → Suit names scope (f s)) → SuitsThere names scope (option_map f (place_of texts text))
+by_place names scope texts text f h i e = by (place_of texts text) refl
   where
-    by : (o : Option ℕ) → place_of variables text ≡ o → instruction_suits names count (length variables) 0 i ≡ true
+    by : (o : Option ℕ) → place_of texts text ≡ o → Suit names scope i
     by None q =
         let k : None ≡ Some i = rw q at e in
         absurd (none-some i k)
     by (Some s) q =
-        let k : Some (PushSlot s) ≡ Some i = rw q at e in
-        let l : s < length variables = place-within variables text s q in
-        let t : nat_lt s (length variables) ≡ true = grind (arith, nat_tests) in
-        rw (← same_Some (PushSlot s) i k) t
-word_suits names variables count (Message text n) i h e = by (place_of names text) refl
+        let k : Some (f s) ≡ Some i = rw q at e in
+        rw (← same_Some (f s) i k) (h s q)
+
+either_suits : (names : List (List ℕ)) (scope : Scope) (o p : Option Instruction) → SuitsThere names scope o → SuitsThere names scope p → SuitsThere names scope (or_else o p)
+either_suits names scope (Some j) p f g = f
+either_suits names scope None p f g = g
+
+reserved_suits : (names : List (List ℕ)) (scope : Scope) (text : List ℕ) → SuitsThere names scope (reserved text)
+reserved_suits names scope text i h = by (bytes_eq text (codes "self")) refl (bytes_eq text (codes "super")) refl (bytes_eq text (codes "nil")) refl (bytes_eq text (codes "true")) refl (bytes_eq text (codes "false")) refl (bytes_eq text (codes "thisActor")) refl
   where
-    by : (o : Option ℕ) → place_of names text ≡ o → instruction_suits names count (length variables) 0 i ≡ true
+    by : (a : Bool) → bytes_eq text (codes "self") ≡ a → (b : Bool) → bytes_eq text (codes "super") ≡ b → (c : Bool) → bytes_eq text (codes "nil") ≡ c → (d : Bool) → bytes_eq text (codes "true") ≡ d → (e : Bool) → bytes_eq text (codes "false") ≡ e → (f : Bool) → bytes_eq text (codes "thisActor") ≡ f → Suit names scope i
+    by true p b q c r d s e t f u =
+        let k : Some PushSelf ≡ Some i = rw p at h in
+        rw (← same_Some PushSelf i k) refl
+    by false p true q c r d s e t f u =
+        let k : Some PushSelf ≡ Some i = rw (p, q) at h in
+        rw (← same_Some PushSelf i k) refl
+    by false p false q true r d s e t f u =
+        let k : Some (PushLit Nil) ≡ Some i = rw (p, q, r) at h in
+        rw (← same_Some (PushLit Nil) i k) refl
+    by false p false q false r true s e t f u =
+        let k : Some (PushLit (Boolean true)) ≡ Some i = rw (p, q, r, s) at h in
+        rw (← same_Some (PushLit (Boolean true)) i k) refl
+    by false p false q false r false s true t f u =
+        let k : Some (PushLit (Boolean false)) ≡ Some i = rw (p, q, r, s, t) at h in
+        rw (← same_Some (PushLit (Boolean false)) i k) refl
+    by false p false q false r false s false t true u =
+        let k : Some PushActor ≡ Some i = rw (p, q, r, s, t, u) at h in
+        rw (← same_Some PushActor i k) refl
+    by false p false q false r false s false t false u =
+        let k : None ≡ Some i = rw (p, q, r, s, t, u) at h in
+        absurd (none-some i k)
+
+class_within : (edits : List Edit) (text : List ℕ) (c : ClassId) → class_named edits text ≡ Some c → c.0 < class_count edits
+class_within edits text c e = by (position (λ d. bytes_eq text d.name) (classes edits)) refl
+  where
+    by : (o : Option ℕ) → position (λ d. bytes_eq text d.name) (classes edits) ≡ o → c.0 < class_count edits
+    by None q =
+        let k : None ≡ Some c = rw q at e in
+        absurd (none-some c k)
+    by (Some n) q =
+        let k : Some (class n) ≡ Some c = rw q at e in
+        rw (← same_Some (class n) c k) (first-within (λ d. bytes_eq text d.name) (classes edits) n (sym (position-first (λ d. bytes_eq text d.name) (classes edits)) ∙ q))
+
+class_suits : (names : List (List ℕ)) (scope : Scope) (text : List ℕ) → SuitsThere names scope (option_map (λ c. PushLit (Class c)) (class_named scope.edits text))
+class_suits names scope text i e = by (class_named scope.edits text) refl
+  where
+    by : (o : Option ClassId) → class_named scope.edits text ≡ o → Suit names scope i
     by None q =
         let k : None ≡ Some i = rw q at e in
         absurd (none-some i k)
-    by (Some s) q =
-        let k : Some (sent n s) ≡ Some i = rw q at e in
-        rw (← same_Some (sent n s) i k) (arity-place names text n s q h)
-word_suits names variables count Return i h e = rw (← same_Some Answer i e) refl
+    by (Some c) q =
+        let k : Some (PushLit (Class c)) ≡ Some i = rw q at e in
+        rw (← same_Some (PushLit (Class c)) i k) (lt-ltb c.0 (class_count scope.edits) (class_within scope.edits text c q))
 
-pub code_suits : (names variables : List (List ℕ)) (count : ℕ) (words : List Word) (code : List Instruction) → list_all has_selector words ≡ true → instructions_of names variables words ≡ Some code → list_all (instruction_suits names count (length variables) 0) code ≡ true
-code_suits names variables count [] code h e = rw (← same_Some [] code e) refl
-code_suits names variables count (word ∷ words) code h e =
-    let p = instructions-parts names variables word words code e in
-    let b = and_parts (has_selector word) (list_all has_selector words) h in
-    rw p.whole (and_from (instruction_suits names count (length variables) 0 p.head) (list_all (instruction_suits names count (length variables) 0) p.tail) (word_suits names variables count word p.head b.0 p.head_is) (code_suits names variables count words p.tail b.1 p.tail_is))
+pushed_suits : (names : List (List ℕ)) (scope : Scope) (text : List ℕ) → SuitsThere names scope (pushed scope text)
+pushed_suits names scope text =
+    let locals = by_place names scope scope.locals text PushTemp (λ s q. lt-ltb s (length scope.locals) (place-within scope.locals text s q)) in
+    let slots = by_place names scope scope.slots text PushSlot (λ s q. lt-ltb s (length scope.slots) (place-within scope.slots text s q)) in
+    either_suits names scope (reserved text) _ (reserved_suits names scope text) (either_suits names scope (option_map PushTemp (place_of scope.locals text)) _ locals (either_suits names scope (option_map PushSlot (place_of scope.slots text)) _ slots (class_suits names scope text)))
 
-pub tree_suits : (names : List (List ℕ)) (edits : List Edit) (c : ClassId) (tree : MethodTree) (m : MethodParts) → m.holder ≡ c → place_of names tree.selector.text ≡ Some m.selector.0 → m.arguments ≡ 0 → m.temporaries ≡ 0 → code_of names (slots edits c) tree ≡ Some m.code → has_selectors tree ≡ true → suits names edits c m ≡ true
-tree_suits names edits c tree m h s a t k g =
-    let b = and_parts (is_number (arity_of tree.selector.text) 0) (list_all has_selector (tree_words tree)) g in
-    let same : eqb m.holder.0 c.0 ≡ true = eq-eqb m.holder.0 c.0 (ap (λ (x : ClassId). x.0) h) in
-    let own : is_number (arity_at names m.selector) m.arguments ≡ true = rw a (arity-place names tree.selector.text 0 m.selector.0 s b.0) in
-    let code : list_all (instruction_suits names (class_count edits) (length (slots edits c)) (m.arguments + m.temporaries)) m.code ≡ true = rw (a, t) (code_suits names (slots edits c) (class_count edits) (tree_words tree) m.code b.1 k) in
-    and_from (eqb m.holder.0 c.0 && is_number (arity_at names m.selector) m.arguments) (list_all (instruction_suits names (class_count edits) (length (slots edits c)) (m.arguments + m.temporaries)) m.code) (and_from (eqb m.holder.0 c.0) (is_number (arity_at names m.selector) m.arguments) same own) code
+stored_suits : (names : List (List ℕ)) (scope : Scope) (text : List ℕ) → SuitsThere names scope (stored scope text)
+stored_suits names scope text =
+    let locals = by_place names scope scope.locals text StoreTemp (λ s q. lt-ltb s (length scope.locals) (place-within scope.locals text s q)) in
+    let slots = by_place names scope scope.slots text StoreSlot (λ s q. lt-ltb s (length scope.slots) (place-within scope.slots text s q)) in
+    either_suits names scope (option_map StoreTemp (place_of scope.locals text)) _ locals slots
+
+literal_there : (names : List (List ℕ)) (count : ℕ) (v : Value) → literal_suits [] 0 v ≡ true → literal_suits names count v ≡ true
+literal_there names count (Int z) h = refl
+literal_there names count (Boolean b) h = refl
+literal_there names count Nil h = refl
+literal_there names count (Sym s) h = absurd (omega (arith, ltb-true s.0 0 h))
+literal_there names count (Class c) h = absurd (omega (arith, ltb-true c.0 0 h))
+literal_there names count (Actor a) h = absurd (false≢true h)
+literal_there names count (Local n) h = absurd (false≢true h)
+
+word_suits : (names : List (List ℕ)) (scope : Scope) (word : Word) → word_fits word ≡ true → SuitsThere names scope (instruction_of names scope word)
+word_suits names scope (literal v) h = there names scope (PushLit v) (literal_there names (class_count scope.edits) v h)
+word_suits names scope (symbol text) h = by_place names scope names text (λ s. PushLit (Sym (selector s))) (λ s q. lt-ltb s (length names) (place-within names text s q))
+word_suits names scope receiver h = there names scope PushSelf refl
+word_suits names scope (variable n) h = pushed_suits names scope n.text
+word_suits names scope (store n) h = stored_suits names scope n.text
+word_suits names scope drop h = there names scope Pop refl
+word_suits names scope repeat h = there names scope Dup refl
+word_suits names scope (message text n) h = by_place names scope names text (λ s. Send (selector s) n) (λ s q. arity-place names text n s q h)
+word_suits names scope (super_message text n) h = by_place names scope names text (λ s. SuperSend (selector s) n) (λ s q. arity-place names text n s q h)
+word_suits names scope (jump d) h = there names scope (Jump d) refl
+word_suits names scope (jump_false d) h = there names scope (JumpFalse d) refl
+word_suits names scope (jump_true d) h = there names scope (JumpTrue d) refl
+word_suits names scope return h = there names scope Answer refl
+
+pub code_suits : (names : List (List ℕ)) (scope : Scope) (lines : List Line) (code : List Instruction) → list_all (λ l. word_fits l.word) lines ≡ true → instructions_of names scope lines ≡ Some code → list_all (instruction_suits names (class_count scope.edits) (length scope.slots) (length scope.locals)) code ≡ true
+code_suits names scope [] code h e = rw (← same_Some [] code e) refl
+code_suits names scope (line ∷ lines) code h e =
+    let suit = instruction_suits names (class_count scope.edits) (length scope.slots) (length scope.locals) in
+    let p = instructions-parts names scope line lines code e in
+    let b = and_parts (word_fits line.word) (list_all (λ l. word_fits l.word) lines) h in
+    rw p.whole (and_from (suit p.head) (list_all suit p.tail) (word_suits names scope line.word b.0 p.head p.head_is) (code_suits names scope lines p.tail b.1 p.tail_is))

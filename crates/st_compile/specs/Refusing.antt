@@ -1,14 +1,55 @@
--- When a tree is refused.
-use Rattle.std.specs.Prelude.{◌≡◌, ℕ, List, [], ◌∷◌, ◌++◌, length, not, nat_lt, fold}
+-- When a method of the grammar has no code in a class, and which names its code needs.
+use Rattle.std.specs.Prelude.{◌≡◌, ℕ, ◌&&◌, List, [], ◌∷◌, ◌++◌, length, map, filter, min, Bool, true, not, is_some, nat_le, nat_lt, fold, codes}
+use Rattle.std.specs.List.{list_all, list_any, flat_map}
+use Rattle.std.specs.Str.{bytes_eq}
+use Rattle.st_classes.specs.declared.values.ClassId.{ClassId}
+use Rattle.st_classes.specs.declared.edits.Edit.{Edit}
 use Rattle.st_classes.specs.declared.refusals.Refusal.{Refusal}
 use Rattle.st_classes.specs.declared.refusals.Refusal.TheVariants.{BadSource, TooMany}
-use Rattle.st_classes.specs.declared.refusals.SourceFault.TheVariants.{BadToken}
+use Rattle.st_classes.specs.declared.refusals.SourceFault.TheVariants.{UnknownName, DuplicateName, TooLarge}
 use Rattle.st_classes.specs.declared.refusals.Limited.TheVariants.{Names}
 use Rattle.st_classes.specs.Names.{interned}
 use Rattle.st_classes.specs.Refusals.{Rule}
-use Rattle.st_reader.specs.declared.trees.MethodTree.{MethodTree}
-use Rattle.st_compile.specs.Words.{Word}
-use Rattle.st_compile.specs.Code.{has_code, is_known, selectors_of, word_texts}
+use Rattle.st_reader.specs.declared.trees.Name.{Name}
+use Rattle.st_reader.specs.Syntax.{Method}
+use Rattle.st_compile.specs.Words.{Word, Line, variable, store}
+use Rattle.st_compile.specs.Equations.{method_code}
+use Rattle.st_compile.specs.Resolving.{Scope, pushed, stored, word_texts}
+use Rattle.st_compile.specs.Scopes.{pattern_selector, locals_of, scope_of}
+
+-- a name stands for something in a scope; `super` doesn't as long as there are no super sends
+abbrev pub is_known : Scope → Word → Bool
+is_known scope (variable n) = not (bytes_eq n.text (codes "super")) && is_some (pushed scope n.text)
+is_known scope (store n) = is_some (stored scope n.text)
+is_known scope _ = true
+
+-- where the name of a word stands in the source
+abbrev pub start_of : Word → ℕ
+start_of (variable n) = n.span.start
+start_of (store n) = n.span.start
+start_of _ = 0
+
+-- the least of some numbers
+abbrev pub least : List ℕ → ℕ
+least [] = 0
+least (n ∷ []) = n
+least (n ∷ m ∷ ns) = min n (least (m ∷ ns))
+
+-- the names that stand for nothing, by their places in the source
+abbrev pub unknown : Scope → List Line → List ℕ
+unknown scope ls = map (λ l. start_of l.word) (filter (λ l. not (is_known scope l.word)) ls)
+
+-- the arguments and temporaries that are named as instance variables, by their places in the source
+abbrev pub clashing : List (List ℕ) → List Name → List ℕ
+clashing slots ns = map (λ n. n.span.start) (filter (λ n. list_any (bytes_eq n.text) slots) ns)
+
+-- no more than 1,024 instructions, and never more than 64 operands
+abbrev pub is_small : List Line → Bool
+is_small ls = nat_le (length ls) 1024 && list_all (λ l. nat_le l.depth 64) ls
+
+-- a refusal that applies where there is one such place, and says the first
+abbrev pub at_least_place : (ℕ → Refusal) → List ℕ → Rule
+at_least_place refusal places = (nat_lt 0 (length places), refusal (least places))
 
 -- the names after texts are interned one after another
 abbrev pub interned_all : List (List ℕ) → List (List ℕ) → List (List ℕ)
@@ -22,18 +63,18 @@ InternsFirst names texts after = (done : List (List ℕ)) × (left : List (List 
 abbrev pub IsFull : List (List ℕ) → Refusal → Type 0
 IsFull after e = e ≡ TooMany Names → length after ≡ 8192
 
--- at this stage every fault of a tree is the same
-abbrev pub no_code : Refusal
-no_code = BadSource BadToken 0
-
 -- so many of the texts are new that there would be more than 8,192 names
 abbrev pub names_rule : List (List ℕ) → List (List ℕ) → Rule
 names_rule names texts = (nat_lt 8192 (length (interned_all names texts)), TooMany Names)
 
--- the refusals of one word, in their order
-abbrev pub word_rules : List (List ℕ) → List (List ℕ) → Word → List Rule
-word_rules slots names word = (not (is_known slots word), no_code) ∷ names_rule names (word_texts word) ∷ []
+-- the texts that a method needs numbers for: its selector, then the selectors and symbols of its code
+abbrev pub texts_of : Method → List (List ℕ)
+texts_of m = pattern_selector m.pattern ∷ flat_map (λ l. word_texts l.word) (method_code m)
 
--- the refusals of a tree, in their order
-abbrev pub tree_rules : List (List ℕ) → List (List ℕ) → MethodTree → List Rule
-tree_rules slots names tree = (not (has_code slots tree), no_code) ∷ names_rule names (selectors_of tree) ∷ []
+-- the refusals of a source that has no code, in their order
+abbrev pub code_rules : List Edit → ClassId → Method → List Rule
+code_rules edits c m = at_least_place (BadSource UnknownName) (unknown (scope_of edits c m) (method_code m)) ∷ at_least_place (BadSource DuplicateName) (clashing (scope_of edits c m).slots (locals_of m)) ∷ (not (is_small (method_code m)), BadSource TooLarge 0) ∷ []
+
+-- the refusals of a method of the grammar, in their order
+abbrev pub method_rules : List (List ℕ) → List Edit → ClassId → Method → List Rule
+method_rules names edits c m = code_rules edits c m ++ names_rule names (texts_of m) ∷ []

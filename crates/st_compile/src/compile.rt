@@ -1,13 +1,19 @@
 //! Methods of trees.
-ghost use Rattle.std.specs.Prelude.{◌≡◌, true, false, OnOk, IfErr};
-ghost use Rattle.st_classes.specs.Classes.{is_class, slots};
+ghost use Rattle.std.specs.Prelude.{◌≡◌, true, Some, OnOk, IfErr};
+ghost use Rattle.st_classes.specs.declared.refusals.Refusal.{Refusal as Refused};
+ghost use Rattle.st_classes.specs.Classes.{is_class};
 ghost use Rattle.st_classes.specs.Refusals.{first_of, Answers};
-ghost use Rattle.st_reader.specs.Trees.{Spells};
-ghost use Rattle.st_compile.specs.Code.{has_code, selectors_of};
+ghost use Rattle.st_reader.specs.Spelling.{Spells};
+ghost use Rattle.st_reader.specs.Views.{method_view};
 ghost use Rattle.st_compile.specs.Compiled.{IsCompiled};
-ghost use Rattle.st_compile.specs.Refusing.{InternsFirst, IsFull, interned_all, tree_rules};
+ghost use Rattle.st_compile.specs.Refusing.{InternsFirst, IsFull, code_rules, interned_all, method_rules, texts_of};
 
-use crate::drafts::{Draft, NO_CODE};
+use crate::depths::depths_of;
+use crate::emit::Draft;
+use crate::locals::{argument_count, locals_of, temporary_count};
+use crate::refusing::code_refusal;
+use crate::resolve::resolve;
+use crate::scope::Scope;
 use crate::sites::sites_of;
 use st_classes::methods::{Method, MethodParts};
 use st_classes::names::Names;
@@ -18,12 +24,13 @@ use st_classes::version::Version;
 use st_reader::trees::MethodTree;
 use std::alloc::Global;
 
-/// The method of a tree in a class, which keeps the source that spells the tree. Its selector and those of its code are interned,
-/// in this order.
+/// The method of a tree in a class, which keeps the source that spells the tree. Its selector and the selectors and symbols of its
+/// code are interned, in this order.
 ///
-/// `BadSource`, with the kind `BadToken` and the offset 0, says that the tree has no code: a variable is no instance variable of
-/// the class, or there are more than 1,024 instructions. No name is interned then. `TooMany` says that there is no room for all
-/// the names; those that fitted stay. Where memory runs out, the first ones stay.
+/// `BadSource` says what is wrong and where, in this order: `UnknownName` at the first name that stands for nothing,
+/// `DuplicateName` at the first argument or temporary that is named as an instance variable, and `TooLarge` at 0 where there are
+/// more than 1,024 instructions or more than 64 operands. No name is interned then. `TooMany` says that there is no room for all
+/// the names; those that fitted stay. Where memory runs out, none or some of the first stay.
 pub fn compile(
     alloc: Global,
     tree: &MethodTree,
@@ -33,28 +40,31 @@ pub fn compile(
     source: Seq<u8>,
 ) -> Result<Method, Refusal>
     requires class { is_class version.now class ≡ true }
-    requires spells { Spells tree.now source }
-    ensures answers { Answers (first_of (tree_rules (slots version.now class) names.old tree.now)) result (λ method. IsCompiled names.new version.now class tree.now source method) }
-    ensures names { OnOk result (names.new ≡ interned_all names.old (selectors_of tree.now)) }
-    ensures some { InternsFirst names.old (selectors_of tree.now) names.new }
+    requires spells { Spells (method_view tree.now) source }
+    ensures answers { Answers (first_of (method_rules names.old version.now class (method_view tree.now))) result (λ method. IsCompiled names.new version.now class (method_view tree.now) source method) }
+    ensures names { OnOk result (names.new ≡ interned_all names.old (texts_of (method_view tree.now))) }
+    ensures some { InternsFirst names.old (texts_of (method_view tree.now)) names.new }
     ensures full { IfErr result (λ e. IsFull names.new e) }
-    ensures untouched { has_code (slots version.now class) tree.now ≡ false → names.new ≡ names.old }
+    ensures untouched { (e : Refused) → first_of (code_rules version.now class (method_view tree.now)) ≡ Some e → names.new ≡ names.old }
 {
     version.known();
-    let slots = version.slots(class);
-    let draft = Draft::of_tree(alloc, tree)?;
-    if !draft.has_code(slots) {
-        return Err(NO_CODE);
+    let locals = locals_of(alloc, tree)?;
+    let scope = Scope::in_class(version, class, locals.as_slice());
+    let draft = Draft::of_method(alloc, tree)?;
+    let lines = draft.lines.as_slice();
+    if let Some(refusal) = code_refusal(&scope, lines) {
+        return Err(refusal);
     }
-    let (selector, code) = draft.resolve(alloc, tree.selector.text.as_slice(), slots, names)?;
+    let (selector, code) = resolve(alloc, &tree.pattern, &scope, lines, names)?;
+    let depths = depths_of(alloc, lines)?;
     let sites = sites_of(alloc, code.as_slice())?;
     Ok(Method::new(MethodParts {
         holder: class,
         selector,
-        arguments: 0,
-        temporaries: 0,
+        arguments: argument_count(&tree.pattern),
+        temporaries: temporary_count(&tree.temporaries),
         code: Seq::from_vec(code),
-        depths: Seq::from_vec(draft.depths),
+        depths: Seq::from_vec(depths),
         sites: Seq::from_vec(sites),
         source,
     }))

@@ -13,18 +13,21 @@ use Rattle.st_classes.specs.declared.edits.Edit.{Edit}
 use Rattle.st_classes.specs.declared.edits.Edit.TheVariants.{Install}
 use Rattle.st_classes.specs.declared.kernel.Kernel.{Kernel}
 use Rattle.st_classes.specs.declared.refusals.Refusal.{Refusal}
-use Rattle.st_classes.specs.declared.refusals.Refusal.TheVariants.{UnknownClass, KernelMethod, TooMany, HistoryFull, NoMemory}
+use Rattle.st_classes.specs.declared.refusals.Refusal.TheVariants.{UnknownClass, KernelMethod, TooMany, HistoryFull, NoMemory, BadSource}
 use Rattle.st_classes.specs.declared.refusals.Limited.TheVariants.{Names, Edits}
 use Rattle.st_classes.specs.Refusals.{Rule, first_of, Answers}
 use Rattle.st_classes.specs.Kernel.{selector, kernel_selectors, kernel_method, object_method, integer_method, boolean_method}
 use Rattle.st_classes.specs.Selectors.{place_of}
-use Rattle.st_classes.specs.Classes.{is_class, slots}
+use Rattle.st_classes.specs.Classes.{is_class}
 use Rattle.st_classes.specs.Accepting.{edit_rules, too_many_edits}
 use Rattle.st_classes.proofs.LawLists.{slice_get_old}
-use Rattle.st_reader.specs.declared.trees.MethodTree.{MethodTree}
-use Rattle.st_reader.specs.Trees.{Spells}
-use Rattle.st_compile.specs.Code.{has_code, selectors_of}
-use Rattle.st_compile.specs.Refusing.{InternsFirst, IsFull, interned_all, no_code, tree_rules}
+use Rattle.st_classes.specs.declared.refusals.SourceFault.{SourceFault}
+use Rattle.st_classes.specs.declared.refusals.SourceFault.TheVariants.{UnknownName, DuplicateName, TooLarge}
+use Rattle.st_reader.specs.Spelling.{Spells}
+use Rattle.st_reader.specs.Syntax.{Method}
+use Rattle.st_compile.specs.Refusing.{InternsFirst, IsFull, interned_all, names_rule, code_rules, method_rules, texts_of, unknown, clashing, is_small, least}
+use Rattle.st_compile.specs.Equations.{method_code}
+use Rattle.st_compile.specs.Scopes.{pattern_selector, scope_of, locals_of}
 use Rattle.st_compile.specs.Compiled.{IsCompiled}
 use Rattle.st_compile.proofs.Interning.{first-all}
 use Rattle.st_compile.proofs.Places.{first, position-first, place-append, at-place}
@@ -117,15 +120,15 @@ is_not true e = refl
 is_not false e = cc
 
 -- behind the class and the kernel come the tree's refusals, and then those of an edit
-tree_part : (i : ImageView) (c : ClassId) (tree : MethodTree) → is_class (world i).edits c ≡ true → is_kernel_text c tree.selector.text ≡ false → first_of (image_install_rules i c tree) ≡ first_of (tree_rules (slots (world i).edits c) i.names tree ++ (too_many_edits (world i).edits ∷ run_rules i))
+tree_part : (i : ImageView) (c : ClassId) (tree : Method) → is_class (world i).edits c ≡ true → is_kernel_text c (pattern_selector tree.pattern) ≡ false → first_of (image_install_rules i c tree) ≡ first_of (method_rules i.names (world i).edits c tree ++ (too_many_edits (world i).edits ∷ run_rules i))
 tree_part i c tree h k =
-    skip (not (is_class (world i).edits c)) UnknownClass ((is_kernel_text c tree.selector.text, KernelMethod) ∷ (tree_rules (slots (world i).edits c) i.names tree ++ (too_many_edits (world i).edits ∷ run_rules i))) (is_not _ h)
-    ∙ skip (is_kernel_text c tree.selector.text) KernelMethod (tree_rules (slots (world i).edits c) i.names tree ++ (too_many_edits (world i).edits ∷ run_rules i)) k
+    skip (not (is_class (world i).edits c)) UnknownClass ((is_kernel_text c (pattern_selector tree.pattern), KernelMethod) ∷ (method_rules i.names (world i).edits c tree ++ (too_many_edits (world i).edits ∷ run_rules i))) (is_not _ h)
+    ∙ skip (is_kernel_text c (pattern_selector tree.pattern)) KernelMethod (method_rules i.names (world i).edits c tree ++ (too_many_edits (world i).edits ∷ run_rules i)) k
 
 -- the refusal of a tree is that of its install
-pub tree_refused : (i : ImageView) (c : ClassId) (tree : MethodTree) (e : Refusal) → is_class (world i).edits c ≡ true → is_kernel_text c tree.selector.text ≡ false → (e ≡ NoMemory) ⊎ (first_of (tree_rules (slots (world i).edits c) i.names tree) ≡ Some e) → (e ≡ NoMemory) ⊎ (first_of (image_install_rules i c tree) ≡ Some e)
+pub tree_refused : (i : ImageView) (c : ClassId) (tree : Method) (e : Refusal) → is_class (world i).edits c ≡ true → is_kernel_text c (pattern_selector tree.pattern) ≡ false → (e ≡ NoMemory) ⊎ (first_of (method_rules i.names (world i).edits c tree) ≡ Some e) → (e ≡ NoMemory) ⊎ (first_of (image_install_rules i c tree) ≡ Some e)
 tree_refused i c tree e h k (inl m) = inl m
-tree_refused i c tree e h k (inr f) = inr (tree_part i c tree h k ∙ first_here (tree_rules (slots (world i).edits c) i.names tree) (too_many_edits (world i).edits ∷ run_rules i) e f)
+tree_refused i c tree e h k (inr f) = inr (tree_part i c tree h k ∙ first_here (method_rules i.names (world i).edits c tree) (too_many_edits (world i).edits ∷ run_rules i) e f)
 
 -- the number of a method's selector is no kernel method's
 number_free : (names : List (List ℕ)) → BeginsWithKernel names → (c : ClassId) (text : List ℕ) (s : Selector) → place_of names text ≡ Some s.0 → is_kernel_text c text ≡ false → is_some (kernel_method c s) ≡ false
@@ -141,56 +144,82 @@ answers_same f g P Q (Ok x) e h a = (sym e ∙ a.0, h x a.1)
 answers_same f g P Q (Err x) e h (inl m) = inl m
 answers_same f g P Q (Err x) e h (inr s) = inr (sym e ∙ s)
 
-pub tree_installed : (i j k : ImageView) (c : ClassId) (tree : MethodTree) (text : List ℕ) (m : MethodParts) (r : Result ℕ Refusal) → is_class (world i).edits c ≡ true → is_kernel_text c tree.selector.text ≡ false → first_of (tree_rules (slots (world i).edits c) i.names tree) ≡ None → j ≡ with_names_of i tree → world j ≡ world i → BeginsWithKernel j.names → IsCompiled j.names (world i).edits c tree text m → Answers (first_of (edit_rules (world j).edits (Install c m) ++ run_rules j)) r (λ n. (k ≡ appended j (Edited (Install c m) ∷ [])) × (n ≡ length (world k).edits)) → Answers (first_of (image_install_rules i c tree)) r (λ n. Installs i c tree text k n)
+pub tree_installed : (i j k : ImageView) (c : ClassId) (tree : Method) (text : List ℕ) (m : MethodParts) (r : Result ℕ Refusal) → is_class (world i).edits c ≡ true → is_kernel_text c (pattern_selector tree.pattern) ≡ false → first_of (method_rules i.names (world i).edits c tree) ≡ None → j ≡ with_names_of i tree → world j ≡ world i → BeginsWithKernel j.names → IsCompiled j.names (world i).edits c tree text m → Answers (first_of (edit_rules (world j).edits (Install c m) ++ run_rules j)) r (λ n. (k ≡ appended j (Edited (Install c m) ∷ [])) × (n ≡ length (world k).edits)) → Answers (first_of (image_install_rules i c tree)) r (λ n. Installs i c tree text k n)
 tree_installed i j k c tree text m r h f t e w b p a =
-    let free : is_some (kernel_method c m.selector) ≡ false = number_free j.names b c tree.selector.text m.selector p.selector f in
-    let mine : first_of (image_install_rules i c tree) ≡ first_of (too_many_edits (world i).edits ∷ run_rules i) = tree_part i c tree h f ∙ first_later (tree_rules (slots (world i).edits c) i.names tree) (too_many_edits (world i).edits ∷ run_rules i) t in
+    let free : is_some (kernel_method c m.selector) ≡ false = number_free j.names b c (pattern_selector tree.pattern) m.selector p.selector f in
+    let mine : first_of (image_install_rules i c tree) ≡ first_of (too_many_edits (world i).edits ∷ run_rules i) = tree_part i c tree h f ∙ first_later (method_rules i.names (world i).edits c tree) (too_many_edits (world i).edits ∷ run_rules i) t in
     let runs : run_rules j ≡ run_rules i = ap run_rules e in
     let theirs : first_of (edit_rules (world j).edits (Install c m) ++ run_rules j) ≡ first_of (too_many_edits (world i).edits ∷ run_rules i) =
     ap (λ (v : World). first_of (edit_rules v.edits (Install c m) ++ run_rules j)) w ∙ edit_part (world i).edits j c m h free ∙ ap (λ (rs : List Rule). first_of (too_many_edits (world i).edits ∷ rs)) runs in
     answers_same _ _ _ _ r (theirs ∙ sym mine) (λ n q. (m, subst (λ (ns : List (List ℕ)). IsCompiled ns (world i).edits c tree text m) (sym (ap (λ (v : ImageView). v.names) q.0)) p, q.0 ∙ ap (λ (v : ImageView). appended v (Edited (Install c m) ∷ [])) e, q.1)) a
 
 -- the answer of a tree that the text spells is the answer of its install
-pub install_answered : (i k : ImageView) (c : ClassId) (tree : MethodTree) (text : List ℕ) (r : Result ℕ Refusal) → Spells tree text → Answers (first_of (image_install_rules i c tree)) r (λ n. Installs i c tree text k n) → AnswersInstall i c text k r
+pub install_answered : (i k : ImageView) (c : ClassId) (tree : Method) (text : List ℕ) (r : Result ℕ Refusal) → Spells tree text → Answers (first_of (image_install_rules i c tree)) r (λ n. Installs i c tree text k n) → AnswersInstall i c text k r
 install_answered i k c tree text (Ok n) s a = (tree, s, a.0, a.1)
 install_answered i k c tree text (Err e) s (inl m) = memory m
 install_answered i k c tree text (Err e) s (inr f) = first_refusal tree s f
 
 -- ---- what a refused install leaves
 
-source_allowed : (i : ImageView) (c : ClassId) (tree : MethodTree) → is_class (world i).edits c ≡ true → is_kernel_text c tree.selector.text ≡ false → has_code (slots (world i).edits c) tree ≡ true → first_of (source_rules i c tree) ≡ None
+source_allowed : (i : ImageView) (c : ClassId) (tree : Method) → is_class (world i).edits c ≡ true → is_kernel_text c (pattern_selector tree.pattern) ≡ false → first_of (code_rules (world i).edits c tree) ≡ None → first_of (source_rules i c tree) ≡ None
 source_allowed i c tree h k e =
-    skip (not (is_class (world i).edits c)) UnknownClass ((is_kernel_text c tree.selector.text, KernelMethod) ∷ (not (has_code (slots (world i).edits c) tree), no_code) ∷ []) (is_not _ h)
-    ∙ (skip (is_kernel_text c tree.selector.text) KernelMethod ((not (has_code (slots (world i).edits c) tree), no_code) ∷ []) k
-    ∙ skip (not (has_code (slots (world i).edits c) tree)) no_code [] (is_not _ e))
+    skip (not (is_class (world i).edits c)) UnknownClass ((is_kernel_text c (pattern_selector tree.pattern), KernelMethod) ∷ code_rules (world i).edits c tree) (is_not _ h)
+    ∙ (skip (is_kernel_text c (pattern_selector tree.pattern)) KernelMethod (code_rules (world i).edits c tree) k ∙ e)
 
 some_refusal : (d e : Refusal) → Some d ≡ Some e → d ≡ e
 some_refusal d e h = cc
 
--- where the names that the tree needs are too many, or its code has none
-tree_left_by : (i j : ImageView) (c : ClassId) (tree : MethodTree) (text : List ℕ) (e : Refusal) (code full : Bool) → has_code (slots (world i).edits c) tree ≡ code → nat_lt 8192 (length (interned_all i.names (selectors_of tree))) ≡ full → (code ≡ true → AddsNames i c text j) → (code ≡ false → j ≡ i) → IsFull j.names e → first_of (tree_rules (slots (world i).edits c) i.names tree) ≡ Some e → LeavesNames i c text e j
-tree_left_by i j c tree text e false full h f adds untouched is_full refused =
-    let now : Some no_code ≡ Some e = rw h at refused in
-    subst (λ (r : Refusal). LeavesNames i c text r j) (some_refusal no_code e now) (untouched refl)
-tree_left_by i j c tree text e true true h f adds untouched is_full refused =
-    let now : Some (TooMany Names) ≡ Some e = rw (h, f) at refused in
-    let same : TooMany Names ≡ e = some_refusal (TooMany Names) e now in
+-- a refusal says what is wrong with a source
+abbrev SaysWrong : Refusal → Type 0
+SaysWrong e = (kind : SourceFault) × (offset : ℕ) × (e ≡ BadSource kind offset)
+
+says_chosen : (b : Bool) (d e : Refusal) (o : Option Refusal) → SaysWrong d → (o ≡ Some e → SaysWrong e) → cond b (Some d) o ≡ Some e → SaysWrong e
+says_chosen true d e o h f k = subst SaysWrong (some_refusal d e k) h
+says_chosen false d e o h f k = f k
+
+none_wrong : (e : Refusal) → None ≡ Some e → SaysWrong e
+none_wrong e h = cc
+
+-- what a method of the grammar has no code for is a bad source
+code_wrong : (es : List Edit) (c : ClassId) (tree : Method) (e : Refusal) → first_of (code_rules es c tree) ≡ Some e → SaysWrong e
+code_wrong es c tree e =
+    let names = unknown (scope_of es c tree) (method_code tree) in
+    let twice = clashing (scope_of es c tree).slots (locals_of tree) in
+    let large = says_chosen (not (is_small (method_code tree))) (BadSource TooLarge 0) e None (TooLarge, 0, refl) (none_wrong e) in
+    let again = says_chosen (nat_lt 0 (length twice)) (BadSource DuplicateName (least twice)) e (first_of ((not (is_small (method_code tree)), BadSource TooLarge 0) ∷ [])) (DuplicateName, least twice, refl) large in
+    says_chosen (nat_lt 0 (length names)) (BadSource UnknownName (least names)) e (first_of ((nat_lt 0 (length twice), BadSource DuplicateName (least twice)) ∷ (not (is_small (method_code tree)), BadSource TooLarge 0) ∷ [])) (UnknownName, least names, refl) again
+
+-- a bad source leaves all as it was
+wrong_left : (i j : ImageView) (c : ClassId) (text : List ℕ) (e : Refusal) → SaysWrong e → j ≡ i → LeavesNames i c text e j
+wrong_left i j c text e w h = subst (λ (r : Refusal). LeavesNames i c text r j) (sym w.2) h
+
+-- where the names that the tree needs are too many, or it has no code
+tree_left_by : (i j : ImageView) (c : ClassId) (tree : Method) (text : List ℕ) (e : Refusal) (code : Option Refusal) (full : Bool) → first_of (code_rules (world i).edits c tree) ≡ code → nat_lt 8192 (length (interned_all i.names (texts_of tree))) ≡ full → (code ≡ None → AddsNames i c text j) → ((d : Refusal) → code ≡ Some d → j ≡ i) → IsFull j.names e → first_of (method_rules i.names (world i).edits c tree) ≡ Some e → LeavesNames i c text e j
+tree_left_by i j c tree text e (Some d) full h f adds untouched is_full refused =
+    let first : first_of (method_rules i.names (world i).edits c tree) ≡ Some d = first_here (code_rules (world i).edits c tree) (names_rule i.names (texts_of tree) ∷ []) d h in
+    let same : d ≡ e = some_refusal d e (sym first ∙ refused) in
+    subst (λ (r : Refusal). LeavesNames i c text r j) same (wrong_left i j c text d (code_wrong (world i).edits c tree d h) (untouched d refl))
+tree_left_by i j c tree text e None true h f adds untouched is_full refused =
+    let now : first_of (names_rule i.names (texts_of tree) ∷ []) ≡ Some e = sym (first_later (code_rules (world i).edits c tree) (names_rule i.names (texts_of tree) ∷ []) h) ∙ refused in
+    let then_full : Some (TooMany Names) ≡ Some e = rw f at now in
+    let same : TooMany Names ≡ e = some_refusal (TooMany Names) e then_full in
     subst (λ (r : Refusal). LeavesNames i c text r j) same (adds refl, is_full (sym same))
-tree_left_by i j c tree text e true false h f adds untouched is_full refused =
-    let now : None ≡ Some e = rw (h, f) at refused in
+tree_left_by i j c tree text e None false h f adds untouched is_full refused =
+    let now : first_of (names_rule i.names (texts_of tree) ∷ []) ≡ Some e = sym (first_later (code_rules (world i).edits c tree) (names_rule i.names (texts_of tree) ∷ []) h) ∙ refused in
+    let none : None ≡ Some e = rw f at now in
     cc
 
-no_memory_left : (i j : ImageView) (c : ClassId) (text : List ℕ) (e : Refusal) (code : Bool) → (code ≡ true → AddsNames i c text j) → (code ≡ false → j ≡ i) → e ≡ NoMemory → LeavesNames i c text e j
-no_memory_left i j c text e true adds untouched m = subst (λ (r : Refusal). LeavesNames i c text r j) (sym m) (inr (adds refl))
-no_memory_left i j c text e false adds untouched m = subst (λ (r : Refusal). LeavesNames i c text r j) (sym m) (inl (untouched refl))
+no_memory_left : (i j : ImageView) (c : ClassId) (text : List ℕ) (e : Refusal) (code : Option Refusal) → (code ≡ None → AddsNames i c text j) → ((d : Refusal) → code ≡ Some d → j ≡ i) → e ≡ NoMemory → LeavesNames i c text e j
+no_memory_left i j c text e None adds untouched m = subst (λ (r : Refusal). LeavesNames i c text r j) (sym m) (inr (adds refl))
+no_memory_left i j c text e (Some d) adds untouched m = subst (λ (r : Refusal). LeavesNames i c text r j) (sym m) (inl (untouched d refl))
 
 -- what is left where the tree is refused
-pub tree_left : (i j : ImageView) (c : ClassId) (tree : MethodTree) (text : List ℕ) (e : Refusal) → Spells tree text → is_class (world i).edits c ≡ true → is_kernel_text c tree.selector.text ≡ false → InternsFirst i.names (selectors_of tree) j.names → j ≡ record i { names = j.names } → (has_code (slots (world i).edits c) tree ≡ false → j ≡ i) → IsFull j.names e → (e ≡ NoMemory) ⊎ (first_of (tree_rules (slots (world i).edits c) i.names tree) ≡ Some e) → LeavesNames i c text e j
+pub tree_left : (i j : ImageView) (c : ClassId) (tree : Method) (text : List ℕ) (e : Refusal) → Spells tree text → is_class (world i).edits c ≡ true → is_kernel_text c (pattern_selector tree.pattern) ≡ false → InternsFirst i.names (texts_of tree) j.names → j ≡ record i { names = j.names } → ((d : Refusal) → first_of (code_rules (world i).edits c tree) ≡ Some d → j ≡ i) → IsFull j.names e → (e ≡ NoMemory) ⊎ (first_of (method_rules i.names (world i).edits c tree) ≡ Some e) → LeavesNames i c text e j
 tree_left i j c tree text e s h k some only untouched full refused =
-    let adds : has_code (slots (world i).edits c) tree ≡ true → AddsNames i c text j = λ b. (tree, s, source_allowed i c tree h k b, some, only) in
+    let adds : first_of (code_rules (world i).edits c tree) ≡ None → AddsNames i c text j = λ b. (tree, s, source_allowed i c tree h k b, some, only) in
     elim refused [
-      | inl m ↦ no_memory_left i j c text e (has_code (slots (world i).edits c) tree) adds untouched m
-      | inr f ↦ tree_left_by i j c tree text e (has_code (slots (world i).edits c) tree) (nat_lt 8192 (length (interned_all i.names (selectors_of tree)))) refl refl adds untouched full f
+      | inl m ↦ no_memory_left i j c text e (first_of (code_rules (world i).edits c tree)) adds untouched m
+      | inr f ↦ tree_left_by i j c tree text e (first_of (code_rules (world i).edits c tree)) (nat_lt 8192 (length (interned_all i.names (texts_of tree)))) refl refl adds untouched full f
     ]
 
 -- the refusals of an edit whose class is there and whose selector is no kernel method's
@@ -209,21 +238,21 @@ edit_left_by i j c text e false false false es a b d adds refused =
     cc
 
 -- what is left where the edit is refused
-pub edit_left : {T : Type 0} (r : Result T Refusal) (P : T → Type 0) (i j k : ImageView) (c : ClassId) (tree : MethodTree) (text : List ℕ) (m : MethodParts) → Spells tree text → is_class (world i).edits c ≡ true → is_kernel_text c tree.selector.text ≡ false → first_of (tree_rules (slots (world i).edits c) i.names tree) ≡ None → j ≡ with_names_of i tree → world j ≡ world i → BeginsWithKernel j.names → place_of j.names tree.selector.text ≡ Some m.selector.0 → OnErr r (k ≡ j) → Answers (first_of (edit_rules (world j).edits (Install c m) ++ run_rules j)) r P → IfErr r (λ e. LeavesNames i c text e k)
+pub edit_left : {T : Type 0} (r : Result T Refusal) (P : T → Type 0) (i j k : ImageView) (c : ClassId) (tree : Method) (text : List ℕ) (m : MethodParts) → Spells tree text → is_class (world i).edits c ≡ true → is_kernel_text c (pattern_selector tree.pattern) ≡ false → first_of (method_rules i.names (world i).edits c tree) ≡ None → j ≡ with_names_of i tree → world j ≡ world i → BeginsWithKernel j.names → place_of j.names (pattern_selector tree.pattern) ≡ Some m.selector.0 → OnErr r (k ≡ j) → Answers (first_of (edit_rules (world j).edits (Install c m) ++ run_rules j)) r P → IfErr r (λ e. LeavesNames i c text e k)
 edit_left (Ok x) P i j k c tree text m s h f t e w b at same a = tt
 edit_left (Err x) P i j k c tree text m s h f t e w b at same a =
-    let code : has_code (slots (world i).edits c) tree ≡ true = has_code_here (has_code (slots (world i).edits c) tree) refl in
+    let code : first_of (code_rules (world i).edits c tree) ≡ None = code_there (first_of (code_rules (world i).edits c tree)) refl in
     let allowed : first_of (source_rules i c tree) ≡ None = source_allowed i c tree h f code in
     let adds : AddsAllNames i c text j = (tree, s, allowed, e) in
-    let some : AddsNames i c text j = (tree, s, allowed, first-all i.names (selectors_of tree) j.names (ap (λ (v : ImageView). v.names) e), e ∙ ap (λ (ns : List (List ℕ)). record i { names = ns }) (sym (ap (λ (v : ImageView). v.names) e))) in
+    let some : AddsNames i c text j = (tree, s, allowed, first-all i.names (texts_of tree) j.names (ap (λ (v : ImageView). v.names) e), e ∙ ap (λ (ns : List (List ℕ)). record i { names = ns }) (sym (ap (λ (v : ImageView). v.names) e))) in
     subst (λ (v : ImageView). LeavesNames i c text x v) (sym same) (elim a [
       | inl none ↦ subst (λ (r : Refusal). LeavesNames i c text r j) (sym none) (inr some)
       | inr first ↦
-          let free : is_some (kernel_method c m.selector) ≡ false = number_free j.names b c tree.selector.text m.selector at f in
+          let free : is_some (kernel_method c m.selector) ≡ false = number_free j.names b c (pattern_selector tree.pattern) m.selector at f in
           let here : is_class (world j).edits c ≡ true = subst (λ (v : World). is_class v.edits c ≡ true) (sym w) h in
           edit_left_by i j c text x (nat_le 4096 (length (world j).edits)) (nat_le 2048 (edits_in j.history)) (nat_lt j.limit (length j.history + 1)) (world j).edits refl refl refl adds (sym (edit_part (world j).edits j c m here free) ∙ first)
     ])
   where
-    has_code_here : (v : Bool) → has_code (slots (world i).edits c) tree ≡ v → has_code (slots (world i).edits c) tree ≡ true
-    has_code_here true g = g
-    has_code_here false g = let none : Some no_code ≡ None = rw g at t in cc
+    code_there : (v : Option Refusal) → first_of (code_rules (world i).edits c tree) ≡ v → first_of (code_rules (world i).edits c tree) ≡ None
+    code_there None g = g
+    code_there (Some d) g = let some : first_of (method_rules i.names (world i).edits c tree) ≡ Some d = first_here (code_rules (world i).edits c tree) (names_rule i.names (texts_of tree) ∷ []) d g in cc

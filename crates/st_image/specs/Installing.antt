@@ -9,12 +9,13 @@ use Rattle.st_classes.specs.declared.refusals.Limited.TheVariants.{Names, Edits}
 use Rattle.st_classes.specs.Refusals.{Rule, first_of}
 use Rattle.st_classes.specs.Kernel.{selector, kernel_selectors, kernel_method}
 use Rattle.st_classes.specs.Selectors.{place_of}
-use Rattle.st_classes.specs.Classes.{is_class, slots}
+use Rattle.st_classes.specs.Classes.{is_class}
 use Rattle.st_classes.specs.Accepting.{too_many_edits}
-use Rattle.st_reader.specs.declared.trees.MethodTree.{MethodTree}
-use Rattle.st_reader.specs.Trees.{Spells}
-use Rattle.st_compile.specs.Code.{has_code, selectors_of}
-use Rattle.st_compile.specs.Refusing.{InternsFirst, interned_all, names_rule, no_code}
+use Rattle.st_reader.specs.Faults.{IsBadSource}
+use Rattle.st_reader.specs.Spelling.{Spells}
+use Rattle.st_reader.specs.Syntax.{Method}
+use Rattle.st_compile.specs.Refusing.{InternsFirst, interned_all, names_rule, code_rules, texts_of}
+use Rattle.st_compile.specs.Scopes.{pattern_selector}
 use Rattle.st_compile.specs.Compiled.{IsCompiled}
 use Rattle.st_image.specs.declared.items.Item.TheVariants.{Edited}
 use Rattle.st_image.specs.Images.{ImageView, world, appended, run_rules}
@@ -29,28 +30,24 @@ abbrev pub is_kernel_text : ClassId → List ℕ → Bool
 is_kernel_text c text = has_kernel c (place_of kernel_selectors text)
 
 -- the refusals of an install that come before any name is interned
-abbrev pub source_rules : ImageView → ClassId → MethodTree → List Rule
-source_rules i c tree =
-    (not (is_class (world i).edits c), UnknownClass)
-    ∷ (is_kernel_text c tree.selector.text, KernelMethod)
-    ∷ (not (has_code (slots (world i).edits c) tree), no_code)
-    ∷ []
+abbrev pub source_rules : ImageView → ClassId → Method → List Rule
+source_rules i c method = (not (is_class (world i).edits c), UnknownClass) ∷ (is_kernel_text c (pattern_selector method.pattern), KernelMethod) ∷ code_rules (world i).edits c method
 
--- the refusals of an install of a text that spells a tree, in their order
-abbrev pub image_install_rules : ImageView → ClassId → MethodTree → List Rule
-image_install_rules i c tree = source_rules i c tree ++ names_rule i.names (selectors_of tree) ∷ too_many_edits (world i).edits ∷ run_rules i
+-- the refusals of an install of a text that spells a method, in their order
+abbrev pub image_install_rules : ImageView → ClassId → Method → List Rule
+image_install_rules i c method = source_rules i c method ++ names_rule i.names (texts_of method) ∷ too_many_edits (world i).edits ∷ run_rules i
 
--- the image with the names that the tree needs
-abbrev pub with_names_of : ImageView → MethodTree → ImageView
-with_names_of i tree = record i { names = interned_all i.names (selectors_of tree) }
+-- the image with the names that the method needs
+abbrev pub with_names_of : ImageView → Method → ImageView
+with_names_of i method = record i { names = interned_all i.names (texts_of method) }
 
--- some names that the tree needs were added, in their order, where none of the first refusals applies
+-- some names that the method needs were added, in their order, where none of the first refusals applies
 abbrev pub AddsNames : ImageView → ClassId → List ℕ → ImageView → Type 0
-AddsNames i c text j = (tree : MethodTree) × Spells tree text × (first_of (source_rules i c tree) ≡ None) × InternsFirst i.names (selectors_of tree) j.names × (j ≡ record i { names = j.names })
+AddsNames i c text j = (method : Method) × Spells method text × (first_of (source_rules i c method) ≡ None) × InternsFirst i.names (texts_of method) j.names × (j ≡ record i { names = j.names })
 
 -- all of them were added
 abbrev pub AddsAllNames : ImageView → ClassId → List ℕ → ImageView → Type 0
-AddsAllNames i c text j = (tree : MethodTree) × Spells tree text × (first_of (source_rules i c tree) ≡ None) × (j ≡ with_names_of i tree)
+AddsAllNames i c text j = (method : Method) × Spells method text × (first_of (source_rules i c method) ≡ None) × (j ≡ with_names_of i method)
 
 -- what a refused install leaves: want of memory, some of the names or none; a full name table, those that fitted; too many edits and a full history, all of them; any other refusal, none
 abbrev pub LeavesNames : ImageView → ClassId → List ℕ → Refusal → ImageView → Type 0
@@ -60,22 +57,22 @@ LeavesNames i c text (TooMany Edits) j = AddsAllNames i c text j
 LeavesNames i c text HistoryFull j = AddsAllNames i c text j
 LeavesNames i c text e j = j ≡ i
 
--- the class has the method of the tree, and the answer is the number of edits
-abbrev pub Installs : ImageView → ClassId → MethodTree → List ℕ → ImageView → ℕ → Type 0
-Installs i c tree text j n = (m : MethodParts) × IsCompiled j.names (world i).edits c tree text m × (j ≡ appended (with_names_of i tree) (Edited (Install c m) ∷ [])) × (n ≡ length (world j).edits)
+-- the class has the compiled method, and the answer is the number of edits
+abbrev pub Installs : ImageView → ClassId → Method → List ℕ → ImageView → ℕ → Type 0
+Installs i c method text j n = (m : MethodParts) × IsCompiled j.names (world i).edits c method text m × (j ≡ appended (with_names_of i method) (Edited (Install c m) ∷ [])) × (n ≡ length (world j).edits)
 
--- no tree spells the text
+-- the text spells no method
 abbrev pub IsUnread : List ℕ → Type 0
-IsUnread text = (tree : MethodTree) → Spells tree text → ⊥
+IsUnread text = (method : Method) → Spells method text → ⊥
 
--- why an install is refused: the class is unknown; the text spells no tree; or the first refusal of the tree that it spells applies. Want of memory may stand in place of any
+-- why an install is refused: the class is unknown; the text spells no method; or the first refusal of the method that it spells applies. Want of memory may stand in place of any
 pub data RefusesInstall (i : ImageView) (c : ClassId) (text : List ℕ) (e : Refusal) : Type 0 where
   memory : e ≡ NoMemory → RefusesInstall i c text e
   unknown : is_class (world i).edits c ≡ false → e ≡ UnknownClass → RefusesInstall i c text e
-  unread : is_class (world i).edits c ≡ true → IsUnread text → e ≡ no_code → RefusesInstall i c text e
-  first : (tree : MethodTree) → Spells tree text → first_of (image_install_rules i c tree) ≡ Some e → RefusesInstall i c text e
+  unread : is_class (world i).edits c ≡ true → IsUnread text → IsBadSource e → RefusesInstall i c text e
+  first : (method : Method) → Spells method text → first_of (image_install_rules i c method) ≡ Some e → RefusesInstall i c text e
 
--- an install is answered by the number of edits, where a tree that spells the text has its method installed, or by a refusal
+-- an install is answered by the number of edits, where a method that the text spells is installed, or by a refusal
 abbrev pub AnswersInstall : ImageView → ClassId → List ℕ → ImageView → Result ℕ Refusal → Type 0
-AnswersInstall i c text j (Ok n) = (tree : MethodTree) × Spells tree text × (first_of (image_install_rules i c tree) ≡ None) × Installs i c tree text j n
+AnswersInstall i c text j (Ok n) = (method : Method) × Spells method text × (first_of (image_install_rules i c method) ≡ None) × Installs i c method text j n
 AnswersInstall i c text j (Err e) = RefusesInstall i c text e

@@ -1,12 +1,13 @@
 -- A text is cut piece by piece.
-use Rattle.std.proofs.Common.{◌≡◌, ℕ, zero, suc, ◌+◌, List, [], ◌∷◌, ◌++◌, length, take, drop, map, Option, Some, None, refl, sym, ap, ◌∙◌, arith, add-zero, add-one, append_assoc, ◌-◌, ◌<◌}
+use Rattle.std.proofs.Common.{◌≡◌, ℕ, zero, suc, ◌+◌, ◌-◌, ◌<◌, List, [], ◌∷◌, ◌++◌, length, take, drop, map, Option, Some, None, refl, sym, ap, ◌∙◌, arith, add-zero, add-one, append_assoc}
 use Rattle.std.specs.Prelude.{option_map, option_and_then}
 use Rattle.std.proofs.lemmas.List.{append-nil, map-append}
 use Rattle.st_reader.specs.declared.trees.Span.{Span}
 use Rattle.st_reader.specs.declared.tokens.Piece.{Piece}
-use Rattle.st_reader.specs.declared.tokens.Piece.TheVariants.{Blank, Token as Whole}
+use Rattle.st_reader.specs.declared.tokens.Piece.TheVariants.{White, Comment, Token as Whole}
 use Rattle.st_reader.specs.declared.tokens.Lexeme.{Lexeme}
-use Rattle.st_reader.specs.Tokens.{Token, token, front, span, with_piece, tokens_behind, tokens}
+use Rattle.st_reader.specs.Tokens.{Token, token, span, piece_tokens}
+use Rattle.st_reader.specs.Cutting.{front, tokens_behind, tokens}
 use Rattle.st_reader.specs.Lexemes.{token_of, text_at, piece_lexemes}
 
 -- the bytes of the piece before are skipped
@@ -24,6 +25,10 @@ skipped place more b bs =
     let there : place + 1 + more ≡ place + (more + 1) = omega arith in
     let rest : drop more bs ≡ drop (more + 1) (b ∷ bs) = ap (λ (n : ℕ). drop n (b ∷ bs)) (sym (add-one more)) in
     tokens_behind-skip more (place + 1) bs ∙ ap (λ (n : ℕ). tokens_behind 0 n (drop more bs)) there ∙ ap (λ (l : List ℕ). tokens_behind 0 (place + (more + 1)) l) rest
+
+-- a piece's tokens in front of others
+abbrev pub with_piece : Piece → List ℕ → Span → List Token → List Token
+with_piece piece text place ts = piece_tokens piece text place ++ ts
 
 -- the tokens of a text that begins with a piece
 abbrev pub after_piece : ℕ → List ℕ → Piece → ℕ → Option (List Token)
@@ -54,12 +59,13 @@ map_map {C = C} f g h (Some x) same = ap some (same x)
     some y = Some y
 
 put_piece : (source : List ℕ) (items : List Lexeme) (piece : Piece) (text : List ℕ) (place : Span) → text ≡ text_at source place → (ts : List Token) → behind source items (with_piece piece text place ts) ≡ behind source (items ++ piece_lexemes piece place) ts
-put_piece source items Blank text place e ts = ap (λ (l : List Lexeme). behind source l ts) (sym (append-nil items))
+put_piece source items White text place e ts = ap (λ (l : List Lexeme). behind source l ts) (sym (append-nil items))
+put_piece source items Comment text place e ts = ap (λ (l : List Lexeme). behind source l ts) (sym (append-nil items))
 put_piece source items (Whole kind) text place e ts =
     let l : Lexeme = record { kind = kind; span = place } in
     ap (λ (t : List ℕ). map (token_of source) items ++ token kind t place ∷ ts) e ∙ sym (append_assoc (map (token_of source) items) (token_of source l ∷ []) ts) ∙ ap (λ (ts2 : List Token). ts2 ++ ts) (sym (map-append (token_of source) items (l ∷ [])))
 
-text_of : (source rest : List ℕ) (start long : ℕ) → rest ≡ drop start source → take long rest ≡ text_at source (span start (start + long))
+pub text_of : (source rest : List ℕ) (start long : ℕ) → rest ≡ drop start source → take long rest ≡ text_at source (span start (start + long))
 text_of source rest start long e =
     let same : long ≡ start + long - start = omega arith in
     ap (take long) e ∙ ap (λ (n : ℕ). take n (drop start source)) same

@@ -1,35 +1,69 @@
 -- The tokens of the code, which are places of a text.
-use Rattle.std.specs.Prelude.{ℕ, List, [], ◌∷◌, Bool, true, false, slice_range}
+use Rattle.std.specs.Prelude.{◌≡◌, ◌≢◌, ℕ, List, [], ◌∷◌, Bool, drop, map, slice_range, MatchOption}
+use Rattle.std.specs.Borrow.{Bor}
+use Rattle.st_reader.specs.declared.trees.Name.{Name}
+use Rattle.st_reader.specs.declared.tokens.Kind.TheVariants.{Identifier, Assign}
 use Rattle.st_reader.specs.declared.trees.Span.{Span}
 use Rattle.st_reader.specs.declared.tokens.Kind.{Kind}
-use Rattle.st_reader.specs.declared.tokens.Kind.TheVariants.{Identifier, Number, Binary, Mark}
 use Rattle.st_reader.specs.declared.tokens.Piece.{Piece}
-use Rattle.st_reader.specs.declared.tokens.Piece.TheVariants.{Blank, Token as Whole}
+use Rattle.st_reader.specs.declared.tokens.Piece.TheVariants.{White, Comment, Token as Whole}
 use Rattle.st_reader.specs.declared.tokens.Lexeme.{Lexeme}
-use Rattle.st_reader.specs.Tokens.{Token, token}
-
--- a piece's token; white space and comments have none
-abbrev pub piece_lexemes : Piece → Span → List Lexeme
-piece_lexemes Blank place = []
-piece_lexemes (Whole kind) place = record { kind = kind; span = place } ∷ []
+use Rattle.st_reader.specs.declared.tokens.Tokens.{Tokens}
+use Rattle.st_reader.specs.Tokens.{Token, IsCut, token, token_fits}
 
 -- the bytes of a text at a place
 abbrev pub text_at : List ℕ → Span → List ℕ
 text_at text place = slice_range text place.start place.end
 
--- the token that a text has at a place
+-- the token of a kind that a text has at a place
+abbrev pub token_at : List ℕ → Kind → Span → Token
+token_at text kind place = token kind (text_at text place) place
+
+-- the token that a text has where a lexeme stands
 abbrev pub token_of : List ℕ → Lexeme → Token
-token_of text l = token l.kind (text_at text l.span) l.span
+token_of text l = token_at text l.kind l.span
 
--- one kind is the other
-abbrev pub is_kind : Kind → Kind → Bool
-is_kind Identifier Identifier = true
-is_kind Number Number = true
-is_kind Binary Binary = true
-is_kind Mark Mark = true
-is_kind _ _ = false
+-- the tokens of lexemes
+abbrev pub tokens_of : List ℕ → List Lexeme → List Token
+tokens_of text ls = map (token_of text) ls
 
--- a token of a kind is at the front
-abbrev pub begins_kind : Kind → List Lexeme → Bool
-begins_kind kind [] = false
-begins_kind kind (l ∷ ls) = is_kind kind l.kind
+-- a piece's token by its place
+abbrev pub piece_lexemes : Piece → Span → List Lexeme
+piece_lexemes White place = []
+piece_lexemes Comment place = []
+piece_lexemes (Whole kind) place = record { kind = kind; span = place } ∷ []
+
+-- where nothing stops it, a text is cut into the tokens; where something does, it is cut into none
+abbrev pub Cuts : List ℕ → Tokens → Type 0
+Cuts text c = MatchOption c.stop (IsCut text (tokens_of text c.lexemes.items)) (λ at. (ts : List Token) → IsCut text ts → ⊥)
+
+-- the token of a lexeme is within its limits
+unfoldable pub lexeme_fits : List ℕ → Lexeme → Bool
+lexeme_fits text l = token_fits (token_of text l)
+
+-- the name that a text has at a place
+abbrev pub name_at : List ℕ → Span → Name
+name_at text place = record { text = text_at text place; span = place }
+
+-- a symbol's name stands behind its `#`
+abbrev pub symbol_at : List ℕ → Span → Name
+symbol_at text place = record { text = drop 1 (text_at text place); span = place }
+
+-- what a function read, and the tokens that it left
+abbrev pub seen : {X Y : Type 0} → (X → Y) → List ℕ → X × Bor (List Lexeme) → Y × List Token
+seen view text x = (view x.0, tokens_of text x.1.now)
+
+-- no lexeme of a kind is at the front
+abbrev pub Lacks : Kind → List Lexeme → Type 0
+Lacks kind [] = Unit {0}
+Lacks kind (l ∷ ls) = l.kind ≢ kind
+
+-- no target of an assignment is at the front
+abbrev pub LacksTarget : List Lexeme → Type 0
+LacksTarget [] = Unit {0}
+LacksTarget (l ∷ []) = Unit {0}
+LacksTarget (l ∷ a ∷ ls) = (l.kind ≡ Identifier) → (a.kind ≡ Assign) → ⊥
+
+-- a target of an assignment is at the front: a variable, `:=`, and what is behind
+abbrev pub IsTarget : List Lexeme → Lexeme → Span → List Lexeme → Type 0
+IsTarget ls l place behind = (a : Lexeme) × (ls ≡ l ∷ a ∷ behind) × (l.kind ≡ Identifier) × (a.kind ≡ Assign) × (a.span ≡ place)

@@ -1,4 +1,14 @@
+pub mod Pieces
 pub mod Tokens
-pub mod Trees
 pub mod Lexemes
+pub mod Cutting
+pub mod Syntax
+pub mod Views
+pub mod Grammar
 pub mod Reading
+pub mod Parsing
+pub mod Variables
+pub mod Rules
+pub mod Alone
+pub mod Spelling
+pub mod Faults

@@ -1,94 +1,101 @@
--- The tokens of a text. A keyword, a symbol and `:=` are no tokens yet.
-use Rattle.std.specs.Prelude.{ℕ, zero, suc, ◌+◌, ◌*◌, ◌-◌, ◌==◌, ◌&&◌, ◌||◌, List, [], ◌∷◌, length, take, drop, Bool, false, not, Option, Some, None, option_map, option_and_then, nat_lt, nat_le, if◌then◌else◌, codes}
-use Rattle.std.specs.List.{list_any, prefix_len, fold}
-use Rattle.st_classes.specs.Selectors.{is_letter, is_digit, is_letter_or_digit, is_binary_character}
+-- The tokens of a text.
+use Rattle.std.specs.Prelude.{◌≡◌, ℕ, ◌+◌, ◌*◌, ◌-◌, ◌&&◌, ◌||◌, List, [], ◌∷◌, ◌++◌, ◌<◌, length, drop, Bool, true, nat_le}
+use Rattle.std.specs.List.{fold}
+use Rattle.st_classes.specs.Selectors.{is_selector}
 use Rattle.st_reader.specs.declared.trees.Span.{Span}
+use Rattle.st_reader.specs.declared.trees.Name.{Name}
+use Rattle.st_reader.specs.declared.tokens.Mark.{Mark as Sign}
 use Rattle.st_reader.specs.declared.tokens.Kind.{Kind}
-use Rattle.st_reader.specs.declared.tokens.Kind.TheVariants.{Identifier, Number, Binary, Mark}
+use Rattle.st_reader.specs.declared.tokens.Kind.TheVariants.{Identifier, Keyword, Assign, Binary, Number, Symbol, Mark}
 use Rattle.st_reader.specs.declared.tokens.Piece.{Piece}
-use Rattle.st_reader.specs.declared.tokens.Piece.TheVariants.{Blank, Token as Whole}
+use Rattle.st_reader.specs.declared.tokens.Piece.TheVariants.{White, Comment, Token as Whole}
+use Rattle.st_reader.specs.Pieces.{is_white, is_piece, may_stop}
 
--- a token with its place; a number is the value of its digits, and its minus is a token `-` of its own
+-- a token with its place; a keyword's text has its colon; a number is the value of its digits, and its minus is a token `-` of its own; a symbol's text has no `#`, and its place has it
 pub data Token : Type 0 where
-  identifier : List ℕ → Span → Token
+  identifier : Name → Token
+  keyword : Name → Token
+  assign : Span → Token
+  binary : Name → Token
   number : ℕ → Span → Token
-  binary : List ℕ → Span → Token
-  mark : List ℕ → Span → Token
-
--- tab, line feed, form feed, carriage return and space
-abbrev pub is_white : ℕ → Bool
-is_white b = b == 9 || b == 10 || b == 12 || b == 13 || b == 32
-
--- white space, or a visible character
-abbrev pub is_character : ℕ → Bool
-is_character b = is_white b || (nat_le 33 b && nat_le b 126)
-
--- the characters that are tokens by themselves
-abbrev pub is_mark : ℕ → Bool
-is_mark b = list_any (λ c. c == b) (codes "()[]^.;|")
-
--- any byte but a double quote
-abbrev pub is_no_quote : ℕ → Bool
-is_no_quote b = not (b == 34)
-
--- a letter is at the front
-abbrev pub begins_letter : List ℕ → Bool
-begins_letter [] = false
-begins_letter (b ∷ bs) = is_letter b
-
--- a period and a digit are at the front
-abbrev pub begins_fraction : List ℕ → Bool
-begins_fraction (b ∷ c ∷ bs) = (b == 46) && is_digit c
-begins_fraction _ = false
-
--- a comment goes to the next quote
-abbrev pub comment : List ℕ → Option (Piece × ℕ)
-comment bs = if nat_lt (prefix_len is_no_quote bs) (length bs) then Some (Blank, prefix_len is_no_quote bs + 1) else None
-
--- a number is no token where a letter follows, or a period and a digit
-abbrev pub number_behind : ℕ → List ℕ → Option (Piece × ℕ)
-number_behind more after = if begins_letter after || begins_fraction after then None else Some (Whole Number, more)
-
--- as many digits as there are
-abbrev pub number_front : List ℕ → Option (Piece × ℕ)
-number_front bs = number_behind (prefix_len is_digit bs) (drop (prefix_len is_digit bs) bs)
-
--- a binary selector has a second character, where one follows that is no minus
-abbrev pub binary_more : List ℕ → ℕ
-binary_more [] = 0
-binary_more (b ∷ bs) = if not (b == 45) && is_binary_character b then 1 else 0
-
--- what stands at the front of a text, as long as it can be, and how many bytes it has behind the first; none where nothing can begin so
-abbrev pub front : List ℕ → Option (Piece × ℕ)
-front [] = None
-front (b ∷ bs) = if is_white b then Some (Blank, 0) else (if b == 34 then comment bs else (if is_letter b then Some (Whole Identifier, prefix_len is_letter_or_digit bs) else (if is_digit b then number_front bs else (if is_binary_character b then Some (Whole Binary, binary_more bs) else (if is_mark b then Some (Whole Mark, 0) else None)))))
+  symbol : Name → Token
+  mark : Sign → Span → Token
 
 -- the number that decimal digits write
 abbrev pub digits_value : List ℕ → ℕ
 digits_value digits = fold (λ n d. n * 10 + (d - 48)) 0 digits
 
--- the token of a kind with a text
-abbrev pub token : Kind → List ℕ → Span → Token
-token Identifier text span = identifier text span
-token Number text span = number (digits_value text) span
-token Binary text span = binary text span
-token Mark text span = mark text span
-
 -- a place from its ends
 abbrev pub span : ℕ → ℕ → Span
 span start end = record { start = start; end = end }
 
--- a piece in front of tokens: white space and comments are none
-abbrev pub with_piece : Piece → List ℕ → Span → List Token → List Token
-with_piece Blank text place ts = ts
-with_piece (Whole kind) text place ts = token kind text place ∷ ts
+-- a text with its place
+abbrev pub name : List ℕ → Span → Name
+name text place = record { text = text; span = place }
 
--- the tokens of the rest of a text that begins at a place, behind so many bytes of the piece before
-unfoldable pub tokens_behind : ℕ → ℕ → List ℕ → Option (List Token)
-tokens_behind more place [] = Some []
-tokens_behind (suc more) place (b ∷ bs) = tokens_behind more (place + 1) bs
-tokens_behind zero place (b ∷ bs) = option_and_then (λ p. option_map (with_piece p.0 (take (p.1 + 1) (b ∷ bs)) (span place (place + (p.1 + 1)))) (tokens_behind p.1 (place + 1) bs)) (front (b ∷ bs))
+-- the token of a kind with a text
+abbrev pub token : Kind → List ℕ → Span → Token
+token Identifier text place = identifier (name text place)
+token Keyword text place = keyword (name text place)
+token Assign text place = assign place
+token Binary text place = binary (name text place)
+token Number text place = number (digits_value text) place
+token Symbol text place = symbol (name (drop 1 text) place)
+token (Mark m) text place = mark m place
 
--- the tokens of a text; none where at some place no piece begins
-abbrev pub tokens : List ℕ → Option (List Token)
-tokens text = tokens_behind 0 0 text
+-- the token of a piece: white space and comments have none
+abbrev pub piece_tokens : Piece → List ℕ → Span → List Token
+piece_tokens White text place = []
+piece_tokens Comment text place = []
+piece_tokens (Whole kind) text place = token kind text place ∷ []
+
+-- the tokens of pieces with their bytes that stand from a place on
+abbrev pub tokens_from : ℕ → List (Piece × List ℕ) → List Token
+tokens_from place [] = []
+tokens_from place (p ∷ ps) = piece_tokens p.0 p.1 (span place (place + length p.1)) ++ tokens_from (place + length p.1) ps
+
+-- the bytes of pieces, and those behind them
+abbrev pub bytes_of : List (Piece × List ℕ) → List ℕ → List ℕ
+bytes_of [] behind = behind
+bytes_of (p ∷ ps) behind = p.1 ++ bytes_of ps behind
+
+-- each piece is one of its kind, and may stop before what is behind it
+abbrev pub AreWhole : List (Piece × List ℕ) → List ℕ → Type 0
+AreWhole [] behind = Unit {0}
+AreWhole (p ∷ ps) behind = (is_piece p.0 p.1 ≡ true) × (may_stop p.0 p.1 (bytes_of ps behind) ≡ true) × AreWhole ps behind
+
+-- a text is a row of pieces, whose tokens these are, and bytes behind them
+pub record IsCutBefore (text : List ℕ) (ts : List Token) (behind : List ℕ) : Type 0 where
+  pub pieces : List (Piece × List ℕ)
+  pub joined : bytes_of pieces behind ≡ text
+  pub whole : AreWhole pieces behind
+  pub tokens : tokens_from 0 pieces ≡ ts
+
+-- a text is a row of pieces, whose tokens these are
+abbrev pub IsCut : List ℕ → List Token → Type 0
+IsCut text ts = IsCutBefore text ts []
+
+-- no piece that may stop begins a text
+abbrev pub BeginsNone : List ℕ → Type 0
+BeginsNone text = (p : Piece) (bytes behind : List ℕ) → bytes ++ behind ≡ text → is_piece p bytes ≡ true → may_stop p bytes behind ≡ true → ⊥
+
+-- a text is a row of pieces up to a place in it where none begins
+pub record StopsAt (text : List ℕ) (ts : List Token) (place : ℕ) : Type 0 where
+  pub before : IsCutBefore text ts (drop place text)
+  pub inside : place < length text
+  pub stuck : BeginsNone (drop place text)
+
+-- no text is cut in two ways
+abbrev pub CutsOneWay : Type 0
+CutsOneWay = (text : List ℕ) (a b : List Token) → IsCut text a → IsCut text b → a ≡ b
+
+-- an identifier has at most 64 bytes, with a colon at most 65, and a symbol's text is a selector
+abbrev pub token_fits : Token → Bool
+token_fits (identifier n) = nat_le (length n.text) 64
+token_fits (keyword n) = nat_le (length n.text) 65
+token_fits (symbol n) = is_selector n.text
+token_fits _ = true
+
+-- a byte that may stand in a source: white space, or a visible character
+abbrev pub is_character : ℕ → Bool
+is_character b = is_white b || (nat_le 33 b && nat_le b 126)

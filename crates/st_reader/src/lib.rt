@@ -1,11 +1,15 @@
-//! Method source to tree.
+//! Method source to tree: the whole grammar.
 //!
-//! At this stage a method has a unary pattern and one `^` expression of numbers, `self`, instance variables, and unary
-//! and binary messages. Every other text is refused.
+//! A text is cut into tokens, and these are read as a tree by a descent with one function for each form of the grammar. No
+//! text has two trees. Then the tree is asked for what the grammar does not say: where blocks and `super` stand, what is assigned
+//! to, and what arguments and temporaries are called.
 #![tactic(auto)]
 
 mod characters;
+pub mod faults;
+pub mod inlining;
 mod parser;
 pub mod reader;
-mod tokens;
+pub mod rules;
+pub mod tokens;
 pub mod trees;

@@ -1,28 +1,67 @@
 //! Reading: from a text to its tree.
 ghost use Rattle.std.specs.Prelude.{◌≡◌, ◌⊎◌, IfOk, IfErr};
 ghost use Rattle.st_classes.specs.declared.refusals.Refusal.TheVariants.{NoMemory};
-ghost use Rattle.st_reader.specs.declared.trees.MethodTree.{MethodTree};
-ghost use Rattle.st_reader.specs.Trees.{Spells, bad_source};
+ghost use Rattle.st_reader.specs.Syntax.{Method};
+ghost use Rattle.st_reader.specs.Views.{method_view};
+ghost use Rattle.st_reader.specs.Parsing.{SpellsGrammar};
+ghost use Rattle.st_reader.specs.Spelling.{OneReading, Spells};
+ghost use Rattle.st_reader.specs.Faults.{IsBadSource};
 
-use crate::tokens::{self, BAD_SOURCE};
+use crate::characters;
+use crate::faults::source_fault;
+use crate::parser::{self, Wrong};
+use crate::rules::keeps_rules;
+use crate::tokens::{self, Tokens};
 use crate::trees::MethodTree;
-use crate::{characters, parser};
 use st_classes::limits;
 use st_classes::refusals::Refusal;
 use std::alloc::Global;
 
-/// The tree that a method's source spells.
-///
-/// No text is spelled by two trees. A source that spells none, or is over a limit, is refused as `BadSource` with the kind
-/// `BadToken` at 0; else the only refusal is `NoMemory`.
-pub fn read_method(alloc: Global, source: &[u8]) -> Result<MethodTree, Refusal>
-    ensures ok { IfOk result (λ t. Spells t source.now) }
-    ensures only { IfOk result (λ t. (other : MethodTree) → Spells other source.now → other ≡ t) }
-    ensures refused { IfErr result (λ e. (e ≡ NoMemory) ⊎ ((e ≡ bad_source) × ((t : MethodTree) → Spells t source.now → ⊥))) }
+// The tree of a method that a source spells by the grammar, whether or not the method keeps the rules.
+fn read_tree(alloc: Global, source: &[u8]) -> Result<MethodTree, Refusal>
+    ensures ok { IfOk result (λ t. SpellsGrammar (method_view t) source.now) }
+    ensures only { IfOk result (λ t. (other : Method) → SpellsGrammar other source.now → other ≡ method_view t) }
+    ensures refused { IfErr result (λ e. (e ≡ NoMemory) ⊎ (IsBadSource e × ((other : Method) → SpellsGrammar other source.now → ⊥))) }
 {
     if source.len() > limits::SOURCE || !characters::are_characters(source) {
-        return Err(BAD_SOURCE);
+        return Err(source_fault(alloc, source));
     }
-    let lexemes = tokens::tokens(alloc, source)?;
-    parser::method(alloc, source, &lexemes)
+    let Tokens { lexemes, stop } = tokens::cut(alloc, source)?;
+    if let Some(_) = stop {
+        return Err(source_fault(alloc, source));
+    }
+    if !tokens::fit(source, &lexemes) {
+        return Err(source_fault(alloc, source));
+    }
+    match parser::method(alloc, source, &lexemes) {
+        Ok(tree) => Ok(tree),
+        Err(Wrong::NoTree) => Err(source_fault(alloc, source)),
+        Err(Wrong::NoMemory) => Err(Refusal::NoMemory),
+    }
+}
+
+/// That no text spells two methods.
+pub fn one_reading()
+    ensures { OneReading }
+{
+    tokens::one_cut();
+}
+
+/// The tree of the method that a source spells.
+///
+/// `BadSource` says that the source spells none: it is over 4,096 bytes, has a byte that no source may have, can't be cut into
+/// tokens within their limits, or is no method of the grammar, in which parentheses and blocks nest at most 64 deep; or the
+/// method breaks a rule: a block or `super` stands where it may not, an argument or what is no variable is assigned to, or
+/// arguments and temporaries have names that they may not have, two have one, or they are over 64. Its kind and offset are
+/// tested, not proved. Else the only refusal is `NoMemory`.
+pub fn read_method(alloc: Global, source: &[u8]) -> Result<MethodTree, Refusal>
+    ensures ok { IfOk result (λ t. Spells (method_view t) source.now) }
+    ensures only { IfOk result (λ t. (other : Method) → Spells other source.now → other ≡ method_view t) }
+    ensures refused { IfErr result (λ e. (e ≡ NoMemory) ⊎ (IsBadSource e × ((other : Method) → Spells other source.now → ⊥))) }
+{
+    let tree = read_tree(alloc, source)?;
+    if !keeps_rules(&tree) {
+        return Err(source_fault(alloc, source));
+    }
+    Ok(tree)
 }

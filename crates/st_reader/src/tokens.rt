@@ -1,34 +1,52 @@
 //! The tokens of a text.
-ghost use Rattle.std.specs.Prelude.{◌≡◌, ◌++◌, ◌<◌, ◌≤◌, length, map, IfSome, IfErr, OnOk};
+ghost use Rattle.std.specs.Prelude.{◌≡◌, ◌++◌, ◌<◌, ◌≤◌, length, drop, false, IfSome, IfOk, IfErr, OnOk, MatchOption};
+ghost use Rattle.std.specs.List.{list_all};
 ghost use Rattle.st_classes.specs.declared.refusals.Refusal.TheVariants.{NoMemory};
-ghost use Rattle.st_reader.specs.Tokens.{front, comment, number_front, binary_more, begins_fraction, begins_letter, tokens};
-ghost use Rattle.st_reader.specs.Lexemes.{token_of, text_at, piece_lexemes};
-ghost use Rattle.st_reader.specs.Reading.{Gives};
+ghost use Rattle.st_classes.specs.Selectors.{is_letter, is_digit};
+ghost use Rattle.st_reader.specs.Pieces.{begins, begins_equals, begins_colon, begins_fraction};
+ghost use Rattle.st_reader.specs.Tokens.{StopsAt, CutsOneWay, Token, token_fits};
+ghost use Rattle.st_reader.specs.Cutting.{comment, keyword_more, word_front, number_front, binary_more, keywords_length, symbol_length, mark_of, mark_front, front};
+ghost use Rattle.st_reader.specs.Lexemes.{tokens_of, text_at, piece_lexemes, lexeme_fits, Cuts};
 
 use crate::characters;
 use crate::trees::Span;
-use st_classes::refusals::{Refusal, SourceFault};
+use st_classes::refusals::Refusal;
+use st_classes::{limits, selectors};
 use std::alloc::Global;
 
-/// The refusal of every text that is no method of this stage.
-pub const BAD_SOURCE: Refusal = Refusal::BadSource {
-    kind: SourceFault::BadToken,
-    offset: 0,
-};
+/// The characters that are tokens by themselves.
+#[derive(Clone, Copy, PartialEq, Eq, Debug)]
+pub enum Mark {
+    OpenParenthesis,
+    CloseParenthesis,
+    OpenBlock,
+    CloseBlock,
+    Caret,
+    Period,
+    Semicolon,
+    Bar,
+}
 
-/// What a token is. A mark is a character that is a token by itself.
+/// What a token is.
 #[derive(Clone, Copy, PartialEq, Eq, Debug)]
 pub enum Kind {
     Identifier,
-    Number,
+    /// An identifier with a colon directly behind it.
+    Keyword,
+    /// `:=`
+    Assign,
     Binary,
-    Mark,
+    /// Decimal digits. A minus before them is a token of its own.
+    Number,
+    Symbol,
+    Mark(Mark),
 }
 
-/// What stands at the front of a text: white space or a comment, or a token.
+/// What stands at the front of a text: a byte of white space, a comment, or a token.
 #[derive(Clone, Copy, PartialEq, Eq, Debug)]
 pub enum Piece {
-    Blank,
+    White,
+    Comment,
     Token(Kind),
 }
 
@@ -38,6 +56,18 @@ pub struct Lexeme {
     pub kind: Kind,
     pub span: Span,
 }
+
+/// The tokens of a source up to the first place where none begins, and that place, where there is one.
+#[derive(Drop)]
+pub struct Tokens {
+    pub lexemes: Vec<Lexeme>,
+    pub stop: Option<u16>,
+}
+
+/// That no text is cut into tokens in two ways.
+pub fn one_cut()
+    ensures { CutsOneWay }
+{}
 
 /// The bytes of a source at a place, as far as it has them.
 pub fn text(source: &[u8], place: Span) -> &[u8]
@@ -49,12 +79,49 @@ pub fn text(source: &[u8], place: Span) -> &[u8]
     &after[..long.min(after.len())]
 }
 
+/// The bytes of a symbol behind its `#`.
+pub fn symbol_text(source: &[u8], place: Span) -> &[u8]
+    ensures { result.now ≡ drop 1 (text_at source.now place) }
+{
+    match text(source, place) {
+        [_, symbol @ ..] => symbol,
+        [] => &[],
+    }
+}
+
 // A comment, behind its opening quote.
 fn comment(rest: &[u8]) -> Option<(Piece, usize)>
     ensures { result ≡ comment rest.now }
 {
     let length = characters::unquoted_length(rest);
-    (length < rest.len()).then_some((Piece::Blank, length + 1))
+    (length < rest.len()).then_some((Piece::Comment, length + 1))
+}
+
+fn begins_letter(text: &[u8]) -> bool
+    ensures { result ≡ begins is_letter text.now }
+{
+    match text {
+        [first, ..] => selectors::is_letter(*first),
+        [] => false,
+    }
+}
+
+fn begins_digit(text: &[u8]) -> bool
+    ensures { result ≡ begins is_digit text.now }
+{
+    match text {
+        [first, ..] => selectors::is_digit(*first),
+        [] => false,
+    }
+}
+
+fn begins_equals(text: &[u8]) -> bool
+    ensures { result ≡ begins_equals text.now }
+{
+    match text {
+        [first, ..] => *first == b'=',
+        [] => false,
+    }
 }
 
 // Whether a period and a digit are at the front.
@@ -62,17 +129,38 @@ fn begins_fraction(text: &[u8]) -> bool
     ensures { result ≡ begins_fraction text.now }
 {
     match text {
-        [b'.', digit, ..] => characters::is_digit(*digit),
-        _ => false,
+        [first, rest @ ..] => *first == b'.' && begins_digit(rest),
+        [] => false,
     }
 }
 
-fn begins_letter(text: &[u8]) -> bool
-    ensures { result ≡ begins_letter text.now }
+// Whether a colon is at the front that belongs to no `:=`.
+fn begins_colon(text: &[u8]) -> bool
+    ensures { result ≡ begins_colon text.now }
 {
     match text {
-        [first, ..] => characters::is_letter(*first),
+        [first, rest @ ..] => *first == b':' && !begins_equals(rest),
         [] => false,
+    }
+}
+
+// How many bytes a keyword has behind its first letter. `None` where an identifier has no colon.
+fn keyword_more(rest: &[u8]) -> Option<usize>
+    ensures value { result ≡ keyword_more rest.now }
+    ensures within { IfSome result (λ n. n ≤ length rest.now) }
+{
+    let length = characters::word_length(rest);
+    begins_colon(&rest[length..]).then_some(length + 1)
+}
+
+// An identifier or a keyword, behind its first letter.
+fn word_front(rest: &[u8]) -> (Kind, usize)
+    ensures value { result ≡ word_front rest.now }
+    ensures within { result.1 ≤ length rest.now }
+{
+    match keyword_more(rest) {
+        Some(more) => (Kind::Keyword, more),
+        None => (Kind::Identifier, characters::word_length(rest)),
     }
 }
 
@@ -91,12 +179,75 @@ fn number_front(rest: &[u8]) -> Option<(Piece, usize)>
 
 // A binary selector, behind its first character.
 fn binary_more(rest: &[u8]) -> usize
-    ensures { result ≡ binary_more rest.now }
+    ensures value { result ≡ binary_more rest.now }
+    ensures within { result ≤ length rest.now }
 {
     match rest {
-        [second, ..] if *second != b'-' && characters::is_binary_character(*second) => 1,
+        [second, ..] if selectors::is_binary_character(*second) && *second != b'-' => 1,
         _ => 0,
     }
+}
+
+// How many bytes the keywords at the front have. `None` where an identifier without a colon ends them.
+fn keywords_length(text: &[u8]) -> Option<usize>
+    ensures value { result ≡ keywords_length false text.now }
+    ensures within { IfSome result (λ n. n ≤ length text.now) }
+{
+    let mut length = 0;
+    while begins_letter(&text[length..]) {
+        let more = keyword_more(&text[length + 1..])?;
+        length += more + 1;
+    }
+    Some(length)
+}
+
+// How many bytes a symbol has behind its `#`.
+fn symbol_length(rest: &[u8]) -> Option<usize>
+    ensures value { result ≡ symbol_length rest.now }
+    ensures within { IfSome result (λ n. n ≤ length rest.now) }
+{
+    let [first, more @ ..] = rest else {
+        return None;
+    };
+    if selectors::is_letter(*first) {
+        match keyword_more(more) {
+            Some(_) => keywords_length(rest),
+            None => Some(characters::word_length(rest)),
+        }
+    } else if selectors::is_binary_character(*first) {
+        Some(binary_more(more) + 1)
+    } else {
+        None
+    }
+}
+
+// The mark that a byte is.
+fn mark_of(b: u8) -> Option<Mark>
+    ensures { result ≡ mark_of b }
+{
+    match b {
+        b'(' => Some(Mark::OpenParenthesis),
+        b')' => Some(Mark::CloseParenthesis),
+        b'[' => Some(Mark::OpenBlock),
+        b']' => Some(Mark::CloseBlock),
+        b'^' => Some(Mark::Caret),
+        b'.' => Some(Mark::Period),
+        b';' => Some(Mark::Semicolon),
+        b'|' => Some(Mark::Bar),
+        _ => None,
+    }
+}
+
+// A `:=` or a mark, by its first byte and what is behind it.
+fn mark_front(first: u8, rest: &[u8]) -> Option<(Piece, usize)>
+    ensures value { result ≡ mark_front first rest.now }
+    ensures within { IfSome result (λ x. x.1 ≤ length rest.now) }
+{
+    if first == b':' && begins_equals(rest) {
+        return Some((Piece::Token(Kind::Assign), 1));
+    }
+    let mark = mark_of(first)?;
+    Some((Piece::Token(Kind::Mark(mark)), 0))
 }
 
 // The piece at the front of a text, and how many bytes it has behind the first. `None` where no piece begins.
@@ -108,22 +259,21 @@ fn front(text: &[u8]) -> Option<(Piece, usize)>
         return None;
     };
     if characters::is_white(*first) {
-        Some((Piece::Blank, 0))
+        Some((Piece::White, 0))
     } else if *first == b'"' {
         comment(rest)
-    } else if characters::is_letter(*first) {
-        Some((
-            Piece::Token(Kind::Identifier),
-            characters::word_length(rest),
-        ))
-    } else if characters::is_digit(*first) {
+    } else if selectors::is_letter(*first) {
+        let (kind, more) = word_front(rest);
+        Some((Piece::Token(kind), more))
+    } else if selectors::is_digit(*first) {
         number_front(rest)
-    } else if characters::is_binary_character(*first) {
+    } else if selectors::is_binary_character(*first) {
         Some((Piece::Token(Kind::Binary), binary_more(rest)))
-    } else if characters::is_mark(*first) {
-        Some((Piece::Token(Kind::Mark), 0))
+    } else if *first == b'#' {
+        let length = symbol_length(rest)?;
+        Some((Piece::Token(Kind::Symbol), length))
     } else {
-        None
+        mark_front(*first, rest)
     }
 }
 
@@ -140,17 +290,25 @@ fn put(lexemes: &mut Vec<Lexeme>, piece: Piece, span: Span) -> Result<(), Refusa
     Ok(())
 }
 
-/// The tokens of a text.
-pub fn tokens(alloc: Global, source: &[u8]) -> Result<Vec<Lexeme>, Refusal>
+/// Cuts a text into its tokens, from the left, each as long as it can be.
+///
+/// Where nothing stops it, the tokens are the text's, and no others are. Where it stops, no tokens are: these are those before
+/// the stop, and none begins there. The only refusal is `NoMemory`.
+pub fn cut(alloc: Global, source: &[u8]) -> Result<Tokens, Refusal>
     requires { length source.now ≤ 4096 }
-    ensures { Gives (λ v. map (token_of source.now) v.items) result (tokens source.now) }
+    ensures ok { IfOk result (λ c. Cuts source.now c) }
+    ensures stops { IfOk result (λ c. IfSome c.stop (λ place. StopsAt source.now (tokens_of source.now c.lexemes.items) place)) }
+    ensures err { IfErr result (λ e. e ≡ NoMemory) }
 {
     let mut lexemes = Vec::new(alloc);
     let mut rest = source;
     let mut start = 0u16;
     while rest.len() > 0 {
         let Some((piece, more)) = front(rest) else {
-            return Err(BAD_SOURCE);
+            return Ok(Tokens {
+                lexemes,
+                stop: Some(start),
+            });
         };
         let end = start + (more + 1) as u16;
         put(&mut lexemes, piece, Span { start, end })?;
@@ -158,5 +316,29 @@ pub fn tokens(alloc: Global, source: &[u8]) -> Result<Vec<Lexeme>, Refusal>
         rest = after;
         start = end;
     }
-    Ok(lexemes)
+    Ok(Tokens {
+        lexemes,
+        stop: None,
+    })
+}
+
+/// Whether a token is within its limits.
+#[tactic(auto, unfolding(crate::specs::Lexemes::lexeme_fits))]
+pub fn fits(source: &[u8], lexeme: Lexeme) -> bool
+    ensures { result ≡ lexeme_fits source.now lexeme }
+{
+    match lexeme.kind {
+        Kind::Identifier => text(source, lexeme.span).len() <= limits::IDENTIFIER,
+        Kind::Keyword => text(source, lexeme.span).len() <= limits::IDENTIFIER + 1,
+        Kind::Symbol => selectors::arity_of(symbol_text(source, lexeme.span)).is_some(),
+        _ => true,
+    }
+}
+
+/// Whether each token is within its limits: an identifier has 64 bytes at most, a keyword one more for its colon, and a symbol
+/// is a selector.
+pub fn fit(source: &[u8], lexemes: &[Lexeme]) -> bool
+    ensures { result ≡ list_all token_fits (tokens_of source.now lexemes.now) }
+{
+    lexemes.iter().all(|lexeme| fits(source, *lexeme))
 }

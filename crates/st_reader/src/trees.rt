@@ -1,4 +1,7 @@
-//! Trees of methods. Each leaf keeps the place of its token in the source.
+//! Trees of methods. Each leaf keeps the place of its token in the source, so a tree has the tokens of its source and no others.
+//!
+//! A receiver and the messages that go to it, one after another, are one `Chain`: what nests is what stands in brackets, and no
+//! long row of messages makes a tree deep.
 use st_classes::seq::Seq;
 
 /// The bytes of a token: from `start`, counted from 0, to before `end`.
@@ -8,49 +11,111 @@ pub struct Span {
     pub end: u16,
 }
 
-/// An identifier or a binary selector.
+/// An identifier, a keyword with its colon, or a binary selector.
 #[derive(Drop)]
 pub struct Name {
     pub text: Seq<u8>,
     pub span: Span,
 }
 
-/// What a message's receiver or argument begins with.
+/// A keyword of a pattern and the argument behind it.
 #[derive(Drop)]
-pub enum Primary {
+pub struct Parameter {
+    pub keyword: Name,
+    pub argument: Name,
+}
+
+/// What a method is called, with the names of its arguments.
+#[derive(Drop)]
+pub enum Pattern {
+    Unary(Name),
+    Binary { selector: Name, argument: Name },
+    Keyword(Seq<Parameter>),
+}
+
+/// The temporaries between bars.
+#[derive(Drop)]
+pub struct Temporaries {
+    pub opening: Span,
+    pub names: Seq<Name>,
+    pub closing: Span,
+}
+
+/// The variable that an assignment stores in, and the place of its `:=`.
+#[derive(Drop)]
+pub struct Target {
+    pub name: Name,
+    pub assign: Span,
+}
+
+/// What messages go to.
+#[cycle(tree)]
+#[derive(Drop)]
+pub enum Operand {
     /// A number and the place of its digits. A minus stands directly before them.
     Number {
         value: i64,
         span: Span,
         minus: Option<Span>,
     },
-    /// `self`
-    Receiver(Span),
-    /// An instance variable by its name.
-    Variable(Name),
+    /// A symbol. Its place has the `#`, its text doesn't.
+    Symbol(Name),
+    /// A variable, a class, or a reserved name.
+    Name(Name),
+    Parenthesis {
+        opening: Span,
+        inside: Box<Expression>,
+        closing: Span,
+    },
+    Block {
+        opening: Span,
+        inside: Option<Box<Statements>>,
+        closing: Span,
+    },
 }
 
-/// A primary and the unary messages that it gets, from the left.
+/// A message with its arguments.
+#[cycle(tree)]
 #[derive(Drop)]
-pub struct Term {
-    pub primary: Primary,
-    pub messages: Seq<Name>,
+pub enum Message {
+    Unary(Name),
+    Binary(Name, Chain),
+    Keyword(Vec<(Name, Chain)>),
 }
 
-/// A binary message and its argument.
+/// An operand and the messages that are sent, the first to it and each other to the answer of the one before.
+#[cycle(tree)]
 #[derive(Drop)]
-pub struct Operation {
-    pub selector: Name,
-    pub argument: Term,
+pub struct Chain {
+    pub operand: Operand,
+    pub messages: Vec<Message>,
 }
 
-/// A method: its selector, and the expression that it answers, whose binary messages go from the left.
+/// An expression: the variables that it is assigned to, and its value. In a cascade the receiver gets several messages, each
+/// but the first behind a semicolon.
+#[cycle(tree)]
+#[derive(Drop)]
+pub struct Expression {
+    pub targets: Seq<Target>,
+    pub receiver: Chain,
+    pub cascade: Option<(Message, Vec<(Span, Message)>)>,
+}
+
+/// Statements: those with a period behind them that another follows, and the last one, which may be answered and may have a
+/// period too.
+#[cycle(tree)]
+#[derive(Drop)]
+pub struct Statements {
+    pub before: Vec<(Expression, Span)>,
+    pub caret: Option<Span>,
+    pub last: Expression,
+    pub period: Option<Span>,
+}
+
+/// A method.
 #[derive(Drop)]
 pub struct MethodTree {
-    pub selector: Name,
-    pub caret: Span,
-    pub first: Term,
-    pub operations: Seq<Operation>,
-    /// A last period.
-    pub period: Option<Span>,
+    pub pattern: Pattern,
+    pub temporaries: Option<Temporaries>,
+    pub body: Option<Statements>,
 }

@@ -7,8 +7,6 @@ const BAD_COMMAND: &[u8] = b"{\"error\":\"BadCommand\"}";
 
 const BAD_NAME: &str = "{\"error\":\"BadName\"}";
 
-const BAD_SOURCE: &str = "{\"error\":\"BadSource\",\"kind\":\"BadToken\",\"offset\":0}";
-
 const BAD_ARGUMENTS: &str = "{\"error\":\"BadArguments\"}";
 
 const UNKNOWN_CLASS: &str = "{\"error\":\"UnknownClass\"}";
@@ -258,18 +256,21 @@ fn commands_that_are_refused(rt: HostRuntime) -> Result<(), Fail> {
             r#"{"class":"Nowhere","cmd":"method","source":""}"#,
             UNKNOWN_CLASS,
         ),
-        (r#"{"class":"M","cmd":"method","source":""}"#, BAD_SOURCE),
+        (
+            r#"{"class":"M","cmd":"method","source":""}"#,
+            r#"{"error":"BadSource","kind":"BadPattern","offset":0}"#,
+        ),
         (
             r#"{"class":"M","cmd":"method","source":"b ^1\u0000"}"#,
-            BAD_SOURCE,
+            r#"{"error":"BadSource","kind":"BadCharacter","offset":4}"#,
         ),
         (
             r#"{"class":"M","cmd":"method","source":"b \"\u00e9\" ^1"}"#,
-            BAD_SOURCE,
+            r#"{"error":"BadSource","kind":"BadCharacter","offset":3}"#,
         ),
         (
             r#"{"class":"M","cmd":"method","source":"b ^nowhere"}"#,
-            BAD_SOURCE,
+            r#"{"error":"BadSource","kind":"UnknownName","offset":3}"#,
         ),
         (
             r#"{"class":"True","cmd":"method","source":"not ^nowhere"}"#,

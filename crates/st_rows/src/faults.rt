@@ -13,24 +13,31 @@ use crate::faults::refused::tokens::{
     BAD_CHARACTERS, BAD_CHARACTERS_FIRST, BAD_TOKENS, BAD_TOKENS_FIRST,
 };
 use st_classes::refusals::{Refusal, SourceFault};
-use st_syntax::faults::source_fault;
-use st_syntax::reader::read;
+use st_reader::faults::source_fault;
+use st_reader::reader::read_method;
 use std::alloc::Global;
 use std::process::Abort;
 use std::test::*;
 
-// A fault of a source.
-fn expect_fault(rt: &impl Abort, alloc: Global, source: &[u8], kind: SourceFault, offset: usize) {
-    let found = match source_fault(alloc, source) {
+// The kind and the offset that a source is refused with.
+fn said(refusal: Refusal) -> Option<(SourceFault, usize)> {
+    match refusal {
         Refusal::BadSource { kind, offset } => Some((kind, offset as usize)),
         _ => None,
-    };
+    }
+}
+
+// A fault of a source, which the reader answers too.
+fn expect_fault(rt: &impl Abort, alloc: Global, source: &[u8], kind: SourceFault, offset: usize) {
+    let text = str::from_utf8(source).unwrap_or("bytes");
     assert_eq!(rt;
-        found,
+        said(source_fault(alloc, source)),
         Some((kind, offset)),
         "{}",
-        str::from_utf8(source).unwrap_or("bytes")
+        text
     );
+    let refused = read_method(alloc, source).err().and_then(said);
+    assert_eq!(rt; refused, Some((kind, offset)), "{}", text);
 }
 
 // The faults of the sources of a text, all of one kind.
@@ -140,7 +147,7 @@ fn nothing_is_too_deep_to_be_read(rt: HostRuntime) -> Result<(), Fail> {
 }
 
 fn is_method(alloc: Global, source: &[u8]) -> bool {
-    read(alloc, source).is_ok()
+    read_method(alloc, source).is_ok()
 }
 
 #[test]

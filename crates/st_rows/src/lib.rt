@@ -19,13 +19,13 @@ mod images;
 #[cfg(test)]
 mod interrupts;
 #[cfg(test)]
+mod language;
+#[cfg(test)]
 mod limits;
 #[cfg(test)]
 mod longest_lines;
 #[cfg(test)]
 mod names;
-#[cfg(test)]
-mod reading;
 #[cfg(test)]
 mod reply_names;
 #[cfg(test)]

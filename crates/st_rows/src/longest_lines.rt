@@ -199,7 +199,7 @@ fn longest_sources(rt: HostRuntime) -> Result<(), Fail> {
     );
     source.push(b' ')?;
     let longer = installation(alloc, &source)?;
-    let refused = b"{\"error\":\"BadSource\",\"kind\":\"BadToken\",\"offset\":0}";
+    let refused = b"{\"error\":\"BadSource\",\"kind\":\"TooLarge\",\"offset\":4096}";
     assert!(rt;
         leaves_nothing(alloc, &[longer.as_slice()], refused)?,
         "4,097 bytes"

@@ -1,6 +1,6 @@
 //! Methods of the whole grammar, and texts that are none.
-use st_syntax::inlining::Inlining;
-use st_syntax::reader::read;
+use st_reader::inlining::Inlining;
+use st_reader::reader::read_method;
 use std::alloc::Global;
 use std::test::*;
 
@@ -43,7 +43,7 @@ const OTHERS: [&[u8]; 16] = [
 ];
 
 fn is_method(alloc: Global, source: &[u8]) -> bool {
-    read(alloc, source).is_ok()
+    read_method(alloc, source).is_ok()
 }
 
 #[test]

@@ -1,7 +1,7 @@
 //! Texts and their tokens, by hand.
 use st_classes::limits;
-use st_syntax::tokens::{Kind, Lexeme, Mark, cut, fit, symbol_text};
-use st_syntax::trees::Span;
+use st_reader::tokens::{Kind, Lexeme, Mark, cut, fit, symbol_text};
+use st_reader::trees::Span;
 use std::alloc::Global;
 use std::test::*;
 

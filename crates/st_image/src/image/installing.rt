@@ -7,20 +7,23 @@ use st_classes::refusals::Refusal;
 use st_classes::seq::Seq;
 use st_classes::values::ClassId;
 use st_compile::compile::compile;
+use st_compile::names::joined_pattern;
 use st_reader::reader::read_method;
-use st_reader::trees::MethodTree;
+use st_reader::trees::{MethodTree, Pattern};
 use std::alloc::Global;
 
 impl Image {
-    ghost use Rattle.std.specs.Prelude.{◌≡◌, true, false, OnOk, OnErr, IfErr};
-    ghost use Rattle.st_classes.specs.declared.refusals.Refusal.TheVariants.{KernelMethod};
+    ghost use Rattle.std.specs.Prelude.{◌≡◌, true, false, Some, OnOk, OnErr, IfOk, IfErr};
+    ghost use Rattle.st_classes.specs.declared.refusals.Refusal.{Refusal as RefusalOf};
+    ghost use Rattle.st_classes.specs.declared.refusals.Refusal.TheVariants.{NoMemory};
     ghost use Rattle.st_classes.specs.Refusals.{first_of, Answers};
-    ghost use Rattle.st_classes.specs.Classes.{is_class, slots};
-    ghost use Rattle.st_reader.specs.declared.trees.MethodTree.{MethodTree as TreeOf};
-    ghost use Rattle.st_reader.specs.Trees.{Spells};
-    ghost use Rattle.st_compile.specs.Code.{has_code, selectors_of};
+    ghost use Rattle.st_classes.specs.Classes.{is_class};
+    ghost use Rattle.st_reader.specs.Spelling.{Spells};
+    ghost use Rattle.st_reader.specs.Syntax.{Method as MethodOf};
+    ghost use Rattle.st_reader.specs.Views.{method_view};
     ghost use Rattle.st_compile.specs.Compiled.{IsCompiled};
-    ghost use Rattle.st_compile.specs.Refusing.{InternsFirst, IsFull, interned_all, tree_rules};
+    ghost use Rattle.st_compile.specs.Refusing.{InternsFirst, IsFull, interned_all, code_rules, method_rules, texts_of};
+    ghost use Rattle.st_compile.specs.Scopes.{pattern_selector};
     ghost use Rattle.st_image.specs.Images.{world};
     ghost use Rattle.st_image.specs.Installing.{AnswersInstall, Installs, LeavesNames, image_install_rules, is_kernel_text};
 
@@ -34,7 +37,29 @@ impl Image {
         }
     }
 
-    /// The method of a tree in a class. Its selectors are interned.
+    /// The same for the selector of a pattern. The only refusal is `NoMemory`.
+    fn has_kernel_pattern(
+        &self,
+        alloc: Global,
+        class: ClassId,
+        pattern: &Pattern,
+    ) -> Result<bool, Refusal>
+        ensures ok { IfOk result (λ found. found ≡ is_kernel_text class (pattern_selector pattern.now)) }
+        ensures err { IfErr result (λ e. e ≡ NoMemory) }
+    {
+        Ok(match pattern {
+            Pattern::Unary(name) => self.has_kernel_method(class, name.text.as_slice()),
+            Pattern::Binary { selector, .. } => {
+                self.has_kernel_method(class, selector.text.as_slice())
+            }
+            Pattern::Keyword(parameters) => {
+                let selector = joined_pattern(alloc, parameters.as_slice())?;
+                self.has_kernel_method(class, selector.as_slice())
+            }
+        })
+    }
+
+    /// The method of a tree in a class. Its selectors and symbols are interned.
     fn compiled(
         &mut self,
         alloc: Global,
@@ -43,17 +68,41 @@ impl Image {
         source: Seq<u8>,
     ) -> Result<Method, Refusal>
         requires class { is_class (world self.old).edits class ≡ true }
-        requires spells { Spells tree.now source }
-        ensures answers { Answers (first_of (tree_rules (slots (world self.old).edits class) self.old.names tree.now)) result
-            (λ m. IsCompiled self.new.names (world self.old).edits class tree.now source m) }
-        ensures names { OnOk result (self.new ≡ record self.old { names = interned_all self.old.names (selectors_of tree.now) }) }
-        ensures some { InternsFirst self.old.names (selectors_of tree.now) self.new.names }
+        requires spells { Spells (method_view tree.now) source }
+        ensures answers { Answers (first_of (method_rules self.old.names (world self.old).edits class (method_view tree.now))) result
+            (λ m. IsCompiled self.new.names (world self.old).edits class (method_view tree.now) source m) }
+        ensures names { OnOk result (self.new ≡ record self.old { names = interned_all self.old.names (texts_of (method_view tree.now)) }) }
+        ensures some { InternsFirst self.old.names (texts_of (method_view tree.now)) self.new.names }
         ensures only { self.new ≡ record self.old { names = self.new.names } }
         ensures full { IfErr result (λ e. IsFull self.new.names e) }
-        ensures untouched { has_code (slots (world self.old).edits class) tree.now ≡ false → self.new ≡ self.old }
+        ensures untouched { (e : RefusalOf) → first_of (code_rules (world self.old).edits class (method_view tree.now)) ≡ Some e → self.new ≡ self.old }
         ensures world { world self.new ≡ world self.old }
     {
         compile(alloc, tree, class, &self.version, &mut self.names, source)
+    }
+
+    /// Installs the method of a tree whose selector is no kernel method's in the class, and answers the number of edits.
+    fn install_free(
+        &mut self,
+        alloc: Global,
+        class: ClassId,
+        tree: &MethodTree,
+        source: Seq<u8>,
+    ) -> Result<u32, Refusal>
+        requires class { is_class (world self.old).edits class ≡ true }
+        requires spells { Spells (method_view tree.now) source }
+        requires free { is_kernel_text class (pattern_selector (method_view tree.now).pattern) ≡ false }
+        ensures answers { Answers (first_of (image_install_rules self.old class (method_view tree.now))) result
+            (λ n. Installs self.old class (method_view tree.now) source self.new n) }
+        ensures refused { IfErr result (λ e. LeavesNames self.old class source e self.new) }
+        ensures world { OnErr result (world self.new ≡ world self.old) }
+    {
+        let method = match self.compiled(alloc, tree, class, source) {
+            Ok(method) => method,
+            Err(refusal) => return Err(refusal),
+        };
+        self.known();
+        self.edit(alloc, Edit::Install { class, method })
     }
 
     /// Installs the method of a tree, and answers the number of edits.
@@ -65,21 +114,16 @@ impl Image {
         source: Seq<u8>,
     ) -> Result<u32, Refusal>
         requires class { is_class (world self.old).edits class ≡ true }
-        requires spells { Spells tree.now source }
-        ensures answers { Answers (first_of (image_install_rules self.old class tree.now)) result
-            (λ n. Installs self.old class tree.now source self.new n) }
+        requires spells { Spells (method_view tree.now) source }
+        ensures answers { Answers (first_of (image_install_rules self.old class (method_view tree.now))) result
+            (λ n. Installs self.old class (method_view tree.now) source self.new n) }
         ensures refused { IfErr result (λ e. LeavesNames self.old class source e self.new) }
         ensures world { OnErr result (world self.new ≡ world self.old) }
     {
-        if self.has_kernel_method(class, tree.selector.text.as_slice()) {
+        if self.has_kernel_pattern(alloc, class, &tree.pattern)? {
             return Err(Refusal::KernelMethod);
         }
-        let method = match self.compiled(alloc, tree, class, source) {
-            Ok(method) => method,
-            Err(refusal) => return Err(refusal),
-        };
-        self.known();
-        self.edit(alloc, Edit::Install { class, method })
+        self.install_free(alloc, class, tree, source)
     }
 
     /// Installs a method in a class, in place of the one that it has for the selector. The answer is the number of edits.

@@ -1,110 +1,175 @@
-use Rattle.std.proofs.Common.{◌≡◌, ◌≤◌, ℕ, List, [], ◌∷◌, map, length, Some, None, inr, sym, ap, ◌∙◌, refl, arith}
-use Rattle.std.specs.List.{list_all, flat_map}
-use Rattle.std.proofs.lemmas.Bool.{and_parts, ltb-true}
+use Rattle.std.proofs.Common.{◌≡◌, ◌≤◌, ◌+◌, List, map, length, true, Some, None, inr, sym, ap, ◌∙◌, subst, refl, arith}
+use Rattle.std.specs.List.{list_all}
 use Rattle.std.proofs.lemmas.Result.{err_from_is_err_and}
-use Rattle.st_classes.specs.Classes.{class_count, slots}
+use Rattle.st_classes.specs.declared.methods.MethodParts.{MethodParts}
 use Rattle.st_classes.specs.Methods.{send_places}
 use Rattle.st_classes.specs.Refusals.{first_of}
-use Rattle.st_classes.specs.Selectors.{arity_of, place_of}
-use Rattle.st_classes.specs.Suiting.{is_number}
-use Rattle.st_compile.specs.Code.{code_of, has_code, has_selector, selectors_of, word_texts}
-use Rattle.st_compile.specs.Refusing.{names_rule}
-use Rattle.st_compile.specs.Drafts.{word_of}
-use Rattle.st_compile.specs.Words.{tree_words}
-use Rattle.st_compile.proofs.Compiling.{test_is, refused_without, refused_with, refused_later, texts_are, few_words, code_by, few_code, touched}
-use Rattle.st_compile.proofs.FewSlots.{few_slots}
-use Rattle.st_compile.proofs.Mapped.{selector_of_number}
-use Rattle.st_compile.proofs.Selecting.{spelled_selectors}
+use Rattle.st_classes.specs.Selectors.{place_of}
+use Rattle.st_reader.specs.Syntax.{Method}
+use Rattle.st_reader.specs.Views.{method_view}
+use Rattle.st_compile.specs.Drafts.{line_of}
+use Rattle.st_compile.specs.Equations.{method_code}
+use Rattle.st_compile.specs.Naming.{HasFew, named, scope_seen}
+use Rattle.st_compile.specs.Proper.{is_near, word_fits}
+use Rattle.st_compile.specs.Refusing.{is_small}
+use Rattle.st_compile.specs.Resolving.{instructions_of}
+use Rattle.st_compile.specs.Scopes.{arguments_of, pattern_selector, scope_of}
+use Rattle.st_compile.specs.Words.{Line}
+use Rattle.st_compile.proofs.Arities.{number_few, selector_of_number}
+use Rattle.st_compile.proofs.Compiling.{Met, code_is, met, names_are, refused_code, refused_names, rules_known, rules_small, scope_few, seen_rules, small_length, untouched}
+use Rattle.st_compile.proofs.Resolving.{instructions-length}
 use Rattle.st_compile.proofs.Sound.{sound_of}
-use Rattle.st_compile.proofs.Suits.{tree_suits}
+use Rattle.st_compile.proofs.Suited.{locals_count, spelled_few, method_suits, spelled_fits, spelled_near, spelled_pattern}
 use Rattle.st_compile.proofs.compile.compile.Goals as goal
 
-pub returns-then-not-has_code-clause-answers : goal.returns-then-not-has_code-clause-answers
-returns-then-not-has_code-clause-answers c =
-    let is : c.has_code.result ≡ has_code (slots c.args.version.now c.args.class) c.args.tree.now = test_is c.slots-slots.result.now (slots c.args.version.now c.args.class) (map word_of c.in_ok-draft.draft.words.items) c.args.tree.now c.has_code.result c.slots-slots.ensures c.in_ok-draft.ensures.words c.has_code.ensures in
-    inr (refused_without (slots c.args.version.now c.args.class) c.args.names.now c.args.tree.now (sym is ∙ c.if-not-has_code.true))
+pub code_refusal-requires : goal.code_refusal-requires
+code_refusal-requires c =
+    let edits = c.args.version.now in
+    let m : Method = method_view c.args.tree.now in
+    let s = c.in_class-scope.result in
+    let ls = c.as_slice-lines.result.now in
+    let t : Met edits c.args.class m s ls = met edits c.args.class m s ls c.in_class-scope.ensures.edits c.in_class-scope.ensures.slots (ap named (c.in_class-scope.ensures.locals ∙ c.as_slice.ensures.value) ∙ c.in_ok-locals.ensures.ok) (ap (map line_of) c.as_slice-lines.ensures.value ∙ c.in_ok-draft.ensures.ok) in
+    subst HasFew (sym t.scope) (scope_few edits c.args.class m c.known.ensures.lawful c.requires.class (spelled_few m c.args.source c.requires.spells))
+
+pub returns-in-Some-clause-answers : goal.returns-in-Some-clause-answers
+returns-in-Some-clause-answers c =
+    let edits = c.args.version.now in
+    let m : Method = method_view c.args.tree.now in
+    let s = c.in_class-scope.result in
+    let ls = c.as_slice-lines.result.now in
+    let t : Met edits c.args.class m s ls = met edits c.args.class m s ls c.in_class-scope.ensures.edits c.in_class-scope.ensures.slots (ap named (c.in_class-scope.ensures.locals ∙ c.as_slice.ensures.value) ∙ c.in_ok-locals.ensures.ok) (ap (map line_of) c.as_slice-lines.ensures.value ∙ c.in_ok-draft.ensures.ok) in
+    inr (refused_code edits c.args.class m s ls t c.args.names.now c.in-Some.refusal (sym c.in-Some.ensures))
 
 pub resolve-requires-clause-selector : goal.resolve-requires-clause-selector
 resolve-requires-clause-selector c =
-    let b = and_parts (is_number (arity_of c.args.tree.now.selector.text) 0) (list_all has_selector (tree_words c.args.tree.now)) (spelled_selectors c.args.tree.now c.args.source c.requires.spells) in
-    rw c.as_slice.ensures (selector_of_number c.args.tree.now.selector.text 0 b.0)
+    let m : Method = method_view c.args.tree.now in
+    selector_of_number (pattern_selector m.pattern) (length (arguments_of m.pattern)) (spelled_pattern m c.args.source c.requires.spells)
 
 pub resolve-requires-clause-few : goal.resolve-requires-clause-few
 resolve-requires-clause-few c =
     let edits = c.args.version.now in
-    let few : length (slots edits c.args.class) ≤ 64 = few_slots edits c.known.ensures.lawful c.args.class (ltb-true c.args.class.0 (class_count edits) c.requires.class) in
-    omega (arith, ap length c.slots-slots.ensures, few)
+    let m : Method = method_view c.args.tree.now in
+    let s = c.in_class-scope.result in
+    let ls = c.as_slice-lines.result.now in
+    let t : Met edits c.args.class m s ls = met edits c.args.class m s ls c.in_class-scope.ensures.edits c.in_class-scope.ensures.slots (ap named (c.in_class-scope.ensures.locals ∙ c.as_slice.ensures.value) ∙ c.in_ok-locals.ensures.ok) (ap (map line_of) c.as_slice-lines.ensures.value ∙ c.in_ok-draft.ensures.ok) in
+    subst HasFew (sym t.scope) (scope_few edits c.args.class m c.known.ensures.lawful c.requires.class (spelled_few m c.args.source c.requires.spells))
 
-pub resolve-requires-clause-selectors : goal.resolve-requires-clause-selectors
-resolve-requires-clause-selectors c =
-    let b = and_parts (is_number (arity_of c.args.tree.now.selector.text) 0) (list_all has_selector (tree_words c.args.tree.now)) (spelled_selectors c.args.tree.now c.args.source c.requires.spells) in
-    rw c.in_ok-draft.ensures.words b.1
+pub resolve-requires-clause-known : goal.resolve-requires-clause-known
+resolve-requires-clause-known c =
+    let edits = c.args.version.now in
+    let m : Method = method_view c.args.tree.now in
+    let s = c.in_class-scope.result in
+    let ls = c.as_slice-lines.result.now in
+    let t : Met edits c.args.class m s ls = met edits c.args.class m s ls c.in_class-scope.ensures.edits c.in_class-scope.ensures.slots (ap named (c.in_class-scope.ensures.locals ∙ c.as_slice.ensures.value) ∙ c.in_ok-locals.ensures.ok) (ap (map line_of) c.as_slice-lines.ensures.value ∙ c.in_ok-draft.ensures.ok) in
+    let none : first_of (seen_rules edits c.args.class m s ls t) ≡ None = sym c.in_default.ensures in
+    rules_known (scope_seen s) (named s.locals.now) (map line_of ls) none
+
+pub resolve-requires-clause-fits : goal.resolve-requires-clause-fits
+resolve-requires-clause-fits c =
+    let edits = c.args.version.now in
+    let m : Method = method_view c.args.tree.now in
+    let s = c.in_class-scope.result in
+    let ls = c.as_slice-lines.result.now in
+    let t : Met edits c.args.class m s ls = met edits c.args.class m s ls c.in_class-scope.ensures.edits c.in_class-scope.ensures.slots (ap named (c.in_class-scope.ensures.locals ∙ c.as_slice.ensures.value) ∙ c.in_ok-locals.ensures.ok) (ap (map line_of) c.as_slice-lines.ensures.value ∙ c.in_ok-draft.ensures.ok) in
+    let none : first_of (seen_rules edits c.args.class m s ls t) ≡ None = sym c.in_default.ensures in
+    let small : is_small (method_code m) ≡ true = ap is_small (sym t.lines_are) ∙ rules_small (scope_seen s) (named s.locals.now) (map line_of ls) none in
+    subst (λ (x : List Line). list_all (λ l. word_fits l.word) x ≡ true) (sym t.lines_are) (spelled_fits m c.args.source c.requires.spells small)
+
+pub resolve-requires-clause-near : goal.resolve-requires-clause-near
+resolve-requires-clause-near c =
+    let edits = c.args.version.now in
+    let m : Method = method_view c.args.tree.now in
+    let s = c.in_class-scope.result in
+    let ls = c.as_slice-lines.result.now in
+    let t : Met edits c.args.class m s ls = met edits c.args.class m s ls c.in_class-scope.ensures.edits c.in_class-scope.ensures.slots (ap named (c.in_class-scope.ensures.locals ∙ c.as_slice.ensures.value) ∙ c.in_ok-locals.ensures.ok) (ap (map line_of) c.as_slice-lines.ensures.value ∙ c.in_ok-draft.ensures.ok) in
+    let none : first_of (seen_rules edits c.args.class m s ls t) ≡ None = sym c.in_default.ensures in
+    let small : is_small (method_code m) ≡ true = ap is_small (sym t.lines_are) ∙ rules_small (scope_seen s) (named s.locals.now) (map line_of ls) none in
+    subst (λ (x : List Line). list_all (λ l. is_near l.word) x ≡ true) (sym t.lines_are) (spelled_near m c.args.source c.requires.spells small)
 
 pub returns-in_err-selector-clause-answers : goal.returns-in_err-selector-clause-answers
 returns-in_err-selector-clause-answers c =
-    let vars = slots c.args.version.now c.args.class in
-    let tree = c.args.tree.now in
-    let words = map word_of c.in_ok-draft.draft.words.items in
-    let is : c.has_code.result ≡ has_code vars tree = test_is c.slots-slots.result.now vars words tree c.has_code.result c.slots-slots.ensures c.in_ok-draft.ensures.words c.has_code.ensures in
+    let edits = c.args.version.now in
+    let m : Method = method_view c.args.tree.now in
+    let s = c.in_class-scope.result in
+    let ls = c.as_slice-lines.result.now in
+    let t : Met edits c.args.class m s ls = met edits c.args.class m s ls c.in_class-scope.ensures.edits c.in_class-scope.ensures.slots (ap named (c.in_class-scope.ensures.locals ∙ c.as_slice.ensures.value) ∙ c.in_ok-locals.ensures.ok) (ap (map line_of) c.as_slice-lines.ensures.value ∙ c.in_ok-draft.ensures.ok) in
+    let none : first_of (seen_rules edits c.args.class m s ls t) ≡ None = sym c.in_default.ensures in
     let p = err_from_is_err_and c.from_residual-in_err-selector.result c.from_residual-in_err-selector.ensures.1 in
-    rw (p.1, p.2) (refused_later vars c.args.names.now (c.as_slice.result.now ∷ flat_map word_texts words) tree c.in_err-selector.field-0.0 (sym is ∙ c.if-not-has_code.false) (texts_are c.as_slice.result.now words tree c.as_slice.ensures c.in_ok-draft.ensures.words) c.in_err-selector.ensures.answers)
+    rw (p.1, p.2) (refused_names edits c.args.class m s ls t c.args.names.now c.in_err-selector.field-0.0 none c.in_err-selector.ensures.answers)
 
 pub returns-in_err-selector-clause-untouched : goal.returns-in_err-selector-clause-untouched
 returns-in_err-selector-clause-untouched c =
-    let vars = slots c.args.version.now c.args.class in
-    let is : c.has_code.result ≡ has_code vars c.args.tree.now = test_is c.slots-slots.result.now vars (map word_of c.in_ok-draft.draft.words.items) c.args.tree.now c.has_code.result c.slots-slots.ensures c.in_ok-draft.ensures.words c.has_code.ensures in
-    touched vars c.args.tree.now (sym is ∙ c.if-not-has_code.false)
+    let edits = c.args.version.now in
+    let m : Method = method_view c.args.tree.now in
+    let s = c.in_class-scope.result in
+    let ls = c.as_slice-lines.result.now in
+    let t : Met edits c.args.class m s ls = met edits c.args.class m s ls c.in_class-scope.ensures.edits c.in_class-scope.ensures.slots (ap named (c.in_class-scope.ensures.locals ∙ c.as_slice.ensures.value) ∙ c.in_ok-locals.ensures.ok) (ap (map line_of) c.as_slice-lines.ensures.value ∙ c.in_ok-draft.ensures.ok) in
+    let none : first_of (seen_rules edits c.args.class m s ls t) ≡ None = sym c.in_default.ensures in
+    λ e k. untouched edits c.args.class m s ls t none e k
 
 pub sites_of-requires : goal.sites_of-requires
 sites_of-requires c =
-    let vars = slots c.args.version.now c.args.class in
-    let tree = c.args.tree.now in
-    let words = map word_of c.in_ok-draft.draft.words.items in
-    let is : c.has_code.result ≡ has_code vars tree = test_is c.slots-slots.result.now vars words tree c.has_code.result c.slots-slots.ensures c.in_ok-draft.ensures.words c.has_code.ensures in
-    let code : code_of c.resolve.new.names vars tree ≡ Some c.as_slice-2.result.now = code_by c.resolve.new.names c.slots-slots.result.now vars words tree c.as_slice-2.result.now c.in_ok-selector.code.items c.slots-slots.ensures c.in_ok-draft.ensures.words c.as_slice-2.ensures.value c.in_ok-selector.ensures.answers.1.1 in
-    few_code c.resolve.new.names vars tree c.as_slice-2.result.now (sym is ∙ c.if-not-has_code.false) code
+    let edits = c.args.version.now in
+    let m : Method = method_view c.args.tree.now in
+    let s = c.in_class-scope.result in
+    let ls = c.as_slice-lines.result.now in
+    let t : Met edits c.args.class m s ls = met edits c.args.class m s ls c.in_class-scope.ensures.edits c.in_class-scope.ensures.slots (ap named (c.in_class-scope.ensures.locals ∙ c.as_slice.ensures.value) ∙ c.in_ok-locals.ensures.ok) (ap (map line_of) c.as_slice-lines.ensures.value ∙ c.in_ok-draft.ensures.ok) in
+    let none : first_of (seen_rules edits c.args.class m s ls t) ≡ None = sym c.in_default.ensures in
+    let small : is_small (method_code m) ≡ true = ap is_small (sym t.lines_are) ∙ rules_small (scope_seen s) (named s.locals.now) (map line_of ls) none in
+    let code = code_is edits c.args.class m s ls t c.resolve.new.names c.in_ok-selector.code.items c.in_ok-selector.ensures.answers.1.1 in
+    omega (arith, small_length (method_code m) small, instructions-length c.resolve.new.names (scope_of edits c.args.class m) (method_code m) c.in_ok-selector.code.items code, ap length c.as_slice-2.ensures.value)
 
-pub returns-in_err-sites-clause-untouched : goal.returns-in_err-sites-clause-untouched
-returns-in_err-sites-clause-untouched c =
-    let vars = slots c.args.version.now c.args.class in
-    let is : c.has_code.result ≡ has_code vars c.args.tree.now = test_is c.slots-slots.result.now vars (map word_of c.in_ok-draft.draft.words.items) c.args.tree.now c.has_code.result c.slots-slots.ensures c.in_ok-draft.ensures.words c.has_code.ensures in
-    touched vars c.args.tree.now (sym is ∙ c.if-not-has_code.false)
+pub argument_count-requires : goal.argument_count-requires
+argument_count-requires c =
+    let m : Method = method_view c.args.tree.now in
+    number_few (pattern_selector m.pattern) (length (arguments_of m.pattern)) (spelled_pattern m c.args.source c.requires.spells)
+
+pub temporary_count-requires : goal.temporary_count-requires
+temporary_count-requires c =
+    let m : Method = method_view c.args.tree.now in
+    omega (arith, locals_count m, (spelled_few m c.args.source c.requires.spells))
 
 pub new-requires : goal.new-requires
 new-requires c =
-    let vars = slots c.args.version.now c.args.class in
-    let tree = c.args.tree.now in
-    let words = map word_of c.in_ok-draft.draft.words.items in
-    let is : c.has_code.result ≡ has_code vars tree = test_is c.slots-slots.result.now vars words tree c.has_code.result c.slots-slots.ensures c.in_ok-draft.ensures.words c.has_code.ensures in
-    let code : code_of c.resolve.new.names vars tree ≡ Some c.from_vec.result = code_by c.resolve.new.names c.slots-slots.result.now vars words tree c.from_vec.result c.in_ok-selector.code.items c.slots-slots.ensures c.in_ok-draft.ensures.words c.from_vec.ensures c.in_ok-selector.ensures.answers.1.1 in
-    sound_of c.resolve.new.names vars tree _ code (few_words vars tree (sym is ∙ c.if-not-has_code.false)) (c.from_vec-2.ensures ∙ c.in_ok-draft.ensures.depths) (c.from_vec-3.ensures ∙ (c.in_ok-sites.ensures.ok ∙ ap (send_places 0) (c.as_slice-2.ensures.value ∙ sym c.from_vec.ensures))) refl refl c.requires.spells.short
+    let edits = c.args.version.now in
+    let m : Method = method_view c.args.tree.now in
+    let s = c.in_class-scope.result in
+    let ls = c.as_slice-lines.result.now in
+    let t : Met edits c.args.class m s ls = met edits c.args.class m s ls c.in_class-scope.ensures.edits c.in_class-scope.ensures.slots (ap named (c.in_class-scope.ensures.locals ∙ c.as_slice.ensures.value) ∙ c.in_ok-locals.ensures.ok) (ap (map line_of) c.as_slice-lines.ensures.value ∙ c.in_ok-draft.ensures.ok) in
+    let none : first_of (seen_rules edits c.args.class m s ls t) ≡ None = sym c.in_default.ensures in
+    let small : is_small (method_code m) ≡ true = ap is_small (sym t.lines_are) ∙ rules_small (scope_seen s) (named s.locals.now) (map line_of ls) none in
+    let code : instructions_of c.resolve.new.names (scope_of edits c.args.class m) (method_code m) ≡ Some c.from_vec.result = code_is edits c.args.class m s ls t c.resolve.new.names c.in_ok-selector.code.items c.in_ok-selector.ensures.answers.1.1 ∙ ap Some (sym c.from_vec.ensures) in
+    let depths : c.from_vec-2.result ≡ map (λ l. l.depth) (method_code m) = c.from_vec-2.ensures ∙ (c.in_ok-depths.ensures.ok ∙ ap (map (λ l. l.depth)) t.lines_are) in
+    let sites : c.from_vec-3.result ≡ send_places 0 c.from_vec.result = c.from_vec-3.ensures ∙ (c.in_ok-sites.ensures.ok ∙ ap (send_places 0) (c.as_slice-2.ensures.value ∙ sym c.from_vec.ensures)) in
+    let eight : length (arguments_of m.pattern) ≤ 8 = number_few (pattern_selector m.pattern) (length (arguments_of m.pattern)) (spelled_pattern m c.args.source c.requires.spells) in
+    let arguments : c.argument_count.result ≤ 8 = omega (arith, eight, c.argument_count.ensures) in
+    let all : c.argument_count.result + (c.temporary_count.result) ≤ 64 = omega (arith, locals_count m, (spelled_few m c.args.source c.requires.spells), c.argument_count.ensures, c.temporary_count.ensures) in
+    sound_of c.resolve.new.names (scope_of edits c.args.class m) m _ code small depths sites arguments all c.requires.spells.short
 
 pub returns-clause-answers : goal.returns-clause-answers
 returns-clause-answers c =
-    let vars = slots c.args.version.now c.args.class in
-    let tree = c.args.tree.now in
-    let words = map word_of c.in_ok-draft.draft.words.items in
-    let is : c.has_code.result ≡ has_code vars tree = test_is c.slots-slots.result.now vars words tree c.has_code.result c.slots-slots.ensures c.in_ok-draft.ensures.words c.has_code.ensures in
-    let code : code_of c.resolve.new.names vars tree ≡ Some c.from_vec.result = code_by c.resolve.new.names c.slots-slots.result.now vars words tree c.from_vec.result c.in_ok-selector.code.items c.slots-slots.ensures c.in_ok-draft.ensures.words c.from_vec.ensures c.in_ok-selector.ensures.answers.1.1 in
-    let texts = texts_are c.as_slice.result.now words tree c.as_slice.ensures c.in_ok-draft.ensures.words in
-    let room : first_of (names_rule c.args.names.now (selectors_of tree) ∷ []) ≡ None = ap (λ (x : List (List ℕ)). first_of (names_rule c.args.names.now x ∷ [])) (sym texts) ∙ c.in_ok-selector.ensures.answers.0 in
-    let selector : place_of c.resolve.new.names tree.selector.text ≡ Some c.in_ok-selector.selector.0 = ap (place_of c.resolve.new.names) (sym c.as_slice.ensures) ∙ c.in_ok-selector.ensures.answers.1.0 in (
-      refused_with vars c.args.names.now tree None (sym is ∙ c.if-not-has_code.false) room,
+    let edits = c.args.version.now in
+    let m : Method = method_view c.args.tree.now in
+    let s = c.in_class-scope.result in
+    let ls = c.as_slice-lines.result.now in
+    let t : Met edits c.args.class m s ls = met edits c.args.class m s ls c.in_class-scope.ensures.edits c.in_class-scope.ensures.slots (ap named (c.in_class-scope.ensures.locals ∙ c.as_slice.ensures.value) ∙ c.in_ok-locals.ensures.ok) (ap (map line_of) c.as_slice-lines.ensures.value ∙ c.in_ok-draft.ensures.ok) in
+    let none : first_of (seen_rules edits c.args.class m s ls t) ≡ None = sym c.in_default.ensures in
+    let small : is_small (method_code m) ≡ true = ap is_small (sym t.lines_are) ∙ rules_small (scope_seen s) (named s.locals.now) (map line_of ls) none in
+    let code : instructions_of c.resolve.new.names (scope_of edits c.args.class m) (method_code m) ≡ Some c.from_vec.result = code_is edits c.args.class m s ls t c.resolve.new.names c.in_ok-selector.code.items c.in_ok-selector.ensures.answers.1.1 ∙ ap Some (sym c.from_vec.ensures) in
+    let depths : c.from_vec-2.result ≡ map (λ l. l.depth) (method_code m) = c.from_vec-2.ensures ∙ (c.in_ok-depths.ensures.ok ∙ ap (map (λ l. l.depth)) t.lines_are) in
+    let sites : c.from_vec-3.result ≡ send_places 0 c.from_vec.result = c.from_vec-3.ensures ∙ (c.in_ok-sites.ensures.ok ∙ ap (send_places 0) (c.as_slice-2.ensures.value ∙ sym c.from_vec.ensures)) in
+    let selector : place_of c.resolve.new.names (pattern_selector m.pattern) ≡ Some c.in_ok-selector.selector.0 = c.in_ok-selector.ensures.answers.1.0 in
+    let parts : MethodParts = record { holder = c.args.class; selector = c.in_ok-selector.selector; arguments = c.argument_count.result; temporaries = c.temporary_count.result; code = c.from_vec.result; depths = c.from_vec-2.result; sites = c.from_vec-3.result; source = c.args.source } in (
+      names_are edits c.args.class m s ls t c.args.names.now None none c.in_ok-selector.ensures.answers.0,
       rw c.new.ensures (record {
         holder = refl;
         selector = selector;
-        arguments = refl;
-        temporaries = refl;
+        arguments = c.argument_count.ensures;
+        temporaries = c.temporary_count.ensures;
         code = code;
-        depths = c.from_vec-2.ensures ∙ c.in_ok-draft.ensures.depths;
-        sites = c.from_vec-3.ensures ∙ (c.in_ok-sites.ensures.ok ∙ ap (send_places 0) (c.as_slice-2.ensures.value ∙ sym c.from_vec.ensures));
+        depths = depths;
+        sites = sites;
         source = refl;
-        fitting = tree_suits c.resolve.new.names c.args.version.now c.args.class tree (record { holder = c.args.class; selector = c.in_ok-selector.selector; arguments = 0; temporaries = 0; code = c.from_vec.result; depths = c.from_vec-2.result; sites = c.from_vec-3.result; source = c.args.source }) refl selector refl refl code (spelled_selectors tree c.args.source c.requires.spells);
+        fitting = method_suits c.resolve.new.names edits c.args.class m c.args.source parts c.requires.spells small refl selector c.argument_count.ensures c.temporary_count.ensures code;
       }),
     )
-
-pub returns-clause-untouched : goal.returns-clause-untouched
-returns-clause-untouched c =
-    let vars = slots c.args.version.now c.args.class in
-    let is : c.has_code.result ≡ has_code vars c.args.tree.now = test_is c.slots-slots.result.now vars (map word_of c.in_ok-draft.draft.words.items) c.args.tree.now c.has_code.result c.slots-slots.ensures c.in_ok-draft.ensures.words c.has_code.ensures in
-    touched vars c.args.tree.now (sym is ∙ c.if-not-has_code.false)

@@ -1,0 +1,109 @@
+//! The numbers of selectors and symbols.
+ghost use Rattle.std.specs.Prelude.{◌≡◌, ◌≤◌, [], ◌∷◌, Some, true, OnOk, OnErr, IfOk, IfErr};
+ghost use Rattle.std.specs.List.{flat_map};
+ghost use Rattle.st_classes.specs.Names.{interned};
+ghost use Rattle.st_classes.specs.Refusals.{first_of, Answers};
+ghost use Rattle.st_classes.specs.Selectors.{is_selector, place_of};
+ghost use Rattle.st_compile.specs.Drafts.{sent_arguments, sent_text};
+ghost use Rattle.st_compile.specs.Refusing.{IsFull, names_rule};
+ghost use Rattle.st_compile.specs.Scopes.{pattern_selector};
+
+use crate::words::Sent;
+use st_classes::names::Names;
+use st_classes::refusals::Refusal;
+use st_classes::values::Selector;
+use st_reader::trees::{Chain, Name, Parameter, Pattern};
+use std::alloc::Global;
+
+/// The number of a text, which is interned.
+pub fn number_of(alloc: Global, text: &[u8], names: &mut Names) -> Result<Selector, Refusal>
+    requires { is_selector text.now ≡ true }
+    ensures answers { Answers (first_of (names_rule names.old (text.now ∷ []) ∷ [])) result (λ s. place_of names.new text.now ≡ Some s.0) }
+    ensures names { OnOk result (names.new ≡ interned names.old text.now) }
+    ensures unchanged { OnErr result (names.new ≡ names.old) }
+    ensures full { IfErr result (λ e. IsFull names.new e) }
+{
+    let number = names.intern(alloc, text);
+    names.known();
+    number
+}
+
+/// The selector that the keywords of a message make. The only refusal is `NoMemory`.
+fn joined(alloc: Global, parts: &[(Name, Chain)]) -> Result<Vec<u8>, Refusal>
+    ensures ok { IfOk result (λ text. text.items ≡ flat_map (λ p. p.0.text) parts.now) }
+    ensures err { IfErr result (λ e. e ≡ Refusal.NoMemory) }
+{
+    let mut text = Vec::new(alloc);
+    for part in parts {
+        let Ok(()) = text.extend_from_slice(part.0.text.as_slice()) else {
+            return Err(Refusal::NoMemory);
+        };
+    }
+    Ok(text)
+}
+
+/// The selector that the keywords of a pattern make. The only refusal is `NoMemory`.
+pub fn joined_pattern(alloc: Global, parameters: &[Parameter]) -> Result<Vec<u8>, Refusal>
+    ensures ok { IfOk result (λ text. text.items ≡ flat_map (λ p. p.keyword.text) parameters.now) }
+    ensures err { IfErr result (λ e. e ≡ Refusal.NoMemory) }
+{
+    let mut text = Vec::new(alloc);
+    for parameter in parameters {
+        let Ok(()) = text.extend_from_slice(parameter.keyword.text.as_slice()) else {
+            return Err(Refusal::NoMemory);
+        };
+    }
+    Ok(text)
+}
+
+impl<'t> Sent<'t> {
+    /// The number of arguments.
+    pub fn arguments(self) -> u8
+        requires { sent_arguments self ≤ 8 }
+        ensures { result ≡ sent_arguments self.entry }
+    {
+        match self {
+            Sent::One(_, arguments) => arguments,
+            Sent::Keywords(parts) => parts.len() as u8,
+        }
+    }
+
+    /// The number of the selector, which is interned.
+    pub fn number(self, alloc: Global, names: &mut Names) -> Result<Selector, Refusal>
+        requires { is_selector (sent_text self) ≡ true }
+        ensures answers { Answers (first_of (names_rule names.old (sent_text self.entry ∷ []) ∷ [])) result (λ s. place_of names.new (sent_text self.entry) ≡ Some s.0) }
+        ensures names { OnOk result (names.new ≡ interned names.old (sent_text self.entry)) }
+        ensures unchanged { OnErr result (names.new ≡ names.old) }
+        ensures full { IfErr result (λ e. IsFull names.new e) }
+    {
+        match self {
+            Sent::One(name, _) => number_of(alloc, name.text.as_slice(), names),
+            Sent::Keywords(parts) => {
+                let text = joined(alloc, parts)?;
+                number_of(alloc, text.as_slice(), names)
+            }
+        }
+    }
+}
+
+/// The number of the selector of a pattern, which is interned.
+pub fn pattern_number(
+    alloc: Global,
+    pattern: &Pattern,
+    names: &mut Names,
+) -> Result<Selector, Refusal>
+    requires { is_selector (pattern_selector pattern.now) ≡ true }
+    ensures answers { Answers (first_of (names_rule names.old (pattern_selector pattern.now ∷ []) ∷ [])) result (λ s. place_of names.new (pattern_selector pattern.now) ≡ Some s.0) }
+    ensures names { OnOk result (names.new ≡ interned names.old (pattern_selector pattern.now)) }
+    ensures unchanged { OnErr result (names.new ≡ names.old) }
+    ensures full { IfErr result (λ e. IsFull names.new e) }
+{
+    match pattern {
+        Pattern::Unary(name) => number_of(alloc, name.text.as_slice(), names),
+        Pattern::Binary { selector, .. } => number_of(alloc, selector.text.as_slice(), names),
+        Pattern::Keyword(parameters) => {
+            let text = joined_pattern(alloc, parameters.as_slice())?;
+            number_of(alloc, text.as_slice(), names)
+        }
+    }
+}

@@ -1,0 +1,139 @@
+//! What the names of a method stand for.
+ghost use Rattle.std.specs.Prelude.{◌≡◌, true, position};
+ghost use Rattle.std.specs.List.{list_any};
+ghost use Rattle.std.specs.Str.{bytes_eq};
+ghost use Rattle.st_classes.specs.Classes.{is_class, slots};
+ghost use Rattle.st_classes.specs.Selectors.{place_of};
+ghost use Rattle.st_compile.specs.Drafts.{word_of};
+ghost use Rattle.st_compile.specs.Naming.{HasFew, scope_seen};
+ghost use Rattle.st_compile.specs.Refusing.{is_known};
+ghost use Rattle.st_compile.specs.Resolving.{pushed, reserved, stored};
+
+use crate::words::Word;
+use st_classes::instructions::Instruction;
+use st_classes::seq::Seq;
+use st_classes::values::{ClassId, Value};
+use st_classes::version::Version;
+use st_reader::trees::Name;
+
+/// The value of a reserved name.
+fn reserved(text: &[u8]) -> Option<Instruction>
+    ensures { result ≡ reserved text.now }
+{
+    if text == b"self".as_slice() || text == b"super".as_slice() {
+        Some(Instruction::PushSelf)
+    } else if text == b"nil".as_slice() {
+        Some(Instruction::PushLit(Value::Nil))
+    } else if text == b"true".as_slice() {
+        Some(Instruction::PushLit(Value::Bool(true)))
+    } else if text == b"false".as_slice() {
+        Some(Instruction::PushLit(Value::Bool(false)))
+    } else if text == b"thisActor".as_slice() {
+        Some(Instruction::PushActor)
+    } else {
+        None
+    }
+}
+
+/// The place of the first name with a text.
+fn place_among(names: &[&Name], text: &[u8]) -> Option<usize>
+    ensures { result ≡ position (λ n. bytes_eq text.now n.now.text) names.now }
+{
+    names.iter().position(|name| text == name.text.as_slice())
+}
+
+/// What the names of a method can stand for.
+#[derive(Clone, Copy)]
+pub struct Scope<'t> {
+    /// The classes that there are.
+    pub version: &'t Version,
+    /// The instance variables of the class, inherited ones first.
+    pub slots: &'t [Seq<u8>],
+    /// The arguments, then the temporaries.
+    pub locals: &'t [&'t Name],
+}
+
+impl<'t> Scope<'t> {
+    /// What names can stand for in a class.
+    pub fn in_class(version: &'t Version, class: ClassId, locals: &'t [&'t Name]) -> Scope<'t>
+        requires { is_class version.now class ≡ true }
+        ensures edits { result.version.now ≡ version.now }
+        ensures slots { result.slots.now ≡ slots version.now class }
+        ensures locals { result.locals.now ≡ locals.now }
+    {
+        Scope {
+            version,
+            slots: version.slots(class),
+            locals,
+        }
+    }
+
+    /// The place of an argument or a temporary.
+    #[tactic(auto, using(crate::proofs::Places::local_place))]
+    fn local(&self, text: &[u8]) -> Option<usize>
+        ensures { result ≡ place_of (scope_seen self.now).locals text.now }
+    {
+        place_among(self.locals, text)
+    }
+
+    /// The place of an instance variable.
+    fn slot(&self, text: &[u8]) -> Option<usize>
+        ensures { result ≡ place_of (scope_seen self.now).slots text.now }
+    {
+        self.slots.iter().position(|slot| text == slot.as_slice())
+    }
+
+    /// Whether a text is the name of an instance variable.
+    pub fn is_slot(&self, text: &[u8]) -> bool
+        ensures { result ≡ list_any (bytes_eq text.now) (scope_seen self.now).slots }
+    {
+        self.slots.iter().any(|slot| text == slot.as_slice())
+    }
+
+    /// What pushes the value of a name: a reserved one's, an argument's or a temporary's, an instance variable's, or a class.
+    #[tactic(auto, using(crate::proofs::Places::place_few))]
+    pub fn pushed(&self, text: &[u8]) -> Option<Instruction>
+        requires { HasFew (scope_seen self.now) }
+        ensures { result ≡ pushed (scope_seen self.now) text.now }
+    {
+        if let Some(instruction) = reserved(text) {
+            return Some(instruction);
+        }
+        if let Some(place) = self.local(text) {
+            return Some(Instruction::PushTemp(place as u8));
+        }
+        if let Some(place) = self.slot(text) {
+            return Some(Instruction::PushSlot(place as u8));
+        }
+        let class = self.version.class_named(text)?;
+        Some(Instruction::PushLit(Value::Class(class)))
+    }
+
+    /// What stores in an argument or a temporary, or in an instance variable.
+    #[tactic(auto, using(crate::proofs::Places::place_few))]
+    pub fn stored(&self, text: &[u8]) -> Option<Instruction>
+        requires { HasFew (scope_seen self.now) }
+        ensures { result ≡ stored (scope_seen self.now) text.now }
+    {
+        if let Some(place) = self.local(text) {
+            return Some(Instruction::StoreTemp(place as u8));
+        }
+        let place = self.slot(text)?;
+        Some(Instruction::StoreSlot(place as u8))
+    }
+
+    /// Whether a word's name, where it has one, stands for something. `super` by itself doesn't.
+    pub fn is_known(&self, word: Word<'_>) -> bool
+        requires { HasFew (scope_seen self.now) }
+        ensures { result ≡ is_known (scope_seen self.now) (word_of word.entry) }
+    {
+        match word {
+            Word::Variable(name) => {
+                let text = name.text.as_slice();
+                text != b"super".as_slice() && self.pushed(text).is_some()
+            }
+            Word::Store(name) => self.stored(name.text.as_slice()).is_some(),
+            _ => true,
+        }
+    }
+}

@@ -1,0 +1,84 @@
+//! Instructions before their names have numbers.
+ghost use Rattle.std.specs.Prelude.{◌≡◌};
+ghost use Rattle.st_compile.specs.Equations.{to};
+ghost use Rattle.st_compile.specs.Drafts.{word_of, sent_text, sent_arguments};
+ghost use Rattle.st_compile.specs.Emitting.{branch_word, goes_up};
+
+use st_classes::values::Value;
+use st_reader::rules::alone::Alone;
+use st_reader::trees::{Chain, Name};
+
+/// The selector of a message.
+#[derive(Clone, Copy)]
+pub enum Sent<'t> {
+    /// A unary or a binary selector.
+    One(&'t Name, u8),
+    /// Keywords, each with its argument.
+    Keywords(&'t [(Name, Chain)]),
+}
+
+/// An instruction in which a name is a text yet. Jump distances count from the next instruction.
+#[derive(Clone, Copy)]
+pub enum Word<'t> {
+    Literal(Value),
+    Symbol(&'t Name),
+    Receiver,
+    Variable(&'t Name),
+    Store(&'t Name),
+    Drop,
+    Repeat,
+    Message(Sent<'t>),
+    SuperMessage(Sent<'t>),
+    /// So many instructions on.
+    Jump(usize),
+    /// So many instructions back.
+    Back(usize),
+    JumpFalse(usize),
+    JumpTrue(usize),
+    Return,
+}
+
+impl<'t> Word<'t> {
+    /// A message to a receiver.
+    pub fn sent(receiver: Alone, sent: Sent<'t>) -> Word<'t>
+        ensures { word_of result ≡ to (goes_up receiver) (sent_text sent.entry) (sent_arguments sent.entry) }
+    {
+        match receiver {
+            Alone::Super => Word::SuperMessage(sent),
+            Alone::Block | Alone::Other => Word::Message(sent),
+        }
+    }
+}
+
+/// An instruction and the number of operands before it.
+#[derive(Clone, Copy)]
+pub struct Line<'t> {
+    pub depth: usize,
+    pub word: Word<'t>,
+}
+
+/// A conditional jump by the value on which it is taken.
+#[derive(Clone, Copy)]
+pub enum Branch {
+    IfFalse,
+    IfTrue,
+}
+
+impl Branch {
+    /// The jump over so many instructions.
+    pub fn over<'t>(self, distance: usize) -> Word<'t>
+        ensures { word_of result ≡ branch_word self distance }
+    {
+        match self {
+            Branch::IfFalse => Word::JumpFalse(distance),
+            Branch::IfTrue => Word::JumpTrue(distance),
+        }
+    }
+}
+
+/// A way on behind a conditional jump: a block's value, or a value that no block gives.
+#[derive(Clone, Copy)]
+pub enum Way<'t> {
+    Block(&'t Chain),
+    Plain(Value),
+}

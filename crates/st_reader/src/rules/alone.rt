@@ -1,0 +1,114 @@
+//! What an expression is by itself.
+ghost use Rattle.std.specs.Prelude.{◌≡◌, codes};
+ghost use Rattle.std.specs.List.{list_any};
+ghost use Rattle.std.specs.Str.{bytes_eq};
+ghost use Rattle.st_reader.specs.Views.{operand_view, chain_view, expression_view, statements_view, cascaded, seen_cascade};
+ghost use Rattle.st_reader.specs.Rules.{is_block as block, is_loose as loose, sentences};
+ghost use Rattle.st_reader.specs.Alone.{alone, name_alone as named};
+
+use crate::trees::{Chain, Expression, Message, Name, Operand, Span, Statements};
+
+/// What an expression is by itself: a block, `super`, or anything else.
+#[derive(Clone, Copy, PartialEq, Eq, Debug)]
+pub enum Alone {
+    Block,
+    Super,
+    Other,
+}
+
+// What a name is.
+fn name_alone(name: &Name) -> Alone
+    ensures { result ≡ named (bytes_eq name.now.text (codes "super")) }
+{
+    if name.text.as_slice() == b"super".as_slice() {
+        Alone::Super
+    } else {
+        Alone::Other
+    }
+}
+
+/// What an operand is.
+pub fn operand_alone(operand: &Operand) -> Alone
+    ensures { result ≡ alone (operand_view operand.now) }
+{
+    match operand {
+        Operand::Block { .. } => Alone::Block,
+        Operand::Name(name) => name_alone(name),
+        Operand::Number { .. } | Operand::Symbol(_) | Operand::Parenthesis { .. } => Alone::Other,
+    }
+}
+
+/// What an operand with its messages is: what got a message is neither a block nor `super`.
+#[tactic(auto, using(crate::proofs::Alone::chain_plain, crate::proofs::Alone::chain_sent))]
+pub fn chain_alone(chain: &Chain) -> Alone
+    ensures { result ≡ alone (chain_view chain.now) }
+{
+    if chain.messages.is_empty() {
+        operand_alone(&chain.operand)
+    } else {
+        Alone::Other
+    }
+}
+
+/// Whether a block stands by itself.
+#[tactic(auto, using(crate::proofs::Alone::block_alone))]
+pub fn is_block(chain: &Chain) -> bool
+    ensures { result ≡ block (chain_view chain.now) }
+{
+    chain_alone(chain) == Alone::Block
+}
+
+/// Whether a block or `super` stands by itself.
+#[tactic(auto, using(crate::proofs::Alone::loose_alone))]
+pub fn is_loose(chain: &Chain) -> bool
+    ensures { result ≡ loose (chain_view chain.now) }
+{
+    chain_alone(chain) != Alone::Other
+}
+
+/// What a value is: what a cascade gives is neither a block nor `super`.
+pub fn value_alone(receiver: &Chain, cascade: &Option<(Message, Vec<(Span, Message)>)>) -> Alone
+    ensures { result ≡ alone (cascaded (chain_view receiver.now) (seen_cascade cascade.now)) }
+{
+    match cascade {
+        None => chain_alone(receiver),
+        Some(_) => Alone::Other,
+    }
+}
+
+/// What an expression is: an assignment is neither a block nor `super`.
+#[tactic(auto, using(crate::proofs::Alone::expression_value, crate::proofs::Alone::expression_assigns))]
+pub fn expression_alone(expression: &Expression) -> Alone
+    ensures { result ≡ alone (expression_view expression.now) }
+{
+    if expression.targets.is_empty() {
+        value_alone(&expression.receiver, &expression.cascade)
+    } else {
+        Alone::Other
+    }
+}
+
+// Whether an expression is a block or `super` by itself.
+#[tactic(auto, using(crate::proofs::Alone::loose_alone))]
+fn is_loose_expression(expression: &Expression) -> bool
+    ensures { result ≡ loose (expression_view expression.now) }
+{
+    expression_alone(expression) != Alone::Other
+}
+
+// Whether a statement that another follows is a block or `super` by itself.
+fn is_any_loose(before: &[(Expression, Span)]) -> bool
+    ensures { result ≡ list_any (λ s. loose (expression_view s.0)) before.now }
+{
+    before
+        .iter()
+        .any(|sentence| is_loose_expression(&sentence.0))
+}
+
+/// Whether a statement is a block or `super` by itself.
+#[tactic(auto, using(crate::proofs::Alone::loose_sentences))]
+pub fn has_loose_sentence(statements: &Statements) -> bool
+    ensures { result ≡ list_any loose (sentences (statements_view statements.now)) }
+{
+    is_any_loose(&statements.before) || is_loose_expression(&statements.last)
+}

@@ -19,8 +19,6 @@ mod images;
 #[cfg(test)]
 mod interrupts;
 #[cfg(test)]
-mod language;
-#[cfg(test)]
 mod limits;
 #[cfg(test)]
 mod longest_lines;

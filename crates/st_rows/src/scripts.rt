@@ -9,11 +9,8 @@ use std::process::Abort;
 use std::test::Fail;
 
 /// What a script writes, and how its session ended.
-fn written(
-    alloc: Global,
-    settings: ScriptSettings,
-    script: &[u8],
-) -> Result<(Vec<u8>, Result<u64, Refusal>), Refusal> {
+fn written(alloc: Global, script: &[u8]) -> Result<(Vec<u8>, Result<u64, Refusal>), Refusal> {
+    let settings = ScriptSettings::DEFAULT;
     let image = Image::new(alloc, settings.of_image())?;
     let Ok(bytes) = Vec::from_slice(alloc, script) else {
         return Err(Refusal::NoMemory);
@@ -27,38 +24,12 @@ fn written(
     Ok((text, result))
 }
 
-/// The script is answered by these replies, with these settings.
-fn answers_with(
-    rt: &impl Abort,
-    alloc: Global,
-    settings: ScriptSettings,
-    script: &[u8],
-    replies: &[u8],
-) {
-    match written(alloc, settings, script) {
+/// The script is answered by these replies.
+fn answers(rt: &impl Abort, alloc: Global, script: &[u8], replies: &[u8]) {
+    match written(alloc, script) {
         Ok((text, _)) => assert!(rt; text.as_slice() == replies, "other replies"),
         Err(refusal) => assert!(rt; false, "refused"),
     }
-}
-
-/// The script is answered by these replies.
-pub fn answers(rt: &impl Abort, alloc: Global, script: &[u8], replies: &[u8]) {
-    answers_with(rt, alloc, ScriptSettings::DEFAULT, script, replies);
-}
-
-/// The script is answered by these replies where quanta have so many steps.
-pub fn answers_in_quanta_of(
-    rt: &impl Abort,
-    alloc: Global,
-    quantum: u32,
-    script: &[u8],
-    replies: &[u8],
-) {
-    let settings = ScriptSettings {
-        quantum,
-        ..ScriptSettings::DEFAULT
-    };
-    answers_with(rt, alloc, settings, script, replies);
 }
 
 #[test]

@@ -144,8 +144,9 @@ pub fn are_variables(pattern: &Pattern, temporaries: &Option<Temporaries>) -> bo
     ensures { result ≡ variables (argument_texts pattern.now ++ temporary_texts temporaries.now) }
 {
     let names = names_of(temporaries);
-    arguments_are_names(pattern)
-        && are_names(names)
-        && !clash(pattern, names)
-        && are_few(pattern, names)
+    // Names are compared with one another only where they are few.
+    if !are_few(pattern, names) {
+        return false;
+    }
+    arguments_are_names(pattern) && are_names(names) && !clash(pattern, names)
 }

@@ -10,9 +10,12 @@ slice_get_old [] ys i h = absurd (omega (arith, h))
 slice_get_old (x ∷ xs) ys zero h = refl
 slice_get_old (x ∷ xs) ys (suc i) h = slice_get_old xs ys i (omega (arith, h))
 
+pub slice_get_here : {X : Type 0} (xs : List X) (y : X) (ys : List X) → slice_get (xs ++ y ∷ ys) (length xs) ≡ Some y
+slice_get_here [] y ys = refl
+slice_get_here (x ∷ xs) y ys = slice_get_here xs y ys
+
 pub slice_get_last : {X : Type 0} (xs : List X) (y : X) → slice_get (xs ++ y ∷ []) (length xs) ≡ Some y
-slice_get_last [] y = refl
-slice_get_last (x ∷ xs) y = slice_get_last xs y
+slice_get_last xs y = slice_get_here xs y []
 
 -- an item of a list with one more is an old one, or the new one
 pub slice_get_push : {X : Type 0} (xs : List X) (y x : X) (i : ℕ) → slice_get (xs ++ y ∷ []) i ≡ Some x → ((i < length xs) × (slice_get xs i ≡ Some x)) ⊎ ((i ≡ length xs) × (y ≡ x))

@@ -1,5 +1,5 @@
--- What the walk finds: a method of the user's is the one that an edit installed there.
-use Rattle.std.proofs.Common.{arith, refl, ◌≡◌, ℕ, ◌+◌, ◌⊎◌, List, [], ◌∷◌, Option, Some, None, slice_get, zero, suc, ap, sym, ◌∙◌, length, subst, inl, inr, Bool, true, false, ◌&&◌, ◌==◌, eqb-true, option_and_then, option_map, if◌then◌else◌}
+-- What is run fits: a method of the user's that is found suits its holder, on the chain.
+use Rattle.std.proofs.Common.{refl, ◌≡◌, ℕ, ◌+◌, List, Option, Some, None, slice_get, ap, sym, ◌∙◌, length, subst, true, ◌&&◌, ◌==◌, eqb-true, option_and_then}
 use Rattle.std.proofs.lemmas.Bool.{and_parts}
 use Rattle.std.proofs.lemmas.Option.{option_and_then_some}
 use Rattle.std.specs.List.{list_all}
@@ -11,66 +11,16 @@ use Rattle.st_classes.specs.declared.edits.Edit.{Edit}
 use Rattle.st_classes.specs.declared.edits.Edit.TheVariants.{Define, Install, Remove}
 use Rattle.st_classes.specs.declared.kernel.Found.{Found}
 use Rattle.st_classes.specs.declared.kernel.Found.TheVariants.{User, Kernel as FoundKernel}
-use Rattle.st_classes.specs.declared.kernel.Kernel.{Kernel}
 use Rattle.st_classes.specs.declared.kernel.Target.{Target}
 use Rattle.st_classes.specs.declared.kernel.Target.TheVariants.{Run, Primitive, Missing}
-use Rattle.st_classes.specs.Kernel.{kernel_method, does_not_understand}
+use Rattle.st_classes.specs.Kernel.{does_not_understand}
 use Rattle.st_classes.specs.Classes.{class_count, classes, own_slots, chain, parent, slots}
-use Rattle.st_classes.specs.Walks.{is_at, method_id, decided, own_from, own, or_else, first_own, walk, walk_from, super_walk, user_method, or_missing, target, super_target}
+use Rattle.st_classes.specs.Walks.{walk, walk_from, super_walk, user_method, or_missing, target, super_target}
 use Rattle.st_classes.specs.Suiting.{arity_at, is_number, instruction_suits, suits}
 use Rattle.st_classes.specs.Lawful.{AreLawful, AllSuit, installed_method, method_at}
+use Rattle.st_classes.proofs.LawLists.{slice_get_here}
+use Rattle.st_classes.proofs.LawLookup.{same_class, first_stands, stands_at}
 use Rattle.st_classes.proofs.LawChains.{Begins, begins_more, chain_begins, slots_above}
-
--- the numbers decide
-pub same_selector : (s t : Selector) → s.0 ≡ t.0 → s ≡ t
-same_selector s t e = ap (λ (n : ℕ). let r : Selector = record { 0 = n } in r) e
-
-pub same_class : (c d : ClassId) → c.0 ≡ d.0 → c ≡ d
-same_class c d e = ap (λ (n : ℕ). let r : ClassId = record { 0 = n } in r) e
-
-pub same_method : (m n : MethodId) → m.0 ≡ n.0 → m ≡ n
-same_method m n e = ap (λ (k : ℕ). let r : MethodId = record { 0 = k } in r) e
-
--- an install at a class for a selector that gave a method
-abbrev IsInstalled : ℕ → List Edit → ClassId → Selector → MethodId → Type 0
-IsInstalled place es c s m = (k : ℕ) × (d : ClassId) × (p : MethodParts) × (slice_get es k ≡ Some (Install d p)) × (m.0 ≡ place + k) × (is_at d p.selector c s ≡ true)
-
-later : (place : ℕ) (e : Edit) (es : List Edit) (c : ClassId) (s : Selector) (m : MethodId) → IsInstalled (place + 1) es c s m → IsInstalled place (e ∷ es) c s m
-later place e es c s m w = (suc w.0, w.1, w.2, w.3, omega (arith, w.4), w.5)
-
-if_user : (b : Bool) (place : ℕ) (found : Option Found) (m : MethodId) → (if b then Some (User (method_id place)) else found) ≡ Some (User m) → ((b ≡ true) × (m.0 ≡ place)) ⊎ (found ≡ Some (User m))
-if_user true place found m e = let s : method_id place ≡ m = cc in inl (refl, ap (λ (n : MethodId). n.0) (sym s))
-if_user false place found m e = inr e
-
-if_removed : (b : Bool) (found : Option Found) (m : MethodId) → (if b then None else found) ≡ Some (User m) → found ≡ Some (User m)
-if_removed true found m e = cc
-if_removed false found m e = e
-
-own_from_user : (es : List Edit) (place : ℕ) (found : Option Found) (c : ClassId) (s : Selector) (m : MethodId) → own_from place found es c s ≡ Some (User m) → (found ≡ Some (User m)) ⊎ IsInstalled place es c s m
-own_from_user [] place found c s m e = inl e
-own_from_user (Define name up added ∷ es) place found c s m e = elim (own_from_user es (place + 1) found c s m e) [ inl w ↦ inl w | inr w ↦ inr (later place (Define name up added) es c s m w) ]
-own_from_user (Install d p ∷ es) place found c s m e = elim (own_from_user es (place + 1) (decided (Install d p) place found c s) c s m e) [ inl w ↦ elim (if_user (is_at d p.selector c s) place found m w) [ inl v ↦ inr (zero, d, p, refl, omega (arith, v.1), v.0) | inr v ↦ inl v ] | inr w ↦ inr (later place (Install d p) es c s m w) ]
-own_from_user (Remove d t ∷ es) place found c s m e = elim (own_from_user es (place + 1) (decided (Remove d t) place found c s) c s m e) [ inl w ↦ inl (if_removed (is_at d t c s) found m w) | inr w ↦ inr (later place (Remove d t) es c s m w) ]
-
-no_kernel_user : (o : Option Kernel) (m : MethodId) → option_map FoundKernel o ≡ Some (User m) → ⊥
-no_kernel_user None m e = cc
-no_kernel_user (Some k) m e = cc
-
--- a class's own method of the user's was installed there
-pub own_user : (edits : List Edit) (c : ClassId) (s : Selector) (m : MethodId) → own edits c s ≡ Some (User m) → (p : MethodParts) × (slice_get edits m.0 ≡ Some (Install c p)) × (p.selector ≡ s)
-own_user edits c s m e = elim (own_from_user edits 0 (option_map FoundKernel (kernel_method c s)) c s m e) [ inl w ↦ absurd (no_kernel_user (kernel_method c s) m w) | inr w ↦ let at = and_parts (w.1.0 == c.0) (w.2.selector.0 == s.0) w.5 in let k : m.0 ≡ w.0 = omega (arith, w.4) in (w.2, ap (slice_get edits) k ∙ w.3 ∙ ap (λ (d : ClassId). Some (Install d w.2)) (same_class w.1 c (eqb-true w.1.0 c.0 at.0)), same_selector w.2.selector s (eqb-true w.2.selector.0 s.0 at.1)) ]
-
--- what is found along classes is one's own
-abbrev IsFoundAt : List Edit → List ClassId → Selector → Found → Type 0
-IsFoundAt edits cs s f = (k : ℕ) × (h : ClassId) × (slice_get cs k ≡ Some h) × (own edits h s ≡ Some f)
-
-found_in : (edits : List Edit) (c : ClassId) (cs : List ClassId) (s : Selector) (f : Found) (o : Option Found) → (first_own edits cs s ≡ Some f → IsFoundAt edits cs s f) → own edits c s ≡ o → or_else o (first_own edits cs s) ≡ Some f → IsFoundAt edits (c ∷ cs) s f
-found_in edits c cs s f None more is e = let w = more e in (suc w.0, w.1, w.2, w.3)
-found_in edits c cs s f (Some g) more is e = (zero, c, refl, is ∙ e)
-
-found_along : (edits : List Edit) (cs : List ClassId) (s : Selector) (f : Found) → first_own edits cs s ≡ Some f → IsFoundAt edits cs s f
-found_along edits [] s f e = cc
-found_along edits (c ∷ cs) s f e = found_in edits c cs s f (own edits c s) (found_along edits cs s f) refl e
 
 -- a method of the user's for a selector, whose holder's instance variables those of a class begin with
 abbrev pub IsMethodFor : List (List ℕ) → List Edit → ClassId → Selector → MethodId → Type 0
@@ -81,11 +31,14 @@ holder_is names edits c p h = same_class p.holder c (eqb-true p.holder.0 c.0 (an
 
 pub found_user : (names : List (List ℕ)) (edits : List Edit) (c : ClassId) (s : Selector) (m : MethodId) → AreLawful edits → AllSuit names edits → walk edits c s ≡ Some (User m) → IsMethodFor names edits c s m
 found_user names edits c s m l all e =
-    let w = found_along edits (chain edits c) s (User m) e in
-    let u = own_user edits w.1 s m w.3 in
-    let fit = all m.0 w.1 u.0 u.1 in
-    let same : w.1 ≡ u.0.holder = sym (holder_is names edits w.1 u.0 fit) in
-    (u.0, ap (option_and_then installed_method) u.1, u.2, subst (λ (h : ClassId). Begins (slots edits c) (slots edits h)) same (chain_begins edits l c w.1 w.0 w.2), subst (λ (h : ClassId). suits names edits h u.0 ≡ true) same fit, u.1 ∙ ap (λ (h : ClassId). Some (Install h u.0)) same)
+    let w = first_stands edits (chain edits c) s m e in
+    let h : ClassId = w.0.holder in
+    let p : MethodParts = w.1.method in
+    let at : slice_get edits m.0 ≡ Some (Install h p) = stands_at edits h s m w.1 in
+    let fit = all m.0 h p at in
+    let same : h ≡ p.holder = sym (holder_is names edits h p fit) in
+    let on_chain : slice_get (chain edits c) (length w.0.before) ≡ Some h = ap (λ (cs : List ClassId). slice_get cs (length w.0.before)) w.0.along ∙ slice_get_here w.0.before h w.0.after in
+    (p, ap (option_and_then installed_method) at, w.1.named, subst (λ (d : ClassId). Begins (slots edits c) (slots edits d)) same (chain_begins edits l c h (length w.0.before) on_chain), subst (λ (d : ClassId). suits names edits d p ≡ true) same fit, at ∙ ap (λ (d : ClassId). Some (Install d p)) same)
 
 begins_wider : (names : List (List ℕ)) (edits : List Edit) (c d : ClassId) (s : Selector) (m : MethodId) → Begins (slots edits c) (slots edits d) → IsMethodFor names edits d s m → IsMethodFor names edits c s m
 begins_wider names edits c d s m b w = (w.0, w.1, w.2, begins_more (slots edits c) (slots edits d) (slots edits w.0.holder) b w.3, w.4, w.5)

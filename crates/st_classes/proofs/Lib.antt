@@ -3,8 +3,9 @@ pub mod Flowing
 pub mod Naming
 pub mod LawLists
 pub mod LawChains
-pub mod LawOwning
 pub mod LawGrowing
+pub mod LawLookup
+pub mod LawOwning
 pub mod Chains
 pub mod Walking
 pub mod Rows

@@ -5,6 +5,7 @@ pub mod Methods
 pub mod Ways
 pub mod Classes
 pub mod Walks
+pub mod Lookup
 pub mod Suiting
 pub mod Accepting
 pub mod Lawful

@@ -14,13 +14,14 @@ use Rattle.st_classes.specs.declared.class_rows.ClassRow.{ClassRow}
 use Rattle.st_classes.specs.Kernel.{class, kernel_method}
 use Rattle.st_classes.specs.Refusals.{first_of}
 use Rattle.st_classes.specs.Accepting.{define_rules}
-use Rattle.st_classes.specs.Classes.{IsForest, ClassDef, classes, class_count, class_named, is_class, chain, own_slots, parent_in, chain_of}
+use Rattle.st_classes.specs.Classes.{ClassDef, classes, class_count, class_named, is_class, chain, own_slots, parent_in, chain_of}
 use Rattle.st_classes.specs.Walks.{or_else}
 use Rattle.st_classes.specs.ClassRows.{IsRow, IsUnder, row_method}
 use Rattle.st_classes.specs.Tables.{IsKept, AreRows}
 use Rattle.st_classes.proofs.LawLists.{slice_get_push, slice_get_old, slice_get_last}
+use Rattle.st_classes.proofs.LawChains.{forest}
 use Rattle.st_classes.proofs.LawGrowing.{lawful_with}
-use Rattle.st_classes.proofs.Chains.{forest_push, chain_old, chain_new, slots_old, slots_new}
+use Rattle.st_classes.proofs.Chains.{chain_old, chain_new, slots_old, slots_new}
 use Rattle.st_classes.proofs.Growing.{classes_push, own_push, few_push, NoneApply, none_apply}
 
 -- a superclass under which there is room for a class
@@ -58,7 +59,6 @@ kept_define es name p added k h =
     let more : length (classes (es ++ Define name p added ∷ [])) ≡ length (classes es) + 1 = ap (λ (cs : List ClassDef). length cs) (classes_push es (Define name p added)) ∙ length-append (classes es) (new_def name p added ∷ []) in
     record {
       lawful = lawful_with es (Define name p added) k.lawful h;
-      forest = subst IsForest (sym (classes_push es (Define name p added))) (forest_push (classes es) (new_def name p added) p k.forest refl room.here room.shallow);
       beyond = λ c s g. own_push es (Define name p added) c s ∙ k.beyond c s (omega (arith, more, g));
       few = few_push es (Define name p added) room.few;
       few_classes = omega (arith, more, room.few_classes);
@@ -81,12 +81,12 @@ row_old es name p added k c row l r =
     let cs : List ClassDef = classes es in
     let ds : List ClassDef = new_def name p added ∷ [] in
     let more : cs ++ ds ≡ classes (es ++ Define name p added ∷ []) = sym (classes_push es (Define name p added)) in
-    let chained : chain_of (cs ++ ds) 64 (Some c) ≡ chain_of cs 64 (Some c) = chain_old cs ds k.forest 64 (Some c) (λ x e. same_place c x (length cs) l cc) in
+    let chained : chain_of (cs ++ ds) 64 (Some c) ≡ chain_of cs 64 (Some c) = chain_old cs ds (forest es k.lawful) 64 (Some c) (λ x e. same_place c x (length cs) l cc) in
     record {
       named = subst (λ (xs : List ClassDef). option_map (λ (x : ClassDef). x.name) (slice_get xs c.0) ≡ Some row.name) more (ap (option_map (λ (x : ClassDef). x.name)) (slice_get_old cs ds c.0 l) ∙ r.named);
       above = subst (λ (xs : List ClassDef). parent_in xs c ≡ row.superclass) more (ap (option_and_then (λ (x : ClassDef). x.parent)) (slice_get_old cs ds c.0 l) ∙ r.above);
       deep = subst (λ (xs : List ClassDef). length (chain_of xs 64 (Some c)) ≡ row.depth) more (ap (λ (ys : List ClassId). length ys) chained ∙ r.deep);
-      variables = subst (λ (xs : List ClassDef). flat_map (own_slots xs) (reverse (chain_of xs 64 (Some c))) ≡ row.slots) more (ap (λ (ys : List ClassId). flat_map (own_slots (cs ++ ds)) (reverse ys)) chained ∙ slots_old cs ds k.forest 64 (Some c) (λ x e. same_place c x (length cs) l cc) ∙ r.variables);
+      variables = subst (λ (xs : List ClassDef). flat_map (own_slots xs) (reverse (chain_of xs 64 (Some c))) ≡ row.slots) more (ap (λ (ys : List ClassId). flat_map (own_slots (cs ++ ds)) (reverse ys)) chained ∙ slots_old cs ds (forest es k.lawful) 64 (Some c) (λ x e. same_place c x (length cs) l cc) ∙ r.variables);
       decides = λ s. own_push es (Define name p added) c s ∙ r.decides s;
     }
 
@@ -103,8 +103,8 @@ row_new es name p added k room above row r u c n =
     record {
       named = subst (λ (xs : List ClassDef). option_map (λ (x : ClassDef). x.name) (slice_get xs c.0) ≡ Some row.name) more (ap (option_map (λ (x : ClassDef). x.name)) at ∙ ap (λ (x : List ℕ). Some x) (sym u.name));
       above = subst (λ (xs : List ClassDef). parent_in xs c ≡ row.superclass) more (ap (option_and_then (λ (x : ClassDef). x.parent)) at ∙ sym u.superclass);
-      deep = subst (λ (xs : List ClassDef). length (chain_of xs 64 (Some c)) ≡ row.depth) more (ap (λ (ys : List ClassId). length ys) (chain_new cs d c p k.forest refl room.here room.shallow n) ∙ ap suc r.deep ∙ sym u.depth);
-      variables = subst (λ (xs : List ClassDef). flat_map (own_slots xs) (reverse (chain_of xs 64 (Some c))) ≡ row.slots) more (slots_new cs d c p k.forest refl room.here room.shallow n ∙ ap (λ (ys : List (List ℕ)). ys ++ added) r.variables ∙ sym u.variables);
+      deep = subst (λ (xs : List ClassDef). length (chain_of xs 64 (Some c)) ≡ row.depth) more (ap (λ (ys : List ClassId). length ys) (chain_new cs d c p (forest es k.lawful) refl room.here room.shallow n) ∙ ap suc r.deep ∙ sym u.depth);
+      variables = subst (λ (xs : List ClassDef). flat_map (own_slots xs) (reverse (chain_of xs 64 (Some c))) ≡ row.slots) more (slots_new cs d c p (forest es k.lawful) refl room.here room.shallow n ∙ ap (λ (ys : List (List ℕ)). ys ++ added) r.variables ∙ sym u.variables);
       decides = λ s. own_push es (Define name p added) c s ∙ k.beyond c s (omega (arith, n)) ∙ own_none row c s (row_method row s) (kernel_method c s) (u.methods s) (kernel_none c s (omega (arith, n)));
     }
 

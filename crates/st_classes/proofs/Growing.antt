@@ -16,7 +16,7 @@ use Rattle.st_classes.specs.declared.class_rows.ClassRow.{ClassRow}
 use Rattle.st_classes.specs.Kernel.{class, kernel_method}
 use Rattle.st_classes.specs.Refusals.{Rule, first_of}
 use Rattle.st_classes.specs.Accepting.{edit_rules}
-use Rattle.st_classes.specs.Classes.{IsForest, ClassDef, defined, classes, class_count, is_class, own_slots, parent_in, chain_of}
+use Rattle.st_classes.specs.Classes.{ClassDef, defined, classes, class_count, is_class, own_slots, parent_in, chain_of}
 use Rattle.st_classes.specs.Walks.{own, own_from, decided, is_at, or_else}
 use Rattle.st_classes.specs.ClassRows.{IsRow, Puts, row_method, row_own}
 use Rattle.st_classes.specs.Tables.{IsKept, AreRows, IsAt}
@@ -67,7 +67,6 @@ kept_at es e d t o k a h i few =
     let in_table : d.0 < class_count es = ltb-true d.0 (class_count es) i in
     record {
       lawful = lawful_with es e k.lawful h;
-      forest = subst IsForest (sym same) k.forest;
       beyond = λ c s g. let above : class_count es ≤ c.0 = omega (arith, g, ap (λ (cs : List ClassDef). length cs) same) in own_at_other es e d t o a c s (λ x. omega (arith, x, above, in_table)) ∙ k.beyond c s above;
       few = few_push es e few;
       few_classes = omega (arith, k.few_classes, ap (λ (cs : List ClassDef). length cs) same);

@@ -12,13 +12,12 @@ use Rattle.st_classes.specs.Classes.{ClassDef, kernel_classes, slots, parent_in,
 use Rattle.st_classes.specs.ClassRows.{IsRow, IsPlain, row_method}
 use Rattle.st_classes.specs.Lawful.{AllSound}
 use Rattle.st_classes.specs.Tables.{IsKept, AreRows}
-use Rattle.st_classes.proofs.Chains.{kernel_parent, kernel_forest}
+use Rattle.st_classes.proofs.Chains.{kernel_parent}
 use Rattle.st_classes.proofs.Defining.{kernel_none}
 
 pub kernel_kept : IsKept []
 kernel_kept = record {
   lawful = λ place e h. cc;
-  forest = kernel_forest;
   beyond = λ c s h. ap (option_map FoundKernel) (kernel_none c s h);
   few = omega arith;
   few_classes = omega arith;

@@ -8,7 +8,7 @@ use Rattle.st_classes.specs.Kernel.{class}
 use Rattle.st_classes.specs.declared.values.MethodId.{MethodId}
 use Rattle.st_classes.specs.declared.kernel.Found.{Found}
 use Rattle.st_classes.specs.declared.kernel.Found.TheVariants.{User}
-use Rattle.st_classes.specs.Classes.{defined, classes, class_count, IsForest, class_named}
+use Rattle.st_classes.specs.Classes.{defined, class_count, class_named}
 use Rattle.st_classes.specs.Walks.{own, decided, is_at}
 use Rattle.st_classes.specs.Lawful.{AreLawful, AllSound}
 use Rattle.st_classes.specs.ClassRows.{IsRow}
@@ -22,7 +22,6 @@ pub record AreRows (edits : List Edit) (rows : List ClassRow) : Type 0 where
 -- what stands of every list of edits in a table
 pub record IsKept (edits : List Edit) : Type 0 where
   pub lawful : AreLawful edits
-  pub forest : IsForest (classes edits)
   pub beyond : (c : ClassId) (s : Selector) → class_count edits ≤ c.0 → own edits c s ≡ None
   pub few : length edits ≤ 4096
   pub few_classes : class_count edits ≤ 1024

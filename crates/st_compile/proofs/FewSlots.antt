@@ -15,6 +15,7 @@ use Rattle.st_classes.specs.Tables.{IsKept}
 use Rattle.st_classes.proofs.Accepted.{kept_push}
 use Rattle.st_classes.proofs.Chains.{chain_old, slots_old, slots_new}
 use Rattle.st_classes.proofs.Defining.{HasRoom, has_room, new_def}
+use Rattle.st_classes.proofs.LawChains.{forest}
 use Rattle.st_classes.proofs.Growing.{classes_push, classes_same, NoneApply, none_apply}
 use Rattle.st_classes.proofs.Kernels.{kernel_kept}
 
@@ -36,8 +37,8 @@ few_define es name p added k h few c l = by (ltb c.0 (length (classes es))) refl
         let cs = classes es in
         let ds : List ClassDef = new_def name p added ∷ [] in
         let m : c.0 < length cs = ltb-true c.0 (length cs) q in
-        let chained : chain_of (cs ++ ds) 64 (Some c) ≡ chain_of cs 64 (Some c) = chain_old cs ds k.forest 64 (Some c) (λ x e. same_place c x (length cs) m e) in
-        let same : slots_in (cs ++ ds) c ≡ slots es c = ap (λ (ys : List ClassId). flat_map (own_slots (cs ++ ds)) (reverse ys)) chained ∙ slots_old cs ds k.forest 64 (Some c) (λ x e. same_place c x (length cs) m e) in
+        let chained : chain_of (cs ++ ds) 64 (Some c) ≡ chain_of cs 64 (Some c) = chain_old cs ds (forest es k.lawful) 64 (Some c) (λ x e. same_place c x (length cs) m e) in
+        let same : slots_in (cs ++ ds) c ≡ slots es c = ap (λ (ys : List ClassId). flat_map (own_slots (cs ++ ds)) (reverse ys)) chained ∙ slots_old cs ds (forest es k.lawful) 64 (Some c) (λ x e. same_place c x (length cs) m e) in
         let bound : length (slots_in (cs ++ ds) c) ≤ 64 = omega (arith, ap length same, few c m) in
         subst (λ (xs : List ClassDef). length (slots_in xs c) ≤ 64) (sym (classes_push es (Define name p added))) bound
     by false q =
@@ -48,7 +49,7 @@ few_define es name p added k h few c l = by (ltb c.0 (length (classes es))) refl
         let m : length cs ≤ c.0 = ltb-false c.0 (length cs) q in
         let more : length (classes (es ++ Define name p added ∷ [])) ≡ length cs + 1 = ap (λ (xs : List ClassDef). length xs) (classes_push es (Define name p added)) ∙ length-append cs (d ∷ []) in
         let last : c.0 ≡ length cs = omega (arith, m, l, more) in
-        let new : slots_in (cs ++ d ∷ []) c ≡ slots es p ++ added = slots_new cs d c p k.forest refl room.here room.shallow last in
+        let new : slots_in (cs ++ d ∷ []) c ≡ slots es p ++ added = slots_new cs d c p (forest es k.lawful) refl room.here room.shallow last in
         let room_left : length (slots es p ++ added) ≤ 64 = ltb-false 64 (length (slots es p ++ added)) r.1.1.1.1.1.1.1.0 in
         let bound : length (slots_in (cs ++ d ∷ []) c) ≤ 64 = omega (arith, ap length new, room_left) in
         subst (λ (xs : List ClassDef). length (slots_in xs c) ≤ 64) (sym (classes_push es (Define name p added))) bound

@@ -1,0 +1,5 @@
+use Rattle.st_classes.proofs.LawChains.{forest}
+use Rattle.st_classes.proofs.version.Version.known.Goals as goal
+
+pub returns-clause-forest : goal.returns-clause-forest
+returns-clause-forest c = forest c.args.self.now c.kept.ensures.lawful

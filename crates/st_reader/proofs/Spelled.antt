@@ -8,8 +8,7 @@ use Rattle.st_reader.specs.Tokens.{Token, IsCut, CutsOneWay, is_character, token
 use Rattle.st_reader.specs.Syntax.{Method}
 use Rattle.st_reader.specs.Grammar.{method_toks}
 use Rattle.st_reader.specs.Reading.{method_of}
-use Rattle.st_reader.specs.Parsing.{SpellsGrammar}
-use Rattle.st_reader.specs.Spelling.{OneReading}
+use Rattle.st_reader.specs.Spelling.{OneReading, SpellsGrammar}
 use Rattle.st_reader.proofs.Sound.{method_sound}
 use Rattle.st_reader.proofs.Complete.{method_complete}
 
@@ -43,7 +42,7 @@ module _ (one : CutsOneWay) where
 -- no text spells two methods, since it is cut into tokens in one way
 pub one_reading : CutsOneWay → OneReading
 one_reading one text a b s t =
-    some_method a b (sym (method_complete a s.grammar) ∙ ap method_of (one text (method_toks a) (method_toks b) s.cut t.cut) ∙ method_complete b t.grammar)
+    some_method a b (sym (method_complete a s.spelled.grammar) ∙ ap method_of (one text (method_toks a) (method_toks b) s.spelled.cut t.spelled.cut) ∙ method_complete b t.spelled.grammar)
 
 pub no_cut : (text : List ℕ) → ((ts : List Token) → IsCut text ts → ⊥) → (m : Method) → SpellsGrammar m text → ⊥
 no_cut text none m spells = none (method_toks m) spells.cut

@@ -6,7 +6,6 @@ pub mod Syntax
 pub mod Views
 pub mod Grammar
 pub mod Reading
-pub mod Parsing
 pub mod Variables
 pub mod Rules
 pub mod Alone

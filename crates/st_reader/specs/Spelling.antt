@@ -6,13 +6,17 @@ use Rattle.st_reader.specs.Syntax.{Method}
 use Rattle.st_reader.specs.Grammar.{method_toks, IsMethod}
 use Rattle.st_reader.specs.Rules.{keeps_rules}
 
--- a text spells a method: it is cut into the tokens of the method, each within its limits, the method is one of the grammar, and it keeps the rules
-pub record Spells (method : Method) (text : List ℕ) : Type 0 where
+-- a text spells a method of the grammar: it is 4,096 bytes at most, of those that a source may have, it is cut into the tokens of the method, each within its limits, and the method is one of the grammar
+pub record SpellsGrammar (method : Method) (text : List ℕ) : Type 0 where
   pub short : length text ≤ 4096
   pub characters : list_all is_character text ≡ true
   pub cut : IsCut text (method_toks method)
   pub fits : list_all token_fits (method_toks method) ≡ true
   pub grammar : IsMethod method
+
+-- a text spells a method: it spells it by the grammar, and the method keeps the rules
+pub record Spells (method : Method) (text : List ℕ) : Type 0 where
+  pub spelled : SpellsGrammar method text
   pub rules : keeps_rules method ≡ true
 
 -- no text spells two methods

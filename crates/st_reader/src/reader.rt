@@ -3,8 +3,7 @@ ghost use Rattle.std.specs.Prelude.{◌≡◌, ◌⊎◌, IfOk, IfErr};
 ghost use Rattle.st_classes.specs.declared.refusals.Refusal.TheVariants.{NoMemory};
 ghost use Rattle.st_reader.specs.Syntax.{Method};
 ghost use Rattle.st_reader.specs.Views.{method_view};
-ghost use Rattle.st_reader.specs.Parsing.{SpellsGrammar};
-ghost use Rattle.st_reader.specs.Spelling.{OneReading, Spells};
+ghost use Rattle.st_reader.specs.Spelling.{OneReading, Spells, SpellsGrammar};
 ghost use Rattle.st_reader.specs.Faults.{IsBadSource};
 
 use crate::characters;

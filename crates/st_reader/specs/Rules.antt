@@ -6,7 +6,7 @@ use Rattle.st_classes.specs.Selectors.{is_slot_name}
 use Rattle.st_reader.specs.declared.trees.Name.{Name}
 use Rattle.st_reader.specs.declared.inlining.Inlining.{Inlining}
 use Rattle.st_reader.specs.declared.inlining.Inlining.TheVariants.{IfTrue, IfFalse, IfTrueIfFalse, IfFalseIfTrue, And, Or, WhileTrue, WhileFalse}
-use Rattle.st_reader.specs.Variables.{argument_texts, variable_texts, are_variables}
+use Rattle.st_reader.specs.Variables.{locals_of, argument_texts, are_variables}
 use Rattle.st_reader.specs.Syntax.{Method, Expression, Message, Parts, Further, Statements, parenthesis, empty_block, block, send, cascade, name, unary, keywords, no_parts, part, no_further, further, last, answer, statement}
 
 -- the keywords of a message
@@ -161,4 +161,4 @@ body_allowed fixed (Some ss) = not (list_any is_loose (sentences ss)) && stateme
 
 -- a method has variables that it may have, and does what it may
 abbrev pub keeps_rules : Method → Bool
-keeps_rules m = are_variables (variable_texts m) && body_allowed (argument_texts m.pattern) m.body
+keeps_rules m = are_variables (locals_of m) && body_allowed (argument_texts m.pattern) m.body

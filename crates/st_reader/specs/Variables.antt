@@ -9,25 +9,29 @@ use Rattle.st_reader.specs.declared.trees.Pattern.TheVariants.{Unary, Binary, Ke
 use Rattle.st_reader.specs.declared.trees.Temporaries.{Temporaries}
 use Rattle.st_reader.specs.Syntax.{Method}
 
--- the names of the arguments of a pattern
-abbrev pub argument_texts : Pattern → List (List ℕ)
-argument_texts (Unary n) = []
-argument_texts (Binary n argument) = argument.text ∷ []
-argument_texts (Keyword ps) = map (λ p. p.argument.text) ps
+-- the arguments of a pattern
+abbrev pub arguments_of : Pattern → List Name
+arguments_of (Unary n) = []
+arguments_of (Binary n argument) = argument ∷ []
+arguments_of (Keyword ps) = map (λ p. p.argument) ps
+
+-- the temporaries between bars
+abbrev pub temporaries_of : Option Temporaries → List Name
+temporaries_of None = []
+temporaries_of (Some t) = t.names
+
+-- the arguments of a method, then its temporaries
+abbrev pub locals_of : Method → List Name
+locals_of m = arguments_of m.pattern ++ temporaries_of m.temporaries
 
 -- the texts of names
 abbrev pub texts : List Name → List (List ℕ)
 texts names = map (λ n. n.text) names
 
--- the names of the temporaries, where there are bars
-abbrev pub temporary_texts : Option Temporaries → List (List ℕ)
-temporary_texts None = []
-temporary_texts (Some t) = texts t.names
-
--- the names of the arguments, and then those of the temporaries
-abbrev pub variable_texts : Method → List (List ℕ)
-variable_texts m = argument_texts m.pattern ++ temporary_texts m.temporaries
+-- the texts of the arguments of a pattern
+abbrev pub argument_texts : Pattern → List (List ℕ)
+argument_texts p = texts (arguments_of p)
 
 -- each is an identifier that begins with a lower-case letter and is not reserved, no two are alike, and there are 64 at most
-abbrev pub are_variables : List (List ℕ) → Bool
-are_variables names = list_all is_slot_name names && not (has_twice names) && nat_le (length names) 64
+abbrev pub are_variables : List Name → Bool
+are_variables names = list_all is_slot_name (texts names) && not (has_twice (texts names)) && nat_le (length names) 64

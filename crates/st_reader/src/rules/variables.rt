@@ -4,7 +4,7 @@ ghost use Rattle.std.specs.List.{list_all, list_any};
 ghost use Rattle.std.specs.Str.{bytes_eq};
 ghost use Rattle.st_classes.specs.Selectors.{is_slot_name as slot_name};
 ghost use Rattle.st_classes.specs.Accepting.{has_twice as twice};
-ghost use Rattle.st_reader.specs.Variables.{argument_texts, texts, temporary_texts, are_variables as variables};
+ghost use Rattle.st_reader.specs.Variables.{arguments_of, temporaries_of, texts, argument_texts, are_variables as variables};
 
 use crate::trees::{Name, Parameter, Pattern, Temporaries};
 use st_classes::limits;
@@ -56,7 +56,7 @@ fn has_twice(names: &[Name]) -> bool
 // Whether two of the arguments and names are alike.
 #[tactic(auto, using(crate::proofs::Variables::any_either))]
 fn have_twice(parameters: &[Parameter], names: &[Name]) -> bool
-    ensures { result ≡ twice (map (λ p. p.argument.text) parameters.now ++ texts names.now) }
+    ensures { result ≡ twice (texts (map (λ p. p.argument) parameters.now ++ names.now)) }
 {
     let mut rest = parameters;
     while let Some((parameter, later)) = rest.split_first() {
@@ -72,7 +72,7 @@ fn have_twice(parameters: &[Parameter], names: &[Name]) -> bool
 // Whether two of a method's arguments and temporaries are alike.
 #[tactic(auto, using(crate::proofs::Variables::any_name))]
 fn clash(pattern: &Pattern, temporaries: &[Name]) -> bool
-    ensures { result ≡ twice (argument_texts pattern.now ++ texts temporaries.now) }
+    ensures { result ≡ twice (texts (arguments_of pattern.now ++ temporaries.now)) }
 {
     match pattern {
         Pattern::Unary(_) => has_twice(temporaries),
@@ -111,7 +111,7 @@ fn arguments_are_names(pattern: &Pattern) -> bool
 
 // How many arguments a method has.
 fn argument_count(pattern: &Pattern) -> usize
-    ensures { result ≡ length (argument_texts pattern.now) }
+    ensures { result ≡ length (arguments_of pattern.now) }
 {
     match pattern {
         Pattern::Unary(_) => 0,
@@ -123,14 +123,14 @@ fn argument_count(pattern: &Pattern) -> usize
 // Whether arguments and temporaries are no more than a method may have.
 #[tactic(auto, using(crate::proofs::Variables::long))]
 fn are_few(pattern: &Pattern, temporaries: &[Name]) -> bool
-    ensures { result ≡ nat_le (length (argument_texts pattern.now ++ texts temporaries.now)) 64 }
+    ensures { result ≡ nat_le (length (arguments_of pattern.now ++ temporaries.now)) 64 }
 {
     argument_count(pattern).saturating_add(temporaries.len()) <= limits::TEMPORARIES
 }
 
 // The temporaries of a method, none where it has no bars.
 fn names_of(temporaries: &Option<Temporaries>) -> &[Name]
-    ensures { texts result.now ≡ temporary_texts temporaries.now }
+    ensures { result.now ≡ temporaries_of temporaries.now }
 {
     match temporaries {
         None => &[],
@@ -141,7 +141,7 @@ fn names_of(temporaries: &Option<Temporaries>) -> &[Name]
 /// Whether arguments and temporaries have names of their own, each that of a variable, and are no more than a method may have.
 #[tactic(auto, using(crate::proofs::Variables::all_names, crate::proofs::Variables::all_slots))]
 pub fn are_variables(pattern: &Pattern, temporaries: &Option<Temporaries>) -> bool
-    ensures { result ≡ variables (argument_texts pattern.now ++ temporary_texts temporaries.now) }
+    ensures { result ≡ variables (arguments_of pattern.now ++ temporaries_of temporaries.now) }
 {
     let names = names_of(temporaries);
     // Names are compared with one another only where they are few.

@@ -19,9 +19,8 @@ use Rattle.st_compile.specs.declared.scope.Scope.{Scope as Holding}
 use Rattle.st_compile.specs.declared.words.Line.{Line as DraftedLine}
 use Rattle.st_compile.specs.Drafts.{line_of}
 use Rattle.st_compile.specs.Equations.{method_code}
-use Rattle.st_compile.specs.ScopeRules.{clash_rule, scope_rules, size_rule, unknown_rule}
 use Rattle.st_compile.specs.Naming.{HasFew, named, scope_seen}
-use Rattle.st_compile.specs.Refusing.{code_rules, is_known, is_small, method_rules, names_rule, start_of, texts_of}
+use Rattle.st_compile.specs.Refusing.{clash_rule, code_rules, is_known, is_small, method_rules, names_rule, scope_rules, size_rule, start_of, texts_of, unknown_rule}
 use Rattle.st_compile.specs.Resolving.{Scope, instructions_of, word_texts}
 use Rattle.st_compile.specs.Scopes.{locals_of, pattern_selector, scope_of}
 use Rattle.st_compile.specs.Words.{Line}

@@ -11,4 +11,3 @@ pub mod Naming
 pub mod Sites
 pub mod Proper
 pub mod Least
-pub mod ScopeRules

@@ -71,9 +71,25 @@ names_rule names texts = (nat_lt 8192 (length (interned_all names texts)), TooMa
 abbrev pub texts_of : Method → List (List ℕ)
 texts_of m = pattern_selector m.pattern ∷ flat_map (λ l. word_texts l.word) (method_code m)
 
--- the refusals of a source that has no code, in their order
+-- a name stands for nothing
+abbrev pub unknown_rule : Scope → List Line → Rule
+unknown_rule scope ls = at_least_place (BadSource UnknownName) (unknown scope ls)
+
+-- an argument or a temporary is named as an instance variable
+abbrev pub clash_rule : Scope → List Name → Rule
+clash_rule scope locals = at_least_place (BadSource DuplicateName) (clashing scope.slots locals)
+
+-- a code is too large
+abbrev pub size_rule : List Line → Rule
+size_rule ls = (not (is_small ls), BadSource TooLarge 0)
+
+-- the refusals of a code in a scope, in their order
+abbrev pub scope_rules : Scope → List Name → List Line → List Rule
+scope_rules scope locals ls = unknown_rule scope ls ∷ clash_rule scope locals ∷ size_rule ls ∷ []
+
+-- the refusals of a source that has no code: those of its code in its scope
 abbrev pub code_rules : List Edit → ClassId → Method → List Rule
-code_rules edits c m = at_least_place (BadSource UnknownName) (unknown (scope_of edits c m) (method_code m)) ∷ at_least_place (BadSource DuplicateName) (clashing (scope_of edits c m).slots (locals_of m)) ∷ (not (is_small (method_code m)), BadSource TooLarge 0) ∷ []
+code_rules edits c m = scope_rules (scope_of edits c m) (locals_of m) (method_code m)
 
 -- the refusals of a method of the grammar, in their order
 abbrev pub method_rules : List (List ℕ) → List Edit → ClassId → Method → List Rule

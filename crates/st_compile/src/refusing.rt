@@ -5,8 +5,7 @@ ghost use Rattle.st_classes.specs.Refusals.{first_of};
 ghost use Rattle.st_compile.specs.Drafts.{line_of, word_of};
 ghost use Rattle.st_compile.specs.Least.{least_of, lesser};
 ghost use Rattle.st_compile.specs.Naming.{HasFew, named, scope_seen};
-ghost use Rattle.st_compile.specs.Refusing.{clashing, is_small, start_of, unknown};
-ghost use Rattle.st_compile.specs.ScopeRules.{clash_rule, scope_rules, size_rule, unknown_rule};
+ghost use Rattle.st_compile.specs.Refusing.{clash_rule, clashing, is_small, scope_rules, size_rule, start_of, unknown, unknown_rule};
 
 use crate::scope::Scope;
 use crate::words::{Line, Word};

@@ -12,7 +12,7 @@ use Rattle.st_reader.specs.Grammar.{count}
 use Rattle.st_reader.specs.Rules.{is_inlined, is_super}
 use Rattle.st_compile.specs.Words.{Word, Line, line, literal, symbol, variable, store, drop, repeat, jump, jump_false, jump_true, return}
 use Rattle.st_compile.specs.Equations.{joined, to, either, loop, plain, inlined, inlining_of, one_of, kept, code, sent, arguments, blocks, part_blocks, further_sent, statements_value}
-use Rattle.st_compile.specs.Flows.{word_flow}
+use Rattle.st_compile.proofs.WordFlows.{word_flow}
 
 -- the depths of lines
 abbrev pub depths : List Line → List ℕ

@@ -1,13 +1,17 @@
 -- Each way through the code of an expression leaves one operand.
-use Rattle.std.proofs.Common.{◌≡◌, ℕ, zero, suc, ◌+◌, List, [], ◌∷◌, ◌++◌, length, Some, slice_get, refl, sym, ◌∙◌, subst, arith, append_assoc, length-append}
+use Rattle.std.proofs.Common.{◌≡◌, ℕ, zero, suc, ◌+◌, List, [], ◌∷◌, ◌++◌, length, map, Some, slice_get, refl, sym, ap, ◌∙◌, subst, arith, append_assoc, length-append}
 use Rattle.std.proofs.lemmas.Option.{same_Some, none-some, slice_get_within}
+use Rattle.st_classes.specs.declared.instructions.Instruction.{Instruction}
 use Rattle.st_classes.specs.Methods.{DepthAt}
-use Rattle.st_classes.specs.Ways.{Flow, Way}
+use Rattle.st_classes.specs.Ways.{Flow, flow_of, Way}
 use Rattle.st_classes.proofs.Flowing.{Fits, stays_inside, way_keeps}
 use Rattle.st_compile.specs.Words.{Line}
 use Rattle.st_compile.specs.Equations.{code, statements_value}
-use Rattle.st_compile.specs.Flows.{word_flow, flows, LeavesOne, CodesLeaveOne}
+use Rattle.st_compile.specs.Flows.{LeavesOne, CodesLeaveOne}
+use Rattle.st_compile.specs.Resolving.{Scope, instructions_of}
 use Rattle.st_compile.proofs.Fitting.{depths, HasDepths, AllFit, IsCode, begins, length_depths, code_is, statements_is}
+use Rattle.st_compile.proofs.Resolving.{instructions-length}
+use Rattle.st_compile.proofs.WordFlows.{word_flow, flows, instructions_flow}
 
 -- what stands behind a list
 pub at_seam : {T : Type 0} (front : List T) (x : T) (rest : List T) → slice_get (front ++ x ∷ rest) (length front) ≡ Some x
@@ -68,23 +72,34 @@ way_in ls d k c steps place left w =
     let whole = depths ls ++ k ∷ [] in
     way_keeps (flows ls) whole (flows_fit ls d k c) steps 0 d place left (begins ls d k whole 0 (k ∷ []) c (stands whole)) w
 
-leaves_one : (ls : List Line) (d : ℕ) → IsCode ls d (d + 1) → LeavesOne ls d
-leaves_one ls d c =
+-- an instruction's flow stands at its place
+flow_got : (is : List Instruction) (place : ℕ) (i : Instruction) → slice_get is place ≡ Some i → slice_get (map flow_of is) place ≡ Some (flow_of i)
+flow_got [] place i h = absurd (none-some i h)
+flow_got (j ∷ is) zero i h = ap (λ k. Some (flow_of k)) (same_Some j i h)
+flow_got (j ∷ is) (suc place) i h = flow_got is place i h
+
+leaves_one : (names : List (List ℕ)) (scope : Scope) (ls : List Line) (d : ℕ) (is : List Instruction) → IsCode ls d (d + 1) → instructions_of names scope ls ≡ Some is → LeavesOne is d
+leaves_one names scope ls d is c h =
+    let q : map flow_of is ≡ flows ls = instructions_flow names scope ls is h in
+    let long : length is ≡ length ls = instructions-length names scope ls is h in
     let whole = depths ls ++ (d + 1) ∷ [] in
-    let size : length whole ≡ length ls + 1 = omega (arith, length-append (depths ls) ((d + 1) ∷ []), length_depths ls) in
-    let end : DepthAt whole (length ls) (d + 1) = subst (λ n. DepthAt whole n (d + 1)) (length_depths ls) (at_seam (depths ls) (d + 1) []) in
+    let same : length is ≡ length (depths ls) = long ∙ sym (length_depths ls) in
+    let size : length whole ≡ length is + 1 = omega (arith, length-append (depths ls) ((d + 1) ∷ []), same) in
+    let end : DepthAt whole (length is) (d + 1) = subst (λ n. DepthAt whole n (d + 1)) (sym same) (at_seam (depths ls) (d + 1) []) in
     let start : DepthAt whole 0 d = begins ls d (d + 1) whole 0 ((d + 1) ∷ []) c (stands whole) in
-    let fit : (steps place left : ℕ) (f : Flow) → Way (flows ls) steps 0 d place left → slice_get (flows ls) place ≡ Some f → Fits whole place f left = λ steps place left f w e. flows_fit ls d (d + 1) c place f left e (way_in ls d (d + 1) c steps place left w) in
+    let there : (steps place left : ℕ) → Way (map flow_of is) steps 0 d place left → DepthAt whole place left = λ steps place left w. way_in ls d (d + 1) c steps place left (subst (λ fs. Way fs steps 0 d place left) q w) in
+    let got : (place : ℕ) (i : Instruction) → slice_get is place ≡ Some i → slice_get (flows ls) place ≡ Some (flow_of i) = λ place i e. subst (λ fs. slice_get fs place ≡ Some (flow_of i)) q (flow_got is place i e) in
+    let fit : (steps place left : ℕ) (i : Instruction) → Way (map flow_of is) steps 0 d place left → slice_get is place ≡ Some i → Fits whole place (flow_of i) left = λ steps place left i w e. flows_fit ls d (d + 1) c place (flow_of i) left (got place i e) (there steps place left w) in
     record {
-      never_misses = λ steps place left f w e. (fit steps place left f w e).enough;
-      lands = λ steps place left f w e. stays_inside whole (length ls + 1) f.goes place _ size (fit steps place left f w e).arrives;
-      inside = λ steps place left w. omega (arith, size, slice_get_within whole place left (way_in ls d (d + 1) c steps place left w));
-      one_more = λ steps left w. same_Some left (d + 1) (sym (way_in ls d (d + 1) c steps (length ls) left w) ∙ end);
-      as_before = λ steps left w. same_Some left d (sym (way_in ls d (d + 1) c steps 0 left w) ∙ start);
+      never_misses = λ steps place left i w e. (fit steps place left i w e).enough;
+      lands = λ steps place left i w e. stays_inside whole (length is + 1) (flow_of i).goes place _ size (fit steps place left i w e).arrives;
+      inside = λ steps place left w. omega (arith, size, slice_get_within whole place left (there steps place left w));
+      one_more = λ steps left w. same_Some left (d + 1) (sym (there steps (length is) left w) ∙ end);
+      as_before = λ steps left w. same_Some left d (sym (there steps 0 left w) ∙ start);
     }
 
 pub codes_leave_one : CodesLeaveOne
 codes_leave_one = record {
-  expressions = λ operands e. leaves_one (code operands e) operands (code_is operands e);
-  blocks = λ operands ss. leaves_one (statements_value operands ss) operands (statements_is operands ss);
+  expressions = λ names scope operands e is h. leaves_one names scope (code operands e) operands is (code_is operands e) h;
+  blocks = λ names scope operands ss is h. leaves_one names scope (statements_value operands ss) operands is (statements_is operands ss) h;
 }

@@ -1,3 +1,4 @@
+pub mod WordFlows
 pub mod Fitting
 pub mod Leaving
 pub mod Ending

@@ -1,41 +1,23 @@
--- Ways through the code of an expression.
-use Rattle.std.specs.Prelude.{◌≡◌, ℕ, ◌+◌, ◌≤◌, pos, List, length, map, slice_get, Some}
-use Rattle.st_classes.specs.Ways.{Flow, flow, on, jumps, branches, ends, Way, StaysInside}
+-- Ways through the instructions of an expression.
+use Rattle.std.specs.Prelude.{◌≡◌, ℕ, ◌+◌, ◌≤◌, List, length, map, slice_get, Some}
+use Rattle.st_classes.specs.declared.instructions.Instruction.{Instruction}
+use Rattle.st_classes.specs.Ways.{flow_of, Way, StaysInside}
 use Rattle.st_reader.specs.Syntax.{Expression, Statements}
-use Rattle.st_compile.specs.Words.{Word, Line, literal, symbol, receiver, variable, store, drop, repeat, message, super_message, jump, jump_false, jump_true, return}
 use Rattle.st_compile.specs.Equations.{code, statements_value}
+use Rattle.st_compile.specs.Resolving.{Scope, instructions_of}
 
--- how many operands a word takes and gives, and where it goes
-abbrev pub word_flow : Word → Flow
-word_flow (literal v) = flow 0 1 on
-word_flow (symbol text) = flow 0 1 on
-word_flow receiver = flow 0 1 on
-word_flow (variable n) = flow 0 1 on
-word_flow (store n) = flow 1 1 on
-word_flow drop = flow 1 0 on
-word_flow repeat = flow 1 2 on
-word_flow (message text n) = flow (n + 1) 1 on
-word_flow (super_message text n) = flow (n + 1) 1 on
-word_flow (jump d) = flow 0 0 (jumps d)
-word_flow (jump_false d) = flow 1 0 (branches (pos d))
-word_flow (jump_true d) = flow 1 0 (branches (pos d))
-word_flow return = flow 1 0 ends
+-- Each way through instructions that begins with so many operands: no instruction takes more than there are, and wherever one
+-- goes there is another or the end. At the end one operand more is left, and where a way comes back to the beginning, as that of
+-- a loop does behind its body, there are as many as before.
+pub record LeavesOne (is : List Instruction) (operands : ℕ) : Type 0 where
+  pub never_misses : (steps place left : ℕ) (i : Instruction) → Way (map flow_of is) steps 0 operands place left → slice_get is place ≡ Some i → (flow_of i).takes ≤ left
+  pub lands : (steps place left : ℕ) (i : Instruction) → Way (map flow_of is) steps 0 operands place left → slice_get is place ≡ Some i → StaysInside (length is + 1) (flow_of i).goes place
+  pub inside : (steps place left : ℕ) → Way (map flow_of is) steps 0 operands place left → place ≤ length is
+  pub one_more : (steps left : ℕ) → Way (map flow_of is) steps 0 operands (length is) left → left ≡ operands + 1
+  pub as_before : (steps left : ℕ) → Way (map flow_of is) steps 0 operands 0 left → left ≡ operands
 
--- the flows of a code
-abbrev pub flows : List Line → List Flow
-flows ls = map (λ l. word_flow l.word) ls
-
--- Each way through a code that begins with so many operands: no instruction takes more than there are, and wherever one goes
--- there is another or the end. At the end the code has left one operand more, and where a way comes back to the beginning, as
--- that of a loop does behind its body, there are as many as before.
-pub record LeavesOne (ls : List Line) (operands : ℕ) : Type 0 where
-  pub never_misses : (steps place left : ℕ) (f : Flow) → Way (flows ls) steps 0 operands place left → slice_get (flows ls) place ≡ Some f → f.takes ≤ left
-  pub lands : (steps place left : ℕ) (f : Flow) → Way (flows ls) steps 0 operands place left → slice_get (flows ls) place ≡ Some f → StaysInside (length ls + 1) f.goes place
-  pub inside : (steps place left : ℕ) → Way (flows ls) steps 0 operands place left → place ≤ length ls
-  pub one_more : (steps left : ℕ) → Way (flows ls) steps 0 operands (length ls) left → left ≡ operands + 1
-  pub as_before : (steps left : ℕ) → Way (flows ls) steps 0 operands 0 left → left ≡ operands
-
--- the codes of expressions do, those of inlined conditionals and loops among them, and so do the values of blocks
+-- Where the code of an expression has instructions in a scope, an inlined conditional's or a loop's too, they do, whatever its
+-- names stand for; and so do those of the value of a block.
 pub record CodesLeaveOne : Type 0 where
-  pub expressions : (operands : ℕ) (e : Expression) → LeavesOne (code operands e) operands
-  pub blocks : (operands : ℕ) (ss : Statements) → LeavesOne (statements_value operands ss) operands
+  pub expressions : (names : List (List ℕ)) (scope : Scope) (operands : ℕ) (e : Expression) (is : List Instruction) → instructions_of names scope (code operands e) ≡ Some is → LeavesOne is operands
+  pub blocks : (names : List (List ℕ)) (scope : Scope) (operands : ℕ) (ss : Statements) (is : List Instruction) → instructions_of names scope (statements_value operands ss) ≡ Some is → LeavesOne is operands

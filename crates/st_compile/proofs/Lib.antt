@@ -1,3 +1,5 @@
+pub mod There
+pub mod Naming
 pub mod WordFlows
 pub mod Fitting
 pub mod Leaving

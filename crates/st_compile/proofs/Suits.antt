@@ -1,6 +1,5 @@
 -- The code of a method suits its class.
-use Rattle.std.proofs.Common.{◌≡◌, ℕ, ◌<◌, true, false, Bool, List, [], ◌∷◌, length, Option, Some, None, refl, sym, ap, ◌∙◌, arith}
-use Rattle.std.specs.Prelude.{codes}
+use Rattle.std.proofs.Common.{◌≡◌, ℕ, ◌<◌, ltb, true, List, [], ◌∷◌, length, Option, Some, None, refl, sym, ap, ◌∙◌, arith}
 use Rattle.std.specs.List.{list_all, position}
 use Rattle.std.specs.Option.{option_map, option_and_then}
 use Rattle.std.specs.Str.{bytes_eq}
@@ -11,16 +10,18 @@ use Rattle.st_classes.specs.declared.values.Value.{Value}
 use Rattle.st_classes.specs.declared.values.Value.TheVariants.{Int, Bool as Boolean, Nil, Sym, Class, Actor, Local}
 use Rattle.st_classes.specs.declared.edits.Edit.{Edit}
 use Rattle.st_classes.specs.declared.instructions.Instruction.{Instruction}
-use Rattle.st_classes.specs.declared.instructions.Instruction.TheVariants.{PushLit, PushSelf, PushActor, PushTemp, PushSlot, StoreTemp, StoreSlot, Pop, Dup, Send, SuperSend, Jump, JumpFalse, JumpTrue, Answer}
+use Rattle.st_classes.specs.declared.instructions.Instruction.TheVariants.{PushLit, PushSelf, Pop, Dup, Send, SuperSend, Jump, JumpFalse, JumpTrue, Answer}
 use Rattle.st_classes.specs.Classes.{class_count, class_named, classes}
 use Rattle.st_classes.specs.Kernel.{class, selector}
 use Rattle.st_classes.specs.Selectors.{place_of, arity_of}
 use Rattle.st_classes.specs.Suiting.{arity_at, is_number, instruction_suits, literal_suits}
 use Rattle.st_compile.specs.Proper.{word_fits}
-use Rattle.st_compile.specs.Resolving.{Scope, instruction_of, instructions_of, or_else, pushed, reserved, stored}
+use Rattle.st_compile.specs.Resolving.{Scope, instruction_of, instructions_of, pushed, stored}
 use Rattle.st_compile.specs.Words.{Word, Line, literal, symbol, receiver, variable, store, drop, repeat, message, super_message, jump, jump_false, jump_true, return}
 use Rattle.st_compile.proofs.Places.{at-place, place-within, position-first, first-within}
+use Rattle.st_compile.proofs.Naming.{pushed_there, reserved_there, stored_there}
 use Rattle.st_compile.proofs.Resolving.{instructions-parts}
+use Rattle.st_compile.proofs.There.{IfThere, map_there, there}
 
 -- the selector at a text's place has the text's number of arguments
 pub arity-place : (names : List (List ℕ)) (text : List ℕ) (n s : ℕ) → place_of names text ≡ Some s → is_number (arity_of text) n ≡ true → is_number (arity_at names (selector s)) n ≡ true
@@ -30,57 +31,12 @@ arity-place names text n s e h = ap (λ (o : Option (List ℕ)). is_number (opti
 abbrev pub Suit : List (List ℕ) → Scope → Instruction → Type 0
 Suit names scope i = instruction_suits names (class_count scope.edits) (length scope.slots) (length scope.locals) i ≡ true
 
--- an instruction that is there suits
-abbrev SuitsThere : List (List ℕ) → Scope → Option Instruction → Type 0
-SuitsThere names scope o = (i : Instruction) → o ≡ Some i → Suit names scope i
-
-there : (names : List (List ℕ)) (scope : Scope) (i : Instruction) → Suit names scope i → SuitsThere names scope (Some i)
-there names scope i s j e = rw (← same_Some i j e) s
-
-not_there : (names : List (List ℕ)) (scope : Scope) → SuitsThere names scope None
-not_there names scope j e = absurd (none-some j e)
+there_suits : (names : List (List ℕ)) (scope : Scope) (i : Instruction) → Suit names scope i → IfThere (Suit names scope) (Some i)
+there_suits names scope = there (Suit names scope)
 
 -- the number of a text, where it has one
-by_place : (names : List (List ℕ)) (scope : Scope) (texts : List (List ℕ)) (text : List ℕ) (f : ℕ → Instruction) → ((s : ℕ) → place_of texts text ≡ Some s → Suit names scope (f s)) → SuitsThere names scope (option_map f (place_of texts text))
-by_place names scope texts text f h i e = by (place_of texts text) refl
-  where
-    by : (o : Option ℕ) → place_of texts text ≡ o → Suit names scope i
-    by None q =
-        let k : None ≡ Some i = rw q at e in
-        absurd (none-some i k)
-    by (Some s) q =
-        let k : Some (f s) ≡ Some i = rw q at e in
-        rw (← same_Some (f s) i k) (h s q)
-
-either_suits : (names : List (List ℕ)) (scope : Scope) (o p : Option Instruction) → SuitsThere names scope o → SuitsThere names scope p → SuitsThere names scope (or_else o p)
-either_suits names scope (Some j) p f g = f
-either_suits names scope None p f g = g
-
-reserved_suits : (names : List (List ℕ)) (scope : Scope) (text : List ℕ) → SuitsThere names scope (reserved text)
-reserved_suits names scope text i h = by (bytes_eq text (codes "self")) refl (bytes_eq text (codes "super")) refl (bytes_eq text (codes "nil")) refl (bytes_eq text (codes "true")) refl (bytes_eq text (codes "false")) refl (bytes_eq text (codes "thisActor")) refl
-  where
-    by : (a : Bool) → bytes_eq text (codes "self") ≡ a → (b : Bool) → bytes_eq text (codes "super") ≡ b → (c : Bool) → bytes_eq text (codes "nil") ≡ c → (d : Bool) → bytes_eq text (codes "true") ≡ d → (e : Bool) → bytes_eq text (codes "false") ≡ e → (f : Bool) → bytes_eq text (codes "thisActor") ≡ f → Suit names scope i
-    by true p b q c r d s e t f u =
-        let k : Some PushSelf ≡ Some i = rw p at h in
-        rw (← same_Some PushSelf i k) refl
-    by false p true q c r d s e t f u =
-        let k : Some PushSelf ≡ Some i = rw (p, q) at h in
-        rw (← same_Some PushSelf i k) refl
-    by false p false q true r d s e t f u =
-        let k : Some (PushLit Nil) ≡ Some i = rw (p, q, r) at h in
-        rw (← same_Some (PushLit Nil) i k) refl
-    by false p false q false r true s e t f u =
-        let k : Some (PushLit (Boolean true)) ≡ Some i = rw (p, q, r, s) at h in
-        rw (← same_Some (PushLit (Boolean true)) i k) refl
-    by false p false q false r false s true t f u =
-        let k : Some (PushLit (Boolean false)) ≡ Some i = rw (p, q, r, s, t) at h in
-        rw (← same_Some (PushLit (Boolean false)) i k) refl
-    by false p false q false r false s false t true u =
-        let k : Some PushActor ≡ Some i = rw (p, q, r, s, t, u) at h in
-        rw (← same_Some PushActor i k) refl
-    by false p false q false r false s false t false u =
-        let k : None ≡ Some i = rw (p, q, r, s, t, u) at h in
-        absurd (none-some i k)
+placed_suits : (names : List (List ℕ)) (scope : Scope) (texts : List (List ℕ)) (text : List ℕ) (f : ℕ → Instruction) → ((s : ℕ) → place_of texts text ≡ Some s → Suit names scope (f s)) → IfThere (Suit names scope) (option_map f (place_of texts text))
+placed_suits names scope texts text f h = map_there (Suit names scope) f (place_of texts text) h
 
 class_within : (edits : List Edit) (text : List ℕ) (c : ClassId) → class_named edits text ≡ Some c → c.0 < class_count edits
 class_within edits text c e = by (position (λ d. bytes_eq text d.name) (classes edits)) refl
@@ -93,28 +49,14 @@ class_within edits text c e = by (position (λ d. bytes_eq text d.name) (classes
         let k : Some (class n) ≡ Some c = rw q at e in
         rw (← same_Some (class n) c k) (first-within (λ d. bytes_eq text d.name) (classes edits) n (sym (position-first (λ d. bytes_eq text d.name) (classes edits)) ∙ q))
 
-class_suits : (names : List (List ℕ)) (scope : Scope) (text : List ℕ) → SuitsThere names scope (option_map (λ c. PushLit (Class c)) (class_named scope.edits text))
-class_suits names scope text i e = by (class_named scope.edits text) refl
-  where
-    by : (o : Option ClassId) → class_named scope.edits text ≡ o → Suit names scope i
-    by None q =
-        let k : None ≡ Some i = rw q at e in
-        absurd (none-some i k)
-    by (Some c) q =
-        let k : Some (PushLit (Class c)) ≡ Some i = rw q at e in
-        rw (← same_Some (PushLit (Class c)) i k) (lt-ltb c.0 (class_count scope.edits) (class_within scope.edits text c q))
+place_under : (texts : List (List ℕ)) (text : List ℕ) (s : ℕ) → place_of texts text ≡ Some s → ltb s (length texts) ≡ true
+place_under texts text s q = lt-ltb s (length texts) (place-within texts text s q)
 
-pushed_suits : (names : List (List ℕ)) (scope : Scope) (text : List ℕ) → SuitsThere names scope (pushed scope text)
-pushed_suits names scope text =
-    let locals = by_place names scope scope.locals text PushTemp (λ s q. lt-ltb s (length scope.locals) (place-within scope.locals text s q)) in
-    let slots = by_place names scope scope.slots text PushSlot (λ s q. lt-ltb s (length scope.slots) (place-within scope.slots text s q)) in
-    either_suits names scope (reserved text) _ (reserved_suits names scope text) (either_suits names scope (option_map PushTemp (place_of scope.locals text)) _ locals (either_suits names scope (option_map PushSlot (place_of scope.slots text)) _ slots (class_suits names scope text)))
+pushed_suits : (names : List (List ℕ)) (scope : Scope) (text : List ℕ) → IfThere (Suit names scope) (pushed scope text)
+pushed_suits names scope text = let suit = Suit names scope in pushed_there suit scope text (reserved_there suit refl refl (λ b. refl) refl text) (place_under scope.locals text) (place_under scope.slots text) (λ c q. lt-ltb c.0 (class_count scope.edits) (class_within scope.edits text c q))
 
-stored_suits : (names : List (List ℕ)) (scope : Scope) (text : List ℕ) → SuitsThere names scope (stored scope text)
-stored_suits names scope text =
-    let locals = by_place names scope scope.locals text StoreTemp (λ s q. lt-ltb s (length scope.locals) (place-within scope.locals text s q)) in
-    let slots = by_place names scope scope.slots text StoreSlot (λ s q. lt-ltb s (length scope.slots) (place-within scope.slots text s q)) in
-    either_suits names scope (option_map StoreTemp (place_of scope.locals text)) _ locals slots
+stored_suits : (names : List (List ℕ)) (scope : Scope) (text : List ℕ) → IfThere (Suit names scope) (stored scope text)
+stored_suits names scope text = stored_there (Suit names scope) scope text (place_under scope.locals text) (place_under scope.slots text)
 
 literal_there : (names : List (List ℕ)) (count : ℕ) (v : Value) → literal_suits [] 0 v ≡ true → literal_suits names count v ≡ true
 literal_there names count (Int z) h = refl
@@ -125,20 +67,20 @@ literal_there names count (Class c) h = absurd (omega (arith, ltb-true c.0 0 h))
 literal_there names count (Actor a) h = absurd (false≢true h)
 literal_there names count (Local n) h = absurd (false≢true h)
 
-word_suits : (names : List (List ℕ)) (scope : Scope) (word : Word) → word_fits word ≡ true → SuitsThere names scope (instruction_of names scope word)
-word_suits names scope (literal v) h = there names scope (PushLit v) (literal_there names (class_count scope.edits) v h)
-word_suits names scope (symbol text) h = by_place names scope names text (λ s. PushLit (Sym (selector s))) (λ s q. lt-ltb s (length names) (place-within names text s q))
-word_suits names scope receiver h = there names scope PushSelf refl
+word_suits : (names : List (List ℕ)) (scope : Scope) (word : Word) → word_fits word ≡ true → IfThere (Suit names scope) (instruction_of names scope word)
+word_suits names scope (literal v) h = there_suits names scope (PushLit v) (literal_there names (class_count scope.edits) v h)
+word_suits names scope (symbol text) h = placed_suits names scope names text (λ s. PushLit (Sym (selector s))) (λ s q. lt-ltb s (length names) (place-within names text s q))
+word_suits names scope receiver h = there_suits names scope PushSelf refl
 word_suits names scope (variable n) h = pushed_suits names scope n.text
 word_suits names scope (store n) h = stored_suits names scope n.text
-word_suits names scope drop h = there names scope Pop refl
-word_suits names scope repeat h = there names scope Dup refl
-word_suits names scope (message text n) h = by_place names scope names text (λ s. Send (selector s) n) (λ s q. arity-place names text n s q h)
-word_suits names scope (super_message text n) h = by_place names scope names text (λ s. SuperSend (selector s) n) (λ s q. arity-place names text n s q h)
-word_suits names scope (jump d) h = there names scope (Jump d) refl
-word_suits names scope (jump_false d) h = there names scope (JumpFalse d) refl
-word_suits names scope (jump_true d) h = there names scope (JumpTrue d) refl
-word_suits names scope return h = there names scope Answer refl
+word_suits names scope drop h = there_suits names scope Pop refl
+word_suits names scope repeat h = there_suits names scope Dup refl
+word_suits names scope (message text n) h = placed_suits names scope names text (λ s. Send (selector s) n) (λ s q. arity-place names text n s q h)
+word_suits names scope (super_message text n) h = placed_suits names scope names text (λ s. SuperSend (selector s) n) (λ s q. arity-place names text n s q h)
+word_suits names scope (jump d) h = there_suits names scope (Jump d) refl
+word_suits names scope (jump_false d) h = there_suits names scope (JumpFalse d) refl
+word_suits names scope (jump_true d) h = there_suits names scope (JumpTrue d) refl
+word_suits names scope return h = there_suits names scope Answer refl
 
 pub code_suits : (names : List (List ℕ)) (scope : Scope) (lines : List Line) (code : List Instruction) → list_all (λ l. word_fits l.word) lines ≡ true → instructions_of names scope lines ≡ Some code → list_all (instruction_suits names (class_count scope.edits) (length scope.slots) (length scope.locals)) code ≡ true
 code_suits names scope [] code h e = rw (← same_Some [] code e) refl

@@ -1,13 +1,13 @@
 -- Names resolved: the instructions that words stand for.
-use Rattle.std.specs.Prelude.{ℕ, List, [], ◌∷◌, Bool, true, false, Option, Some, None, option_map, option_and_then, codes}
-use Rattle.std.specs.Str.{bytes_eq}
+use Rattle.std.specs.Prelude.{ℕ, List, [], ◌∷◌, true, false, Option, Some, option_map, option_and_then, slice_get}
+use Rattle.std.specs.Option.{option_or}
 use Rattle.st_classes.specs.declared.edits.Edit.{Edit}
 use Rattle.st_classes.specs.declared.values.Value.TheVariants.{Nil, Bool as Boolean, Sym, Class}
 use Rattle.st_classes.specs.declared.instructions.Instruction.{Instruction}
 use Rattle.st_classes.specs.declared.instructions.Instruction.TheVariants.{PushLit, PushSelf, PushActor, PushTemp, PushSlot, StoreTemp, StoreSlot, Pop, Dup, Send, SuperSend, Jump, JumpFalse, JumpTrue, Answer}
 use Rattle.st_classes.specs.Classes.{class_named}
 use Rattle.st_classes.specs.Kernel.{selector}
-use Rattle.st_classes.specs.Selectors.{place_of}
+use Rattle.st_classes.specs.Selectors.{place_of, reserved_names}
 use Rattle.st_compile.specs.Words.{Word, Line, literal, symbol, receiver, variable, store, drop, repeat, message, super_message, jump, jump_false, jump_true, return}
 
 -- what the names of a method can stand for: the edits give the classes; its instance variables; its arguments and then its temporaries
@@ -16,31 +16,21 @@ pub record Scope : Type 0 where
   pub slots : List (List ℕ)
   pub locals : List (List ℕ)
 
--- the first of two
-abbrev pub or_else : Option Instruction → Option Instruction → Option Instruction
-or_else (Some i) other = Some i
-or_else None other = other
+-- what the reserved names push, in their order: self, super, nil, true, false, thisActor
+abbrev pub reserved_values : List Instruction
+reserved_values = PushSelf ∷ PushSelf ∷ PushLit Nil ∷ PushLit (Boolean true) ∷ PushLit (Boolean false) ∷ PushActor ∷ []
 
--- the reserved names that stand for a value
+-- the value of a reserved name
 abbrev pub reserved : List ℕ → Option Instruction
-reserved text = chosen (bytes_eq text (codes "self")) (bytes_eq text (codes "super")) (bytes_eq text (codes "nil")) (bytes_eq text (codes "true")) (bytes_eq text (codes "false")) (bytes_eq text (codes "thisActor"))
-  where
-    chosen : Bool → Bool → Bool → Bool → Bool → Bool → Option Instruction
-    chosen true _ _ _ _ _ = Some PushSelf
-    chosen false true _ _ _ _ = Some PushSelf
-    chosen false false true _ _ _ = Some (PushLit Nil)
-    chosen false false false true _ _ = Some (PushLit (Boolean true))
-    chosen false false false false true _ = Some (PushLit (Boolean false))
-    chosen false false false false false true = Some PushActor
-    chosen false false false false false false = None
+reserved text = option_and_then (slice_get reserved_values) (place_of reserved_names text)
 
 -- the value of a name: a reserved one's, an argument's or temporary's, an instance variable's, a class
 abbrev pub pushed : Scope → List ℕ → Option Instruction
-pushed scope text = or_else (reserved text) (or_else (option_map PushTemp (place_of scope.locals text)) (or_else (option_map PushSlot (place_of scope.slots text)) (option_map (λ c. PushLit (Class c)) (class_named scope.edits text))))
+pushed scope text = option_or (reserved text) (option_or (option_map PushTemp (place_of scope.locals text)) (option_or (option_map PushSlot (place_of scope.slots text)) (option_map (λ c. PushLit (Class c)) (class_named scope.edits text))))
 
 -- what is stored in: an argument or temporary, or an instance variable
 abbrev pub stored : Scope → List ℕ → Option Instruction
-stored scope text = or_else (option_map StoreTemp (place_of scope.locals text)) (option_map StoreSlot (place_of scope.slots text))
+stored scope text = option_or (option_map StoreTemp (place_of scope.locals text)) (option_map StoreSlot (place_of scope.slots text))
 
 -- the instruction of a word, where its names are there: variables by their places, selectors and symbols by their numbers
 abbrev pub instruction_of : List (List ℕ) → Scope → Word → Option Instruction

@@ -18,4 +18,4 @@ mod refusing;
 mod resolve;
 mod scope;
 mod sites;
-pub mod words;
+mod words;

@@ -1,5 +1,5 @@
 //! The numbers of selectors and symbols.
-ghost use Rattle.std.specs.Prelude.{◌≡◌, ◌≤◌, [], ◌∷◌, Some, true, OnOk, OnErr, IfOk, IfErr};
+ghost use Rattle.std.specs.Prelude.{◌≡◌, ◌≤◌, [], ◌∷◌, ◌++◌, Some, true, OnOk, OnErr, IfOk, IfErr};
 ghost use Rattle.std.specs.List.{flat_map};
 ghost use Rattle.st_classes.specs.Names.{interned};
 ghost use Rattle.st_classes.specs.Refusals.{first_of, Answers};
@@ -16,7 +16,7 @@ use st_reader::trees::{Chain, Name, Parameter, Pattern};
 use std::alloc::Global;
 
 /// The number of a text, which is interned.
-pub fn number_of(alloc: Global, text: &[u8], names: &mut Names) -> Result<Selector, Refusal>
+pub(crate) fn number_of(alloc: Global, text: &[u8], names: &mut Names) -> Result<Selector, Refusal>
     requires { is_selector text.now ≡ true }
     ensures answers { Answers (first_of (names_rule names.old (text.now ∷ []) ∷ [])) result (λ s. place_of names.new text.now ≡ Some s.0) }
     ensures names { OnOk result (names.new ≡ interned names.old text.now) }
@@ -28,6 +28,17 @@ pub fn number_of(alloc: Global, text: &[u8], names: &mut Names) -> Result<Select
     number
 }
 
+// A keyword behind others.
+fn add_keyword(text: &mut Vec<u8>, keyword: &Name) -> Result<(), Refusal>
+    ensures ok { OnOk result (text.new.items ≡ text.old.items ++ keyword.now.text) }
+    ensures err { IfErr result (λ e. e ≡ Refusal.NoMemory) }
+{
+    let Ok(()) = text.extend_from_slice(keyword.text.as_slice()) else {
+        return Err(Refusal::NoMemory);
+    };
+    Ok(())
+}
+
 /// The selector that the keywords of a message make. The only refusal is `NoMemory`.
 fn joined(alloc: Global, parts: &[(Name, Chain)]) -> Result<Vec<u8>, Refusal>
     ensures ok { IfOk result (λ text. text.items ≡ flat_map (λ p. p.0.text) parts.now) }
@@ -35,9 +46,7 @@ fn joined(alloc: Global, parts: &[(Name, Chain)]) -> Result<Vec<u8>, Refusal>
 {
     let mut text = Vec::new(alloc);
     for part in parts {
-        let Ok(()) = text.extend_from_slice(part.0.text.as_slice()) else {
-            return Err(Refusal::NoMemory);
-        };
+        add_keyword(&mut text, &part.0)?;
     }
     Ok(text)
 }
@@ -49,9 +58,7 @@ pub fn joined_pattern(alloc: Global, parameters: &[Parameter]) -> Result<Vec<u8>
 {
     let mut text = Vec::new(alloc);
     for parameter in parameters {
-        let Ok(()) = text.extend_from_slice(parameter.keyword.text.as_slice()) else {
-            return Err(Refusal::NoMemory);
-        };
+        add_keyword(&mut text, &parameter.keyword)?;
     }
     Ok(text)
 }
@@ -87,7 +94,7 @@ impl<'t> Sent<'t> {
 }
 
 /// The number of the selector of a pattern, which is interned.
-pub fn pattern_number(
+pub(crate) fn pattern_number(
     alloc: Global,
     pattern: &Pattern,
     names: &mut Names,

@@ -22,7 +22,8 @@ use Rattle.st_compile.specs.Equations.{method_code}
 use Rattle.st_compile.specs.Naming.{HasFew, named, scope_seen}
 use Rattle.st_compile.specs.Refusing.{clash_rule, code_rules, is_known, is_small, method_rules, names_rule, scope_rules, size_rule, start_of, texts_of, unknown_rule}
 use Rattle.st_compile.specs.Resolving.{Scope, instructions_of, word_texts}
-use Rattle.st_compile.specs.Scopes.{locals_of, pattern_selector, scope_of}
+use Rattle.st_reader.specs.Variables.{locals_of}
+use Rattle.st_compile.specs.Scopes.{pattern_selector, scope_of}
 use Rattle.st_compile.specs.Words.{Line}
 use Rattle.st_compile.proofs.FewSlots.{few_slots}
 

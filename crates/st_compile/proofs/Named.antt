@@ -22,7 +22,8 @@ use Rattle.st_reader.specs.Tokens.{Token, AreWhole, IsCut, piece_tokens, span, t
 use Rattle.st_reader.proofs.Lists.{closed_parts}
 use Rattle.st_reader.proofs.Sorts.{binary_other}
 use Rattle.st_compile.specs.Equations.{joined}
-use Rattle.st_compile.specs.Scopes.{arguments_of, pattern_selector}
+use Rattle.st_reader.specs.Variables.{arguments_of}
+use Rattle.st_compile.specs.Scopes.{pattern_selector}
 
 -- an identifier with its colon
 pub record IsKeyword (text : List ℕ) : Type 0 where

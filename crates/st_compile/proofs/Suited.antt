@@ -1,5 +1,5 @@
 -- A method of the grammar suits its class.
-use Rattle.std.proofs.Common.{◌≡◌, ℕ, ◌+◌, ◌≤◌, true, not, leb, ◌&&◌, List, length, map, Option, Some, None, eqb, eq-eqb, refl, sym, ap, ◌∙◌, subst, arith}
+use Rattle.std.proofs.Common.{◌≡◌, ℕ, ◌+◌, ◌≤◌, true, not, leb, ◌&&◌, List, length, map, Some, eqb, eq-eqb, refl, ap, ◌∙◌, subst}
 use Rattle.std.specs.List.{list_all}
 use Rattle.std.proofs.lemmas.Bool.{and_from, and_parts, leb-true}
 use Rattle.std.proofs.lemmas.List.{length-append, length-map}
@@ -12,18 +12,15 @@ use Rattle.st_classes.specs.Suiting.{arity_at, is_number, instruction_suits, sui
 use Rattle.st_reader.specs.Grammar.{method_toks, pattern_toks}
 use Rattle.st_classes.specs.Accepting.{has_twice}
 use Rattle.st_classes.specs.Selectors.{is_slot_name}
-use Rattle.st_reader.specs.declared.trees.Pattern.{Pattern}
-use Rattle.st_reader.specs.declared.trees.Pattern.TheVariants.{Unary, Binary, Keyword}
-use Rattle.st_reader.specs.declared.trees.Temporaries.{Temporaries}
 use Rattle.st_reader.specs.Rules.{body_allowed}
 use Rattle.st_reader.specs.Spelling.{Spells}
-use Rattle.st_reader.specs.Variables.{are_variables, argument_texts, temporary_texts, variable_texts}
+use Rattle.st_reader.specs.Variables.{are_variables, argument_texts, arguments_of, locals_of, temporaries_of, texts}
 use Rattle.st_reader.specs.Syntax.{Method}
 use Rattle.st_compile.specs.Equations.{method_code}
 use Rattle.st_compile.specs.Proper.{is_near, word_fits}
 use Rattle.st_compile.specs.Refusing.{is_small}
 use Rattle.st_compile.specs.Resolving.{instructions_of}
-use Rattle.st_compile.specs.Scopes.{arguments_of, locals_of, pattern_selector, scope_of, temporaries_of}
+use Rattle.st_compile.specs.Scopes.{pattern_selector, scope_of}
 use Rattle.st_compile.proofs.Compiling.{small_length}
 use Rattle.st_compile.proofs.Fine.{AreFine, fine_fits, fine_near, method_fine}
 use Rattle.st_compile.proofs.Named.{AreNamed, cut_named, named_front, pattern_number}
@@ -31,13 +28,13 @@ use Rattle.st_compile.proofs.Suits.{arity-place, code_suits}
 
 -- the names of a spelled method
 pub spelled_named : (m : Method) (text : List ℕ) → Spells m text → AreNamed (method_toks m)
-spelled_named m text s = cut_named text (method_toks m) s.cut s.fits
+spelled_named m text s = cut_named text (method_toks m) s.spelled.cut s.spelled.fits
 
 pub spelled_pattern : (m : Method) (text : List ℕ) → Spells m text → is_number (arity_of (pattern_selector m.pattern)) (length (arguments_of m.pattern)) ≡ true
-spelled_pattern m text s = pattern_number m.pattern s.grammar.pattern (named_front (pattern_toks m.pattern) _ (spelled_named m text s))
+spelled_pattern m text s = pattern_number m.pattern s.spelled.grammar.pattern (named_front (pattern_toks m.pattern) _ (spelled_named m text s))
 
 pub spelled_fine : (m : Method) (text : List ℕ) → Spells m text → is_small (method_code m) ≡ true → AreFine (method_code m)
-spelled_fine m text s small = method_fine m s.grammar (spelled_named m text s) (small_length (method_code m) small)
+spelled_fine m text s small = method_fine m s.spelled.grammar (spelled_named m text s) (small_length (method_code m) small)
 
 pub spelled_fits : (m : Method) (text : List ℕ) → Spells m text → is_small (method_code m) ≡ true → list_all (λ l. word_fits l.word) (method_code m) ≡ true
 spelled_fits m text s small = fine_fits (method_code m) (spelled_fine m text s small)
@@ -57,19 +54,9 @@ method_suits names edits c m text p s small h e a t k =
     let code : list_all (instruction_suits names (class_count edits) (length (slots edits c)) (p.arguments + p.temporaries)) p.code ≡ true = subst (λ n. list_all (instruction_suits names (class_count edits) (length (slots edits c)) n) p.code ≡ true) count (code_suits names (scope_of edits c m) (method_code m) p.code (spelled_fits m text s small) k) in
     and_from (eqb p.holder.0 c.0 && is_number (arity_at names p.selector) p.arguments) (list_all (instruction_suits names (class_count edits) (length (slots edits c)) (p.arguments + p.temporaries)) p.code) (and_from (eqb p.holder.0 c.0) (is_number (arity_at names p.selector) p.arguments) same own) code
 
-arguments_many : (p : Pattern) → length (argument_texts p) ≡ length (arguments_of p)
-arguments_many (Unary n) = refl
-arguments_many (Binary n argument) = refl
-arguments_many (Keyword ps) = length-map ps (λ p. p.argument.text) ∙ sym (length-map ps (λ p. p.argument))
-
-temporaries_many : (o : Option Temporaries) → length (temporary_texts o) ≡ length (temporaries_of o)
-temporaries_many None = refl
-temporaries_many (Some t) = length-map t.names (λ n. n.text)
-
 -- a spelled method has no more than 64 arguments and temporaries
 pub spelled_few : (m : Method) (text : List ℕ) → Spells m text → length (locals_of m) ≤ 64
 spelled_few m text s =
-    let texts : List (List ℕ) = variable_texts m in
-    let variables = (and_parts (are_variables texts) (body_allowed (argument_texts m.pattern) m.body) s.rules).0 in
-    let few = leb-true (length texts) 64 (and_parts (list_all is_slot_name texts && not (has_twice texts)) (leb (length texts) 64) variables).1 in
-    omega (arith, few, length-append (argument_texts m.pattern) (temporary_texts m.temporaries), arguments_many m.pattern, temporaries_many m.temporaries, locals_count m)
+    let names : List (List ℕ) = texts (locals_of m) in
+    let variables = (and_parts (are_variables (locals_of m)) (body_allowed (argument_texts m.pattern) m.body) s.rules).0 in
+    leb-true (length (locals_of m)) 64 (and_parts (list_all is_slot_name names && not (has_twice names)) (leb (length (locals_of m)) 64) variables).1

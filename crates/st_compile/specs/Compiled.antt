@@ -9,7 +9,8 @@ use Rattle.st_classes.specs.Suiting.{suits}
 use Rattle.st_reader.specs.Syntax.{Method}
 use Rattle.st_compile.specs.Equations.{method_code}
 use Rattle.st_compile.specs.Resolving.{instructions_of}
-use Rattle.st_compile.specs.Scopes.{pattern_selector, arguments_of, temporaries_of, scope_of}
+use Rattle.st_reader.specs.Variables.{arguments_of, temporaries_of}
+use Rattle.st_compile.specs.Scopes.{pattern_selector, scope_of}
 
 -- the compiled method of a method of the grammar in a class, where selectors and symbols have the numbers that these names give
 pub record IsCompiled (names : List (List ℕ)) (edits : List Edit) (c : ClassId) (method : Method) (text : List ℕ) (m : MethodParts) : Type 0 where

@@ -15,7 +15,8 @@ use Rattle.st_reader.specs.Syntax.{Method}
 use Rattle.st_compile.specs.Words.{Word, Line, variable, store}
 use Rattle.st_compile.specs.Equations.{method_code}
 use Rattle.st_compile.specs.Resolving.{Scope, pushed, stored, word_texts}
-use Rattle.st_compile.specs.Scopes.{pattern_selector, locals_of, scope_of}
+use Rattle.st_reader.specs.Variables.{locals_of}
+use Rattle.st_compile.specs.Scopes.{pattern_selector, scope_of}
 
 -- a name stands for something in a scope; `super` doesn't as long as there are no super sends
 abbrev pub is_known : Scope → Word → Bool

@@ -2,7 +2,7 @@
 ghost use Rattle.std.specs.Prelude.{◌≡◌, ◌≤◌, ◌++◌, ◌∷◌, [], length, OnOk, IfOk, IfErr};
 ghost use Rattle.st_reader.specs.Views.{method_view};
 ghost use Rattle.st_compile.specs.Naming.{named};
-ghost use Rattle.st_compile.specs.Scopes.{arguments_of, locals_of, temporaries_of};
+ghost use Rattle.st_reader.specs.Variables.{arguments_of, locals_of, temporaries_of};
 
 use st_classes::refusals::Refusal;
 use st_reader::trees::{MethodTree, Name, Pattern, Temporaries};

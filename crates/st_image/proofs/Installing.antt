@@ -27,7 +27,8 @@ use Rattle.st_reader.specs.Spelling.{Spells}
 use Rattle.st_reader.specs.Syntax.{Method}
 use Rattle.st_compile.specs.Refusing.{InternsFirst, IsFull, interned_all, names_rule, code_rules, method_rules, texts_of, unknown, clashing, is_small, least}
 use Rattle.st_compile.specs.Equations.{method_code}
-use Rattle.st_compile.specs.Scopes.{pattern_selector, scope_of, locals_of}
+use Rattle.st_reader.specs.Variables.{locals_of}
+use Rattle.st_compile.specs.Scopes.{pattern_selector, scope_of}
 use Rattle.st_compile.specs.Compiled.{IsCompiled}
 use Rattle.st_compile.proofs.Interning.{first-all}
 use Rattle.st_compile.proofs.Places.{first, position-first, place-append, at-place}

@@ -13,7 +13,8 @@ use Rattle.st_compile.specs.Naming.{HasFew, named, scope_seen}
 use Rattle.st_compile.specs.Proper.{is_near, word_fits}
 use Rattle.st_compile.specs.Refusing.{is_small}
 use Rattle.st_compile.specs.Resolving.{instructions_of}
-use Rattle.st_compile.specs.Scopes.{arguments_of, pattern_selector, scope_of}
+use Rattle.st_reader.specs.Variables.{arguments_of}
+use Rattle.st_compile.specs.Scopes.{pattern_selector, scope_of}
 use Rattle.st_compile.specs.Words.{Line}
 use Rattle.st_compile.proofs.Arities.{number_few, selector_of_number}
 use Rattle.st_compile.proofs.Compiling.{Met, code_is, met, names_are, refused_code, refused_names, rules_known, rules_small, scope_few, seen_rules, small_length, untouched}
@@ -144,7 +145,7 @@ new-requires c =
     let eight : length (arguments_of m.pattern) ≤ 8 = number_few (pattern_selector m.pattern) (length (arguments_of m.pattern)) (spelled_pattern m c.args.source c.requires.spells) in
     let arguments : c.argument_count.result ≤ 8 = omega (arith, eight, c.argument_count.ensures) in
     let all : c.argument_count.result + (c.temporary_count.result) ≤ 64 = omega (arith, locals_count m, (spelled_few m c.args.source c.requires.spells), c.argument_count.ensures, c.temporary_count.ensures) in
-    sound_of c.resolve.new.names (scope_of edits c.args.class m) m _ code small depths sites arguments all c.requires.spells.short
+    sound_of c.resolve.new.names (scope_of edits c.args.class m) m _ code small depths sites arguments all c.requires.spells.spelled.short
 
 pub returns-clause-answers : goal.returns-clause-answers
 returns-clause-answers c =

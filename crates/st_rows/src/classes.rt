@@ -57,7 +57,8 @@ fn texts(alloc: Global, list: &[&[u8]]) -> Result<Seq<Seq<u8>>, AllocError> {
     Ok(Seq::from_vec(texts))
 }
 
-fn define(
+/// One class more.
+pub(crate) fn define(
     version: &Version,
     alloc: Global,
     name: &[u8],

@@ -19,8 +19,8 @@ use std::alloc::Global;
 use std::process::Abort;
 use std::test::*;
 
-// The kind and the offset that a source is refused with.
-fn said(refusal: Refusal) -> Option<(SourceFault, usize)> {
+/// The kind and the offset that a source is refused with.
+pub(crate) fn said(refusal: Refusal) -> Option<(SourceFault, usize)> {
     match refusal {
         Refusal::BadSource { kind, offset } => Some((kind, offset as usize)),
         _ => None,

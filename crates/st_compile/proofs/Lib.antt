@@ -19,7 +19,7 @@ pub mod Arities
 pub mod Named
 pub mod Fine
 pub mod Suits
-pub mod Compiling
-pub mod Sound
-pub mod Suited
+pub mod Accepted
+pub mod Spelled
 pub mod Flowing
+pub mod Compiled

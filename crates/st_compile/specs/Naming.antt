@@ -11,7 +11,7 @@ named ns = map (λ n. n.now) ns
 
 -- the scope that is held
 abbrev pub scope_seen : Holding → Scope
-scope_seen s = record { edits = s.version.now; slots = s.slots.now; locals = map (λ n. n.text) (named s.locals.now) }
+scope_seen s = record { edits = s.version.now; slots = s.slots.now; locals = map (λ n. n.text) (named s.locals.items) }
 
 -- there are no more than 64 of either sort of variable
 pub record HasFew (scope : Scope) : Type 0 where

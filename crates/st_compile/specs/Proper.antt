@@ -1,8 +1,11 @@
 -- Words that an instruction has room for.
-use Rattle.std.specs.Prelude.{pos, negsuc, [], Bool, true, nat_le, nat_lt}
+use Rattle.std.specs.Prelude.{◌≡◌, pos, negsuc, List, [], Bool, true, nat_le, nat_lt}
+use Rattle.std.specs.List.{list_all}
 use Rattle.st_classes.specs.Selectors.{is_selector, arity_of}
 use Rattle.st_classes.specs.Suiting.{is_number, literal_suits}
-use Rattle.st_compile.specs.Words.{Word, literal, symbol, message, super_message, jump, jump_false, jump_true}
+use Rattle.st_compile.specs.Refusing.{is_known}
+use Rattle.st_compile.specs.Resolving.{Scope}
+use Rattle.st_compile.specs.Words.{Word, Line, literal, symbol, message, super_message, jump, jump_false, jump_true}
 
 -- a literal suits every class table, a symbol is a selector, and a message has as many arguments as its selector says
 abbrev pub word_fits : Word → Bool
@@ -19,3 +22,9 @@ is_near (jump (negsuc d)) = nat_lt d 1024
 is_near (jump_false d) = nat_le d 1024
 is_near (jump_true d) = nat_le d 1024
 is_near _ = true
+
+-- each word of a code has an instruction in a scope, once its texts have numbers: its name stands for something, and there is room for it
+pub record IsReady (scope : Scope) (ls : List Line) : Type 0 where
+  pub known : list_all (λ l. is_known scope l.word) ls ≡ true
+  pub fits : list_all (λ l. word_fits l.word) ls ≡ true
+  pub near : list_all (λ l. is_near l.word) ls ≡ true

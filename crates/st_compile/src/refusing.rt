@@ -71,10 +71,10 @@ fn clash_at(scope: &Scope<'_>, name: &Name) -> Option<u32>
 /// The first place of an argument or a temporary that is named as an instance variable.
 #[tactic(auto, using(crate::proofs::Least::clash_more))]
 fn first_clash(scope: &Scope<'_>) -> Option<u32>
-    ensures { result ≡ least_of (clashing (scope_seen scope.now).slots (named scope.now.locals.now)) }
+    ensures { result ≡ least_of (clashing (scope_seen scope.now).slots (named scope.now.locals.items)) }
 {
     let mut least = None;
-    for name in scope.locals {
+    for name in scope.locals.as_slice() {
         least = lesser(least, clash_at(scope, name));
     }
     least
@@ -96,7 +96,7 @@ fn unknown_name(scope: &Scope<'_>, lines: &[Line<'_>]) -> Option<Refusal>
 /// `BadSource` with `DuplicateName` where an argument or a temporary is named as an instance variable, and the first place of one.
 #[tactic(auto, using(crate::proofs::Least::place_rule))]
 fn clashing_name(scope: &Scope<'_>) -> Option<Refusal>
-    ensures { result ≡ first_of (clash_rule (scope_seen scope.now) (named scope.now.locals.now) ∷ []) }
+    ensures { result ≡ first_of (clash_rule (scope_seen scope.now) (named scope.now.locals.items) ∷ []) }
 {
     let offset = first_clash(scope)?;
     Some(Refusal::BadSource {
@@ -137,7 +137,7 @@ fn too_large(lines: &[Line<'_>]) -> Option<Refusal>
 #[tactic(auto, using(crate::proofs::Least::first_rule))]
 pub fn code_refusal(scope: &Scope<'_>, lines: &[Line<'_>]) -> Option<Refusal>
     requires { HasFew (scope_seen scope.now) }
-    ensures { result ≡ first_of (scope_rules (scope_seen scope.now) (named scope.now.locals.now) (map line_of lines.now)) }
+    ensures { result ≡ first_of (scope_rules (scope_seen scope.now) (named scope.now.locals.items) (map line_of lines.now)) }
 {
     if let Some(refusal) = unknown_name(scope, lines) {
         return Some(refusal);

@@ -1,11 +1,11 @@
 //! Names resolved: the instructions that words stand for.
 ghost use Rattle.std.specs.Prelude.{◌≡◌, ◌∷◌, [], ◌≤◌, map, true, Some, OnOk, OnErr, IfErr, length};
-ghost use Rattle.std.specs.List.{list_all, flat_map};
+ghost use Rattle.std.specs.List.{flat_map};
 ghost use Rattle.st_classes.specs.Refusals.{first_of, Answers};
 ghost use Rattle.st_classes.specs.Selectors.{is_selector, place_of};
 ghost use Rattle.st_compile.specs.Drafts.{line_of, word_of};
 ghost use Rattle.st_compile.specs.Naming.{HasFew, scope_seen};
-ghost use Rattle.st_compile.specs.Proper.{is_near, word_fits};
+ghost use Rattle.st_compile.specs.Proper.{IsReady, is_near, word_fits};
 ghost use Rattle.st_compile.specs.Refusing.{InternsFirst, IsFull, interned_all, is_known, names_rule};
 ghost use Rattle.st_compile.specs.Resolving.{instruction_of, instructions_of, word_texts};
 ghost use Rattle.st_compile.specs.Scopes.{pattern_selector};
@@ -80,9 +80,7 @@ fn code_of(
     names: &mut Names,
 ) -> Result<Vec<Instruction>, Refusal>
     requires few { HasFew (scope_seen scope.now) }
-    requires known { list_all (λ l. is_known (scope_seen scope.now) l.word) (map line_of lines.now) ≡ true }
-    requires fits { list_all (λ l. word_fits l.word) (map line_of lines.now) ≡ true }
-    requires near { list_all (λ l. is_near l.word) (map line_of lines.now) ≡ true }
+    requires ready { IsReady (scope_seen scope.now) (map line_of lines.now) }
     ensures answers { Answers (first_of (names_rule names.old (flat_map (λ l. word_texts l.word) (map line_of lines.now)) ∷ [])) result (λ code. instructions_of names.new (scope_seen scope.now) (map line_of lines.now) ≡ Some code.items) }
     ensures names { OnOk result (names.new ≡ interned_all names.old (flat_map (λ l. word_texts l.word) (map line_of lines.now))) }
     ensures some { InternsFirst names.old (flat_map (λ l. word_texts l.word) (map line_of lines.now)) names.new }
@@ -110,9 +108,7 @@ pub fn resolve(
 ) -> Result<(Selector, Vec<Instruction>), Refusal>
     requires selector { is_selector (pattern_selector pattern.now) ≡ true }
     requires few { HasFew (scope_seen scope.now) }
-    requires known { list_all (λ l. is_known (scope_seen scope.now) l.word) (map line_of lines.now) ≡ true }
-    requires fits { list_all (λ l. word_fits l.word) (map line_of lines.now) ≡ true }
-    requires near { list_all (λ l. is_near l.word) (map line_of lines.now) ≡ true }
+    requires ready { IsReady (scope_seen scope.now) (map line_of lines.now) }
     ensures answers { Answers (first_of (names_rule names.old (pattern_selector pattern.now ∷ flat_map (λ l. word_texts l.word) (map line_of lines.now)) ∷ [])) result (λ r. (place_of names.new (pattern_selector pattern.now) ≡ Some r.0.0) × (instructions_of names.new (scope_seen scope.now) (map line_of lines.now) ≡ Some r.1.items)) }
     ensures names { OnOk result (names.new ≡ interned_all names.old (pattern_selector pattern.now ∷ flat_map (λ l. word_texts l.word) (map line_of lines.now))) }
     ensures some { InternsFirst names.old (pattern_selector pattern.now ∷ flat_map (λ l. word_texts l.word) (map line_of lines.now)) names.new }

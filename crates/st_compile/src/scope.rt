@@ -1,20 +1,26 @@
 //! What the names of a method stand for.
-ghost use Rattle.std.specs.Prelude.{◌≡◌, true, position};
+ghost use Rattle.std.specs.Prelude.{◌≡◌, ◌≤◌, true, length, position, IfOk, IfErr};
 ghost use Rattle.std.specs.List.{list_any};
 ghost use Rattle.std.specs.Str.{bytes_eq};
-ghost use Rattle.st_classes.specs.Classes.{is_class, slots};
+ghost use Rattle.st_classes.specs.Classes.{is_class};
 ghost use Rattle.st_classes.specs.Selectors.{place_of};
+ghost use Rattle.st_reader.specs.Variables.{locals_of};
+ghost use Rattle.st_reader.specs.Views.{method_view};
 ghost use Rattle.st_compile.specs.Drafts.{word_of};
-ghost use Rattle.st_compile.specs.Naming.{HasFew, scope_seen};
+ghost use Rattle.st_compile.specs.Naming.{HasFew, named, scope_seen};
 ghost use Rattle.st_compile.specs.Refusing.{is_known};
 ghost use Rattle.st_compile.specs.Resolving.{pushed, reserved, stored};
+ghost use Rattle.st_compile.specs.Scopes.{scope_of};
 
+use crate::locals::locals_of;
 use crate::words::Word;
 use st_classes::instructions::Instruction;
+use st_classes::refusals::Refusal;
 use st_classes::seq::Seq;
 use st_classes::values::{ClassId, Value};
 use st_classes::version::Version;
-use st_reader::trees::Name;
+use st_reader::trees::{MethodTree, Name};
+use std::alloc::Global;
 
 /// The value of a reserved name.
 fn reserved(text: &[u8]) -> Option<Instruction>
@@ -43,37 +49,45 @@ fn place_among(names: &[&Name], text: &[u8]) -> Option<usize>
 }
 
 /// What the names of a method can stand for.
-#[derive(Clone, Copy)]
+#[derive(Drop)]
 pub struct Scope<'t> {
     /// The classes that there are.
     pub version: &'t Version,
     /// The instance variables of the class, inherited ones first.
     pub slots: &'t [Seq<u8>],
     /// The arguments, then the temporaries.
-    pub locals: &'t [&'t Name],
+    pub locals: Vec<&'t Name>,
 }
 
 impl<'t> Scope<'t> {
-    /// What names can stand for in a class.
-    pub fn in_class(version: &'t Version, class: ClassId, locals: &'t [&'t Name]) -> Scope<'t>
-        requires { is_class version.now class ≡ true }
-        ensures edits { result.version.now ≡ version.now }
-        ensures slots { result.slots.now ≡ slots version.now class }
-        ensures locals { result.locals.now ≡ locals.now }
+    /// What the names of a method can stand for in a class. The only refusal is `NoMemory`.
+    pub fn of_method(
+        alloc: Global,
+        tree: &'t MethodTree,
+        class: ClassId,
+        version: &'t Version,
+    ) -> Result<Scope<'t>, Refusal>
+        requires class { is_class version.now class ≡ true }
+        requires few { length (locals_of (method_view tree.now)) ≤ 64 }
+        ensures scope { IfOk result (λ scope. scope_seen scope ≡ scope_of version.now class (method_view tree.now)) }
+        ensures locals { IfOk result (λ scope. named scope.locals.items ≡ locals_of (method_view tree.now)) }
+        ensures few { IfOk result (λ scope. HasFew (scope_seen scope)) }
+        ensures err { IfErr result (λ e. e ≡ Refusal.NoMemory) }
     {
-        Scope {
+        version.known();
+        let locals = locals_of(alloc, tree)?;
+        Ok(Scope {
             version,
             slots: version.slots(class),
             locals,
-        }
+        })
     }
 
     /// The place of an argument or a temporary.
-    #[tactic(auto, using(crate::proofs::Places::local_place))]
     fn local(&self, text: &[u8]) -> Option<usize>
         ensures { result ≡ place_of (scope_seen self.now).locals text.now }
     {
-        place_among(self.locals, text)
+        place_among(self.locals.as_slice(), text)
     }
 
     /// The place of an instance variable.

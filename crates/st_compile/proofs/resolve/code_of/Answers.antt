@@ -9,13 +9,13 @@ use Rattle.st_compile.proofs.Mapped.{all-at, refused_at, names_step, code_more, 
 use Rattle.st_compile.proofs.resolve.code_of.Goals as goal
 
 pub instruction-requires-clause-known : goal.instruction-requires-clause-known
-instruction-requires-clause-known c = subst (λ (y : DraftedLine). is_known (scope_seen c.args.scope.now) (word_of y.word) ≡ true) (sym c.line-item.is) (all-at line_of (is_known (scope_seen c.args.scope.now)) c.args.lines.now c.loop-line.line-index c.line-item.result c.requires.known (omega arith))
+instruction-requires-clause-known c = subst (λ (y : DraftedLine). is_known (scope_seen c.args.scope.now) (word_of y.word) ≡ true) (sym c.line-item.is) (all-at line_of (is_known (scope_seen c.args.scope.now)) c.args.lines.now c.loop-line.line-index c.line-item.result c.requires.ready.known (omega arith))
 
 pub instruction-requires-clause-fits : goal.instruction-requires-clause-fits
-instruction-requires-clause-fits c = subst (λ (y : DraftedLine). word_fits (word_of y.word) ≡ true) (sym c.line-item.is) (all-at line_of word_fits c.args.lines.now c.loop-line.line-index c.line-item.result c.requires.fits (omega arith))
+instruction-requires-clause-fits c = subst (λ (y : DraftedLine). word_fits (word_of y.word) ≡ true) (sym c.line-item.is) (all-at line_of word_fits c.args.lines.now c.loop-line.line-index c.line-item.result c.requires.ready.fits (omega arith))
 
 pub instruction-requires-clause-near : goal.instruction-requires-clause-near
-instruction-requires-clause-near c = subst (λ (y : DraftedLine). is_near (word_of y.word) ≡ true) (sym c.line-item.is) (all-at line_of is_near c.args.lines.now c.loop-line.line-index c.line-item.result c.requires.near (omega arith))
+instruction-requires-clause-near c = subst (λ (y : DraftedLine). is_near (word_of y.word) ≡ true) (sym c.line-item.is) (all-at line_of is_near c.args.lines.now c.loop-line.line-index c.line-item.result c.requires.ready.near (omega arith))
 
 pub returns-in_err-instruction-clause-answers : goal.returns-in_err-instruction-clause-answers
 returns-in_err-instruction-clause-answers c =

@@ -1,0 +1,102 @@
+-- The compiled method of a text that spells one.
+use Rattle.std.proofs.Common.{◌≡◌, ℕ, zero, suc, ◌≤◌, true, leb, List, [], ◌∷◌, length, map, Some, refl, sym, ◌∙◌, subst, arith, ◌+◌, ◌&&◌, None, eqb, eq-eqb}
+use Rattle.std.specs.List.{list_all}
+use Rattle.std.proofs.lemmas.Bool.{and_parts, leb-true, and_from}
+use Rattle.std.proofs.lemmas.List.{length-map}
+use Rattle.std.proofs.lemmas.Option.{same_Some, none-some}
+use Rattle.st_classes.specs.declared.values.ClassId.{ClassId}
+use Rattle.st_classes.specs.declared.values.Selector.{Selector}
+use Rattle.st_classes.specs.declared.edits.Edit.{Edit}
+use Rattle.st_classes.specs.declared.instructions.Instruction.{Instruction}
+use Rattle.st_classes.specs.Methods.{DepthAt, IsSound}
+use Rattle.st_classes.specs.Refusals.{first_of}
+use Rattle.st_classes.specs.Classes.{class_count, slots}
+use Rattle.st_classes.specs.Selectors.{place_of}
+use Rattle.st_classes.specs.Suiting.{arity_at, is_number, instruction_suits, suits}
+use Rattle.st_reader.specs.Spelling.{Spells}
+use Rattle.st_reader.specs.Syntax.{Method}
+use Rattle.st_reader.specs.Variables.{arguments_of, locals_of, temporaries_of, texts}
+use Rattle.st_compile.specs.Parts.{parts_of}
+use Rattle.st_compile.specs.Scopes.{scope_of, pattern_selector}
+use Rattle.st_compile.specs.Equations.{method_code}
+use Rattle.st_compile.specs.Refusing.{is_small, code_rules}
+use Rattle.st_compile.specs.Resolving.{instructions_of}
+use Rattle.st_compile.specs.Words.{Line}
+use Rattle.st_compile.specs.Compiled.{IsCompiled}
+use Rattle.st_compile.specs.Proper.{IsReady}
+use Rattle.st_compile.proofs.Flowing.{code_fits}
+use Rattle.st_compile.proofs.Accepted.{small_depths, small_length, rules_known, rules_small}
+use Rattle.st_compile.proofs.Ending.{all_fit, begins_empty}
+use Rattle.st_compile.proofs.Resolving.{instructions-length}
+use Rattle.st_compile.proofs.Fine.{AreFine, fine_fits, fine_near, method_fine}
+use Rattle.st_compile.proofs.Suits.{arity-place, code_suits}
+use Rattle.st_compile.proofs.Spelled.{spelled_named, spelled_pattern, spelled_arguments, spelled_locals, locals_count}
+
+shallow_at : (ls : List Line) → list_all (λ l. leb l.depth 64) ls ≡ true → (place depth : ℕ) → DepthAt (map (λ l. l.depth) ls) place depth → depth ≤ 64
+shallow_at [] h place depth at = absurd (none-some depth at)
+shallow_at (l ∷ ls) h zero depth at = subst (λ n. n ≤ 64) (same_Some l.depth depth at) (leb-true l.depth 64 (and_parts (leb l.depth 64) (list_all (λ x. leb x.depth 64) ls) h).0)
+shallow_at (l ∷ ls) h (suc place) depth at = shallow_at ls (and_parts (leb l.depth 64) (list_all (λ x. leb x.depth 64) ls) h).1 place depth at
+
+-- the parts of a method are sound, and those of the compiled one
+pub record IsMade (names : List (List ℕ)) (edits : List Edit) (c : ClassId) (m : Method) (text : List ℕ) (selector : Selector) (code : List Instruction) : Type 0 where
+  pub sound : IsSound (parts_of c m selector code text)
+  pub compiled : IsCompiled names edits c m text (parts_of c m selector code text)
+
+-- a spelled method of which nothing is refused in a class
+module _ (edits : List Edit) (c : ClassId) (m : Method) (text : List ℕ) (s : Spells m text) (none : first_of (code_rules edits c m) ≡ None) where
+  small_code : is_small (method_code m) ≡ true
+  small_code = rules_small (scope_of edits c m) (locals_of m) (method_code m) none
+
+  pub ready_code : IsReady (scope_of edits c m) (method_code m)
+  ready_code =
+      let fine : AreFine (method_code m) = method_fine m s.spelled.grammar (spelled_named m text s) (small_length (method_code m) small_code) in
+      record {
+        known = rules_known (scope_of edits c m) (locals_of m) (method_code m) none;
+        fits = fine_fits (method_code m) fine;
+        near = fine_near (method_code m) fine;
+      }
+
+  -- the numbers of its selector and its instructions
+  module _ (names : List (List ℕ)) (selector : Selector) (code : List Instruction) (e : place_of names (pattern_selector m.pattern) ≡ Some selector.0) (k : instructions_of names (scope_of edits c m) (method_code m) ≡ Some code) where
+    sound : IsSound (parts_of c m selector code text)
+    sound =
+        let scope = scope_of edits c m in
+        let ls = method_code m in
+        let same : length code ≡ length ls = instructions-length names scope ls code k in
+        record {
+          long = length-map ls (λ l. l.depth) ∙ sym same;
+          short = omega (arith, same, small_length ls small_code);
+          start = begins_empty m;
+          each = code_fits names scope ls code k (all_fit m);
+          shallow = shallow_at ls (small_depths ls small_code);
+          few = spelled_arguments m text s;
+          small = spelled_locals m text s;
+          sites = refl;
+          text = s.spelled.short;
+        }
+
+    suited : suits names edits c (parts_of c m selector code text) ≡ true
+    suited =
+        let arguments = length (arguments_of m.pattern) in
+        let temporaries = length (temporaries_of m.temporaries) in
+        let all = λ (n : ℕ). list_all (instruction_suits names (class_count edits) (length (slots edits c)) n) code in
+        let own : is_number (arity_at names selector) arguments ≡ true = arity-place names (pattern_selector m.pattern) arguments selector.0 e (spelled_pattern m text s) in
+        let count : length (texts (locals_of m)) ≡ arguments + temporaries = length-map (locals_of m) (λ n. n.text) ∙ locals_count m in
+        let each : all (arguments + temporaries) ≡ true = subst (λ n. all n ≡ true) count (code_suits names (scope_of edits c m) (method_code m) code ready_code.fits k) in
+        and_from (eqb c.0 c.0 && is_number (arity_at names selector) arguments) (all (arguments + temporaries)) (and_from (eqb c.0 c.0) (is_number (arity_at names selector) arguments) (eq-eqb c.0 c.0 refl) own) each
+
+    pub made_of : IsMade names edits c m text selector code
+    made_of = record {
+      sound = sound;
+      compiled = record {
+        holder = refl;
+        selector = e;
+        arguments = refl;
+        temporaries = refl;
+        code = k;
+        depths = refl;
+        sites = refl;
+        source = refl;
+        fitting = suited;
+      };
+    }

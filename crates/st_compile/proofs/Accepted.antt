@@ -1,7 +1,7 @@
 -- What holds of a code of which nothing is refused.
 use Rattle.std.proofs.Common.{◌≡◌, ℕ, ◌≤◌, Bool, true, false, not, leb, List, [], ◌∷◌, length, map, filter, None, refl, sym, ◌∙◌, suc, ltb, arith}
 use Rattle.std.specs.List.{list_all}
-use Rattle.std.proofs.lemmas.Bool.{and_parts, and_from, leb-true, false≢true}
+use Rattle.std.proofs.lemmas.Bool.{and_parts, and_from, leb-true, false≢true, not-false}
 use Rattle.std.proofs.lemmas.Bool.Decides.{nat_tests}
 use Rattle.st_classes.specs.Refusals.{Rule, first_of}
 use Rattle.st_reader.specs.declared.trees.Name.{Name}
@@ -35,14 +35,7 @@ pub rules_small : (scope : Scope) (locals : List Name) (ls : List Line) → firs
 rules_small scope locals ls h =
     let a = first_none (unknown_rule scope ls) (clash_rule scope locals ∷ size_rule ls ∷ []) h in
     let b = first_none (clash_rule scope locals) (size_rule ls ∷ []) a.1 in
-    let d = first_none (size_rule ls) [] b.1 in
-    by (is_small ls) refl d.0
-  where
-    by : (v : Bool) → is_small ls ≡ v → not (is_small ls) ≡ false → is_small ls ≡ true
-    by true e n = e
-    by false e n =
-        let k : true ≡ false = rw e at n in
-        absurd (false≢true (sym k))
+    not-false (is_small ls) (first_none (size_rule ls) [] b.1).0
 
 pub small_length : (ls : List Line) → is_small ls ≡ true → length ls ≤ 1024
 small_length ls h = leb-true (length ls) 1024 (and_parts (leb (length ls) 1024) (list_all (λ l. leb l.depth 64) ls) h).0

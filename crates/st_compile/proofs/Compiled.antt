@@ -1,41 +1,36 @@
 -- The compiled method of a text that spells one.
-use Rattle.std.proofs.Common.{◌≡◌, ℕ, zero, suc, ◌≤◌, true, leb, List, [], ◌∷◌, length, map, Some, refl, sym, ◌∙◌, subst, arith, ◌+◌, ◌&&◌, None, eqb, eq-eqb}
+use Rattle.std.proofs.Common.{◌≡◌, ℕ, ◌+◌, true, leb, ◌&&◌, List, length, map, Some, None, eqb, eq-eqb, refl, sym, ◌∙◌, subst, arith}
 use Rattle.std.specs.List.{list_all}
-use Rattle.std.proofs.lemmas.Bool.{and_parts, leb-true, and_from}
+use Rattle.std.proofs.lemmas.Bool.{and_from, leb-true}
 use Rattle.std.proofs.lemmas.List.{length-map}
-use Rattle.std.proofs.lemmas.Option.{same_Some, none-some}
+use Rattle.std.proofs.lemmas.List.Folds.{list_all-map}
 use Rattle.st_classes.specs.declared.values.ClassId.{ClassId}
 use Rattle.st_classes.specs.declared.values.Selector.{Selector}
 use Rattle.st_classes.specs.declared.edits.Edit.{Edit}
 use Rattle.st_classes.specs.declared.instructions.Instruction.{Instruction}
-use Rattle.st_classes.specs.Methods.{DepthAt, IsSound}
+use Rattle.st_classes.specs.Methods.{IsSound}
 use Rattle.st_classes.specs.Refusals.{first_of}
 use Rattle.st_classes.specs.Classes.{class_count, slots}
 use Rattle.st_classes.specs.Selectors.{place_of}
 use Rattle.st_classes.specs.Suiting.{arity_at, is_number, instruction_suits, suits}
+use Rattle.st_classes.proofs.LawLists.{list_all_get}
 use Rattle.st_reader.specs.Spelling.{Spells}
 use Rattle.st_reader.specs.Syntax.{Method}
 use Rattle.st_reader.specs.Variables.{arguments_of, locals_of, temporaries_of, texts}
 use Rattle.st_compile.specs.Parts.{parts_of}
-use Rattle.st_compile.specs.Scopes.{scope_of, pattern_selector}
+use Rattle.st_compile.specs.Scopes.{pattern_selector, scope_of}
 use Rattle.st_compile.specs.Equations.{method_code}
-use Rattle.st_compile.specs.Refusing.{is_small, code_rules}
+use Rattle.st_compile.specs.Refusing.{code_rules, is_small}
 use Rattle.st_compile.specs.Resolving.{instructions_of}
-use Rattle.st_compile.specs.Words.{Line}
 use Rattle.st_compile.specs.Compiled.{IsCompiled}
 use Rattle.st_compile.specs.Proper.{IsReady}
 use Rattle.st_compile.proofs.Flowing.{code_fits}
-use Rattle.st_compile.proofs.Accepted.{small_depths, small_length, rules_known, rules_small}
+use Rattle.st_compile.proofs.Accepted.{rules_known, rules_small, small_depths, small_length}
 use Rattle.st_compile.proofs.Ending.{all_fit, begins_empty}
 use Rattle.st_compile.proofs.Resolving.{instructions-length}
 use Rattle.st_compile.proofs.Fine.{AreFine, fine_fits, fine_near, method_fine}
 use Rattle.st_compile.proofs.Suits.{arity-place, code_suits}
-use Rattle.st_compile.proofs.Spelled.{spelled_named, spelled_pattern, spelled_arguments, spelled_locals, locals_count}
-
-shallow_at : (ls : List Line) → list_all (λ l. leb l.depth 64) ls ≡ true → (place depth : ℕ) → DepthAt (map (λ l. l.depth) ls) place depth → depth ≤ 64
-shallow_at [] h place depth at = absurd (none-some depth at)
-shallow_at (l ∷ ls) h zero depth at = subst (λ n. n ≤ 64) (same_Some l.depth depth at) (leb-true l.depth 64 (and_parts (leb l.depth 64) (list_all (λ x. leb x.depth 64) ls) h).0)
-shallow_at (l ∷ ls) h (suc place) depth at = shallow_at ls (and_parts (leb l.depth 64) (list_all (λ x. leb x.depth 64) ls) h).1 place depth at
+use Rattle.st_compile.proofs.Spelled.{locals_count, spelled_arguments, spelled_locals, spelled_named, spelled_pattern}
 
 -- the parts of a method are sound, and those of the compiled one
 pub record IsMade (names : List (List ℕ)) (edits : List Edit) (c : ClassId) (m : Method) (text : List ℕ) (selector : Selector) (code : List Instruction) : Type 0 where
@@ -68,7 +63,7 @@ module _ (edits : List Edit) (c : ClassId) (m : Method) (text : List ℕ) (s : S
           short = omega (arith, same, small_length ls small_code);
           start = begins_empty m;
           each = code_fits names scope ls code k (all_fit m);
-          shallow = shallow_at ls (small_depths ls small_code);
+          shallow = λ place depth at. leb-true depth 64 (list_all_get (λ n. leb n 64) (map (λ l. l.depth) ls) place depth (list_all-map (λ n. leb n 64) (λ l. l.depth) ls ∙ small_depths ls small_code) at);
           few = spelled_arguments m text s;
           small = spelled_locals m text s;
           sites = refl;

@@ -107,13 +107,6 @@ ending d k le = record {
 depth_is : (whole : List ℕ) (place m n : ℕ) → m ≡ n → DepthAt whole place m → DepthAt whole place n
 depth_is whole place m n e h = subst (λ d. DepthAt whole place d) e h
 
-at_same : (whole : List ℕ) (p q n : ℕ) → p ≡ q → DepthAt whole p n → DepthAt whole q n
-at_same whole p q n e h = subst (λ x. DepthAt whole x n) e h
-
--- a code without its front
-fits_here : (ls : List Line) (d k : ℕ) (whole : List ℕ) (p q : ℕ) → p ≡ q → IsCode ls d k → HasDepths whole q (depths ls ++ k ∷ []) → AllFit whole p ls
-fits_here ls d k whole p q e c h = fit_at whole ls q p (sym e) (c.fits whole q h)
-
 -- One of two ways on: both leave one operand.
 either_rest : (branch : ℕ → Word) → ((n : ℕ) → word_flow (branch n) ≡ flow 1 0 (branches (pos n))) → (d : ℕ) (a b : List Line) → IsCode a d (d + 1) → IsCode b d (d + 1) → IsCode (line (d + 1) (branch (length a + 1)) ∷ (a ++ line (d + 1) (jump (pos (length b))) ∷ b)) (d + 1) (d + 1)
 either_rest branch e d a b x y =

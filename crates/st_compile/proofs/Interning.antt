@@ -126,9 +126,6 @@ number_full names after text (Err e) a same h =
 
 -- ---- some first texts of a list
 
-pub first-none : (names texts : List (List ℕ)) → InternsFirst names texts names
-first-none names texts = ([], texts, refl, refl)
-
 pub first-all : (names texts after : List (List ℕ)) → after ≡ interned_all names texts → InternsFirst names texts after
 first-all names texts after e = (texts, [], sym (append-nil texts), e)
 

@@ -6,6 +6,8 @@ use Rattle.std.specs.Borrow.{Bor}
 use Rattle.std.specs.Str.{bytes_eq}
 use Rattle.std.proofs.lemmas.Bool.Decides.{nat_tests}
 use Rattle.std.proofs.lemmas.List.{length-map, map-append, take_more}
+use Rattle.std.proofs.lemmas.List.Elements.{filter-append}
+use Rattle.std.proofs.lemmas.List.Folds.{list_all-map}
 use Rattle.st_classes.specs.declared.refusals.Refusal.{Refusal}
 use Rattle.st_classes.specs.Refusals.{Rule, first_of}
 use Rattle.st_reader.specs.declared.trees.Name.{Name}
@@ -33,21 +35,13 @@ pub least-append : (xs ys : List ℕ) → least_of (xs ++ ys) ≡ lesser (least_
 least-append [] ys = refl
 least-append (x ∷ xs) ys = least-front x (xs ++ ys) ∙ (ap (lesser (Some x)) (least-append xs ys) ∙ (sym (lesser-assoc (Some x) (least_of xs) (least_of ys)) ∙ ap (λ (o : Option ℕ). lesser o (least_of ys)) (sym (least-front x xs))))
 
-filter_join : {X : Type 0} (p : X → Bool) (xs ys : List X) → filter p (xs ++ ys) ≡ filter p xs ++ filter p ys
-filter_join p [] ys = refl
-filter_join p (x ∷ xs) ys = by (p x) refl (filter_join p xs ys)
-  where
-    by : (v : Bool) → p x ≡ v → filter p (xs ++ ys) ≡ filter p xs ++ filter p ys → filter p (x ∷ xs ++ ys) ≡ filter p (x ∷ xs) ++ filter p ys
-    by true e h = rw e (ap (λ zs. x ∷ zs) h)
-    by false e h = rw e h
-
 -- the places of some, and of one more
 module _ {X : Type 0} (p : X → Bool) (f : X → ℕ) where
   abbrev pub places : List X → List ℕ
   places xs = map f (filter p xs)
 
   places-append : (xs ys : List X) → places (xs ++ ys) ≡ places xs ++ places ys
-  places-append xs ys = ap (map f) (filter_join p xs ys) ∙ map-append f (filter p xs) (filter p ys)
+  places-append xs ys = ap (map f) (filter-append p xs ys) ∙ map-append f (filter p xs) (filter p ys)
 
   pub least_more : {Y : Type 0} (g : Y → X) (ys : List Y) (k : ℕ) (d : Y) → k < length ys → least_of (places (map g (take (k + 1) ys))) ≡ lesser (least_of (places (map g (take k ys)))) (least_of (places (g (get_or ys k d) ∷ [])))
   least_more g ys k d l =
@@ -71,12 +65,8 @@ place_rule refusal (n ∷ ns) o e =
     let t : ltb 0 (suc (length ns)) ≡ true = grind (arith, nat_tests) in
     rw (e, t) refl
 
-all_lines : (ls : List DraftedLine) → list_all (λ l. nat_le l.depth 64) ls ≡ list_all (λ l. nat_le l.depth 64) (map line_of ls)
-all_lines [] = refl
-all_lines (l ∷ ls) = ap (λ b. nat_le l.depth 64 && b) (all_lines ls)
-
 pub small_lines : (ls : List DraftedLine) → is_small (map line_of ls) ≡ (nat_le (length ls) 1024 && list_all (λ l. nat_le l.depth 64) ls)
-small_lines ls = ap (λ n. nat_le n 1024 && list_all (λ l. nat_le l.depth 64) (map line_of ls)) (length-map ls line_of) ∙ ap (λ b. nat_le (length ls) 1024 && b) (sym (all_lines ls))
+small_lines ls = ap (λ n. nat_le n 1024 && list_all (λ l. nat_le l.depth 64) (map line_of ls)) (length-map ls line_of) ∙ ap (λ b. nat_le (length ls) 1024 && b) (list_all-map (λ l. nat_le l.depth 64) line_of ls)
 
 pub first_rule : (r : Rule) (rs : List Rule) → first_of (r ∷ []) ≡ None → first_of (r ∷ rs) ≡ first_of rs
 first_rule (true, e) rs h = cc

@@ -3,7 +3,7 @@ ghost use Rattle.std.specs.Prelude.{◌≡◌, [], ◌∷◌, IfOk};
 ghost use Rattle.st_classes.specs.declared.values.Value.TheVariants.{Int};
 ghost use Rattle.st_classes.specs.declared.instructions.Instruction.TheVariants.{PushLit, Answer};
 
-use st_classes::edits::Edit;
+use st_classes::edits::{Edit, SharedEdit};
 use st_classes::instructions::Instruction;
 use st_classes::kernel::{Kernel, OBJECT, SMALL_INTEGER, TRUE, Target};
 use st_classes::methods::{Method, MethodParts};
@@ -232,5 +232,29 @@ fn refuses_methods(rt: HostRuntime) -> Result<(), Fail> {
         remove(&version, rt.alloc(), C, WHO).err(),
         Some(Refusal::NoSuchMethod)
     );
+    Ok(())
+}
+
+/// An edit that is shared is the same for each that has it.
+#[test]
+fn shared_edits(rt: HostRuntime) -> Result<(), Fail> {
+    let class = ClassId(8);
+    let shared = SharedEdit::new(
+        rt.alloc(),
+        Edit::Remove {
+            class,
+            selector: WHO,
+        },
+    )?;
+    let again = shared.again()?;
+    for edit in [shared.edit(), again.edit()] {
+        match edit {
+            Edit::Remove { class, selector } => {
+                assert_eq!(rt; *class, ClassId(8));
+                assert_eq!(rt; *selector, WHO);
+            },
+            _ => assert!(rt; false, "another edit"),
+        }
+    }
     Ok(())
 }

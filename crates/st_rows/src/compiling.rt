@@ -11,7 +11,9 @@ use st_classes::seq::Seq;
 use st_classes::values::{ClassId, Selector};
 use st_classes::version::Version;
 use st_compile::compile::compile;
+use st_compile::names::joined_pattern;
 use st_reader::reader::read_method;
+use st_reader::trees::Pattern;
 use std::alloc::{AllocError, Global};
 use std::process::Abort;
 use std::test::*;
@@ -81,6 +83,20 @@ fn parts(rt: HostRuntime) -> Result<(), Fail> {
     assert_eq!(rt; names.find(b"bar"), Some(Selector(23)));
     assert_eq!(rt; names.find(b"foo:"), Some(Selector(24)));
     assert_eq!(rt; names.len(), 25);
+    Ok(())
+}
+
+/// The selector of a pattern is its keywords joined.
+#[test]
+fn keywords_of_a_pattern(rt: HostRuntime) -> Result<(), Fail> {
+    let tree = read_method(rt.alloc(), b"at: i put: v ^v")?;
+    match &tree.pattern {
+        Pattern::Keyword(parameters) => {
+            let text = joined_pattern(rt.alloc(), parameters.as_slice())?;
+            assert_eq!(rt; text.as_slice(), b"at:put:".as_slice());
+        },
+        _ => assert!(rt; false, "no keywords"),
+    }
     Ok(())
 }
 

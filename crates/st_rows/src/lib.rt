@@ -1,4 +1,4 @@
-//! Tests, all in one crate, so that no library is proved twice for them: each public call by hand, and worked scripts with
+//! Tests, all in one crate, so that no library is proved twice for them: public calls by hand, and worked scripts with
 //! the replies that the definitions give them.
 #![tactic(auto)]
 
@@ -28,6 +28,8 @@ mod names;
 mod reply_names;
 #[cfg(test)]
 mod scripts;
+#[cfg(test)]
+mod sessions;
 #[cfg(test)]
 mod steps;
 #[cfg(test)]

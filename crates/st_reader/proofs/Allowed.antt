@@ -14,7 +14,8 @@ use Rattle.st_reader.specs.declared.trees.Message.{Message as Sent}
 use Rattle.st_reader.specs.declared.rules.alone.Alone.{Alone as Sort}
 use Rattle.st_reader.specs.Syntax.{Expression, Message, Statements, send, cascade}
 use Rattle.st_reader.specs.Views.{sends, assigns, thens, last_of, further_of, cascaded, seen_cascade, seen_further, seen_sentences, operand_view, message_view, chain_view, expression_view, statements_view}
-use Rattle.st_reader.specs.Rules.{allowed, message_allowed, further_allowed, statements_allowed, stands, is_loose, may_change}
+use Rattle.st_reader.specs.Inlining.{is_loose}
+use Rattle.st_reader.specs.Rules.{allowed, message_allowed, further_allowed, statements_allowed, stands, may_change}
 use Rattle.st_reader.specs.Alone.{alone, is_variable, assigns_well, value_of, may_assign}
 use Rattle.st_reader.proofs.Seen.{chain_out}
 use Rattle.st_reader.proofs.Alone.{expression_out, statements_out}

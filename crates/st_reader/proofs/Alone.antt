@@ -15,7 +15,8 @@ use Rattle.st_reader.specs.declared.rules.alone.Alone.{Alone as Sort}
 use Rattle.st_reader.specs.declared.rules.alone.Alone.TheVariants.{Block, Super, Other}
 use Rattle.st_reader.specs.Syntax.{Expression, Message, Statements, parenthesis, empty_block, block, send, cascade, name}
 use Rattle.st_reader.specs.Views.{sends, operand_view, message_view, chain_view, expression_view, statements_view, assigns, cascaded, thens, last_of, seen_cascade, seen_sentences}
-use Rattle.st_reader.specs.Rules.{is_block, is_loose, sentences}
+use Rattle.st_reader.specs.Inlining.{is_block, is_loose}
+use Rattle.st_reader.specs.Rules.{sentences}
 use Rattle.st_reader.specs.Alone.{alone, name_alone}
 use Rattle.st_reader.proofs.Seen.{chain_out, plain_is, cascade_is, statements_is}
 

@@ -14,7 +14,8 @@ use Rattle.st_reader.specs.declared.inlining.Inlining.{Inlining}
 use Rattle.st_reader.specs.declared.rules.alone.Alone.{Alone as Sort}
 use Rattle.st_reader.specs.Syntax.{Expression, Message, Statements, keywords}
 use Rattle.st_reader.specs.Views.{chain_view, message_view, parts_of, seen_parts, further_of, seen_further, message_step, operand_step, chain_step, expression_step, statements_step}
-use Rattle.st_reader.specs.Rules.{is_block, is_loose, is_loop, suits_receiver, part_texts, part_arguments, arguments, further_arguments, inlining}
+use Rattle.st_reader.specs.Inlining.{is_block, is_loose, is_loop, suits_receiver, part_texts, part_arguments, inlining}
+use Rattle.st_reader.specs.Rules.{arguments, further_arguments}
 use Rattle.st_reader.specs.Alone.{alone}
 use Rattle.st_reader.proofs.Alone.{is_block_alone, is_loose_alone, block_alone, loose_alone}
 pub use Rattle.st_reader.proofs.Seen.{unary_is, binary_is}

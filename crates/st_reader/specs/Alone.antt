@@ -7,7 +7,8 @@ use Rattle.st_reader.specs.declared.rules.alone.Alone.TheVariants.{Block, Super,
 use Rattle.st_reader.specs.declared.trees.Target.{Target}
 use Rattle.st_reader.specs.declared.trees.Expression.{Expression as Written, out-Expression}
 use Rattle.st_reader.specs.Views.{chain_view, cascaded, seen_cascade}
-use Rattle.st_reader.specs.Rules.{is_loose, may_change}
+use Rattle.st_reader.specs.Inlining.{is_loose}
+use Rattle.st_reader.specs.Rules.{may_change}
 use Rattle.st_reader.specs.Syntax.{Expression, empty_block, block, name}
 
 -- `super`, or another name

@@ -7,6 +7,7 @@ pub mod Views
 pub mod Grammar
 pub mod Reading
 pub mod Variables
+pub mod Inlining
 pub mod Rules
 pub mod Alone
 pub mod Spelling

@@ -1,6 +1,6 @@
 //! The messages that are inlined where their arguments are blocks.
 ghost use Rattle.std.specs.Prelude.{◌≡◌, ◌∷◌, []};
-ghost use Rattle.st_reader.specs.Rules.{inlining_of_one, inlining_of_two, is_loop};
+ghost use Rattle.st_reader.specs.Inlining.{inlining_of_one, inlining_of_two, is_loop};
 
 /// An inlined message.
 #[derive(Clone, Copy, PartialEq, Eq, Debug)]

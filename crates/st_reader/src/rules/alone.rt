@@ -3,7 +3,8 @@ ghost use Rattle.std.specs.Prelude.{◌≡◌, codes};
 ghost use Rattle.std.specs.List.{list_any};
 ghost use Rattle.std.specs.Str.{bytes_eq};
 ghost use Rattle.st_reader.specs.Views.{operand_view, chain_view, expression_view, statements_view, cascaded, seen_cascade};
-ghost use Rattle.st_reader.specs.Rules.{is_block as block, is_loose as loose, sentences};
+ghost use Rattle.st_reader.specs.Inlining.{is_block as block, is_loose as loose};
+ghost use Rattle.st_reader.specs.Rules.{sentences};
 ghost use Rattle.st_reader.specs.Alone.{alone, name_alone as named};
 
 use crate::trees::{Chain, Expression, Message, Name, Operand, Span, Statements};

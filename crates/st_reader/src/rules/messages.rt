@@ -3,7 +3,8 @@ ghost use Rattle.std.specs.Prelude.{◌≡◌, ◌&&◌, ◌||◌, not};
 ghost use Rattle.std.specs.List.{list_all, list_any};
 ghost use Rattle.st_reader.specs.Syntax.{Expression, Message as Shown, keywords, send, cascade};
 ghost use Rattle.st_reader.specs.Views.{chain_view, message_view, parts_of, further_of, seen_parts, seen_further};
-ghost use Rattle.st_reader.specs.Rules.{is_block as block, is_loose as loose, inlining, suits_receiver, part_texts, part_arguments, arguments, further_arguments, is_inlined as inlined, stands};
+ghost use Rattle.st_reader.specs.Inlining.{is_block as block, is_loose as loose, inlining, suits_receiver, part_texts, part_arguments, is_inlined as inlined};
+ghost use Rattle.st_reader.specs.Rules.{arguments, further_arguments, stands};
 ghost use Rattle.st_reader.specs.Alone.{alone};
 
 use crate::inlining::Inlining;

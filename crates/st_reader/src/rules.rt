@@ -156,7 +156,7 @@ fn body_allowed(pattern: &Pattern, body: &Option<Statements>) -> bool
 }
 
 /// Whether a method keeps the rules.
-pub fn keeps_rules(tree: &MethodTree) -> bool
+pub(crate) fn keeps_rules(tree: &MethodTree) -> bool
     ensures { result ≡ keeps (method_view tree.now) }
 {
     are_variables(&tree.pattern, &tree.temporaries) && body_allowed(&tree.pattern, &tree.body)

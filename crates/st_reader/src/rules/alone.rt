@@ -39,9 +39,9 @@ pub fn operand_alone(operand: &Operand) -> Alone
     }
 }
 
-/// What an operand with its messages is: what got a message is neither a block nor `super`.
+// What an operand with its messages is: what got a message is neither a block nor `super`.
 #[tactic(auto, using(crate::proofs::Alone::chain_plain, crate::proofs::Alone::chain_sent))]
-pub fn chain_alone(chain: &Chain) -> Alone
+fn chain_alone(chain: &Chain) -> Alone
     ensures { result ≡ alone (chain_view chain.now) }
 {
     if chain.messages.is_empty() {
@@ -53,7 +53,7 @@ pub fn chain_alone(chain: &Chain) -> Alone
 
 /// Whether a block stands by itself.
 #[tactic(auto, using(crate::proofs::Alone::block_alone))]
-pub fn is_block(chain: &Chain) -> bool
+pub(crate) fn is_block(chain: &Chain) -> bool
     ensures { result ≡ block (chain_view chain.now) }
 {
     chain_alone(chain) == Alone::Block
@@ -61,14 +61,17 @@ pub fn is_block(chain: &Chain) -> bool
 
 /// Whether a block or `super` stands by itself.
 #[tactic(auto, using(crate::proofs::Alone::loose_alone))]
-pub fn is_loose(chain: &Chain) -> bool
+pub(crate) fn is_loose(chain: &Chain) -> bool
     ensures { result ≡ loose (chain_view chain.now) }
 {
     chain_alone(chain) != Alone::Other
 }
 
 /// What a value is: what a cascade gives is neither a block nor `super`.
-pub fn value_alone(receiver: &Chain, cascade: &Option<(Message, Vec<(Span, Message)>)>) -> Alone
+pub(crate) fn value_alone(
+    receiver: &Chain,
+    cascade: &Option<(Message, Vec<(Span, Message)>)>,
+) -> Alone
     ensures { result ≡ alone (cascaded (chain_view receiver.now) (seen_cascade cascade.now)) }
 {
     match cascade {
@@ -79,7 +82,7 @@ pub fn value_alone(receiver: &Chain, cascade: &Option<(Message, Vec<(Span, Messa
 
 /// What an expression is: an assignment is neither a block nor `super`.
 #[tactic(auto, using(crate::proofs::Alone::expression_value, crate::proofs::Alone::expression_assigns))]
-pub fn expression_alone(expression: &Expression) -> Alone
+pub(crate) fn expression_alone(expression: &Expression) -> Alone
     ensures { result ≡ alone (expression_view expression.now) }
 {
     if expression.targets.is_empty() {
@@ -108,7 +111,7 @@ fn is_any_loose(before: &[(Expression, Span)]) -> bool
 
 /// Whether a statement is a block or `super` by itself.
 #[tactic(auto, using(crate::proofs::Alone::loose_sentences))]
-pub fn has_loose_sentence(statements: &Statements) -> bool
+pub(crate) fn has_loose_sentence(statements: &Statements) -> bool
     ensures { result ≡ list_any loose (sentences (statements_view statements.now)) }
 {
     is_any_loose(&statements.before) || is_loose_expression(&statements.last)

@@ -66,9 +66,9 @@ fn may_send(receiver: Alone, parts: &[(Name, Chain)]) -> bool
     is_inlined(receiver, parts) || receiver != Alone::Block && !is_any_loose(parts)
 }
 
-/// Whether an argument of a message is a block or `super`.
+// Whether an argument of a message is a block or `super`.
 #[tactic(auto, using(crate::proofs::Messages::keyword_is, crate::proofs::Messages::unary_is, crate::proofs::Messages::binary_is, crate::proofs::Messages::any_loose))]
-pub fn has_loose(message: &Message) -> bool
+fn has_loose(message: &Message) -> bool
     ensures { result ≡ list_any loose (arguments (message_view message.now)) }
 {
     match message {
@@ -80,7 +80,7 @@ pub fn has_loose(message: &Message) -> bool
 
 /// Whether a message may go to a receiver.
 #[tactic(auto, using(crate::proofs::Messages::keyword_is, crate::proofs::Messages::unary_is, crate::proofs::Messages::binary_is, crate::proofs::Alone::block_alone))]
-pub fn stands(receiver: Alone, message: &Message) -> bool
+pub(crate) fn stands(receiver: Alone, message: &Message) -> bool
     ensures { (e : Expression) → alone e ≡ receiver → result ≡ stands (send e (message_view message.now)) }
 {
     match message {
@@ -99,7 +99,7 @@ fn is_any_further_loose(further: &[(Span, Message)]) -> bool
 
 /// Whether a cascade may go to a receiver.
 #[tactic(auto, using(crate::proofs::Messages::further_loose))]
-pub fn cascade_stands(receiver: &Chain, first: &Message, further: &[(Span, Message)]) -> bool
+pub(crate) fn cascade_stands(receiver: &Chain, first: &Message, further: &[(Span, Message)]) -> bool
     ensures { result ≡ stands (cascade (chain_view receiver.now) (message_view first.now) (further_of (seen_further further.now))) }
 {
     !is_loose(receiver) && !has_loose(first) && !is_any_further_loose(further)

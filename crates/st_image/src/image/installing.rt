@@ -128,7 +128,7 @@ impl Image {
 
     /// Installs a method in a class, in place of the one that it has for the selector. The answer is the number of edits.
     ///
-    /// Refusals, in this order: `UnknownClass`; `BadSource` where no tree spells the source; `KernelMethod` where the kernel
+    /// Refusals, in this order: `UnknownClass`; `BadSource` where the source spells no method; `KernelMethod` where the kernel
     /// has a method in the class for the selector; `BadSource` where the tree has no code in the class; `TooMany` names or
     /// edits; `HistoryFull`. A refused install changes nothing but names: where it is refused for names,
     /// those that fitted stay; for edits or the history, all that the method needs; for want of memory, some of them.

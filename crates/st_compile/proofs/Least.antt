@@ -15,7 +15,7 @@ use Rattle.st_compile.specs.declared.words.Line.{Line as DraftedLine}
 use Rattle.st_compile.specs.Drafts.{line_of}
 use Rattle.st_compile.specs.Least.{least_of, lesser}
 use Rattle.st_compile.specs.Naming.{named}
-use Rattle.st_compile.specs.Refusing.{at_least_place, clashing, is_known, is_small, start_of, unknown}
+use Rattle.st_compile.specs.Refusing.{at_first_place, clashing, is_known, is_small, start_of, unknown}
 use Rattle.st_compile.specs.Resolving.{Scope}
 
 min-assoc : (a b c : ℕ) → min (min a b) c ≡ min a (min b c)
@@ -59,7 +59,7 @@ abbrev pub said : (ℕ → Refusal) → Option ℕ → Option Refusal
 said refusal None = None
 said refusal (Some n) = Some (refusal n)
 
-pub place_rule : (refusal : ℕ → Refusal) (ns : List ℕ) (o : Option ℕ) → o ≡ least_of ns → first_of (at_least_place refusal ns ∷ []) ≡ said refusal o
+pub place_rule : (refusal : ℕ → Refusal) (ns : List ℕ) (o : Option ℕ) → o ≡ least_of ns → first_of (at_first_place refusal ns ∷ []) ≡ said refusal o
 place_rule refusal [] o e = rw e refl
 place_rule refusal (n ∷ ns) o e =
     let t : ltb 0 (suc (length ns)) ≡ true = grind (arith, nat_tests) in

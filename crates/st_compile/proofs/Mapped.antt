@@ -12,7 +12,7 @@ use Rattle.st_classes.specs.declared.refusals.Refusal.{Refusal}
 use Rattle.st_classes.specs.declared.refusals.Refusal.TheVariants.{NoMemory}
 use Rattle.st_classes.specs.Refusals.{first_of}
 use Rattle.st_compile.specs.Resolving.{Scope, instruction_of, instructions_of, word_texts}
-use Rattle.st_compile.specs.Refusing.{InternsFirst, interned_all, names_rule}
+use Rattle.st_compile.specs.Interning.{InternsFirst, interned_all, names_rule}
 use Rattle.st_compile.specs.Words.{Line, Word}
 use Rattle.st_compile.proofs.Resolving.{instructions-append, instructions-push}
 use Rattle.st_compile.proofs.Interning.{interned_all-append, length-interned_all, grows-interned_all, refused-full, names-full}

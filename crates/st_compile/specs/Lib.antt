@@ -2,6 +2,7 @@ pub mod Words
 pub mod Equations
 pub mod Resolving
 pub mod Scopes
+pub mod Interning
 pub mod Refusing
 pub mod Compiled
 pub mod Flows

@@ -1,22 +1,21 @@
--- When a method of the grammar has no code in a class, and which names its code needs.
-use Rattle.std.specs.Prelude.{◌≡◌, ℕ, ◌&&◌, List, [], ◌∷◌, ◌++◌, length, map, filter, min, Bool, true, not, is_some, nat_le, nat_lt, fold, codes}
-use Rattle.std.specs.List.{list_all, list_any, flat_map}
+-- When a method of the grammar has no code in a class.
+use Rattle.std.specs.Prelude.{ℕ, ◌&&◌, List, [], ◌∷◌, ◌++◌, length, map, filter, min, Bool, true, not, is_some, nat_le, nat_lt, codes}
+use Rattle.std.specs.List.{list_all, list_any}
 use Rattle.std.specs.Str.{bytes_eq}
 use Rattle.st_classes.specs.declared.values.ClassId.{ClassId}
 use Rattle.st_classes.specs.declared.edits.Edit.{Edit}
 use Rattle.st_classes.specs.declared.refusals.Refusal.{Refusal}
-use Rattle.st_classes.specs.declared.refusals.Refusal.TheVariants.{BadSource, TooMany}
+use Rattle.st_classes.specs.declared.refusals.Refusal.TheVariants.{BadSource}
 use Rattle.st_classes.specs.declared.refusals.SourceFault.TheVariants.{UnknownName, DuplicateName, TooLarge}
-use Rattle.st_classes.specs.declared.refusals.Limited.TheVariants.{Names}
-use Rattle.st_classes.specs.Names.{interned}
 use Rattle.st_classes.specs.Refusals.{Rule}
 use Rattle.st_reader.specs.declared.trees.Name.{Name}
 use Rattle.st_reader.specs.Syntax.{Method}
 use Rattle.st_compile.specs.Words.{Word, Line, variable, store}
 use Rattle.st_compile.specs.Equations.{method_code}
-use Rattle.st_compile.specs.Resolving.{Scope, pushed, stored, word_texts}
+use Rattle.st_compile.specs.Resolving.{Scope, pushed, stored}
 use Rattle.st_reader.specs.Variables.{locals_of}
-use Rattle.st_compile.specs.Scopes.{pattern_selector, scope_of}
+use Rattle.st_compile.specs.Scopes.{scope_of}
+use Rattle.st_compile.specs.Interning.{names_rule, needed_texts}
 
 -- a name stands for something in a scope; `super` doesn't as long as there are no super sends
 abbrev pub is_known : Scope → Word → Bool
@@ -49,36 +48,16 @@ abbrev pub is_small : List Line → Bool
 is_small ls = nat_le (length ls) 1024 && list_all (λ l. nat_le l.depth 64) ls
 
 -- a refusal that applies where there is one such place, and says the first
-abbrev pub at_least_place : (ℕ → Refusal) → List ℕ → Rule
-at_least_place refusal places = (nat_lt 0 (length places), refusal (least places))
-
--- the names after texts are interned one after another
-abbrev pub interned_all : List (List ℕ) → List (List ℕ) → List (List ℕ)
-interned_all names texts = fold interned names texts
-
--- some of the texts were interned, in their order: the first ones, or all
-abbrev pub InternsFirst : List (List ℕ) → List (List ℕ) → List (List ℕ) → Type 0
-InternsFirst names texts after = (done : List (List ℕ)) × (left : List (List ℕ)) × (texts ≡ done ++ left) × (after ≡ interned_all names done)
-
--- where a call answers that there are too many names, the table is full
-abbrev pub IsFull : List (List ℕ) → Refusal → Type 0
-IsFull after e = e ≡ TooMany Names → length after ≡ 8192
-
--- so many of the texts are new that there would be more than 8,192 names
-abbrev pub names_rule : List (List ℕ) → List (List ℕ) → Rule
-names_rule names texts = (nat_lt 8192 (length (interned_all names texts)), TooMany Names)
-
--- the texts that a method needs numbers for: its selector, then the selectors and symbols of its code
-abbrev pub texts_of : Method → List (List ℕ)
-texts_of m = pattern_selector m.pattern ∷ flat_map (λ l. word_texts l.word) (method_code m)
+abbrev pub at_first_place : (ℕ → Refusal) → List ℕ → Rule
+at_first_place refusal places = (nat_lt 0 (length places), refusal (least places))
 
 -- a name stands for nothing
 abbrev pub unknown_rule : Scope → List Line → Rule
-unknown_rule scope ls = at_least_place (BadSource UnknownName) (unknown scope ls)
+unknown_rule scope ls = at_first_place (BadSource UnknownName) (unknown scope ls)
 
 -- an argument or a temporary is named as an instance variable
 abbrev pub clash_rule : Scope → List Name → Rule
-clash_rule scope locals = at_least_place (BadSource DuplicateName) (clashing scope.slots locals)
+clash_rule scope locals = at_first_place (BadSource DuplicateName) (clashing scope.slots locals)
 
 -- a code is too large
 abbrev pub size_rule : List Line → Rule
@@ -94,4 +73,4 @@ code_rules edits c m = scope_rules (scope_of edits c m) (locals_of m) (method_co
 
 -- the refusals of a method of the grammar, in their order
 abbrev pub method_rules : List (List ℕ) → List Edit → ClassId → Method → List Rule
-method_rules names edits c m = code_rules edits c m ++ names_rule names (texts_of m) ∷ []
+method_rules names edits c m = code_rules edits c m ++ names_rule names (needed_texts m) ∷ []

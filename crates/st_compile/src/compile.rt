@@ -11,7 +11,8 @@ ghost use Rattle.st_compile.specs.Drafts.{line_of};
 ghost use Rattle.st_compile.specs.Equations.{method_code};
 ghost use Rattle.st_compile.specs.Naming.{HasFew, scope_seen};
 ghost use Rattle.st_compile.specs.Parts.{parts_of};
-ghost use Rattle.st_compile.specs.Refusing.{InternsFirst, IsFull, code_rules, interned_all, is_small, method_rules, texts_of};
+ghost use Rattle.st_compile.specs.Interning.{InternsFirst, IsFull, interned_all, needed_texts};
+ghost use Rattle.st_compile.specs.Refusing.{code_rules, is_small, method_rules};
 ghost use Rattle.st_compile.specs.Scopes.{scope_of};
 
 use crate::depths::depths_of;
@@ -101,8 +102,8 @@ pub fn compile(
     requires class { is_class version.now class ≡ true }
     requires spells { Spells (method_view tree.now) source }
     ensures answers { Answers (first_of (method_rules names.old version.now class (method_view tree.now))) result (λ method. IsCompiled names.new version.now class (method_view tree.now) source method) }
-    ensures names { OnOk result (names.new ≡ interned_all names.old (texts_of (method_view tree.now))) }
-    ensures some { InternsFirst names.old (texts_of (method_view tree.now)) names.new }
+    ensures names { OnOk result (names.new ≡ interned_all names.old (needed_texts (method_view tree.now))) }
+    ensures some { InternsFirst names.old (needed_texts (method_view tree.now)) names.new }
     ensures full { IfErr result (λ e. IsFull names.new e) }
     ensures untouched { (e : Refused) → first_of (code_rules version.now class (method_view tree.now)) ≡ Some e → names.new ≡ names.old }
 {

@@ -5,7 +5,7 @@ ghost use Rattle.st_classes.specs.Names.{interned};
 ghost use Rattle.st_classes.specs.Refusals.{first_of, Answers};
 ghost use Rattle.st_classes.specs.Selectors.{is_selector, place_of};
 ghost use Rattle.st_compile.specs.Drafts.{sent_arguments, sent_text};
-ghost use Rattle.st_compile.specs.Refusing.{IsFull, names_rule};
+ghost use Rattle.st_compile.specs.Interning.{IsFull, names_rule};
 ghost use Rattle.st_compile.specs.Scopes.{pattern_selector};
 
 use crate::words::Sent;

@@ -6,7 +6,8 @@ ghost use Rattle.st_classes.specs.Selectors.{is_selector, place_of};
 ghost use Rattle.st_compile.specs.Drafts.{line_of, word_of};
 ghost use Rattle.st_compile.specs.Naming.{HasFew, scope_seen};
 ghost use Rattle.st_compile.specs.Proper.{IsReady, is_near, word_fits};
-ghost use Rattle.st_compile.specs.Refusing.{InternsFirst, IsFull, interned_all, is_known, names_rule};
+ghost use Rattle.st_compile.specs.Interning.{InternsFirst, IsFull, interned_all, names_rule};
+ghost use Rattle.st_compile.specs.Refusing.{is_known};
 ghost use Rattle.st_compile.specs.Resolving.{instruction_of, instructions_of, word_texts};
 ghost use Rattle.st_compile.specs.Scopes.{pattern_selector};
 

@@ -25,7 +25,8 @@ use Rattle.st_classes.specs.declared.refusals.SourceFault.{SourceFault}
 use Rattle.st_classes.specs.declared.refusals.SourceFault.TheVariants.{UnknownName, DuplicateName, TooLarge}
 use Rattle.st_reader.specs.Spelling.{Spells}
 use Rattle.st_reader.specs.Syntax.{Method}
-use Rattle.st_compile.specs.Refusing.{InternsFirst, IsFull, interned_all, names_rule, code_rules, method_rules, texts_of, unknown, clashing, is_small, least}
+use Rattle.st_compile.specs.Interning.{InternsFirst, IsFull, interned_all, names_rule, needed_texts}
+use Rattle.st_compile.specs.Refusing.{code_rules, method_rules, unknown, clashing, is_small, least}
 use Rattle.st_compile.specs.Equations.{method_code}
 use Rattle.st_reader.specs.Variables.{locals_of}
 use Rattle.st_compile.specs.Scopes.{pattern_selector, scope_of}
@@ -195,18 +196,18 @@ wrong_left : (i j : ImageView) (c : ClassId) (text : List ℕ) (e : Refusal) →
 wrong_left i j c text e w h = subst (λ (r : Refusal). LeavesNames i c text r j) (sym w.2) h
 
 -- where the names that the tree needs are too many, or it has no code
-tree_left_by : (i j : ImageView) (c : ClassId) (tree : Method) (text : List ℕ) (e : Refusal) (code : Option Refusal) (full : Bool) → first_of (code_rules (world i).edits c tree) ≡ code → nat_lt 8192 (length (interned_all i.names (texts_of tree))) ≡ full → (code ≡ None → AddsNames i c text j) → ((d : Refusal) → code ≡ Some d → j ≡ i) → IsFull j.names e → first_of (method_rules i.names (world i).edits c tree) ≡ Some e → LeavesNames i c text e j
+tree_left_by : (i j : ImageView) (c : ClassId) (tree : Method) (text : List ℕ) (e : Refusal) (code : Option Refusal) (full : Bool) → first_of (code_rules (world i).edits c tree) ≡ code → nat_lt 8192 (length (interned_all i.names (needed_texts tree))) ≡ full → (code ≡ None → AddsNames i c text j) → ((d : Refusal) → code ≡ Some d → j ≡ i) → IsFull j.names e → first_of (method_rules i.names (world i).edits c tree) ≡ Some e → LeavesNames i c text e j
 tree_left_by i j c tree text e (Some d) full h f adds untouched is_full refused =
-    let first : first_of (method_rules i.names (world i).edits c tree) ≡ Some d = first_here (code_rules (world i).edits c tree) (names_rule i.names (texts_of tree) ∷ []) d h in
+    let first : first_of (method_rules i.names (world i).edits c tree) ≡ Some d = first_here (code_rules (world i).edits c tree) (names_rule i.names (needed_texts tree) ∷ []) d h in
     let same : d ≡ e = some_refusal d e (sym first ∙ refused) in
     subst (λ (r : Refusal). LeavesNames i c text r j) same (wrong_left i j c text d (code_wrong (world i).edits c tree d h) (untouched d refl))
 tree_left_by i j c tree text e None true h f adds untouched is_full refused =
-    let now : first_of (names_rule i.names (texts_of tree) ∷ []) ≡ Some e = sym (first_later (code_rules (world i).edits c tree) (names_rule i.names (texts_of tree) ∷ []) h) ∙ refused in
+    let now : first_of (names_rule i.names (needed_texts tree) ∷ []) ≡ Some e = sym (first_later (code_rules (world i).edits c tree) (names_rule i.names (needed_texts tree) ∷ []) h) ∙ refused in
     let then_full : Some (TooMany Names) ≡ Some e = rw f at now in
     let same : TooMany Names ≡ e = some_refusal (TooMany Names) e then_full in
     subst (λ (r : Refusal). LeavesNames i c text r j) same (adds refl, is_full (sym same))
 tree_left_by i j c tree text e None false h f adds untouched is_full refused =
-    let now : first_of (names_rule i.names (texts_of tree) ∷ []) ≡ Some e = sym (first_later (code_rules (world i).edits c tree) (names_rule i.names (texts_of tree) ∷ []) h) ∙ refused in
+    let now : first_of (names_rule i.names (needed_texts tree) ∷ []) ≡ Some e = sym (first_later (code_rules (world i).edits c tree) (names_rule i.names (needed_texts tree) ∷ []) h) ∙ refused in
     let none : None ≡ Some e = rw f at now in
     cc
 
@@ -215,12 +216,12 @@ no_memory_left i j c text e None adds untouched m = subst (λ (r : Refusal). Lea
 no_memory_left i j c text e (Some d) adds untouched m = subst (λ (r : Refusal). LeavesNames i c text r j) (sym m) (inl (untouched d refl))
 
 -- what is left where the tree is refused
-pub tree_left : (i j : ImageView) (c : ClassId) (tree : Method) (text : List ℕ) (e : Refusal) → Spells tree text → is_class (world i).edits c ≡ true → is_kernel_text c (pattern_selector tree.pattern) ≡ false → InternsFirst i.names (texts_of tree) j.names → j ≡ record i { names = j.names } → ((d : Refusal) → first_of (code_rules (world i).edits c tree) ≡ Some d → j ≡ i) → IsFull j.names e → (e ≡ NoMemory) ⊎ (first_of (method_rules i.names (world i).edits c tree) ≡ Some e) → LeavesNames i c text e j
+pub tree_left : (i j : ImageView) (c : ClassId) (tree : Method) (text : List ℕ) (e : Refusal) → Spells tree text → is_class (world i).edits c ≡ true → is_kernel_text c (pattern_selector tree.pattern) ≡ false → InternsFirst i.names (needed_texts tree) j.names → j ≡ record i { names = j.names } → ((d : Refusal) → first_of (code_rules (world i).edits c tree) ≡ Some d → j ≡ i) → IsFull j.names e → (e ≡ NoMemory) ⊎ (first_of (method_rules i.names (world i).edits c tree) ≡ Some e) → LeavesNames i c text e j
 tree_left i j c tree text e s h k some only untouched full refused =
     let adds : first_of (code_rules (world i).edits c tree) ≡ None → AddsNames i c text j = λ b. (tree, s, source_allowed i c tree h k b, some, only) in
     elim refused [
       | inl m ↦ no_memory_left i j c text e (first_of (code_rules (world i).edits c tree)) adds untouched m
-      | inr f ↦ tree_left_by i j c tree text e (first_of (code_rules (world i).edits c tree)) (nat_lt 8192 (length (interned_all i.names (texts_of tree)))) refl refl adds untouched full f
+      | inr f ↦ tree_left_by i j c tree text e (first_of (code_rules (world i).edits c tree)) (nat_lt 8192 (length (interned_all i.names (needed_texts tree)))) refl refl adds untouched full f
     ]
 
 -- the refusals of an edit whose class is there and whose selector is no kernel method's
@@ -245,7 +246,7 @@ edit_left (Err x) P i j k c tree text m s h f t e w b at same a =
     let code : first_of (code_rules (world i).edits c tree) ≡ None = code_there (first_of (code_rules (world i).edits c tree)) refl in
     let allowed : first_of (source_rules i c tree) ≡ None = source_allowed i c tree h f code in
     let adds : AddsAllNames i c text j = (tree, s, allowed, e) in
-    let some : AddsNames i c text j = (tree, s, allowed, first-all i.names (texts_of tree) j.names (ap (λ (v : ImageView). v.names) e), e ∙ ap (λ (ns : List (List ℕ)). record i { names = ns }) (sym (ap (λ (v : ImageView). v.names) e))) in
+    let some : AddsNames i c text j = (tree, s, allowed, first-all i.names (needed_texts tree) j.names (ap (λ (v : ImageView). v.names) e), e ∙ ap (λ (ns : List (List ℕ)). record i { names = ns }) (sym (ap (λ (v : ImageView). v.names) e))) in
     subst (λ (v : ImageView). LeavesNames i c text x v) (sym same) (elim a [
       | inl none ↦ subst (λ (r : Refusal). LeavesNames i c text r j) (sym none) (inr some)
       | inr first ↦
@@ -256,4 +257,4 @@ edit_left (Err x) P i j k c tree text m s h f t e w b at same a =
   where
     code_there : (v : Option Refusal) → first_of (code_rules (world i).edits c tree) ≡ v → first_of (code_rules (world i).edits c tree) ≡ None
     code_there None g = g
-    code_there (Some d) g = let some : first_of (method_rules i.names (world i).edits c tree) ≡ Some d = first_here (code_rules (world i).edits c tree) (names_rule i.names (texts_of tree) ∷ []) d g in cc
+    code_there (Some d) g = let some : first_of (method_rules i.names (world i).edits c tree) ≡ Some d = first_here (code_rules (world i).edits c tree) (names_rule i.names (needed_texts tree) ∷ []) d g in cc

@@ -14,7 +14,8 @@ use Rattle.st_classes.specs.Accepting.{too_many_edits}
 use Rattle.st_reader.specs.Faults.{IsBadSource}
 use Rattle.st_reader.specs.Spelling.{Spells}
 use Rattle.st_reader.specs.Syntax.{Method}
-use Rattle.st_compile.specs.Refusing.{InternsFirst, interned_all, names_rule, code_rules, texts_of}
+use Rattle.st_compile.specs.Interning.{InternsFirst, interned_all, names_rule, needed_texts}
+use Rattle.st_compile.specs.Refusing.{code_rules}
 use Rattle.st_compile.specs.Scopes.{pattern_selector}
 use Rattle.st_compile.specs.Compiled.{IsCompiled}
 use Rattle.st_image.specs.declared.items.Item.TheVariants.{Edited}
@@ -35,15 +36,15 @@ source_rules i c method = (not (is_class (world i).edits c), UnknownClass) ∷ (
 
 -- the refusals of an install of a text that spells a method, in their order
 abbrev pub image_install_rules : ImageView → ClassId → Method → List Rule
-image_install_rules i c method = source_rules i c method ++ names_rule i.names (texts_of method) ∷ too_many_edits (world i).edits ∷ run_rules i
+image_install_rules i c method = source_rules i c method ++ names_rule i.names (needed_texts method) ∷ too_many_edits (world i).edits ∷ run_rules i
 
 -- the image with the names that the method needs
 abbrev pub with_names_of : ImageView → Method → ImageView
-with_names_of i method = record i { names = interned_all i.names (texts_of method) }
+with_names_of i method = record i { names = interned_all i.names (needed_texts method) }
 
 -- some names that the method needs were added, in their order, where none of the first refusals applies
 abbrev pub AddsNames : ImageView → ClassId → List ℕ → ImageView → Type 0
-AddsNames i c text j = (method : Method) × Spells method text × (first_of (source_rules i c method) ≡ None) × InternsFirst i.names (texts_of method) j.names × (j ≡ record i { names = j.names })
+AddsNames i c text j = (method : Method) × Spells method text × (first_of (source_rules i c method) ≡ None) × InternsFirst i.names (needed_texts method) j.names × (j ≡ record i { names = j.names })
 
 -- all of them were added
 abbrev pub AddsAllNames : ImageView → ClassId → List ℕ → ImageView → Type 0

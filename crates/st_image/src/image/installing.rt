@@ -22,7 +22,8 @@ impl Image {
     ghost use Rattle.st_reader.specs.Syntax.{Method as MethodOf};
     ghost use Rattle.st_reader.specs.Views.{method_view};
     ghost use Rattle.st_compile.specs.Compiled.{IsCompiled};
-    ghost use Rattle.st_compile.specs.Refusing.{InternsFirst, IsFull, interned_all, code_rules, method_rules, texts_of};
+    ghost use Rattle.st_compile.specs.Interning.{InternsFirst, IsFull, interned_all, needed_texts};
+    ghost use Rattle.st_compile.specs.Refusing.{code_rules, method_rules};
     ghost use Rattle.st_compile.specs.Scopes.{pattern_selector};
     ghost use Rattle.st_image.specs.Images.{world};
     ghost use Rattle.st_image.specs.Installing.{AnswersInstall, Installs, LeavesNames, image_install_rules, is_kernel_text};
@@ -71,8 +72,8 @@ impl Image {
         requires spells { Spells (method_view tree.now) source }
         ensures answers { Answers (first_of (method_rules self.old.names (world self.old).edits class (method_view tree.now))) result
             (λ m. IsCompiled self.new.names (world self.old).edits class (method_view tree.now) source m) }
-        ensures names { OnOk result (self.new ≡ record self.old { names = interned_all self.old.names (texts_of (method_view tree.now)) }) }
-        ensures some { InternsFirst self.old.names (texts_of (method_view tree.now)) self.new.names }
+        ensures names { OnOk result (self.new ≡ record self.old { names = interned_all self.old.names (needed_texts (method_view tree.now)) }) }
+        ensures some { InternsFirst self.old.names (needed_texts (method_view tree.now)) self.new.names }
         ensures only { self.new ≡ record self.old { names = self.new.names } }
         ensures full { IfErr result (λ e. IsFull self.new.names e) }
         ensures untouched { (e : RefusalOf) → first_of (code_rules (world self.old).edits class (method_view tree.now)) ≡ Some e → self.new ≡ self.old }

@@ -1,7 +1,7 @@
 use Rattle.std.proofs.Common.{◌≡◌, ◌≤◌, length, map, take, Some}
 use Rattle.st_compile.specs.Drafts.{line_of}
 use Rattle.st_compile.specs.Naming.{scope_seen}
-use Rattle.st_compile.specs.Refusing.{interned_all}
+use Rattle.st_compile.specs.Interning.{interned_all}
 use Rattle.st_compile.specs.Resolving.{instructions_of}
 use Rattle.st_compile.proofs.Mapped.{texts}
 use Rattle.st_compile.proofs.resolve.code_of.Given as goal

@@ -3,7 +3,8 @@ use Rattle.st_classes.specs.declared.edits.Edit.{Edit}
 use Rattle.st_classes.specs.Refusals.{first_of, Answers}
 use Rattle.st_classes.specs.declared.refusals.Refusal.{Refusal}
 use Rattle.st_reader.specs.Views.{method_view}
-use Rattle.st_compile.specs.Refusing.{InternsFirst, code_rules, method_rules, texts_of}
+use Rattle.st_compile.specs.Interning.{InternsFirst, needed_texts}
+use Rattle.st_compile.specs.Refusing.{code_rules, method_rules}
 use Rattle.st_compile.specs.Compiled.{IsCompiled}
 use Rattle.st_compile.proofs.Interning.{Grows, first-grows}
 use Rattle.st_image.specs.Images.{ImageView, world}
@@ -13,7 +14,7 @@ use Rattle.st_image.proofs.image.Image.compiled.Goals as goal
 pub invariant_of-self : goal.invariant_of-self
 invariant_of-self c =
     let i = c.self.inside in
-    let g : Grows i.names c.compile.new.names = first-grows i.names (texts_of (method_view c.args.tree.now)) c.compile.new.names c.compile.ensures.some in
+    let g : Grows i.names c.compile.new.names = first-grows i.names (needed_texts (method_view c.args.tree.now)) c.compile.new.names c.compile.ensures.some in
     let r : IsRenamed i.names c.compile.new.names i.version i.actors.items i.ready.numbers i.history.items i.edits_made i.settings = renamed i.names c.compile.new.names (i.names ++ g.0) i.version i.actors.items i.ready.numbers i.history.items i.edits_made i.settings g.1 (more_kept i.names g.0 i.version i.actors.items i.ready.numbers i.history.items i.edits_made i.settings c.self.invariant) in
     r.image
 
@@ -26,7 +27,7 @@ returns-clause-answers c =
     (subst (λ (names : List (List ℕ)). Answers (first_of (method_rules names i.version c.args.class (method_view c.args.tree.now))) c.compile.result (λ m. IsCompiled c.compile.new.names i.version c.args.class (method_view c.args.tree.now) c.args.source m)) ns c.compile.ensures.answers)
 
 pub returns-clause-some : goal.returns-clause-some
-returns-clause-some c = subst (λ (v : ImageView). InternsFirst v.names (texts_of (method_view c.args.tree.now)) c.compile.new.names) c.self.view_is c.compile.ensures.some
+returns-clause-some c = subst (λ (v : ImageView). InternsFirst v.names (needed_texts (method_view c.args.tree.now)) c.compile.new.names) c.self.view_is c.compile.ensures.some
 
 pub returns-clause-only : goal.returns-clause-only
 returns-clause-only c = rw (← c.self.view_is) refl
@@ -42,6 +43,6 @@ returns-clause-untouched c =
 pub returns-clause-world : goal.returns-clause-world
 returns-clause-world c =
     let i = c.self.inside in
-    let g : Grows i.names c.compile.new.names = first-grows i.names (texts_of (method_view c.args.tree.now)) c.compile.new.names c.compile.ensures.some in
+    let g : Grows i.names c.compile.new.names = first-grows i.names (needed_texts (method_view c.args.tree.now)) c.compile.new.names c.compile.ensures.some in
     let r : IsRenamed i.names c.compile.new.names i.version i.actors.items i.ready.numbers i.history.items i.edits_made i.settings = renamed i.names c.compile.new.names (i.names ++ g.0) i.version i.actors.items i.ready.numbers i.history.items i.edits_made i.settings g.1 (more_kept i.names g.0 i.version i.actors.items i.ready.numbers i.history.items i.edits_made i.settings c.self.invariant) in
     r.world ∙ ap (λ (v : ImageView). world v) c.self.view_is

@@ -8,8 +8,8 @@ use Rattle.st_reader.specs.Syntax.{Expression}
 use Rattle.st_reader.specs.Views.{chain_view}
 use Rattle.st_compile.specs.declared.words.Branch.{Branch}
 use Rattle.st_compile.specs.declared.words.Branch.TheVariants.{IfFalse, IfTrue}
-use Rattle.st_compile.specs.declared.words.Way.{Way}
-use Rattle.st_compile.specs.declared.words.Way.TheVariants.{Block, Plain}
+use Rattle.st_compile.specs.declared.words.Arm.{Arm}
+use Rattle.st_compile.specs.declared.words.Arm.TheVariants.{Block, Plain}
 use Rattle.st_compile.specs.Words.{Word, Line, line, drop, store, jump_false, jump_true}
 use Rattle.st_compile.specs.Equations.{code, plain}
 
@@ -18,10 +18,10 @@ abbrev pub branch_word : Branch → ℕ → Word
 branch_word IfFalse = jump_false
 branch_word IfTrue = jump_true
 
--- the code of a way on
-abbrev pub way_code : ℕ → Way → List Line
-way_code d (Block c) = code d (chain_view c.now)
-way_code d (Plain v) = plain d v
+-- the code of an arm
+abbrev pub arm_code : ℕ → Arm → List Line
+arm_code d (Block c) = code d (chain_view c.now)
+arm_code d (Plain v) = plain d v
 
 -- a message to super
 abbrev pub goes_up : Alone → Bool

@@ -10,9 +10,9 @@ ghost use Rattle.st_reader.specs.Alone.{alone, value_of};
 ghost use Rattle.st_compile.specs.Words.{line, receiver, return};
 ghost use Rattle.st_compile.specs.Equations.{either, loop, inlined, inlining_of, blocks, kept, code, sent, arguments, further_sent, statements_value, body, method_code};
 ghost use Rattle.st_compile.specs.Drafts.{word_of, line_of};
-ghost use Rattle.st_compile.specs.Emitting.{branch_word, way_code, dropped, goes_up, stores};
+ghost use Rattle.st_compile.specs.Emitting.{arm_code, branch_word, dropped, goes_up, stores};
 
-use crate::words::{Branch, Line, Sent, Way, Word};
+use crate::words::{Arm, Branch, Line, Sent, Word};
 use st_classes::refusals::Refusal;
 use st_classes::values::Value;
 use st_reader::inlining::Inlining;
@@ -188,10 +188,10 @@ impl<'t> Draft<'t> {
             [(first, one), (second, other)] => {
                 match Inlining::of_two(first.text.as_slice(), second.text.as_slice()) {
                     Some(Inlining::IfTrueIfFalse) => {
-                        self.either(depth, Branch::IfFalse, Way::Block(one), Way::Block(other))
+                        self.either(depth, Branch::IfFalse, Arm::Block(one), Arm::Block(other))
                     }
                     Some(Inlining::IfFalseIfTrue) => {
-                        self.either(depth, Branch::IfTrue, Way::Block(one), Way::Block(other))
+                        self.either(depth, Branch::IfTrue, Arm::Block(one), Arm::Block(other))
                     }
                     _ => Ok(()),
                 }
@@ -214,40 +214,40 @@ impl<'t> Draft<'t> {
         ensures code { OnOk result ((front : _) (r : _) → start ≡ length front → map line_of self.old.lines.items ≡ front ++ r → map line_of self.new.lines.items ≡ front ++ inlined depth (inlining_of_one keyword.now.text) r (code depth (chain_view block.now) ∷ [])) }
         ensures longer { OnOk result (length self.old.lines.items ≤ length self.new.lines.items) }
     {
-        let way = Way::Block(block);
-        let nil = Way::Plain(Value::Nil);
-        let falsity = Way::Plain(Value::Bool(false));
-        let truth = Way::Plain(Value::Bool(true));
+        let arm = Arm::Block(block);
+        let nil = Arm::Plain(Value::Nil);
+        let falsity = Arm::Plain(Value::Bool(false));
+        let truth = Arm::Plain(Value::Bool(true));
         match Inlining::of_one(keyword.text.as_slice()) {
-            Some(Inlining::IfTrue) => self.either(depth, Branch::IfFalse, way, nil),
-            Some(Inlining::IfFalse) => self.either(depth, Branch::IfTrue, way, nil),
-            Some(Inlining::And) => self.either(depth, Branch::IfFalse, way, falsity),
-            Some(Inlining::Or) => self.either(depth, Branch::IfTrue, way, truth),
+            Some(Inlining::IfTrue) => self.either(depth, Branch::IfFalse, arm, nil),
+            Some(Inlining::IfFalse) => self.either(depth, Branch::IfTrue, arm, nil),
+            Some(Inlining::And) => self.either(depth, Branch::IfFalse, arm, falsity),
+            Some(Inlining::Or) => self.either(depth, Branch::IfTrue, arm, truth),
             Some(Inlining::WhileTrue) => self.repeated(depth, start, Branch::IfFalse, block),
             Some(Inlining::WhileFalse) => self.repeated(depth, start, Branch::IfTrue, block),
             _ => Ok(()),
         }
     }
 
-    // One of two ways on: the first where the branch isn't taken, the other where it is.
+    // One of two arms: the first where the branch isn't taken, the other where it is.
     #[cycle(emit)]
     fn either(
         &mut self,
         depth: usize,
         branch: Branch,
-        first: Way<'t>,
-        other: Way<'t>,
+        first: Arm<'t>,
+        other: Arm<'t>,
     ) -> Result<(), AllocError>
         requires { depth < length self.old.lines.items }
-        ensures code { OnOk result (map line_of self.new.lines.items ≡ either (branch_word branch) depth (map line_of self.old.lines.items) (way_code depth first.entry) (way_code depth other.entry)) }
+        ensures code { OnOk result (map line_of self.new.lines.items ≡ either (branch_word branch) depth (map line_of self.old.lines.items) (arm_code depth first.entry) (arm_code depth other.entry)) }
         ensures longer { OnOk result (length self.old.lines.items ≤ length self.new.lines.items) }
     {
         let fork = self.lines.len();
         self.put(depth + 1, branch.over(0))?;
-        self.way(depth, first)?;
+        self.arm(depth, first)?;
         let end = self.lines.len();
         self.put(depth + 1, Word::Jump(0))?;
-        self.way(depth, other)?;
+        self.arm(depth, other)?;
         let passed = self.lines.len() - end - 1;
         self.patch(fork, depth + 1, branch.over(end - fork));
         self.patch(end, depth + 1, Word::Jump(passed));
@@ -256,14 +256,14 @@ impl<'t> Draft<'t> {
 
     // A value that a block gives, or a plain one.
     #[cycle(emit)]
-    fn way(&mut self, depth: usize, way: Way<'t>) -> Result<(), AllocError>
+    fn arm(&mut self, depth: usize, arm: Arm<'t>) -> Result<(), AllocError>
         requires { depth ≤ length self.old.lines.items }
-        ensures code { OnOk result (map line_of self.new.lines.items ≡ map line_of self.old.lines.items ++ way_code depth way.entry) }
+        ensures code { OnOk result (map line_of self.new.lines.items ≡ map line_of self.old.lines.items ++ arm_code depth arm.entry) }
         ensures longer { OnOk result (length self.old.lines.items < length self.new.lines.items) }
     {
-        match way {
-            Way::Block(block) => self.chain(depth, block),
-            Way::Plain(value) => self.put(depth, Word::Literal(value)),
+        match arm {
+            Arm::Block(block) => self.chain(depth, block),
+            Arm::Plain(value) => self.put(depth, Word::Literal(value)),
         }
     }
 

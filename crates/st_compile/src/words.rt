@@ -76,9 +76,9 @@ impl Branch {
     }
 }
 
-/// A way on behind a conditional jump: a block's value, or a value that no block gives.
+/// An arm of a conditional: a block's value, or a value that no block gives.
 #[derive(Clone, Copy)]
-pub enum Way<'t> {
+pub enum Arm<'t> {
     Block(&'t Chain),
     Plain(Value),
 }

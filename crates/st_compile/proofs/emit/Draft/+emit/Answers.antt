@@ -7,7 +7,7 @@ use Rattle.st_reader.specs.Views.{chain_view, expression_view}
 use Rattle.st_compile.specs.Words.{Word, line, return}
 use Rattle.st_compile.specs.Equations.{code}
 use Rattle.st_compile.specs.Drafts.{line_of}
-use Rattle.st_compile.specs.Emitting.{branch_word, way_code, goes_up}
+use Rattle.st_compile.specs.Emitting.{branch_word, arm_code, goes_up}
 use Rattle.st_compile.proofs.Lines.{patch_either, patch_loop}
 use Rattle.st_compile.proofs.EmittingRows.{further_step}
 use Rattle.st_compile.proofs.EmittingTrees.{behind, sent_keywords, inlined_many, expression_code, statements_code}
@@ -16,15 +16,15 @@ use Rattle.st_compile.proofs.emit.Draft.+emit.Goals as goal
 pub either-returns-clause-code : goal.either-returns-clause-code
 either-returns-clause-code t c =
     let d = c.args.depth in
-    let last = map line_of c.way-2.new.self.lines.items in
-    patch_either (branch_word c.args.branch) d (map line_of c.args.self.now.lines.items) (way_code d c.args.first) (way_code d c.args.other) (map line_of c.put.new.self.lines.items) (map line_of c.way.new.self.lines.items) (map line_of c.put-2.new.self.lines.items) last (map line_of c.patch.new.self.lines.items) (map line_of c.patch-2.new.self.lines.items) _ _ c.len-fork.result c.len-end.result c.len.result
+    let last = map line_of c.arm-2.new.self.lines.items in
+    patch_either (branch_word c.args.branch) d (map line_of c.args.self.now.lines.items) (arm_code d c.args.first) (arm_code d c.args.other) (map line_of c.put.new.self.lines.items) (map line_of c.arm.new.self.lines.items) (map line_of c.put-2.new.self.lines.items) last (map line_of c.patch.new.self.lines.items) (map line_of c.patch-2.new.self.lines.items) _ _ c.len-fork.result c.len-end.result c.len.result
     (c.len-fork.ensures ∙ c.args.self.now.lines.ok.0 ∙ sym (length-map c.args.self.now.lines.items line_of))
     c.in_ok-put.ensures.code
-    c.in_ok-way.ensures.code
-    (c.len-end.ensures ∙ c.way.new.self.lines.ok.0 ∙ sym (length-map c.way.new.self.lines.items line_of))
+    c.in_ok-arm.ensures.code
+    (c.len-end.ensures ∙ c.arm.new.self.lines.ok.0 ∙ sym (length-map c.arm.new.self.lines.items line_of))
     c.in_ok-put-2.ensures.code
-    c.in_ok-way-2.ensures.code
-    (c.len.ensures ∙ c.way-2.new.self.lines.ok.0 ∙ sym (length-map c.way-2.new.self.lines.items line_of))
+    c.in_ok-arm-2.ensures.code
+    (c.len.ensures ∙ c.arm-2.new.self.lines.ok.0 ∙ sym (length-map c.arm-2.new.self.lines.items line_of))
     (c.patch.ensures.code ∙ ap (λ (w : Word). slice_set last c.len-fork.result (line (d + 1) w)) c.over-2.ensures)
     c.patch-2.ensures.code
 

@@ -5,14 +5,14 @@ use Rattle.st_compile.specs.Drafts.{line_of}
 use Rattle.st_compile.specs.Equations.{arguments, further_sent}
 use Rattle.st_compile.specs.Emitting.{dropped}
 use Rattle.st_compile.proofs.EmittingChains.{ChainAt}
-use Rattle.st_compile.specs.declared.words.Way.{Way}
-use Rattle.st_compile.specs.declared.words.Way.TheVariants.{Block, Plain}
+use Rattle.st_compile.specs.declared.words.Arm.{Arm}
+use Rattle.st_compile.specs.declared.words.Arm.TheVariants.{Block, Plain}
 use Rattle.st_reader.specs.declared.trees.Chain.{size-Chain}
 use Rattle.st_compile.proofs.emit.Draft.+emit.Given as goal
 
-abbrev way_size : Way → ℕ
-way_size (Block c) = size-Chain c.now
-way_size (Plain v) = 0
+abbrev arm_size : Arm → ℕ
+arm_size (Block c) = size-Chain c.now
+arm_size (Plain v) = 0
 
 abbrev pub decreases-chain : goal.decreases-chain
 decreases-chain l = 4 * goal.size-chain l
@@ -47,11 +47,11 @@ decreases-dropped l = 4 * goal.size-dropped l + 2
 abbrev pub decreases-repeated : goal.decreases-repeated
 decreases-repeated l = 4 * goal.size-repeated l + 1
 
-abbrev pub decreases-way : goal.decreases-way
-decreases-way l = 4 * way_size l.way + 1
+abbrev pub decreases-arm : goal.decreases-arm
+decreases-arm l = 4 * arm_size l.arm + 1
 
 abbrev pub decreases-either : goal.decreases-either
-decreases-either l = 4 * max (way_size l.first) (way_size l.other) + 2
+decreases-either l = 4 * max (arm_size l.first) (arm_size l.other) + 2
 
 abbrev pub decreases-message : goal.decreases-message
 decreases-message l = 4 * goal.size-message l + 2

@@ -17,12 +17,11 @@ use Rattle.st_classes.proofs.LawLists.{list_all_get}
 use Rattle.st_reader.specs.Spelling.{Spells}
 use Rattle.st_reader.specs.Syntax.{Method}
 use Rattle.st_reader.specs.Variables.{arguments_of, locals_of, temporaries_of, texts}
-use Rattle.st_compile.specs.Parts.{parts_of}
 use Rattle.st_compile.specs.Scopes.{pattern_selector, scope_of}
 use Rattle.st_compile.specs.Equations.{method_code}
 use Rattle.st_compile.specs.Refusing.{code_rules, is_small}
 use Rattle.st_compile.specs.Resolving.{instructions_of}
-use Rattle.st_compile.specs.Compiled.{IsCompiled}
+use Rattle.st_compile.specs.Compiled.{IsCompiled, parts_of}
 use Rattle.st_compile.specs.Proper.{IsReady}
 use Rattle.st_compile.proofs.Flowing.{code_fits}
 use Rattle.st_compile.proofs.Accepted.{rules_known, rules_small, small_depths, small_length}
@@ -84,14 +83,9 @@ module _ (edits : List Edit) (c : ClassId) (m : Method) (text : List ℕ) (s : S
     made_of = record {
       sound = sound;
       compiled = record {
-        holder = refl;
         selector = e;
-        arguments = refl;
-        temporaries = refl;
         code = k;
-        depths = refl;
-        sites = refl;
-        source = refl;
+        parts = refl;
         fitting = suited;
       };
     }

@@ -10,6 +10,5 @@ pub mod Drafts
 pub mod Emitting
 pub mod Naming
 pub mod Sites
-pub mod Parts
 pub mod Proper
 pub mod Least

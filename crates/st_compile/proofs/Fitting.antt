@@ -107,7 +107,7 @@ ending d k le = record {
 depth_is : (whole : List ℕ) (place m n : ℕ) → m ≡ n → DepthAt whole place m → DepthAt whole place n
 depth_is whole place m n e h = subst (λ d. DepthAt whole place d) e h
 
--- One of two ways on: both leave one operand.
+-- One of two arms: both leave one operand.
 either_rest : (branch : ℕ → Word) → ((n : ℕ) → word_flow (branch n) ≡ flow 1 0 (branches (pos n))) → (d : ℕ) (a b : List Line) → IsCode a d (d + 1) → IsCode b d (d + 1) → IsCode (line (d + 1) (branch (length a + 1)) ∷ (a ++ line (d + 1) (jump (pos (length b))) ∷ b)) (d + 1) (d + 1)
 either_rest branch e d a b x y =
     let j = line (d + 1) (jump (pos (length b))) in

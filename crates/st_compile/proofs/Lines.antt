@@ -13,7 +13,7 @@ two_writes c a b x y i j =
     ∙ set-append_seam (c ++ i ∷ a) y b j
     ∙ append_assoc c (i ∷ a) (j ∷ b)
 
--- two ways on, where both jumps are written at the end
+-- two arms, where both jumps are written at the end
 pub patch_either : (br : ℕ → Word) (d : ℕ) (r ac bc c1 c2 c3 c4 w1 w2 : List Line) (x y : Line) (n1 n2 n3 : ℕ) → n1 ≡ length r → c1 ≡ r ++ x ∷ [] → c2 ≡ c1 ++ ac → n2 ≡ length c2 → c3 ≡ c2 ++ y ∷ [] → c4 ≡ c3 ++ bc → n3 ≡ length c4 → w1 ≡ slice_set c4 n1 (line (d + 1) (br (n2 - n1))) → w2 ≡ slice_set w1 n2 (line (d + 1) (jump (pos (n3 - n2 - 1)))) → w2 ≡ either br d r ac bc
 patch_either br d r ac bc c1 c2 c3 c4 w1 w2 x y n1 n2 n3 m1 e1 e2 m2 e3 e4 m3 f1 f2 =
     let l1 = ap length e1 ∙ length-append r (x ∷ []) in

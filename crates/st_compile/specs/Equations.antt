@@ -19,7 +19,7 @@ abbrev pub to : Bool → List ℕ → ℕ → Word
 to false = message
 to true = super_message
 
--- one of two ways on: the value a where the jump isn't taken, the value b where it is
+-- one of two arms: the value a where the jump isn't taken, the value b where it is
 abbrev pub either : (ℕ → Word) → ℕ → List Line → List Line → List Line → List Line
 either branch d r a b = r ++ line (d + 1) (branch (length a + 1)) ∷ (a ++ line (d + 1) (jump (pos (length b))) ∷ b)
 

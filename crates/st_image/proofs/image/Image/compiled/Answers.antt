@@ -1,7 +1,6 @@
 use Rattle.std.proofs.Common.{◌≡◌, ◌++◌, List, ℕ, ap, ◌∙◌, subst, refl}
 use Rattle.st_classes.specs.declared.edits.Edit.{Edit}
 use Rattle.st_classes.specs.Refusals.{first_of, Answers}
-use Rattle.st_classes.specs.declared.refusals.Refusal.{Refusal}
 use Rattle.st_reader.specs.Views.{method_view}
 use Rattle.st_compile.specs.Interning.{InternsFirst, needed_texts}
 use Rattle.st_compile.specs.Refusing.{code_rules, method_rules}

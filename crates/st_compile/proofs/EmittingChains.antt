@@ -6,7 +6,7 @@ use Rattle.st_reader.specs.declared.trees.Message.{Message as Sent}
 use Rattle.st_reader.specs.declared.rules.alone.Alone.{Alone}
 use Rattle.st_reader.specs.Syntax.{Expression, parenthesis, empty_block, block, send, cascade, name}
 use Rattle.st_reader.specs.Views.{message_view, sends}
-use Rattle.st_reader.specs.Rules.{is_super}
+use Rattle.st_reader.specs.Inlining.{is_super}
 use Rattle.st_reader.specs.Alone.{alone, name_alone}
 use Rattle.st_compile.specs.Words.{Line}
 use Rattle.st_compile.specs.Equations.{code}

@@ -13,7 +13,7 @@ use Rattle.st_reader.specs.declared.trees.Statements.{Statements as Row, out-Sta
 use Rattle.st_reader.specs.declared.inlining.Inlining.{Inlining}
 use Rattle.st_reader.specs.Syntax.{Expression, Message, Statements}
 use Rattle.st_reader.specs.Grammar.{count}
-use Rattle.st_reader.specs.Rules.{inlining, part_texts}
+use Rattle.st_reader.specs.Inlining.{inlining, part_texts}
 use Rattle.st_reader.specs.Views.{message_view, expression_view, statements_view, assigns, seen_sentences, parts_of, seen_parts, thens, last_of, message_step, operand_step, chain_step, expression_step, statements_step}
 use Rattle.st_reader.specs.Alone.{value_of}
 use Rattle.st_reader.proofs.Alone.{expression_out}

@@ -10,7 +10,7 @@ use Rattle.st_classes.specs.Suiting.{is_number, literal_suits}
 use Rattle.st_reader.specs.declared.inlining.Inlining.{Inlining}
 use Rattle.st_reader.specs.declared.inlining.Inlining.TheVariants.{IfTrue, IfFalse, IfTrueIfFalse, IfFalseIfTrue, And, Or, WhileTrue, WhileFalse}
 use Rattle.st_reader.specs.Grammar.{AreFurther, AreParts, AreStatements, IsBody, IsExpression, IsMessage, IsMethod, body_toks, count, further_toks, message_toks, method_toks, parts_toks, pattern_toks, period_toks, statements_toks, temporaries_toks, toks}
-use Rattle.st_reader.specs.Rules.{is_inlined, is_super}
+use Rattle.st_reader.specs.Inlining.{is_inlined, is_super}
 use Rattle.st_reader.specs.Syntax.{Method, Expression, Message, Parts, Further, Statements, parenthesis, empty_block, block, send, cascade, name, unary, keywords, no_parts, part, no_further, further, last, answer, statement}
 use Rattle.st_compile.specs.Equations.{joined, to, either, loop, plain, inlined, inlining_of, one_of, kept, code, sent, arguments, blocks, part_blocks, further_sent, statements_value, body, method_code}
 use Rattle.st_compile.specs.Proper.{is_near, word_fits}

@@ -9,7 +9,7 @@ use Rattle.st_reader.specs.declared.inlining.Inlining.{Inlining}
 use Rattle.st_reader.specs.declared.inlining.Inlining.TheVariants.{IfTrue, IfFalse, IfTrueIfFalse, IfFalseIfTrue, And, Or, WhileTrue, WhileFalse}
 use Rattle.st_reader.specs.Syntax.{Expression, Message, Parts, Further, Statements, parenthesis, empty_block, block, send, cascade, name, unary, keywords, no_parts, part, no_further, further, last, answer, statement}
 use Rattle.st_reader.specs.Grammar.{count}
-use Rattle.st_reader.specs.Rules.{is_inlined, is_super}
+use Rattle.st_reader.specs.Inlining.{is_inlined, is_super}
 use Rattle.st_compile.specs.Words.{Word, Line, line, literal, symbol, variable, store, drop, repeat, jump, jump_false, jump_true, return}
 use Rattle.st_compile.specs.Equations.{joined, to, either, loop, plain, inlined, inlining_of, one_of, kept, code, sent, arguments, blocks, part_blocks, further_sent, statements_value}
 use Rattle.st_compile.proofs.WordFlows.{word_flow}

@@ -16,7 +16,7 @@ use Rattle.st_reader.specs.declared.tokens.Piece.{Piece}
 use Rattle.st_reader.specs.declared.tokens.Piece.TheVariants.{White, Comment, Token as Whole}
 use Rattle.st_reader.specs.Grammar.{IsPattern, count, pattern_toks, parameter_toks, parts_toks, toks}
 use Rattle.st_reader.specs.Pieces.{is_piece, is_word, is_keyword}
-use Rattle.st_reader.specs.Rules.{part_texts}
+use Rattle.st_reader.specs.Inlining.{part_texts}
 use Rattle.st_reader.specs.Syntax.{Parts, part, no_parts}
 use Rattle.st_reader.specs.Tokens.{Token, AreWhole, IsCut, piece_tokens, span, token_fits, tokens_from}
 use Rattle.st_reader.proofs.Lists.{closed_parts}

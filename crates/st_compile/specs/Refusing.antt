@@ -17,7 +17,7 @@ use Rattle.st_reader.specs.Variables.{locals_of}
 use Rattle.st_compile.specs.Scopes.{scope_of}
 use Rattle.st_compile.specs.Interning.{names_rule, needed_texts}
 
--- a name stands for something in a scope; `super` by itself doesn't
+-- a name stands for something in a scope; `super` doesn't as long as there are no super sends
 abbrev pub is_known : Scope → Word → Bool
 is_known scope (variable n) = not (bytes_eq n.text (codes "super")) && is_some (pushed scope n.text)
 is_known scope (store n) = is_some (stored scope n.text)

@@ -5,7 +5,7 @@
 ghost use Rattle.std.specs.Prelude.{◌≡◌, ◌+◌, ◌<◌, ◌≤◌, [], ◌∷◌, ◌++◌, length, map, slice_set, IfOk, IfErr, OnOk, false};
 ghost use Rattle.st_reader.specs.Syntax.{send};
 ghost use Rattle.st_reader.specs.Views.{operand_view, chain_view, message_view, expression_view, statements_view, method_view, parts_of, seen_parts, further_of, seen_further, seen_sentences};
-ghost use Rattle.st_reader.specs.Rules.{is_inlined as inlines, inlining_of_one};
+ghost use Rattle.st_reader.specs.Inlining.{is_inlined as inlines, inlining_of_one};
 ghost use Rattle.st_reader.specs.Alone.{alone, value_of};
 ghost use Rattle.st_compile.specs.Words.{line, receiver, return};
 ghost use Rattle.st_compile.specs.Equations.{either, loop, inlined, inlining_of, blocks, kept, code, sent, arguments, further_sent, statements_value, body, method_code};

@@ -1,6 +1,7 @@
 pub mod Views
 pub mod Arithmetic
 pub mod KernelMethods
+pub mod Answering
 pub mod Frames
 pub mod Steps
 pub mod Fitting

@@ -7,7 +7,7 @@ use st_classes::values::Value;
 
 /// The sum of two integers, or the fault `overflow`.
 #[inline]
-pub fn sum(x: i64, y: i64) -> Result<Value, Fault>
+pub(crate) fn sum(x: i64, y: i64) -> Result<Value, Fault>
     ensures { result ≡ int_or_overflow (x +ℤ y) }
 {
     match x.checked_add(y) {
@@ -18,7 +18,7 @@ pub fn sum(x: i64, y: i64) -> Result<Value, Fault>
 
 /// The first less the second, or the fault `overflow`.
 #[inline]
-pub fn difference(x: i64, y: i64) -> Result<Value, Fault>
+pub(crate) fn difference(x: i64, y: i64) -> Result<Value, Fault>
     ensures { result ≡ int_or_overflow (x -ℤ y) }
 {
     match x.checked_sub(y) {
@@ -29,7 +29,7 @@ pub fn difference(x: i64, y: i64) -> Result<Value, Fault>
 
 /// The product of two integers, or the fault `overflow`.
 #[inline]
-pub fn product(x: i64, y: i64) -> Result<Value, Fault>
+pub(crate) fn product(x: i64, y: i64) -> Result<Value, Fault>
     ensures { result ≡ int_or_overflow (x *ℤ y) }
 {
     match x.checked_mul(y) {
@@ -70,7 +70,7 @@ fn floored_remainder(x: i64, y: i64) -> i64
 
 /// The quotient rounded towards negative infinity.
 #[inline]
-pub fn quotient(x: i64, y: i64) -> Result<Value, Fault>
+pub(crate) fn quotient(x: i64, y: i64) -> Result<Value, Fault>
     ensures { result ≡ quotient_of x y }
 {
     if y == 0 {
@@ -84,7 +84,7 @@ pub fn quotient(x: i64, y: i64) -> Result<Value, Fault>
 
 /// What that quotient leaves, which has the sign of y.
 #[inline]
-pub fn remainder(x: i64, y: i64) -> Result<Value, Fault>
+pub(crate) fn remainder(x: i64, y: i64) -> Result<Value, Fault>
     ensures { result ≡ remainder_of x y }
 {
     if y == 0 {

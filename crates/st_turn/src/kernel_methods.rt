@@ -1,6 +1,7 @@
 //! What the kernel's methods answer.
 ghost use Rattle.std.specs.Prelude.{◌≡◌};
-ghost use Rattle.st_turn.specs.KernelMethods.{binary_answer, conjunction, integer_answer, is_nil, is_same, kernel_answer, negated};
+ghost use Rattle.st_turn.specs.Answering.{binary_answer, integer_answer};
+ghost use Rattle.st_turn.specs.KernelMethods.{conjunction, is_nil, is_same, kernel_answer, negated};
 ghost use Rattle.st_turn.specs.Meeting.{IsAmong};
 
 use crate::arithmetic::{difference, product, quotient, remainder, sum};

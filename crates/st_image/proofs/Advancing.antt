@@ -21,10 +21,11 @@ use Rattle.st_image.specs.declared.items.Item.TheVariants.{Begun, Ran}
 use Rattle.st_turn.specs.Idling.{is_idle}
 use Rattle.st_image.specs.Worlds.{World, Being, pending, with_actor}
 use Rattle.st_image.specs.Next.{next, begun_at, begun_by, beginning, steps, with_result}
-use Rattle.st_image.specs.Images.{ImageView, world_of, no_room, advance_rules, advanced, HasStopped, idle_at, beginnings}
+use Rattle.st_image.specs.Images.{ImageView, world_of, no_room}
+use Rattle.st_image.specs.Advancing.{advance_rules, advanced, HasStopped, idle_at, beginnings}
 use Rattle.st_image.specs.Ready.{is_ready, is_ready_at}
 use Rattle.st_image.specs.Lasting.{IsWorld, given}
-use Rattle.st_image.specs.Kepts.{Kept, kept_of, started, begun_first, stepped_to, is_ready_kept, has, HasAlso, advance_items, turn_after, Advances}
+use Rattle.st_image.specs.Kepts.{Kept, kept_of, started, begun_first, stepped_to, is_ready_kept, has, HasAlso, advance_items, next_after, Advances}
 use Rattle.st_image.specs.Keeping.{Shows, IsImage, CanRun}
 use Rattle.st_image.proofs.Places.{get_set_same}
 use Rattle.st_image.proofs.Lists.{off, set_at_same, set_twice}
@@ -180,15 +181,15 @@ pub record Allowed (names : List (List ℕ)) (h : List Item) (s : Settings) (a :
   pub goes : MayGo b
   pub room : length h + cond (is_idle b.body.phase) 2 1 ≤ s.history
 
-allowed_option : (names : List (List ℕ)) (h : List Item) (s : Settings) (turn : ℕ) (a : ActorId) (o : Option Being) → slice_get (world_of names h).actors a.0 ≡ o → first_of (advance_rules (seen names h s turn) o) ≡ None → (b : Being) × Allowed names h s a b
-allowed_option names h s turn a None at e = cc
-allowed_option names h s turn a (Some b) at e =
-    let rest : List Rule = no_room (seen names h s turn) (cond (is_idle b.body.phase) 2 1) ∷ [] in
+allowed_option : (names : List (List ℕ)) (h : List Item) (s : Settings) (from : ℕ) (a : ActorId) (o : Option Being) → slice_get (world_of names h).actors a.0 ≡ o → first_of (advance_rules (seen names h s from) o) ≡ None → (b : Being) × Allowed names h s a b
+allowed_option names h s from a None at e = cc
+allowed_option names h s from a (Some b) at e =
+    let rest : List Rule = no_room (seen names h s from) (cond (is_idle b.body.phase) 2 1) ∷ [] in
     let o = off (is_idle b.body.phase && (length (pending b) == 0)) NothingToDo rest e in
     (b, record { there = at; goes = may_go b (is_idle b.body.phase) refl o.0; room = has_room s.history (length h) (cond (is_idle b.body.phase) 2 1) HistoryFull o.1 })
 
-pub allowed_by : (names : List (List ℕ)) (h : List Item) (s : Settings) (turn : ℕ) (a : ActorId) → first_of (advance_rules (seen names h s turn) (slice_get (world_of names h).actors a.0)) ≡ None → (b : Being) × Allowed names h s a b
-allowed_by names h s turn a e = allowed_option names h s turn a (slice_get (world_of names h).actors a.0) refl e
+pub allowed_by : (names : List (List ℕ)) (h : List Item) (s : Settings) (from : ℕ) (a : ActorId) → first_of (advance_rules (seen names h s from) (slice_get (world_of names h).actors a.0)) ≡ None → (b : Being) × Allowed names h s a b
+allowed_by names h s from a e = allowed_option names h s from a (slice_get (world_of names h).actors a.0) refl e
 
 ready_here : (b : Being) → MayGo b → is_ready b ≡ true
 ready_here b (goes_on busy) = busy_ready b busy
@@ -262,21 +263,21 @@ items_ran : (a : ActorId) (t : Bool) (n : ℕ) → 1 ≤ n → advance_items a t
 items_ran a t zero h = absurd (omega arith)
 items_ran a t (suc n) h = ap (λ (x : Bool). beginnings a t ++ cond x [] (Ran a (suc n) ∷ [])) (eqb-suc-zero n)
 
-turn_moves : (turn : ℕ) (a : ActorId) (t : Bool) (n : ℕ) → 1 ≤ n → turn_after turn a t n ≡ a.0 + 1
-turn_moves turn a true n h = refl
-turn_moves turn a false zero h = absurd (omega arith)
-turn_moves turn a false (suc n) h = ap (λ (x : Bool). cond x turn (a.0 + 1)) (eqb-suc-zero n)
+next_moves : (from : ℕ) (a : ActorId) (t : Bool) (n : ℕ) → 1 ≤ n → next_after from a t n ≡ a.0 + 1
+next_moves from a true n h = refl
+next_moves from a false zero h = absurd (omega arith)
+next_moves from a false (suc n) h = ap (λ (x : Bool). cond x from (a.0 + 1)) (eqb-suc-zero n)
 
-pub is_advanced : (names : List (List ℕ)) (h : List Item) (s : Settings) (turn : ℕ) (a : ActorId) (t : Bool) (n : ℕ) → t ≡ idle_at (slice_get (world_of names h).actors a.0) → 1 ≤ n → seen names (h ++ advance_items a t n) s (turn_after turn a t n) ≡ advanced (seen names h s turn) a n
-is_advanced names h s turn a t n e some =
-    ap (seen names (h ++ advance_items a t n) s) (turn_moves turn a t n some)
+pub is_advanced : (names : List (List ℕ)) (h : List Item) (s : Settings) (from : ℕ) (a : ActorId) (t : Bool) (n : ℕ) → t ≡ idle_at (slice_get (world_of names h).actors a.0) → 1 ≤ n → seen names (h ++ advance_items a t n) s (next_after from a t n) ≡ advanced (seen names h s from) a n
+is_advanced names h s from a t n e some =
+    ap (seen names (h ++ advance_items a t n) s) (next_moves from a t n some)
     ∙ ap (λ (is : List Item). seen names (h ++ is) s (a.0 + 1)) (items_ran a t n some ∙ ap (λ (x : Bool). beginnings a x ++ Ran a n ∷ []) e)
 
 -- what want of memory leaves, where the history ends with these items
 abbrev pub Stops : ImageView → ActorId → ℕ → ImageView → Type 0
 Stops i a limit j = (j ≡ i) ⊎ HasStopped i a limit j
 
-pub has_stopped : (names : List (List ℕ)) (h : List Item) (s : Settings) (turn : ℕ) (a : ActorId) (t : Bool) (n limit : ℕ) → first_of (advance_rules (seen names h s turn) (slice_get (world_of names h).actors a.0)) ≡ None → t ≡ idle_at (slice_get (world_of names h).actors a.0) → (n < limit) × (idle_at (slice_get (world_of names (h ++ advance_items a t n)).actors a.0) ≡ false) → Stops (seen names h s turn) a limit (seen names (h ++ advance_items a t n) s (turn_after turn a t n))
-has_stopped names h s turn a true zero limit allowed e l = inr (allowed, inl (sym e, refl))
-has_stopped names h s turn a false zero limit allowed e l = inl (ap (λ (is : List Item). seen names is s turn) (append-nil h))
-has_stopped names h s turn a t (suc n) limit allowed e l = inr (allowed, inr (suc n, omega arith, is_advanced names h s turn a t (suc n) e (omega arith), l))
+pub has_stopped : (names : List (List ℕ)) (h : List Item) (s : Settings) (from : ℕ) (a : ActorId) (t : Bool) (n limit : ℕ) → first_of (advance_rules (seen names h s from) (slice_get (world_of names h).actors a.0)) ≡ None → t ≡ idle_at (slice_get (world_of names h).actors a.0) → (n < limit) × (idle_at (slice_get (world_of names (h ++ advance_items a t n)).actors a.0) ≡ false) → Stops (seen names h s from) a limit (seen names (h ++ advance_items a t n) s (next_after from a t n))
+has_stopped names h s from a true zero limit allowed e l = inr (allowed, inl (sym e, refl))
+has_stopped names h s from a false zero limit allowed e l = inl (ap (λ (is : List Item). seen names is s from) (append-nil h))
+has_stopped names h s from a t (suc n) limit allowed e l = inr (allowed, inr (suc n, omega arith, is_advanced names h s from a t (suc n) e (omega arith), l))

@@ -33,12 +33,12 @@ count_is edits actors ready w s = ap (λ (xs : List Kept). length xs) s.actors_a
 fewer : (m n : ℕ) → nat_le m n ≡ false → n < m
 fewer m n h = grind (arith, nat_tests)
 
-pub created : (names : List (List ℕ)) (edits : List Edit) (actors actors' : List Kept) (ready : BTreeSet ℕ) (h : List Item) (made : ℕ) (s : Settings) (turn : ℕ) (c : ClassId)
-    → IsImage names edits actors ready h made s → first_of (create_rules (seen names h s turn) c) ≡ None → actors' ≡ actors ++ new_kept c s.capacity (fresh_body edits c) ∷ []
+pub created : (names : List (List ℕ)) (edits : List Edit) (actors actors' : List Kept) (ready : BTreeSet ℕ) (h : List Item) (made : ℕ) (s : Settings) (from : ℕ) (c : ClassId)
+    → IsImage names edits actors ready h made s → first_of (create_rules (seen names h s from) c) ≡ None → actors' ≡ actors ++ new_kept c s.capacity (fresh_body edits c) ∷ []
     → IsImage names edits actors' ready (h ++ Created c s.capacity ∷ []) made s
-created names edits actors actors' ready h made s turn c k allowed e =
+created names edits actors actors' ready h made s from c k allowed e =
     let w : World = world_of names h in
-    let room : List Rule = no_room (seen names h s turn) 1 ∷ [] in
+    let room : List Rule = no_room (seen names h s from) 1 ∷ [] in
     let few : List Rule = (nat_le 65536 (length w.actors), TooMany Actors) ∷ room in
     let open' : List Rule = (is_closed c, KernelClass) ∷ few in
     let o1 = off (not (is_class w.edits c)) UnknownClass open' allowed in

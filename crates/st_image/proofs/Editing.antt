@@ -36,13 +36,13 @@ pub record IsEdited (names : List (List ℕ)) (edits : List Edit) (actors : List
   pub image : IsImage names edits actors ready h made s
   pub edits_are : (world_of names h).edits ≡ edits
 
-pub edited : (names : List (List ℕ)) (edits edits' : List Edit) (actors : List Kept) (ready : BTreeSet ℕ) (h : List Item) (made : ℕ) (s : Settings) (turn : ℕ) (e : Edit)
-    → IsImage names edits actors ready h made s → IsSoundEdit e → edit_suits names (world_of names h).edits e ≡ true → first_of (edit_rules (world_of names h).edits e ++ run_rules (seen names h s turn)) ≡ None → edits' ≡ (world_of names h).edits ++ e ∷ []
+pub edited : (names : List (List ℕ)) (edits edits' : List Edit) (actors : List Kept) (ready : BTreeSet ℕ) (h : List Item) (made : ℕ) (s : Settings) (from : ℕ) (e : Edit)
+    → IsImage names edits actors ready h made s → IsSoundEdit e → edit_suits names (world_of names h).edits e ≡ true → first_of (edit_rules (world_of names h).edits e ++ run_rules (seen names h s from)) ≡ None → edits' ≡ (world_of names h).edits ++ e ∷ []
     → IsEdited names edits' actors ready (h ++ Edited e ∷ []) (made + 1) s
-edited names edits edits' actors ready h made s turn e k sound suits allowed after =
+edited names edits edits' actors ready h made s from e k sound suits allowed after =
     let w : World = world_of names h in
-    let both = off_append (edit_rules w.edits e) (run_rules (seen names h s turn)) allowed in
-    let o = off (nat_le 2048 (edits_in h)) (TooMany Edits) (no_room (seen names h s turn) 1 ∷ []) both.1 in
+    let both = off_append (edit_rules w.edits e) (run_rules (seen names h s from)) allowed in
+    let o = off (nat_le 2048 (edits_in h)) (TooMany Edits) (no_room (seen names h s from) 1 ∷ []) both.1 in
     let back : w.edits ≡ edits = sym k.shows.edits_are in
     let suits' : edit_suits names edits e ≡ true = subst (λ (es : List Edit). edit_suits names es e ≡ true) back suits in
     let allowed' : first_of (edit_rules edits e) ≡ None = subst (λ (es : List Edit). first_of (edit_rules es e) ≡ None) back both.0 in

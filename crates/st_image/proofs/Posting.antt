@@ -22,7 +22,7 @@ use Rattle.st_image.proofs.Keeping.{posted_kept, kept_at, has_room}
 
 -- an image as callers see it
 abbrev pub seen : List (List ℕ) → List Item → Settings → ℕ → ImageView
-seen names h s turn = record { names = names; history = h; capacity = s.capacity; limit = s.history; turn = turn }
+seen names h s from = record { names = names; history = h; capacity = s.capacity; most_items = s.history; next_from = from }
 
 pub being_of : (edits : List Edit) (actors : List Kept) (ready : BTreeSet ℕ) (w : World) (a : ℕ) (o : Option Kept) → Shows edits actors ready w → slice_get actors a ≡ o → option_map kept_of (slice_get w.actors a) ≡ o
 being_of edits actors ready w a o s e = sym (slice_get-map kept_of w.actors a) ∙ ap (λ (xs : List Kept). slice_get xs a) (sym s.actors_are) ∙ e
@@ -47,19 +47,19 @@ pub record IsPosted (names : List (List ℕ)) (edits : List Edit) (actors : List
   pub image : IsImage names edits actors ready h made s
   pub place : n ≡ accepted_by (slice_get (world_of names h).actors a.0)
 
-posted_option : (names : List (List ℕ)) (edits : List Edit) (actors actors' : List Kept) (ready ready' : BTreeSet ℕ) (h : List Item) (made : ℕ) (s : Settings) (turn n : ℕ) (a : ActorId) (m : Message) (o : Option Being) → slice_get (world_of names h).actors a.0 ≡ o
-    → IsImage names edits actors ready h made s → first_of (post_rules names (world_of names h) o m ++ no_room (seen names h s turn) 1 ∷ []) ≡ None
+posted_option : (names : List (List ℕ)) (edits : List Edit) (actors actors' : List Kept) (ready ready' : BTreeSet ℕ) (h : List Item) (made : ℕ) (s : Settings) (from n : ℕ) (a : ActorId) (m : Message) (o : Option Being) → slice_get (world_of names h).actors a.0 ≡ o
+    → IsImage names edits actors ready h made s → first_of (post_rules names (world_of names h) o m ++ no_room (seen names h s from) 1 ∷ []) ≡ None
     → ((k : Kept) → slice_get actors a.0 ≡ Some k → actors' ≡ slice_set actors a.0 (taken_in k m)) → ((k : Kept) → slice_get actors a.0 ≡ Some k → n ≡ k.accepted + 1) → HasAlso ready ready' a.0 true
     → IsPosted names edits actors' ready' (h ++ Posted a m ∷ []) made s a n
-posted_option names edits actors actors' ready ready' h made s turn n a m None at k allowed put place queue = cc
-posted_option names edits actors actors' ready ready' h made s turn n a m (Some b) at k allowed put place queue =
-    let both = off_append (post_rules names (world_of names h) (Some b) m) (no_room (seen names h s turn) 1 ∷ []) allowed in
+posted_option names edits actors actors' ready ready' h made s from n a m None at k allowed put place queue = cc
+posted_option names edits actors actors' ready ready' h made s from n a m (Some b) at k allowed put place queue =
+    let both = off_append (post_rules names (world_of names h) (Some b) m) (no_room (seen names h s from) 1 ∷ []) allowed in
     let there : slice_get actors a.0 ≡ Some (kept_of b) = kept_at edits actors ready (world_of names h) a.0 b k.shows at in
     let r = posted_kept names edits actors actors' ready ready' h made s a b m k at both.0 (has_room s.history (length h) 1 _ both.1) (put (kept_of b) there) queue in
     record { image = r.0; place = place (kept_of b) there ∙ sym (length-append b.accepted (m ∷ [])) ∙ ap accepted_by (sym r.1) }
 
-pub posted : (names : List (List ℕ)) (edits : List Edit) (actors actors' : List Kept) (ready ready' : BTreeSet ℕ) (h : List Item) (made : ℕ) (s : Settings) (turn n : ℕ) (a : ActorId) (m : Message)
-    → IsImage names edits actors ready h made s → first_of (image_post_rules (seen names h s turn) a m) ≡ None
+pub posted : (names : List (List ℕ)) (edits : List Edit) (actors actors' : List Kept) (ready ready' : BTreeSet ℕ) (h : List Item) (made : ℕ) (s : Settings) (from n : ℕ) (a : ActorId) (m : Message)
+    → IsImage names edits actors ready h made s → first_of (image_post_rules (seen names h s from) a m) ≡ None
     → ((k : Kept) → slice_get actors a.0 ≡ Some k → actors' ≡ slice_set actors a.0 (taken_in k m)) → ((k : Kept) → slice_get actors a.0 ≡ Some k → n ≡ k.accepted + 1) → HasAlso ready ready' a.0 true
     → IsPosted names edits actors' ready' (h ++ Posted a m ∷ []) made s a n
-posted names edits actors actors' ready ready' h made s turn n a m k allowed put place queue = posted_option names edits actors actors' ready ready' h made s turn n a m (slice_get (world_of names h).actors a.0) refl k allowed put place queue
+posted names edits actors actors' ready ready' h made s from n a m k allowed put place queue = posted_option names edits actors actors' ready ready' h made s from n a m (slice_get (world_of names h).actors a.0) refl k allowed put place queue

@@ -14,7 +14,7 @@ use Rattle.st_image.specs.declared.messages.Message.{Message}
 use Rattle.st_classes.specs.declared.values.ActorId.{ActorId}
 use Rattle.st_image.specs.declared.items.Item.{Item}
 use Rattle.st_image.specs.declared.items.Item.TheVariants.{Ran}
-use Rattle.st_image.specs.Images.{beginnings}
+use Rattle.st_image.specs.Advancing.{beginnings}
 use Rattle.st_turn.specs.Idling.{is_idle}
 use Rattle.st_image.specs.Worlds.{Being, pending}
 use Rattle.st_image.specs.Next.{with_result, steps}
@@ -89,8 +89,8 @@ abbrev pub advance_items : ActorId → Bool → ℕ → List Item
 advance_items a begins n = beginnings a begins ++ (if n == 0 then [] else Ran a n ∷ [])
 
 -- the number from which the next ready actor is looked for, after an advance that added something or nothing
-abbrev pub turn_after : ℕ → ActorId → Bool → ℕ → ℕ
-turn_after turn a begins n = if not begins && (n == 0) then turn else a.0 + 1
+abbrev pub next_after : ℕ → ActorId → Bool → ℕ → ℕ
+next_after from a begins n = if not begins && (n == 0) then from else a.0 + 1
 
 -- an actor that begins a message, where it is idle, comes by so many steps to a body: with its last step or with its turn, or cut short before either
 pub record Advances (edits : List Edit) (a : ActorId) (limit : ℕ) (k : Kept) (n : ℕ) (is_whole : Bool) (body : Body) : Type 0 where

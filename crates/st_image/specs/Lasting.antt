@@ -66,7 +66,7 @@ pub record AreSettings (s : Settings) : Type 0 where
 
 -- the numbers that are set for an image
 abbrev pub settings_of : ImageView → Settings
-settings_of i = record { capacity = i.capacity; history = i.limit }
+settings_of i = record { capacity = i.capacity; history = i.most_items }
 
 -- a new actor has this capacity
 abbrev pub HasCapacity : ℕ → Item → Type 0
@@ -83,5 +83,5 @@ pub record IsLawful (i : ImageView) : Type 0 where
   pub standing : IsWorld i.names (world i)
   pub numbers : AreSettings (settings_of i)
   pub created : All (HasCapacity i.capacity) i.history
-  pub few_items : length i.history ≤ i.limit
+  pub few_items : length i.history ≤ i.most_items
   pub few_actors : length (world i).actors ≤ 65536

@@ -2,6 +2,7 @@ pub mod Worlds
 pub mod Posting
 pub mod Next
 pub mod Images
+pub mod Advancing
 pub mod Ready
 pub mod Lasting
 pub mod Kepts

@@ -109,7 +109,7 @@ impl Model for Actor {
 impl Actor {
     ghost use Rattle.std.specs.Prelude.{◌≡◌, ◌+◌, ◌<◌, ◌^◌, ◌==◌, ℕ, length, not, true, false, IfOk, OnOk, OnErr};
     ghost use Rattle.st_classes.specs.Refusals.{first_of};
-    ghost use Rattle.st_image.specs.Images.{outcome_in};
+    ghost use Rattle.st_image.specs.Advancing.{outcome_in};
     ghost use Rattle.st_image.specs.Kepts.{kept_rules, has, HasAlso, is_ready_kept, new_kept, started, stepped_to, taken_in};
 
     /// A new actor with a body and an open mailbox.

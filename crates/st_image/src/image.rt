@@ -50,7 +50,7 @@ pub struct Image {
     edits_made: u32,
     settings: Settings,
     /// The number from which the next ready actor is looked for.
-    turn: u32,
+    next_from: u32,
 }
 
 impl Model for Image {
@@ -60,7 +60,7 @@ impl Model for Image {
 
     ghost use Rattle.st_image.specs.Keeping.{IsImage};
 
-    ghost view = { λ i. record { names = i.names; history = i.history.items; capacity = i.settings.capacity; limit = i.settings.history; turn = i.turn } };
+    ghost view = { λ i. record { names = i.names; history = i.history.items; capacity = i.settings.capacity; most_items = i.settings.history; next_from = i.next_from } };
 
     ghost invariant = { λ i. IsImage i.names i.version i.actors.items i.ready.numbers i.history.items i.edits_made i.settings };
 }
@@ -71,7 +71,8 @@ impl Image {
     ghost use Rattle.st_classes.specs.Names.{interned, intern_rules};
     ghost use Rattle.st_classes.specs.Refusals.{first_of, Answers};
     ghost use Rattle.st_image.specs.declared.items.Item.TheVariants.{Created as CreatedItem};
-    ghost use Rattle.st_image.specs.Images.{appended, create_rules, new_image, no_room, outcome_at, settings_rules, world};
+    ghost use Rattle.st_image.specs.Images.{appended, create_rules, new_image, no_room, settings_rules, world};
+    ghost use Rattle.st_image.specs.Advancing.{outcome_at};
     ghost use Rattle.st_image.specs.Ready.{IsNextReady, is_ready_at};
     ghost use Rattle.st_image.specs.Delivery.{HasDelivered};
     ghost use Rattle.st_image.specs.Lasting.{IsLawful};
@@ -99,7 +100,7 @@ impl Image {
             history: Vec::new(alloc),
             edits_made: 0,
             settings,
-            turn: 0,
+            next_from: 0,
         })
     }
 
@@ -107,7 +108,7 @@ impl Image {
     pub fn set(&mut self, settings: Settings) -> Result<(), Refusal>
         requires { self.old.history ≡ [] }
         ensures { MatchResult result
-            (λ _. (first_of (settings_rules settings) ≡ None) × (self.new ≡ record self.old { capacity = settings.capacity; limit = settings.history }))
+            (λ _. (first_of (settings_rules settings) ≡ None) × (self.new ≡ record self.old { capacity = settings.capacity; most_items = settings.history }))
             (λ e. (first_of (settings_rules settings) ≡ Some e) × (self.new ≡ self.old)) }
     {
         if let Some(refusal) = settings.refusal() {
@@ -124,7 +125,8 @@ impl Image {
         let _ = &self.names;
     }
 
-    /// That so it was in this image, since each prefix of its history.
+    /// Over each prefix of its own history, what each actor had begun was the front of what it had accepted, and both have only
+    /// grown since.
     pub fn delivered(&self)
         ensures { HasDelivered self.now }
     {
@@ -186,10 +188,10 @@ impl Image {
     /// The first actor, in cyclic order of numbers after the one that advanced last, that is in a turn or has a message
     /// pending.
     pub fn next_ready(&self) -> Option<ActorId>
-        ensures some { IfSome result (λ a. IsNextReady (world self.now) self.now.turn a.0) }
+        ensures some { IfSome result (λ a. IsNextReady (world self.now) self.now.next_from a.0) }
         ensures none { IfNone result ((a : ℕ) → is_ready_at (world self.now) a ≡ false) }
     {
-        self.ready.next(self.turn).map(ActorId)
+        self.ready.next(self.next_from).map(ActorId)
     }
 
     /// What is kept of an actor.

@@ -26,7 +26,7 @@ impl Message {
     ghost use Rattle.std.specs.Prelude.{◌≡◌, IfOk};
 
     /// The same message once more.
-    pub fn copy(&self, alloc: Global) -> Result<Message, AllocError>
+    pub(crate) fn copy(&self, alloc: Global) -> Result<Message, AllocError>
         ensures { IfOk result (λ m. m ≡ self.now) }
     {
         Ok(Message {

@@ -5,7 +5,8 @@ use Rattle.std.proofs.lemmas.List.Sums.{sum_by-cons}
 use Rattle.st_classes.specs.declared.values.ActorId.{ActorId}
 use Rattle.st_image.specs.declared.items.Item.{Item}
 use Rattle.st_image.specs.declared.items.Item.TheVariants.{Ran}
-use Rattle.st_image.specs.Images.{ImageView, beginnings, idle_at, world}
+use Rattle.st_image.specs.Images.{ImageView, world}
+use Rattle.st_image.specs.Advancing.{beginnings, idle_at}
 use Rattle.st_wire.specs.declared.replies.Reply.TheVariants as reply
 use Rattle.st_server.specs.Serving.{NoneReady, Runs}
 use Rattle.st_server.specs.Totals.{quanta_in, RunsSayWhatTheyTook}

@@ -21,7 +21,7 @@ script_rules s = (not (is_quantum s.quantum), BadArguments) ∷ settings_rules (
 
 -- the image with the numbers of a script
 abbrev pub with_settings : ImageView → ScriptSettings → ImageView
-with_settings i s = record i { capacity = s.capacity; limit = s.history }
+with_settings i s = record i { capacity = s.capacity; most_items = s.history }
 
 -- the lines of a text are answered, and all of them counted unless the session ended before
 abbrev pub AnswersLines : ℕ → ImageView → List ℕ → List ℕ → ImageView → Result ℕ Refusal → Type 0

@@ -14,7 +14,8 @@ use Rattle.st_turn.specs.declared.body.Outcome.TheVariants as outcome
 use Rattle.st_image.specs.declared.messages.Message.{Message}
 use Rattle.st_image.specs.declared.items.Item.TheVariants.{Edited, Created, Posted}
 use Rattle.st_image.specs.Posting.{from_client}
-use Rattle.st_image.specs.Images.{ImageView, world, appended, image_define_rules, create_rules, image_post_rules, accepted_by, advance_rules, advanced, HasStopped, outcome_at, idle_at}
+use Rattle.st_image.specs.Images.{ImageView, world, appended, image_define_rules, create_rules, image_post_rules, accepted_by}
+use Rattle.st_image.specs.Advancing.{advance_rules, advanced, HasStopped, outcome_at, idle_at}
 use Rattle.st_image.specs.Installing.{AnswersInstall, LeavesNames}
 use Rattle.st_image.specs.Ready.{IsNextReady, is_ready_at}
 use Rattle.st_wire.specs.declared.commands.Argument.{Argument}
@@ -82,11 +83,11 @@ NoneReady i = (a : ℕ) → is_ready_at (world i) a ≡ false
 
 -- an advance of so many steps, as many as a quantum has unless the turn ended
 abbrev pub TakesQuantum : ℕ → ImageView → ℕ → ImageView → Type 0
-TakesQuantum quantum i n k = (a : ActorId) × IsNextReady (world i) i.turn a.0 × (first_of (advance_rules i (slice_get (world i).actors a.0)) ≡ None) × (1 ≤ n) × (n ≤ quantum) × (k ≡ advanced i a n) × ((n ≡ quantum) ⊎ (idle_at (slice_get (world k).actors a.0) ≡ true))
+TakesQuantum quantum i n k = (a : ActorId) × IsNextReady (world i) i.next_from a.0 × (first_of (advance_rules i (slice_get (world i).actors a.0)) ≡ None) × (1 ≤ n) × (n ≤ quantum) × (k ≡ advanced i a n) × ((n ≡ quantum) ⊎ (idle_at (slice_get (world k).actors a.0) ≡ true))
 
 -- a quantum that is refused: with nothing changed, or for want of memory, with what ran before it
 abbrev pub StopsAt : ℕ → ImageView → Refusal → ImageView → Type 0
-StopsAt quantum i e j = (a : ActorId) × IsNextReady (world i) i.turn a.0 × ((e ≡ NoMemory) ⊎ (first_of (advance_rules i (slice_get (world i).actors a.0)) ≡ Some e)) × ((j ≡ i) ⊎ ((e ≡ NoMemory) × HasStopped i a quantum j))
+StopsAt quantum i e j = (a : ActorId) × IsNextReady (world i) i.next_from a.0 × ((e ≡ NoMemory) ⊎ (first_of (advance_rules i (slice_get (world i).actors a.0)) ≡ Some e)) × ((j ≡ i) ⊎ ((e ≡ NoMemory) × HasStopped i a quantum j))
 
 -- with so many quanta left, and so many quanta and steps taken
 abbrev pub Runs : ℕ → ℕ → ImageView → ℕ → ℕ → Reply → ImageView → Type 0

@@ -2,7 +2,7 @@
 ghost use Rattle.std.specs.Prelude.{◌≡◌, ◌⊎◌, ◌+◌, ◌<◌, ◌≤◌, ◌++◌, ℕ, vec_len, vec_capacity, length, slice_get, slice_set, Some, true, IsTrue, IfOk, OnErr};
 ghost use Rattle.st_turn.specs.declared.body.Body.{Body as BodyOf};
 ghost use Rattle.st_image.specs.Keeping.{CanRun};
-ghost use Rattle.st_image.specs.Kepts.{Kept, Advances, HasAlso, advance_items, has, is_ready_kept, started, stepped_to, turn_after};
+ghost use Rattle.st_image.specs.Kepts.{Kept, Advances, HasAlso, advance_items, has, is_ready_kept, started, stepped_to, next_after};
 ghost use Rattle.st_turn.specs.Idling.{is_idle as idle};
 
 use crate::actors::{Actor, Progress};
@@ -58,12 +58,12 @@ fn note(history: &mut Vec<Item>, actor: ActorId, begins: bool, steps: u32)
 }
 
 /// The number from which the next ready actor is looked for, after an advance.
-fn turn_after(turn: u32, actor: ActorId, begins: bool, steps: u32) -> u32
+fn next_after(from: u32, actor: ActorId, begins: bool, steps: u32) -> u32
     requires { actor.0 < 65536 }
-    ensures { result ≡ turn_after turn actor begins steps }
+    ensures { result ≡ next_after from actor begins steps }
 {
     if !begins && steps == 0 {
-        turn
+        from
     } else {
         actor.0 + 1
     }
@@ -73,7 +73,8 @@ impl Image {
     ghost use Rattle.std.specs.Prelude.{◌≡◌, ◌⊎◌, ◌≤◌, ◌<◌, length, slice_get, true, IfNone, IfErr};
     ghost use Rattle.st_classes.specs.Refusals.{first_of, Answers};
     ghost use Rattle.st_classes.specs.declared.refusals.Refusal.TheVariants as refusals;
-    ghost use Rattle.st_image.specs.Images.{HasStopped, advance_rules, advanced, idle_at, world};
+    ghost use Rattle.st_image.specs.Images.{world};
+    ghost use Rattle.st_image.specs.Advancing.{HasStopped, advance_rules, advanced, idle_at};
 
     /// Why an advance is refused, if it is.
     fn advance_refusal(&self, actor: ActorId) -> Option<Refusal>
@@ -119,7 +120,7 @@ impl Image {
             return Err(Refusal::NoMemory);
         };
         note(&mut self.history, actor, begins, progress.steps);
-        self.turn = turn_after(self.turn, actor, begins, progress.steps);
+        self.next_from = next_after(self.next_from, actor, begins, progress.steps);
         progress.answer()
     }
 }

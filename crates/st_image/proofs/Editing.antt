@@ -11,14 +11,18 @@ use Rattle.std.specs.BTreeSet.{BTreeSet}
 use Rattle.st_image.specs.declared.settings.Settings.{Settings}
 use Rattle.st_image.specs.declared.items.Item.{Item}
 use Rattle.st_image.specs.declared.items.Item.TheVariants.{Edited}
-use Rattle.st_image.specs.Worlds.{World}
-use Rattle.st_image.specs.Images.{world_of, edits_in, run_rules, no_room}
+use Rattle.st_image.specs.Worlds.{World, start}
+use Rattle.st_image.specs.Images.{ImageView, world, world_of, appended, edits_in, run_rules, no_room}
+use Rattle.st_image.specs.Next.{replay}
 use Rattle.st_classes.specs.Lawful.{IsSoundEdit}
 use Rattle.st_image.specs.Kepts.{Kept}
 use Rattle.st_image.specs.Keeping.{IsImage}
 use Rattle.st_classes.proofs.LawLists.{slice_get_last}
 use Rattle.st_image.proofs.Lists.{off, off_append, first_here, first_later}
-use Rattle.st_image.proofs.Keeping.{edited_kept, has_room}
+use Rattle.st_image.proofs.Keeping.{edited_kept, has_room, none_is_none, through}
+use Rattle.st_image.proofs.Replays.{lawful_push}
+use Rattle.std.proofs.lemmas.Bool.{and_from}
+use Rattle.std.specs.Prelude.{◌&&◌, is_none}
 use Rattle.st_image.proofs.Posting.{seen}
 
 -- a refusal by the first of two lists
@@ -48,6 +52,13 @@ edited names edits edits' actors ready h made s from e k sound suits allowed aft
     let allowed' : first_of (edit_rules edits e) ≡ None = subst (λ (es : List Edit). first_of (edit_rules es e) ≡ None) back both.0 in
     let r = edited_kept names edits edits' actors ready h made (made + 1) s e k sound allowed' suits' (has_room s.history (length h) 1 _ o.1) (after ∙ ap (λ (es : List Edit). es ++ e ∷ []) back) refl in
     record { image = r.0; edits_are = ap (λ (w : World). w.edits) r.1 }
+
+-- the world behind an edit more
+pub edited_world : (i : ImageView) (e : Edit) → replay i.names start i.history ≡ Some (world i) → first_of (edit_rules (world i).edits e) ≡ None → edit_suits i.names (world i).edits e ≡ true → world (appended i (Edited e ∷ [])) ≡ record (world i) { edits = (world i).edits ++ e ∷ [] }
+edited_world i e lawful allowed suits =
+    let w : World = world i in
+    let v : World = record w { edits = w.edits ++ e ∷ [] } in
+    (lawful_push i.names i.history (Edited e) v lawful (through (is_none (first_of (edit_rules w.edits e)) && edit_suits i.names w.edits e) v (and_from (is_none (first_of (edit_rules w.edits e))) (edit_suits i.names w.edits e) (none_is_none (first_of (edit_rules w.edits e)) allowed) suits))).1
 
 some_same : {X : Type 0} (x y : X) → Some x ≡ Some y → x ≡ y
 some_same x y e = cc

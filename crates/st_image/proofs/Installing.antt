@@ -33,9 +33,12 @@ use Rattle.st_compile.specs.Scopes.{pattern_selector, scope_of}
 use Rattle.st_compile.specs.Compiled.{IsCompiled}
 use Rattle.st_compile.proofs.Interning.{first-all}
 use Rattle.st_compile.proofs.Places.{first, position-first, place-append, at-place}
-use Rattle.st_image.proofs.Lists.{first_here, first_later}
+use Rattle.st_image.proofs.Lists.{off_append, first_here, first_later}
+use Rattle.st_image.proofs.Editing.{edited_world}
+use Rattle.st_image.specs.Next.{replay}
+use Rattle.st_classes.specs.Suiting.{suits}
 use Rattle.st_image.specs.declared.items.Item.TheVariants.{Edited}
-use Rattle.st_image.specs.Worlds.{World}
+use Rattle.st_image.specs.Worlds.{World, start}
 use Rattle.st_image.specs.Images.{ImageView, world, appended, edits_in, run_rules}
 use Rattle.st_image.specs.Lasting.{BeginsWithKernel}
 use Rattle.st_image.specs.Installing.{has_kernel, is_kernel_text, source_rules, image_install_rules, AddsNames, AddsAllNames, LeavesNames, with_names_of, Installs, memory, first as first_refusal, AnswersInstall}
@@ -141,19 +144,22 @@ edit_part es j c m h k =
     skip (not (is_class es c)) UnknownClass ((is_some (kernel_method c m.selector), KernelMethod) ∷ (too_many_edits es ∷ run_rules j)) (is_not _ h)
     ∙ skip (is_some (kernel_method c m.selector)) KernelMethod (too_many_edits es ∷ run_rules j) k
 
-answers_same : {T : Type 0} (f g : Option Refusal) (P Q : T → Type 0) (r : Result T Refusal) → f ≡ g → ((x : T) → P x → Q x) → Answers f r P → Answers g r Q
-answers_same f g P Q (Ok x) e h a = (sym e ∙ a.0, h x a.1)
+answers_same : {T : Type 0} (f g : Option Refusal) (P Q : T → Type 0) (r : Result T Refusal) → f ≡ g → ((x : T) → f ≡ None → P x → Q x) → Answers f r P → Answers g r Q
+answers_same f g P Q (Ok x) e h a = (sym e ∙ a.0, h x a.0 a.1)
 answers_same f g P Q (Err x) e h (inl m) = inl m
 answers_same f g P Q (Err x) e h (inr s) = inr (sym e ∙ s)
 
-pub tree_installed : (i j k : ImageView) (c : ClassId) (tree : Method) (text : List ℕ) (m : MethodParts) (r : Result ℕ Refusal) → is_class (world i).edits c ≡ true → is_kernel_text c (pattern_selector tree.pattern) ≡ false → first_of (method_rules i.names (world i).edits c tree) ≡ None → j ≡ with_names_of i tree → world j ≡ world i → BeginsWithKernel j.names → IsCompiled j.names (world i).edits c tree text m → Answers (first_of (edit_rules (world j).edits (Install c m) ++ run_rules j)) r (λ n. (k ≡ appended j (Edited (Install c m) ∷ [])) × (n ≡ length (world k).edits)) → Answers (first_of (image_install_rules i c tree)) r (λ n. Installs i c tree text k n)
-tree_installed i j k c tree text m r h f t e w b p a =
+pub tree_installed : (i j k : ImageView) (c : ClassId) (tree : Method) (text : List ℕ) (m : MethodParts) (r : Result ℕ Refusal) → is_class (world i).edits c ≡ true → is_kernel_text c (pattern_selector tree.pattern) ≡ false → first_of (method_rules i.names (world i).edits c tree) ≡ None → j ≡ with_names_of i tree → world j ≡ world i → replay j.names start j.history ≡ Some (world j) → BeginsWithKernel j.names → IsCompiled j.names (world i).edits c tree text m → Answers (first_of (edit_rules (world j).edits (Install c m) ++ run_rules j)) r (λ n. (k ≡ appended j (Edited (Install c m) ∷ [])) × (n ≡ length (world k).edits)) → Answers (first_of (image_install_rules i c tree)) r (λ n. Installs i c tree text k n)
+tree_installed i j k c tree text m r h f t e w lawful b p a =
     let free : is_some (kernel_method c m.selector) ≡ false = number_free j.names b c (pattern_selector tree.pattern) m.selector p.selector f in
     let mine : first_of (image_install_rules i c tree) ≡ first_of (too_many_edits (world i).edits ∷ run_rules i) = tree_part i c tree h f ∙ first_later (method_rules i.names (world i).edits c tree) (too_many_edits (world i).edits ∷ run_rules i) t in
     let runs : run_rules j ≡ run_rules i = ap run_rules e in
     let theirs : first_of (edit_rules (world j).edits (Install c m) ++ run_rules j) ≡ first_of (too_many_edits (world i).edits ∷ run_rules i) =
     ap (λ (v : World). first_of (edit_rules v.edits (Install c m) ++ run_rules j)) w ∙ edit_part (world i).edits j c m h free ∙ ap (λ (rs : List Rule). first_of (too_many_edits (world i).edits ∷ rs)) runs in
-    answers_same _ _ _ _ r (theirs ∙ sym mine) (λ n q. (m, subst (λ (ns : List (List ℕ)). IsCompiled ns (world i).edits c tree text m) (sym (ap (λ (v : ImageView). v.names) q.0)) p, q.0 ∙ ap (λ (v : ImageView). appended v (Edited (Install c m) ∷ [])) e, q.1)) a
+    let suited : suits j.names (world j).edits c m ≡ true = subst (λ (v : World). suits j.names v.edits c m ≡ true) (sym w) p.fitting in
+    let then_world : first_of (edit_rules (world j).edits (Install c m) ++ run_rules j) ≡ None → world (appended j (Edited (Install c m) ∷ [])) ≡ record (world i) { edits = (world i).edits ++ Install c m ∷ [] } =
+    λ o. edited_world j (Install c m) lawful (off_append (edit_rules (world j).edits (Install c m)) (run_rules j) o).0 suited ∙ ap (λ (v : World). record v { edits = v.edits ++ Install c m ∷ [] }) w in
+    answers_same _ _ _ _ r (theirs ∙ sym mine) (λ n o q. (m, subst (λ (ns : List (List ℕ)). IsCompiled ns (world i).edits c tree text m) (sym (ap (λ (v : ImageView). v.names) q.0)) p, q.0 ∙ ap (λ (v : ImageView). appended v (Edited (Install c m) ∷ [])) e, ap (λ (v : ImageView). world v) q.0 ∙ then_world o, q.1)) a
 
 -- the answer of a tree that the text spells is the answer of its install
 pub install_answered : (i k : ImageView) (c : ClassId) (tree : Method) (text : List ℕ) (r : Result ℕ Refusal) → Spells tree text → Answers (first_of (image_install_rules i c tree)) r (λ n. Installs i c tree text k n) → AnswersInstall i c text k r

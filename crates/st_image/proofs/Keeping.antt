@@ -82,7 +82,7 @@ pub through : (b : Bool) (w : World) → b ≡ true → only_if b w ≡ Some w
 through true w e = refl
 through false w e = cc
 
-none_is_none : (o : Option Refusal) → o ≡ None → is_none o ≡ true
+pub none_is_none : (o : Option Refusal) → o ≡ None → is_none o ≡ true
 none_is_none None e = refl
 none_is_none (Some x) e = cc
 

@@ -58,9 +58,9 @@ LeavesNames i c text (TooMany Edits) j = AddsAllNames i c text j
 LeavesNames i c text HistoryFull j = AddsAllNames i c text j
 LeavesNames i c text e j = j ≡ i
 
--- the class has the compiled method, and the answer is the number of edits
+-- the class has the compiled method: the names that the method needs and the edit are added to the image, and the edit alone to its world; the answer is the number of edits
 abbrev pub Installs : ImageView → ClassId → Method → List ℕ → ImageView → ℕ → Type 0
-Installs i c method text j n = (m : MethodParts) × IsCompiled j.names (world i).edits c method text m × (j ≡ appended (with_names_of i method) (Edited (Install c m) ∷ [])) × (n ≡ length (world j).edits)
+Installs i c method text j n = (m : MethodParts) × IsCompiled j.names (world i).edits c method text m × (j ≡ appended (with_names_of i method) (Edited (Install c m) ∷ [])) × (world j ≡ record (world i) { edits = (world i).edits ++ Install c m ∷ [] }) × (n ≡ length (world j).edits)
 
 -- the text spells no method
 abbrev pub IsUnread : List ℕ → Type 0

@@ -12,7 +12,7 @@ pub edit-requires : goal.edit-requires
 edit-requires c = subst (λ (v : World). suits c.compiled.new.self.names v.edits c.args.class c.in-Ok.method ≡ true) (sym c.compiled.ensures.world) c.in-Ok.ensures.answers.1.fitting
 
 pub returns-clause-answers : goal.returns-clause-answers
-returns-clause-answers c = tree_installed c.args.self.now c.compiled.new.self c.edit.new.self c.args.class (method_view c.args.tree.now) c.args.source c.in-Ok.method c.edit.result c.requires.class c.requires.free c.in-Ok.ensures.answers.0 c.in-Ok.ensures.names c.compiled.ensures.world c.known.ensures.standing.kernel c.in-Ok.ensures.answers.1 c.edit.ensures.answers
+returns-clause-answers c = tree_installed c.args.self.now c.compiled.new.self c.edit.new.self c.args.class (method_view c.args.tree.now) c.args.source c.in-Ok.method c.edit.result c.requires.class c.requires.free c.in-Ok.ensures.answers.0 c.in-Ok.ensures.names c.compiled.ensures.world c.known.ensures.lawful c.known.ensures.standing.kernel c.in-Ok.ensures.answers.1 c.edit.ensures.answers
 
 pub returns-in-Err-clause-refused : goal.returns-in-Err-clause-refused
 returns-in-Err-clause-refused c = tree_left c.args.self.now c.compiled.new.self c.args.class (method_view c.args.tree.now) c.args.source c.in-Err.refusal c.requires.spells c.requires.class c.requires.free c.compiled.ensures.some c.compiled.ensures.only c.compiled.ensures.untouched c.in-Err.ensures.full c.in-Err.ensures.answers

@@ -108,13 +108,13 @@ impl Names {
 
     /// The number of a selector, which is put last where it isn't there yet.
     ///
-    /// `BadName` says that the text is no selector, and `TooMany` that it isn't there and 8,192 names are. A refused call changes
-    /// nothing.
+    /// `BadName` says that the text is no selector, and `TooMany` that it isn't there and 8,192 names are. Memory can run out only
+    /// where a name is put last. A refused call changes nothing.
     pub fn intern(&mut self, alloc: Global, text: &[u8]) -> Result<Selector, Refusal>
         ensures answers { Answers (first_of (intern_rules self.old text.now)) result (λ s. slice_get self.new s.0 ≡ Some text.now) }
         ensures names { OnOk result (self.new ≡ interned self.old text.now) }
         ensures unchanged { OnErr result (self.new ≡ self.old) }
-        ensures memory { IfErr result (λ e. e ≡ NoMemory → first_of (intern_rules self.old text.now) ≡ None) }
+        ensures memory { IfErr result (λ e. e ≡ NoMemory → (first_of (intern_rules self.old text.now) ≡ None) × (is_name self.old text.now ≡ false)) }
     {
         if let Some(place) = place_in(&self.texts, text) {
             return Ok(Selector(place as u16));

@@ -41,7 +41,7 @@ class_count_grows edits more = omega (arith, ap (λ (cs : List ClassDef). length
 pub class_stays : (edits more : List Edit) (c : ClassId) → is_class edits c ≡ true → is_class (edits ++ more) c ≡ true
 class_stays edits more c h = lt-ltb c.0 (class_count (edits ++ more)) (omega (arith, ltb-true c.0 (class_count edits) h, class_count_grows edits more))
 
-slots_in_old : (cs ds : List ClassDef) (c : ClassId) → IsForest cs → c.0 < length cs → flat_map (own_slots (cs ++ ds)) (reverse (chain_of (cs ++ ds) 64 (Some c))) ≡ flat_map (own_slots cs) (reverse (chain_of cs 64 (Some c)))
+pub slots_in_old : (cs ds : List ClassDef) (c : ClassId) → IsForest cs → c.0 < length cs → flat_map (own_slots (cs ++ ds)) (reverse (chain_of (cs ++ ds) 64 (Some c))) ≡ flat_map (own_slots cs) (reverse (chain_of cs 64 (Some c)))
 slots_in_old cs ds c g h =
     let here : (d : ClassId) → Some c ≡ Some d → d.0 < length cs = λ d e. let s : c ≡ d = cc in subst (λ (x : ClassId). x.0 < length cs) s h in
     ap (λ (xs : List ClassId). flat_map (own_slots (cs ++ ds)) (reverse xs)) (chain_old cs ds g 64 (Some c) here) ∙ slots_old cs ds g 64 (Some c) here

@@ -4,6 +4,7 @@ pub mod Naming
 pub mod LawLists
 pub mod LawChains
 pub mod LawGrowing
+pub mod FewSlots
 pub mod LawLookup
 pub mod LawOwning
 pub mod Chains

@@ -83,7 +83,7 @@ impl Version {
     }
 
     /// What callers may know of every class table: each edit was accepted after those before it, its methods are sound, no chain
-    /// has over 64 classes, and the limits hold.
+    /// has over 64 classes, there are at most 4,096 edits and 1,024 classes, and each class has at most 64 instance variables.
     #[inline]
     pub fn known(&self)
         ensures lawful { AreLawful self.now }
@@ -91,6 +91,7 @@ impl Version {
         ensures forest { IsForest (classes self.now) }
         ensures few { length self.now ≤ 4096 }
         ensures few_classes { class_count self.now ≤ 1024 }
+        ensures few_slots { (c : ClassId) → length (slots self.now c) ≤ 64 }
     {
         self.kept();
         self.methods_known();

@@ -10,7 +10,6 @@ pub mod EmittingChains
 pub mod EmittingTrees
 pub mod Places
 pub mod SendPlaces
-pub mod FewSlots
 pub mod Interning
 pub mod Least
 pub mod Resolving

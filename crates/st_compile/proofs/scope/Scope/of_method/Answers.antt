@@ -1,13 +1,10 @@
 use Rattle.std.proofs.Common.{length, ap, arith}
-use Rattle.std.proofs.lemmas.Bool.{ltb-true}
 use Rattle.std.proofs.lemmas.List.{length-map}
-use Rattle.st_classes.specs.Classes.{class_count}
 use Rattle.st_compile.specs.Naming.{named}
-use Rattle.st_compile.proofs.FewSlots.{few_slots}
 use Rattle.st_compile.proofs.scope.Scope.of_method.Goals as goal
 
 pub returns-clause-few : goal.returns-clause-few
 returns-clause-few c = record {
-  slots = rw c.slots.ensures (few_slots c.args.version.now c.known.ensures.lawful c.args.class (ltb-true c.args.class.0 (class_count c.args.version.now) c.requires.class));
+  slots = rw c.slots.ensures (c.known.ensures.few_slots c.args.class);
   locals = omega (arith, length-map (named c.in_ok-locals.locals.items) (λ n. n.text), ap length c.in_ok-locals.ensures.ok);
 }

@@ -202,6 +202,16 @@ missing_none edits c None m e = let same : user_method (walk edits c does_not_un
 missing_none edits c (Some (User n)) m e = cc
 missing_none edits c (Some (FoundKernel k)) m e = cc
 
+nothing_none : (edits : List Edit) (c : ClassId) (o : Option Found) → or_missing edits c o ≡ Missing None → (o ≡ None) × (user_method (walk edits c does_not_understand) ≡ None)
+nothing_none edits c None e = (refl, cc)
+nothing_none edits c (Some (User n)) e = cc
+nothing_none edits c (Some (FoundKernel k)) e = cc
+
+no_user : (o : Option Found) → ((m : MethodId) → o ≡ Some (User m) → ⊥) → user_method o ≡ None
+no_user None h = refl
+no_user (Some (User m)) h = absurd (h m refl)
+no_user (Some (FoundKernel k)) h = refl
+
 -- the first of some classes that has a method of its own, where that is one of the user's
 pub first_stands : (edits : List Edit) (cs : List ClassId) (s : Selector) (m : MethodId) → first_own edits cs s ≡ Some (User m) → FirstStands edits cs s m
 first_stands edits cs s m e = let w = (first_found edits cs s (User m)).0 e in (w, own_stands edits w.holder s m w.its_own)
@@ -213,6 +223,10 @@ target_of edits c cs s = record {
   missing = λ m. (
     λ e. let w = missing_none edits c (first_own edits cs s) m e in ((first_none edits cs s).0 w.0, first_stands edits (chain edits c) does_not_understand m w.1),
     λ w. ap (or_missing edits c) ((first_none edits cs s).1 w.0) ∙ ap (λ (o : Option Found). Missing (user_method o)) ((first_found edits (chain edits c) does_not_understand (User m)).1 w.1.0),
+  );
+  nothing = (
+    λ e. let w = nothing_none edits c (first_own edits cs s) e in ((first_none edits cs s).0 w.0, λ m u. let found = (first_found edits (chain edits c) does_not_understand (User m)).1 u.0 in let none : Some m ≡ None = ap user_method (sym found) ∙ w.1 in cc),
+    λ w. ap (or_missing edits c) ((first_none edits cs s).1 w.0) ∙ ap (λ (o : Option MethodId). Missing o) (no_user (walk edits c does_not_understand) (λ m e. w.1 m (first_stands edits (chain edits c) does_not_understand m e))),
   );
 }
 

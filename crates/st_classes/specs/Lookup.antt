@@ -69,11 +69,13 @@ chain_from edits (Some c) = chain edits c
 
 -- What is run for a message to an instance of a class, where a method is looked for along some classes: a method of the user's
 -- exactly where the first that has one has it, and then it stands in the table; the kernel's exactly where the first has that;
--- and what the user has for `doesNotUnderstand:` exactly where none has one, and the first on the class's own chain has that.
+-- what the user has for `doesNotUnderstand:` exactly where none has one, and the first on the class's own chain has that; and
+-- nothing exactly where neither is found.
 pub record IsTarget (edits : List Edit) (c : ClassId) (cs : List ClassId) (s : Selector) (t : Target) : Type 0 where
   pub run : (m : MethodId) → (t ≡ Run m) ↔ FirstStands edits cs s m
   pub primitive : (k : Kernel) → (t ≡ Primitive k) ↔ IsFirst edits cs s (FoundKernel k)
   pub missing : (m : MethodId) → (t ≡ Missing (Some m)) ↔ (All (HasNone edits s) cs × FirstStands edits (chain edits c) does_not_understand m)
+  pub nothing : (t ≡ Missing None) ↔ (All (HasNone edits s) cs × ((m : MethodId) → FirstStands edits (chain edits c) does_not_understand m → ⊥))
 
 -- A class's own method of the user's is the one that stands in the table for it; a send looks along the chain of the class, and a
 -- super send along that of the superclass of its method's holder.

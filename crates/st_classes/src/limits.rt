@@ -44,6 +44,3 @@ pub const SOURCE: usize = 4096;
 
 /// Actors of an image.
 pub const ACTORS: usize = 65_536;
-
-/// Objects of an actor.
-pub const OBJECTS: usize = 1024;

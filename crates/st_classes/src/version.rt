@@ -162,7 +162,7 @@ impl Version {
     }
 
     /// The number of classes on a class's chain, itself and Object counted: 1 to 64.
-    pub fn depth(&self, class: ClassId) -> u8
+    pub(crate) fn depth(&self, class: ClassId) -> u8
         requires { is_class self.now class ≡ true }
         ensures { result ≡ length (chain self.now class) }
     {
@@ -201,7 +201,7 @@ impl Version {
     }
 
     /// The method that a class has of its own.
-    pub fn own(&self, class: ClassId, selector: Selector) -> Option<Found>
+    pub(crate) fn own(&self, class: ClassId, selector: Selector) -> Option<Found>
         requires { is_class self.now class ≡ true }
         ensures { result ≡ own self.now class selector }
     {

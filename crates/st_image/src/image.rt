@@ -66,9 +66,10 @@ impl Model for Image {
 }
 
 impl Image {
-    ghost use Rattle.std.specs.Prelude.{◌≡◌, ◌+◌, [], ◌∷◌, length, slice_get, OnOk, OnErr, MatchResult, IfSome, IfNone, IfOk, None, Some, Err, ℕ, false, option_map};
+    ghost use Rattle.std.specs.Prelude.{◌≡◌, ◌+◌, [], ◌∷◌, length, slice_get, OnOk, OnErr, MatchResult, IfSome, IfNone, IfOk, IfErr, None, Some, Err, ℕ, false, option_map};
     ghost use Rattle.st_image.specs.Kepts.{kept_of};
-    ghost use Rattle.st_classes.specs.Names.{interned, intern_rules};
+    ghost use Rattle.st_classes.specs.declared.refusals.Refusal.TheVariants.{NoMemory};
+    ghost use Rattle.st_classes.specs.Names.{interned, intern_rules, is_name};
     ghost use Rattle.st_classes.specs.Refusals.{first_of, Answers};
     ghost use Rattle.st_image.specs.declared.items.Item.TheVariants.{Created as CreatedItem};
     ghost use Rattle.st_image.specs.Images.{appended, create_rules, new_image, no_room, settings_rules, world};
@@ -163,12 +164,14 @@ impl Image {
 
     /// The number of a selector, which is put last in the names where it isn't there yet.
     ///
-    /// `BadName` says that the text is no selector, and `TooMany` that it isn't there and 8,192 names are. A refused call changes nothing.
+    /// `BadName` says that the text is no selector, and `TooMany` that it isn't there and 8,192 names are. Memory can run out
+    /// only where a name is put last. A refused call changes nothing.
     pub fn intern(&mut self, alloc: Global, text: &[u8]) -> Result<Selector, Refusal>
         ensures answers { Answers (first_of (intern_rules self.old.names text.now)) result (λ s. slice_get self.new.names s.0 ≡ Some text.now) }
         ensures names { OnOk result (self.new ≡ record self.old { names = interned self.old.names text.now }) }
         ensures unchanged { OnErr result (self.new ≡ self.old) }
         ensures world { world self.new ≡ world self.old }
+        ensures memory { IfErr result (λ e. e ≡ NoMemory → (first_of (intern_rules self.old.names text.now) ≡ None) × (is_name self.old.names text.now ≡ false)) }
     {
         self.names.intern(alloc, text)
     }

@@ -43,7 +43,7 @@ abbrev pub assigns_variable : List (List ℕ) → Expression → Bool
 assigns_variable fixed (Expression.assign n place e) = may_change fixed n
 assigns_variable fixed _ = true
 
--- both
+-- an expression stands where it may, and what it assigns to is a variable
 abbrev pub is_allowed : List (List ℕ) → Expression → Bool
 is_allowed fixed e = stands e && assigns_variable fixed e
 

@@ -3,7 +3,7 @@ mod codes;
 
 use crate::classes::define;
 use crate::compiling::codes::CODES;
-use crate::faults::said;
+use crate::faults::{said, unmarked};
 use st_classes::methods::Method;
 use st_classes::names::Names;
 use st_classes::refusals::{Refusal, SourceFault};
@@ -137,9 +137,8 @@ fn expect_faults(
     sources: &str,
 ) -> Result<(), Fail> {
     for line in sources.lines() {
-        let (before, behind) = line.split_once('§').ok_or("a mark")?;
-        let source = format!(in alloc; "{before}{behind}")?;
-        expect_fault(rt, alloc, source.as_bytes(), kind, before.len())?;
+        let (source, offset) = unmarked(alloc, line)?;
+        expect_fault(rt, alloc, source.as_bytes(), kind, offset)?;
     }
     Ok(())
 }

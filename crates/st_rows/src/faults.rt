@@ -27,6 +27,12 @@ pub(crate) fn said(refusal: Refusal) -> Option<(SourceFault, usize)> {
     }
 }
 
+/// A source without its mark `§`, and where that stood.
+pub(crate) fn unmarked(alloc: Global, line: &str) -> Result<(String, usize), Fail> {
+    let (before, behind) = line.split_once('§').ok_or("a mark")?;
+    Ok((format!(in alloc; "{before}{behind}")?, before.len()))
+}
+
 // A fault of a source, which the reader answers too.
 fn expect_fault(rt: &impl Abort, alloc: Global, source: &[u8], kind: SourceFault, offset: usize) {
     let text = str::from_utf8(source).unwrap_or("bytes");
@@ -48,9 +54,8 @@ fn expect_faults(
     sources: &str,
 ) -> Result<(), Fail> {
     for line in sources.lines() {
-        let (before, behind) = line.split_once('§').ok_or("a mark")?;
-        let source = format!(in alloc; "{before}{behind}")?;
-        expect_fault(rt, alloc, source.as_bytes(), kind, before.len());
+        let (source, offset) = unmarked(alloc, line)?;
+        expect_fault(rt, alloc, source.as_bytes(), kind, offset);
     }
     Ok(())
 }

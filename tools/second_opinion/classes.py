@@ -1,0 +1,57 @@
+"""The class table: definitions, installs, and lookup."""
+
+from dataclasses import dataclass, field
+
+from .checks import read_method
+from .compiler import compile_method
+from .language import KERNEL_CLASSES, KERNEL_SELECTORS
+
+
+@dataclass
+class Class:
+    name: str
+    parent: object
+    slots: list
+    methods: dict = field(default_factory=dict)
+
+
+class KernelMethod(Exception):
+    """An install in place of a method of the kernel."""
+
+
+class Classes:
+    """`edits` counts the definitions and installs."""
+
+    def __init__(self):
+        self.all = [Class(name, None if number == 0 else 0, []) for number, name in enumerate(KERNEL_CLASSES)]
+        self.numbers = {name: number for number, name in enumerate(KERNEL_CLASSES)}
+        self.edits = 0
+
+    def define(self, name, parent, slots):
+        above = self.numbers[parent]
+        self.numbers[name] = len(self.all)
+        self.all.append(Class(name, above, self.all[above].slots + slots))
+        self.edits += 1
+
+    def install(self, class_name, source):
+        """The method of the source, which stands in the class then."""
+        holder = self.all[self.numbers[class_name]]
+        tree = read_method(source)
+        if tree.selector in KERNEL_SELECTORS.get(class_name, ()):
+            raise KernelMethod
+        method = compile_method(tree, holder.slots, self.numbers)
+        holder.methods[method.selector] = method
+        self.edits += 1
+        return method
+
+    def find(self, number, selector):
+        """The number of the class that has the method, and the method: a compiled one, or None for one of the kernel. None
+        where no class up the chain has one."""
+        while number is not None:
+            at = self.all[number]
+            if selector in at.methods:
+                return number, at.methods[selector]
+            if selector in KERNEL_SELECTORS.get(at.name, ()):
+                return number, None
+            number = at.parent
+        return None

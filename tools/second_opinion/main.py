@@ -1,0 +1,75 @@
+"""Compares the second reader with a built program, on sources and turns that are the same in every run.
+
+    tools/second-opinion PROGRAM [--sources N] [--seed N] [--briefly]
+    tools/second-opinion PROGRAM --sharp
+
+PROGRAM is `crates/actorimage/out/actorimage`. Compared are the replies to each command of scripts: which sources are refused,
+with which kind and at which byte, and how turns end, in how many quanta and steps. Where they differ, the status is 1, and
+the shortest source and script that show it are printed; with --briefly only that they do. --sharp puts wrong rules into the
+second reader, one at a time, and says which of them no source tells apart from the right ones.
+"""
+
+import argparse
+import os
+import sys
+import threading
+
+from .compare import Difference, differences, program_replies
+from .scripts import all_scripts
+from .sharp import try_wrong_rules
+
+SEED = 20240607
+SOURCES = 50_000
+
+# A source may open thousands of brackets before it is refused.
+DEEPEST_CALLS = 200_000
+STACK = 512 * 1024 * 1024
+
+
+def arguments():
+    plain = argparse.RawDescriptionHelpFormatter
+    parser = argparse.ArgumentParser(prog="second-opinion", description=__doc__, formatter_class=plain)
+    parser.add_argument("program", metavar="PROGRAM")
+    parser.add_argument("--sources", type=int, default=SOURCES, metavar="N", help="how many random sources (%(default)s)")
+    parser.add_argument("--seed", type=int, default=SEED, metavar="N")
+    parser.add_argument("--briefly", action="store_true", help="print nothing of a difference but that there is one")
+    parser.add_argument("--sharp", action="store_true", help="try wrong rules in the second reader")
+    return parser.parse_args()
+
+
+def compare(program, seed, sources, briefly):
+    """The status: 0 where there is no difference."""
+    read = turns = 0
+    for script in all_scripts(seed, sources):
+        got = program_replies(program, script.lines, script.quantum, script.capacity)
+        read += script.sources
+        turns += script.turns
+        if differences(script.replies, got):
+            if not briefly:
+                print(Difference(program, script, got).report())
+            print(f"tools/second-opinion: a difference within {read:,} sources and {turns:,} turns")
+            return 1
+    print(f"tools/second-opinion: {read:,} sources and {turns:,} turns, no difference")
+    return 0
+
+
+def main():
+    given = arguments()
+    program = os.path.realpath(given.program)
+    if not os.access(program, os.X_OK):
+        sys.exit(f"tools/second-opinion: {given.program} is no program; build it first")
+    status = []
+
+    def work():
+        if given.sharp:
+            status.append(try_wrong_rules(program))
+        else:
+            status.append(compare(program, given.seed, given.sources, given.briefly))
+
+    sys.setrecursionlimit(DEEPEST_CALLS)
+    threading.stack_size(STACK)
+    worker = threading.Thread(target=work)
+    worker.start()
+    worker.join()
+    # A worker that raised has printed why.
+    sys.exit(status[0] if status else 3)

@@ -1,0 +1,195 @@
+"""Scripts of commands with the replies that the second reader gives: what is compared with the program's."""
+
+import json
+import random
+
+from .image import Image
+from .language import arguments_of
+from .machine import Actor
+from .short import short_sources
+from .sources import Sources
+
+SETUP = [
+    {"cmd": "define", "name": "A", "slots": ["count", "total"], "super": "Object"},
+    {"cmd": "define", "name": "B", "slots": ["extra"], "super": "A"},
+    {"class": "A", "cmd": "actor"},
+    {"class": "B", "cmd": "actor"},
+]
+
+# A script stays below the limits of the image, which are tried elsewhere: names, edits, and the bytes of a line.
+MOST_NAMES = 7500
+MOST_EDITS = 2000
+MOST_LINE = 8000
+# A turn of more steps is not posted where turns are run to their end.
+MOST_STEPS = 4000
+
+ARGUMENTS = [0, 1, 2, 3, -1, 5, 2**63 - 1, -(2**63), True, False, None]
+ARGUMENTS += [{"sym": "a"}, {"sym": "at:put:"}, {"ref": 0}, {"ref": 1}, {"class": "A"}, {"class": "SmallInteger"}]
+
+OTHER_CLASSES = "Object Object SmallInteger SmallInteger True False Symbol UndefinedObject ActorRef Class".split()
+
+
+def compact(reply):
+    return json.dumps(reply, separators=(",", ":"), sort_keys=True, ensure_ascii=False)
+
+
+class Script:
+    def __init__(self, quantum=256, capacity=64):
+        self.quantum = quantum
+        self.capacity = capacity
+        self.image = Image(quantum, capacity)
+        self.commands = []
+        self.lines = []
+        self.replies = []
+        self.names = set()
+        self.sources = 0
+        self.turns = 0
+        for command in SETUP:
+            self.add(command)
+
+    def add(self, command, plain=False):
+        """Adds a command and its reply, which is answered. A plain line has its characters as they are."""
+        reply = self.image.reply(command)
+        self.commands.append(command)
+        self.lines.append(json.dumps(command, ensure_ascii=not plain))
+        self.replies.append(compact(reply))
+        return reply
+
+    def has_room(self):
+        return len(self.names) < MOST_NAMES and self.image.classes.edits < MOST_EDITS
+
+    def install(self, class_name, source, plain=False):
+        """The method, where the source is accepted."""
+        command = {"class": class_name, "cmd": "method", "source": source}
+        if len(json.dumps(command)) > MOST_LINE:
+            return None
+        self.sources += 1
+        if "ok" not in self.add(command, plain):
+            return None
+        method = self.image.installed
+        self.names.add(method.selector)
+        self.names.update(instruction.operand for instruction in method.code if instruction.name == "Send")
+        return method
+
+    def post(self, number, selector, arguments):
+        self.names.add(selector)
+        command = {"actor": number, "args": arguments, "cmd": "post", "selector": selector, "sender": 1, "seq": len(self.lines)}
+        reply = self.add(command)
+        self.turns += "ok" in reply
+        return reply
+
+    def run_turn(self, number, selector, arguments):
+        """Posts, runs all there is, and asks how it ended; nothing where the turn would take too long."""
+        if self.ends(number, selector, arguments):
+            turn = self.post(number, selector, arguments)["ok"]["turn"]
+            self.add({"cmd": "run"})
+            self.add({"actor": number, "cmd": "outcome", "turn": turn})
+
+    def ends(self, number, selector, arguments):
+        actor = self.image.actors[number]
+        trial = Actor(number, actor.class_number, self.image.classes)
+        trial.slots = list(actor.slots)
+        trial.message = (selector, [self.image.value(argument) for argument in arguments])
+        for _ in range(min(MOST_STEPS, 1000 * self.quantum)):
+            trial.step()
+            if not trial.in_turn():
+                return True
+        return False
+
+
+def short_scripts():
+    """All short sources; those that are accepted without arguments are run."""
+    script = Script()
+    for source in short_sources():
+        method = script.install("A", source)
+        if method and method.arguments == 0:
+            script.run_turn(0, method.selector, [])
+        if not script.has_room() or script.sources >= 5000:
+            yield script
+            script = Script()
+    yield script
+
+
+def random_arguments(rng, count):
+    return [rng.choice(ARGUMENTS) for _ in range(count)]
+
+
+def random_script(rng, sources, size):
+    """Random sources, each accepted one run at once."""
+    script = Script(rng.choice([256, 256, 256, 256, 1, 2, 5, 16, 255, 1024]))
+    while script.sources < size and script.has_room():
+        source = sources.next()
+        class_name = rng.choice(["A"] * 13 + ["B"] * 4 + [rng.choice(OTHER_CLASSES)] * 3)
+        method = script.install(class_name, source, plain=rng.random() < 0.3)
+        if method is None:
+            continue
+        sources.keep(source)
+        if class_name in ("A", "B", "Object") or rng.random() < 0.2:
+            for _ in range(rng.choice([1, 1, 2])):
+                number = 1 if class_name == "B" else rng.choice([0, 1])
+                script.run_turn(number, method.selector, random_arguments(rng, method.arguments))
+    return script
+
+
+class CutTurns:
+    """A script in which turns of several actors are cut by quanta, with edits between them."""
+
+    SELECTORS = "foo bar m m1 who + = foo: class".split()
+
+    def __init__(self, rng, sources):
+        self.rng = rng
+        self.sources = sources
+        quantum = rng.choice([1, 2, 3, 5, 8, 16, 33, 256])
+        self.script = Script(quantum, rng.choice([64, 64, 1, 2, 5]))
+        self.runs = [1, 1, 2, 3, 5, 10, 30] if quantum < 100 else [1, 2, 5]
+        self.selectors = list(self.SELECTORS)
+
+    def grow(self, size):
+        while len(self.script.lines) < size and self.script.has_room():
+            self.command(self.rng.random())
+        return self.script
+
+    def command(self, kind):
+        if kind < 0.35:
+            self.install()
+        elif kind < 0.6:
+            self.post()
+        elif kind < 0.8:
+            self.script.add({"cmd": "run", "quanta": self.rng.choice(self.runs)})
+        elif kind < 0.995:
+            self.ask()
+        elif len(self.script.image.actors) < 8:
+            self.script.add({"class": self.rng.choice(["A", "B", "Object"]), "cmd": "actor"})
+
+    def install(self):
+        class_name = self.rng.choice("A A A B B Object SmallInteger Symbol True".split())
+        method = self.script.install(class_name, self.sources.next_to_run())
+        if method:
+            self.selectors.append(method.selector)
+
+    def post(self):
+        """A few have an argument too many."""
+        selector = self.rng.choice(self.selectors)
+        count = arguments_of(selector) + (self.rng.random() < 0.03)
+        self.script.post(self.actor(), selector, random_arguments(self.rng, count))
+
+    def actor(self):
+        return self.rng.randrange(len(self.script.image.actors))
+
+    def ask(self):
+        number = self.actor()
+        ended = len(self.script.image.actors[number].results)
+        turn = max(0, ended + self.rng.choice([0, 0, 0, -1, 1, -2]))
+        self.script.add({"actor": number, "cmd": "outcome", "turn": turn})
+
+
+def all_scripts(seed, sources):
+    """The short sources, and `sources` random ones, of which one in five stands in a script that cuts turns."""
+    yield from short_scripts()
+    rng = random.Random(seed)
+    kinds = Sources(rng)
+    left = sources
+    while left > 0:
+        script = random_script(rng, kinds, min(left, 600)) if rng.random() < 0.7 else CutTurns(rng, kinds).grow(900)
+        left -= script.sources
+        yield script

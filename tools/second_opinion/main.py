@@ -23,7 +23,7 @@ SOURCES = 50_000
 
 # A source may open thousands of brackets before it is refused.
 DEEPEST_CALLS = 200_000
-STACK = 512 * 1024 * 1024
+STACK = 256 * 1024 * 1024
 
 
 def arguments():

@@ -8,6 +8,7 @@ from .language import arguments_of
 from .machine import Actor
 from .short import short_sources
 from .sources import Sources
+from .words import CALLING, GOOD
 
 SETUP = [
     {"cmd": "define", "name": "A", "slots": ["count", "total"], "super": "Object"},
@@ -33,7 +34,20 @@ def compact(reply):
     return json.dumps(reply, separators=(",", ":"), sort_keys=True, ensure_ascii=False)
 
 
+def names_in(method):
+    """The selectors and symbols of a method: what it puts into the table of names."""
+    names = {method.selector}
+    for instruction in method.code:
+        if instruction.name in ("Send", "SuperSend"):
+            names.add(instruction.operand)
+        elif instruction.name == "PushLit" and instruction.operand.kind == "symbol":
+            names.add(instruction.operand.content)
+    return names
+
+
 class Script:
+    """The lines of a script, and the replies to them by the second reader, which has taken each command as it was added."""
+
     def __init__(self, quantum=256, capacity=64):
         self.quantum = quantum
         self.capacity = capacity
@@ -67,14 +81,13 @@ class Script:
         if "ok" not in self.add(command, plain):
             return None
         method = self.image.installed
-        self.names.add(method.selector)
-        self.names.update(instruction.operand for instruction in method.code if instruction.name == "Send")
+        self.names.update(names_in(method))
         return method
 
     def post(self, number, selector, arguments):
         self.names.add(selector)
-        command = {"actor": number, "args": arguments, "cmd": "post", "selector": selector, "sender": 1, "seq": len(self.lines)}
-        reply = self.add(command)
+        seq = len(self.lines)
+        reply = self.add({"actor": number, "args": arguments, "cmd": "post", "selector": selector, "sender": 1, "seq": seq})
         self.turns += "ok" in reply
         return reply
 
@@ -95,6 +108,17 @@ class Script:
             if not trial.in_turn():
                 return True
         return False
+
+
+def known_script():
+    """The good sources, each run at once, in both classes."""
+    script = Script()
+    for number, class_name in enumerate("AB"):
+        for source in GOOD + CALLING:
+            method = script.install(class_name, source)
+            if method:
+                script.run_turn(number, method.selector, list(range(2, 2 + method.arguments)))
+    return script
 
 
 def short_scripts():
@@ -184,7 +208,8 @@ class CutTurns:
 
 
 def all_scripts(seed, sources):
-    """The short sources, and `sources` random ones, of which one in five stands in a script that cuts turns."""
+    """The known sources, the short ones, and `sources` random ones. Three in ten scripts of these cut turns."""
+    yield known_script()
     yield from short_scripts()
     rng = random.Random(seed)
     kinds = Sources(rng)

@@ -1,4 +1,4 @@
-"""The words that random sources are made of: few enough that they meet one another, with those that rules speak of among them."""
+"""The words that random sources are made of: few, so that they meet one another, and those among them that rules speak of."""
 
 GOOD = [
     "start count := 0",
@@ -22,7 +22,10 @@ GOOD = [
     "m ^-9223372036854775808",
     "+ x ^x",
     "m ^#at:put:",
-    "at: i put: v ^i + v",
+    "at: i put: v ^i - v",
+    "go ^self at: 7 put: 3",
+    "foo: x bar: y m: z ^x * 10 + y * 10 + z",
+    "go ^self foo: 1 bar: 2 m: 3",
     "m | x y | x := y := 3. ^x = y and: [x isNil not]",
     "fact: n ^n < 2 ifTrue: [1] ifFalse: [n * (self fact: n - 1)]",
     'm "comment" ^#+ "more" class',

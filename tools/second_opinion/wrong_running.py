@@ -76,14 +76,12 @@ MACHINE = [
         'arguments = [Value("symbol", selector)]\n',
         'arguments = [Value("symbol", "doesNotUnderstand:")]\n',
     ),
+    WrongRule("a fault leaves the frames of its turn", "machine", "self.frames = []\n            self.results", "self.results"),
     WrongRule(
-        "a fault undoes nothing but the operands",
+        "a fault clears the instance variables",
         "machine",
-        (
-            "            self.frames = []\n"
-            "            self.results"
-        ),
-        "            self.results",
+        "            self.results.append(fault.name)\n",
+        "            self.results.append(fault.name)\n            self.slots = [NIL for _ in self.slots]\n",
     ),
     WrongRule(
         "division truncates",

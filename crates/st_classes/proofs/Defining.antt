@@ -70,7 +70,9 @@ kernel_none c s h =
     let e1 : nat_eq c.0 1 ≡ false = grind (arith, nat_tests) in
     let e2 : nat_eq c.0 2 ≡ false = grind (arith, nat_tests) in
     let e3 : nat_eq c.0 3 ≡ false = grind (arith, nat_tests) in
-    rw (e0, e1, e2, e3)
+    let e6 : nat_eq c.0 6 ≡ false = grind (arith, nat_tests) in
+    let e7 : nat_eq c.0 7 ≡ false = grind (arith, nat_tests) in
+    rw (e0, e1, e2, e3, e6, e7)
 
 same_place : (c x : ClassId) (n : ℕ) → c.0 < n → c ≡ x → x.0 < n
 same_place c x n h e = subst (λ (y : ClassId). y.0 < n) e h

@@ -3,7 +3,7 @@ use Rattle.std.specs.Prelude.{ℕ, List, [], ◌∷◌, Option, Some, None, if�
 use Rattle.st_classes.specs.declared.values.ClassId.{ClassId}
 use Rattle.st_classes.specs.declared.values.Selector.{Selector}
 use Rattle.st_classes.specs.declared.kernel.Kernel.{Kernel}
-use Rattle.st_classes.specs.declared.kernel.Kernel.TheVariants.{Identical, Equal, ClassOf, IsNil, DoesNotUnderstand, Add, Subtract, Multiply, Quotient, Remainder, Less, Greater, LessOrEqual, GreaterOrEqual, Not, And}
+use Rattle.st_classes.specs.declared.kernel.Kernel.TheVariants.{Identical, Equal, ClassOf, IsNil, DoesNotUnderstand, Add, Subtract, Multiply, Quotient, Remainder, Less, Greater, LessOrEqual, GreaterOrEqual, Not, And, Post, PostWith, PostWithWith, New, NewActor}
 
 -- a class by its number
 abbrev pub class : ℕ → ClassId
@@ -33,6 +33,14 @@ integer_method s = if s == 5 then Some Add else (if s == 6 then Some Subtract el
 abbrev pub boolean_method : ℕ → Option Kernel
 boolean_method s = if s == 14 then Some Not else (if s == 15 then Some And else None)
 
+-- those of ActorRef
+abbrev pub actor_method : ℕ → Option Kernel
+actor_method s = if s == 16 then Some Post else (if s == 17 then Some PostWith else (if s == 18 then Some PostWithWith else None))
+
+-- those of Class
+abbrev pub class_method : ℕ → Option Kernel
+class_method s = if s == 20 then Some New else (if s == 21 then Some NewActor else None)
+
 -- the kernel's method in a class for a selector
 abbrev pub kernel_method : ClassId → Selector → Option Kernel
-kernel_method c s = if c.0 == 0 then object_method s.0 else (if c.0 == 1 then integer_method s.0 else (if c.0 == 2 || c.0 == 3 then boolean_method s.0 else None))
+kernel_method c s = if c.0 == 0 then object_method s.0 else (if c.0 == 1 then integer_method s.0 else (if c.0 == 2 || c.0 == 3 then boolean_method s.0 else (if c.0 == 6 then actor_method s.0 else (if c.0 == 7 then class_method s.0 else None))))

@@ -1,6 +1,6 @@
 //! The kernel's classes and methods.
 ghost use Rattle.std.specs.Prelude.{◌≡◌};
-ghost use Rattle.st_classes.specs.Kernel.{kernel_method, object_method, integer_method, boolean_method};
+ghost use Rattle.st_classes.specs.Kernel.{kernel_method, object_method, integer_method, boolean_method, actor_method, class_method};
 
 use crate::values::{ClassId, MethodId, Selector};
 
@@ -141,6 +141,27 @@ fn boolean_kernel(selector: Selector) -> Option<Kernel>
     }
 }
 
+fn actor_kernel(selector: Selector) -> Option<Kernel>
+    ensures { result ≡ actor_method selector.0 }
+{
+    match selector.0 {
+        16 => Some(Kernel::Post),
+        17 => Some(Kernel::PostWith),
+        18 => Some(Kernel::PostWithWith),
+        _ => None,
+    }
+}
+
+fn class_kernel(selector: Selector) -> Option<Kernel>
+    ensures { result ≡ class_method selector.0 }
+{
+    match selector.0 {
+        20 => Some(Kernel::New),
+        21 => Some(Kernel::NewActor),
+        _ => None,
+    }
+}
+
 /// The kernel's method in a class for a selector.
 pub fn kernel_at(class: ClassId, selector: Selector) -> Option<Kernel>
     ensures { result ≡ kernel_method class selector }
@@ -149,6 +170,8 @@ pub fn kernel_at(class: ClassId, selector: Selector) -> Option<Kernel>
         0 => object_kernel(selector),
         1 => integer_kernel(selector),
         2 | 3 => boolean_kernel(selector),
+        6 => actor_kernel(selector),
+        7 => class_kernel(selector),
         _ => None,
     }
 }

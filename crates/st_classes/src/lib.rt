@@ -11,6 +11,7 @@ pub mod edits;
 pub mod faults;
 pub mod instructions;
 pub mod kernel;
+pub mod keys;
 pub mod laws;
 pub mod limits;
 mod method_map;

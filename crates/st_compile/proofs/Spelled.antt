@@ -28,7 +28,7 @@ pub locals_count : (m : Method) → length (locals_of m) ≡ length (arguments_o
 locals_count m = length-append (arguments_of m.pattern) (temporaries_of m.temporaries)
 
 -- a spelled method has no more than 64 arguments and temporaries
-spelled_few : (m : Method) (text : List ℕ) → Spells m text → length (locals_of m) ≤ 64
+pub spelled_few : (m : Method) (text : List ℕ) → Spells m text → length (locals_of m) ≤ 64
 spelled_few m text s =
     let names : List (List ℕ) = texts (locals_of m) in
     let variables = (and_parts (are_variables (locals_of m)) (body_allowed (argument_texts m.pattern) m.body) s.rules).0 in

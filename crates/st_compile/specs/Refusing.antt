@@ -1,5 +1,6 @@
 -- When a method of the grammar has no code in a class.
-use Rattle.std.specs.Prelude.{ℕ, ◌&&◌, List, [], ◌∷◌, ◌++◌, length, map, filter, min, Bool, true, not, is_some, nat_le, nat_lt, codes}
+use Rattle.std.specs.Prelude.{ℕ, ◌&&◌, List, [], ◌∷◌, ◌++◌, length, map, filter, min}
+use Rattle.std.specs.Prelude.{Bool, true, not, is_some, nat_le, nat_lt}
 use Rattle.std.specs.List.{list_all, list_any}
 use Rattle.std.specs.Str.{bytes_eq}
 use Rattle.st_classes.specs.declared.values.ClassId.{ClassId}
@@ -17,9 +18,9 @@ use Rattle.st_reader.specs.Variables.{locals_of}
 use Rattle.st_compile.specs.Scopes.{scope_of}
 use Rattle.st_compile.specs.Interning.{names_rule, needed_texts}
 
--- a name stands for something in a scope; `super` doesn't as long as there are no super sends
+-- a name stands for something in a scope; `super` stands for the receiver
 abbrev pub is_known : Scope → Word → Bool
-is_known scope (variable n) = not (bytes_eq n.text (codes "super")) && is_some (pushed scope n.text)
+is_known scope (variable n) = is_some (pushed scope n.text)
 is_known scope (store n) = is_some (stored scope n.text)
 is_known scope _ = true
 

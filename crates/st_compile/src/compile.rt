@@ -3,9 +3,7 @@ ghost use Rattle.std.specs.Prelude.{◌≡◌, ◌≤◌, true, Some, length, ma
 ghost use Rattle.st_classes.specs.declared.refusals.Refusal.{Refusal as Refused};
 ghost use Rattle.st_classes.specs.Classes.{is_class};
 ghost use Rattle.st_classes.specs.Refusals.{first_of, Answers};
-ghost use Rattle.st_reader.specs.Spelling.{Spells};
 ghost use Rattle.st_reader.specs.Variables.{locals_of};
-ghost use Rattle.st_reader.specs.Views.{method_view};
 ghost use Rattle.st_compile.specs.Compiled.{IsCompiled, parts_of};
 ghost use Rattle.st_compile.specs.Drafts.{line_of};
 ghost use Rattle.st_compile.specs.Equations.{method_code};
@@ -39,9 +37,10 @@ fn checked<'t>(
     class: ClassId,
     version: &'t Version,
 ) -> Result<(Scope<'t>, Draft<'t>), Refusal>
-    requires class { is_class version.now class ≡ true }
-    requires few { length (locals_of (method_view tree.now)) ≤ 64 }
-    ensures answers { Answers (first_of (code_rules version.now class (method_view tree.now))) result (λ r. (scope_seen r.0 ≡ scope_of version.now class (method_view tree.now)) × (map line_of r.1.lines.items ≡ method_code (method_view tree.now))) }
+    requires { is_class version.now class ≡ true }
+    ensures answers { Answers (first_of (code_rules version.now class tree.now.syntax)) result
+        (λ r. (scope_seen r.0 ≡ scope_of version.now class tree.now.syntax) ×
+        (map line_of r.1.lines.items ≡ method_code tree.now.syntax)) }
     ensures few { IfOk result (λ r. HasFew (scope_seen r.0)) }
 {
     let scope = Scope::of_method(alloc, tree, class, version)?;
@@ -52,7 +51,8 @@ fn checked<'t>(
     Ok((scope, draft))
 }
 
-/// The parts of a method, by the number of its selector and its instructions. The only refusal is `NoMemory`.
+/// The parts of a method, by the number of its selector and its instructions, with a copy of its source. The only refusal is
+/// `NoMemory`.
 fn parts_of(
     alloc: Global,
     tree: &MethodTree,
@@ -60,55 +60,58 @@ fn parts_of(
     lines: &[Line<'_>],
     selector: Selector,
     code: Vec<Instruction>,
-    source: Seq<u8>,
 ) -> Result<MethodParts, Refusal>
-    requires spells { Spells (method_view tree.now) source }
-    requires lines { map line_of lines.now ≡ method_code (method_view tree.now) }
-    requires small { is_small (method_code (method_view tree.now)) ≡ true }
+    requires lines { map line_of lines.now ≡ method_code tree.now.syntax }
+    requires small { is_small (method_code tree.now.syntax) ≡ true }
     requires short { length code.items ≤ 1024 }
-    ensures ok { IfOk result (λ parts. parts ≡ parts_of class (method_view tree.now) selector code.items source) }
+    ensures ok { IfOk result (λ parts. parts ≡ parts_of class tree.now.syntax selector code.items tree.now.source) }
     ensures err { IfErr result (λ e. e ≡ Refused.NoMemory) }
 {
+    tree.known();
     let depths = depths_of(alloc, lines)?;
     let sites = sites_of(alloc, code.as_slice())?;
+    let Ok(source) = Vec::from_slice(alloc, tree.source()) else {
+        return Err(Refusal::NoMemory);
+    };
     Ok(MethodParts {
         holder: class,
         selector,
-        arguments: argument_count(&tree.pattern),
-        temporaries: temporary_count(&tree.temporaries),
+        arguments: argument_count(tree.pattern()),
+        temporaries: temporary_count(tree.temporaries()),
         code: Seq::from_vec(code),
         depths: Seq::from_vec(depths),
         sites: Seq::from_vec(sites),
-        source,
+        source: Seq::from_vec(source),
     })
 }
 
-/// The method of a tree in a class, which keeps the source that spells the tree. Its selector and the selectors and symbols of its
+/// The method of a tree in a class, which keeps a copy of the tree's source. Its selector and the selectors and symbols of its
 /// code are interned, in this order.
 ///
 /// `BadSource` says what is wrong and where, in this order: `UnknownName` at the first name that stands for nothing,
 /// `DuplicateName` at the first argument or temporary that is named as an instance variable, and `TooLarge` at 0 where there are
 /// more than 1,024 instructions or more than 64 operands. No name is interned then. `TooMany` says that there is no room for all
-/// the names; those that fitted stay. Where memory runs out, none or some of the first stay.
+/// the names; those that fitted stay. Where memory runs out, none, some of the first or all of them stay.
 pub fn compile(
     alloc: Global,
     tree: &MethodTree,
     class: ClassId,
     version: &Version,
     names: &mut Names,
-    source: Seq<u8>,
 ) -> Result<Method, Refusal>
-    requires class { is_class version.now class ≡ true }
-    requires spells { Spells (method_view tree.now) source }
-    ensures answers { Answers (first_of (method_rules names.old version.now class (method_view tree.now))) result (λ method. IsCompiled names.new version.now class (method_view tree.now) source method) }
-    ensures names { OnOk result (names.new ≡ interned_all names.old (needed_texts (method_view tree.now))) }
-    ensures some { InternsFirst names.old (needed_texts (method_view tree.now)) names.new }
+    requires { is_class version.now class ≡ true }
+    ensures answers { Answers (first_of (method_rules names.old version.now class tree.now.syntax)) result
+        (λ method. IsCompiled names.new version.now class tree.now.syntax tree.now.source method) }
+    ensures names { OnOk result (names.new ≡ interned_all names.old (needed_texts tree.now.syntax)) }
+    ensures some { InternsFirst names.old (needed_texts tree.now.syntax) names.new }
     ensures full { IfErr result (λ e. IsFull names.new e) }
-    ensures untouched { (e : Refused) → first_of (code_rules version.now class (method_view tree.now)) ≡ Some e → names.new ≡ names.old }
+    ensures untouched { (e : Refused) → first_of (code_rules version.now class tree.now.syntax) ≡ Some e →
+        names.new ≡ names.old }
 {
+    tree.known();
     let (scope, draft) = checked(alloc, tree, class, version)?;
     let lines = draft.lines.as_slice();
-    let (selector, code) = resolve(alloc, &tree.pattern, &scope, lines, names)?;
-    let parts = parts_of(alloc, tree, class, lines, selector, code, source)?;
+    let (selector, code) = resolve(alloc, tree.pattern(), &scope, lines, names)?;
+    let parts = parts_of(alloc, tree, class, lines, selector, code)?;
     Ok(Method::new(parts))
 }

@@ -4,7 +4,7 @@
 //! depth is never above the number of lines.
 ghost use Rattle.std.specs.Prelude.{◌≡◌, ◌+◌, ◌<◌, ◌≤◌, [], ◌∷◌, ◌++◌, length, map, slice_set, IfOk, IfErr, OnOk, false};
 ghost use Rattle.st_reader.specs.Syntax.{send};
-ghost use Rattle.st_reader.specs.Views.{operand_view, chain_view, message_view, expression_view, statements_view, method_view, parts_of, seen_parts, further_of, seen_further, seen_sentences};
+ghost use Rattle.st_reader.specs.Views.{operand_view, chain_view, message_view, expression_view, statements_view, parts_of, seen_parts, further_of, seen_further, seen_sentences};
 ghost use Rattle.st_reader.specs.Inlining.{is_inlined as inlines, inlining_of_one};
 ghost use Rattle.st_reader.specs.Alone.{alone, value_of};
 ghost use Rattle.st_compile.specs.Words.{line, receiver, return};
@@ -419,9 +419,9 @@ impl<'t> Draft<'t> {
     }
 
     fn method(&mut self, tree: &'t MethodTree) -> Result<(), AllocError>
-        ensures { OnOk result (map line_of self.new.lines.items ≡ map line_of self.old.lines.items ++ method_code (method_view tree.now)) }
+        ensures { OnOk result (map line_of self.new.lines.items ≡ map line_of self.old.lines.items ++ method_code tree.now.syntax) }
     {
-        match &tree.body {
+        match tree.body() {
             None => self.answer_receiver(),
             Some(statements) => self.body(statements),
         }
@@ -429,7 +429,7 @@ impl<'t> Draft<'t> {
 
     /// The code of a method. The only refusal is `NoMemory`.
     pub fn of_method(alloc: Global, tree: &'t MethodTree) -> Result<Draft<'t>, Refusal>
-        ensures ok { IfOk result (λ draft. map line_of draft.lines.items ≡ method_code (method_view tree.now)) }
+        ensures ok { IfOk result (λ draft. map line_of draft.lines.items ≡ method_code tree.now.syntax) }
         ensures err { IfErr result (λ e. e ≡ Refusal.NoMemory) }
     {
         let mut draft = Draft {

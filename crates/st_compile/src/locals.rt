@@ -1,6 +1,5 @@
 //! Arguments and temporaries.
 ghost use Rattle.std.specs.Prelude.{◌≡◌, ◌≤◌, ◌++◌, ◌∷◌, [], length, OnOk, IfOk, IfErr};
-ghost use Rattle.st_reader.specs.Views.{method_view};
 ghost use Rattle.st_compile.specs.Naming.{named};
 ghost use Rattle.st_reader.specs.Variables.{arguments_of, locals_of, temporaries_of};
 
@@ -75,11 +74,11 @@ fn add_temporaries<'t>(
 
 /// The arguments of a method, then its temporaries. The only refusal is `NoMemory`.
 pub fn locals_of(alloc: Global, tree: &MethodTree) -> Result<Vec<&Name>, Refusal>
-    ensures ok { IfOk result (λ names. named names.items ≡ locals_of (method_view tree.now)) }
+    ensures ok { IfOk result (λ names. named names.items ≡ locals_of tree.now.syntax) }
     ensures err { IfErr result (λ e. e ≡ Refusal.NoMemory) }
 {
     let mut names = Vec::new(alloc);
-    add_arguments(&mut names, &tree.pattern)?;
-    add_temporaries(&mut names, &tree.temporaries)?;
+    add_arguments(&mut names, tree.pattern())?;
+    add_temporaries(&mut names, tree.temporaries())?;
     Ok(names)
 }

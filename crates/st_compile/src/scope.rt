@@ -5,7 +5,6 @@ ghost use Rattle.std.specs.Str.{bytes_eq};
 ghost use Rattle.st_classes.specs.Classes.{is_class};
 ghost use Rattle.st_classes.specs.Selectors.{place_of};
 ghost use Rattle.st_reader.specs.Variables.{locals_of};
-ghost use Rattle.st_reader.specs.Views.{method_view};
 ghost use Rattle.st_compile.specs.Drafts.{word_of};
 ghost use Rattle.st_compile.specs.Naming.{HasFew, named, scope_seen};
 ghost use Rattle.st_compile.specs.Refusing.{is_known};
@@ -22,7 +21,7 @@ use st_classes::version::Version;
 use st_reader::trees::{MethodTree, Name};
 use std::alloc::Global;
 
-/// The value of a reserved name.
+/// The value of a reserved name. `super` stands for the receiver.
 fn reserved(text: &[u8]) -> Option<Instruction>
     ensures { result ≡ reserved text.now }
 {
@@ -67,14 +66,14 @@ impl<'t> Scope<'t> {
         class: ClassId,
         version: &'t Version,
     ) -> Result<Scope<'t>, Refusal>
-        requires class { is_class version.now class ≡ true }
-        requires few { length (locals_of (method_view tree.now)) ≤ 64 }
-        ensures scope { IfOk result (λ scope. scope_seen scope ≡ scope_of version.now class (method_view tree.now)) }
-        ensures locals { IfOk result (λ scope. named scope.locals.items ≡ locals_of (method_view tree.now)) }
+        requires { is_class version.now class ≡ true }
+        ensures scope { IfOk result (λ scope. scope_seen scope ≡ scope_of version.now class tree.now.syntax) }
+        ensures locals { IfOk result (λ scope. named scope.locals.items ≡ locals_of tree.now.syntax) }
         ensures few { IfOk result (λ scope. HasFew (scope_seen scope)) }
         ensures err { IfErr result (λ e. e ≡ Refusal.NoMemory) }
     {
         version.known();
+        tree.known();
         let locals = locals_of(alloc, tree)?;
         Ok(Scope {
             version,
@@ -136,16 +135,13 @@ impl<'t> Scope<'t> {
         Some(Instruction::StoreSlot(place as u8))
     }
 
-    /// Whether a word's name, where it has one, stands for something. `super` by itself doesn't.
+    /// Whether a word's name, where it has one, stands for something.
     pub fn is_known(&self, word: Word<'_>) -> bool
         requires { HasFew (scope_seen self.now) }
         ensures { result ≡ is_known (scope_seen self.now) (word_of word.entry) }
     {
         match word {
-            Word::Variable(name) => {
-                let text = name.text.as_slice();
-                text != b"super".as_slice() && self.pushed(text).is_some()
-            }
+            Word::Variable(name) => self.pushed(name.text.as_slice()).is_some(),
             Word::Store(name) => self.stored(name.text.as_slice()).is_some(),
             _ => true,
         }

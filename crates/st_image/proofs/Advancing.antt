@@ -1,283 +1,348 @@
 -- Advances.
-use Rattle.std.proofs.Common.{arith, ◌≡◌, ℕ, zero, suc, ◌+◌, ◌<◌, ◌≤◌, ◌++◌, [], ◌∷◌, List, length, Option, Some, None, Bool, true, false, cond, refl, ap, sym, ◌∙◌, subst, slice_get, slice_set, length-append, nat_eq, ◌⊎◌, inl, inr, append-nil, append_assoc, Ok, Err, IfErr}
-use Rattle.std.specs.Prelude.{not, ◌&&◌, ◌||◌, ◌==◌, IsTrue}
-use Rattle.std.specs.BTreeSet.{BTreeSet}
-use Rattle.std.proofs.Math.Dec.{eqb-suc-zero}
+use Rattle.std.proofs.Common.{arith, ◌≡◌, ℕ, zero, suc, ◌+◌, ◌<◌, ◌≤◌, ◌++◌, [], ◌∷◌, List, length, Option, Some, None, Result, Ok, Err, Bool, true, false, cond, refl, ap, sym, ◌∙◌, subst, slice_get, length-append, ◌⊎◌, inl, inr, map, nat_le, nat_lt, Fits as FitsIn, w32}
+use Rattle.std.specs.Prelude.{◌&&◌, ◌==◌, IfOk, IfErr, IfNone, IsTrue, is_some, not}
+use Rattle.std.specs.List.{list_any}
 use Rattle.std.proofs.lemmas.Bool.Decides.{nat_tests}
-use Rattle.std.proofs.lemmas.Option.{slice_get_within}
+use Rattle.std.proofs.Math.Dec.{eqb-suc-zero}
+use Rattle.std.proofs.lemmas.Option.{slice_get_cases, slice_get_within}
 use Rattle.st_classes.specs.declared.values.ActorId.{ActorId}
+use Rattle.st_classes.specs.declared.values.ClassId.{ClassId}
+use Rattle.st_classes.specs.declared.values.Selector.{Selector}
+use Rattle.st_classes.specs.declared.values.Value.{Value}
+use Rattle.st_classes.specs.declared.values.Value.TheVariants.{Int, Bool as Boolean, Nil, Sym, Class, Actor as Reference, Local}
+use Rattle.st_classes.specs.declared.faults.Fault.TheVariants.{BadArgument, LocalArgument, TooManyActors}
+use Rattle.st_classes.specs.Accepting.{is_closed}
+use Rattle.st_classes.specs.Suiting.{arity_at, is_number}
+use Rattle.st_classes.specs.declared.instructions.Instruction.{Instruction}
+use Rattle.st_classes.specs.declared.methods.MethodParts.{MethodParts}
 use Rattle.st_classes.specs.declared.edits.Edit.{Edit}
-use Rattle.st_classes.specs.declared.refusals.Refusal.TheVariants.{NothingToDo, HistoryFull, NoMemory}
 use Rattle.st_classes.specs.declared.refusals.Refusal.{Refusal}
-use Rattle.st_classes.specs.Refusals.{Rule, first_of, Answers}
+use Rattle.st_classes.specs.declared.refusals.Refusal.TheVariants.{NothingToDo, HistoryFull, NoMemory}
+use Rattle.st_classes.specs.Refusals.{first_of}
+use Rattle.st_classes.specs.Lawful.{method_at}
+use Rattle.st_turn.specs.declared.acts.Act.{Act}
+use Rattle.st_turn.specs.declared.acts.Act.TheVariants.{Post, Close, Create}
 use Rattle.st_turn.specs.declared.body.Body.{Body}
+use Rattle.st_turn.specs.declared.body.Object.{Object}
 use Rattle.st_turn.specs.declared.body.Phase.{Phase}
 use Rattle.st_turn.specs.declared.body.Phase.TheVariants.{Fresh, Start, Frames, Done}
-use Rattle.st_turn.specs.declared.body.Outcome.{Outcome}
+use Rattle.st_turn.specs.Idling.{is_idle}
+use Rattle.st_turn.specs.Views.{FramesView}
+use Rattle.st_turn.specs.Frames.{Effect, goes, stores, sends, answers, fails, effect}
+use Rattle.st_turn.specs.Fitting.{Given, Fits, FitsPhase}
+use Rattle.st_turn.specs.Steps.{Step, next as leads, ended, outer, replied, act_of, act_or, arguments, delivered, followed, own_steps, performed, receiver_below, run_frames, sent, step, step_in}
 use Rattle.st_image.specs.declared.messages.Message.{Message}
+use Rattle.st_image.specs.declared.messages.Sender.{Sender}
+use Rattle.st_image.specs.declared.messages.Sender.TheVariants.{Client, Actor}
 use Rattle.st_image.specs.declared.settings.Settings.{Settings}
 use Rattle.st_image.specs.declared.items.Item.{Item}
-use Rattle.st_image.specs.declared.items.Item.TheVariants.{Begun, Ran}
-use Rattle.st_turn.specs.Idling.{is_idle}
-use Rattle.st_image.specs.Worlds.{World, Being, pending, with_actor}
-use Rattle.st_image.specs.Next.{next, begun_at, begun_by, beginning, steps, with_result}
-use Rattle.st_image.specs.Images.{ImageView, world_of, no_room}
-use Rattle.st_image.specs.Advancing.{advance_rules, advanced, HasStopped, idle_at, beginnings}
-use Rattle.st_image.specs.Ready.{is_ready, is_ready_at}
-use Rattle.st_image.specs.Lasting.{IsWorld, given}
-use Rattle.st_image.specs.Kepts.{Kept, kept_of, started, begun_first, stepped_to, is_ready_kept, has, HasAlso, advance_items, next_after, Advances}
-use Rattle.st_image.specs.Keeping.{Shows, IsImage, CanRun}
-use Rattle.st_image.proofs.Places.{get_set_same}
-use Rattle.st_image.proofs.Lists.{off, set_at_same, set_twice}
-use Rattle.st_image.proofs.Showing.{kept_beginning, started_idle, started_busy}
-use Rattle.st_image.proofs.Keeping.{through, being_at, kept_at, has_room, begun_kept, ran_kept}
+use Rattle.st_image.specs.declared.items.Item.TheVariants.{Edited, Created, Posted, Closed, Begun, Ran}
+use Rattle.st_image.specs.Worlds.{Constants, World, Being, change, change_at, pending, start}
+use Rattle.st_image.specs.Next.{Done as Acted, accepting, beginning, closed, create_done, done, failed, is_local, new_being, next, next_message, post_done, posted, posted_by, replay, stepped, taken, tried, with_body, with_last, with_new}
+use Rattle.st_image.specs.Images.{ImageView, no_room, world, world_of}
+use Rattle.st_image.specs.Lasting.{AreConstants, AreSettings, given}
+use Rattle.st_image.specs.Kepts.{Kept, Shows, begun_first, kept_of}
+use Rattle.st_image.specs.Acting.{GrowsByOne, Quantum, constants_of, world_after}
+use Rattle.st_image.specs.Keeping.{IsImage}
+use Rattle.st_image.specs.Advancing.{CutsQuantum, IsOver, IsQuantum, TakesQuantum, advance_rules, begun_image, idle_at, is_outer, ran_image, ran_or_same}
+use Rattle.st_image.proofs.Lists.{off}
+use Rattle.st_image.proofs.Lasting.{start_has_turns, start_is_world}
+use Rattle.st_image.proofs.Changing.{get-change, length-change}
+use Rattle.st_image.proofs.Stepping.{bound, cond_some, mapped, ran_after}
+use Rattle.st_image.proofs.Deliveries.{let_through}
+use Rattle.st_image.proofs.Showing.{being_at_kept, count_is, kept_at}
+use Rattle.st_image.proofs.Keeping.{IsNext, being_at, begun_kept, has_room, ran_kept}
 use Rattle.st_image.proofs.Posting.{seen}
-use Rattle.st_image.proofs.Lasting.{next_keeps, kernel_known}
 
--- ---- an actor that may advance
+-- ---- a body in a turn has a step
 
--- it is in a turn, or it is idle and a message is pending
-pub data MayGo (b : Being) : Type 0 where
-  goes_on : is_idle b.body.phase ≡ false → MayGo b
-  begins : (m : Message) (ms : List Message) → is_idle b.body.phase ≡ true → pending b ≡ m ∷ ms → MayGo b
+act_over : (o : Option Act) (b : Body) → IsOver (act_or o (leads b)) → is_outer (act_or o (leads b)) ≡ true
+act_over None b h = absurd h
+act_over (Some act) b h = refl
 
-may_begin : (b : Being) (xs : List Message) → pending b ≡ xs → is_idle b.body.phase ≡ true → (length xs == 0) ≡ false → MayGo b
-may_begin b [] e h f = cc
-may_begin b (m ∷ ms) e h f = begins m ms h e
+sent_over : (edits : List Edit) (objects : List Object) (m : MethodParts) (fs : FramesView) (by_super : Bool) (s : Selector) (n : ℕ) → IsOver (sent edits objects m fs by_super s n) → is_outer (sent edits objects m fs by_super s n) ≡ true
+sent_over edits objects m fs false s n h = act_over (act_of (receiver_below n fs.running.operands) s (arguments n fs.running.operands)) (delivered edits objects m fs false s n) h
+sent_over edits objects m fs true s n h = absurd h
 
-may_go : (b : Being) (t : Bool) → is_idle b.body.phase ≡ t → (t && (length (pending b) == 0)) ≡ false → MayGo b
-may_go b false e h = goes_on e
-may_go b true e h = may_begin b (pending b) refl e h
+followed_over : (edits : List Edit) (objects : List Object) (m : MethodParts) (fs : FramesView) (e : Effect) → IsOver (followed edits objects m fs e) → is_outer (followed edits objects m fs e) ≡ true
+followed_over edits objects m fs (goes f) h = absurd h
+followed_over edits objects m fs (stores i v f) h = absurd h
+followed_over edits objects m fs (sends by_super s n) h = sent_over edits objects m fs by_super s n h
+followed_over edits objects m fs (answers v) h = absurd h
+followed_over edits objects m fs (fails e) h = absurd h
 
--- ---- what a body needs
-
-runs_at : (names : List (List ℕ)) (w : World) (a : ActorId) (b : Being) → IsWorld names w → slice_get w.actors a.0 ≡ Some b → CanRun w.edits a b.body
-runs_at names w a b h at = (given names (length w.actors), h.lawful, h.suited, h.sound, kernel_known names h.kernel, slice_get_within w.actors a.0 b at, (being_at names w a.0 b h at).fits)
-
-can_run : (names : List (List ℕ)) (w : World) (a : ActorId) (b : Being) → IsWorld names w → slice_get w.actors a.0 ≡ Some b → MayGo b → CanRun w.edits a (started (kept_of b)).body
-can_run names w a b h at (goes_on idle) = subst (λ (k : Kept). CanRun w.edits a k.body) (sym (started_busy (kept_of b) idle)) (runs_at names w a b h at)
-can_run names w a b h at (begins m ms idle first) =
-    let v : World = with_actor w a (beginning b m) in
-    let now : next names w (Begun a) ≡ Some v = ap (begun_at w a) at ∙ ap (begun_by w a b) first ∙ through (is_idle b.body.phase) v idle in
-    let here : CanRun w.edits a (beginning b m).body = runs_at names v a (beginning b m) (next_keeps names w v (Begun a) h tt now) (get_set_same w.actors a.0 b (beginning b m) at) in
-    subst (λ (k : Kept). CanRun w.edits a k.body) (kept_beginning b m ms first ∙ sym (started_idle (kept_of b) idle)) here
-
--- ---- what an advance leaves
-
-result_later : (phase : Phase) (results : List Outcome) → is_idle phase ≡ false → with_result phase results ≡ results
-result_later Fresh results h = cc
-result_later (Start s args) results h = refl
-result_later (Frames fs) results h = refl
-result_later (Done outcome) results h = cc
-
-some_body : (b c : Body) → Some b ≡ Some c → c ≡ b
-some_body b c e = cc
-
--- no steps leave an actor that is in a turn as it was
-no_steps : (k : Kept) (edits : List Edit) (a : ActorId) (body : Body) → is_idle k.body.phase ≡ false → steps edits a 0 k.body ≡ Some body → stepped_to k body ≡ k
-no_steps k edits a body h e = ap (stepped_to k) (some_body k.body body e) ∙ ap (λ (rs : List Outcome). record k { results = rs }) (result_later k.body.phase k.results h)
-
--- the ready ones, with an actor that stays ready
-ready_same : (edits : List Edit) (actors : List Kept) (ready ready' : BTreeSet ℕ) (w : World) → Shows edits actors ready w → ((q : ℕ) → has ready' q ≡ has ready q) → Shows edits actors ready' w
-ready_same edits actors ready ready' w s h = record { edits_are = s.edits_are; actors_are = s.actors_are; ready_are = λ q. h q ∙ s.ready_are q }
-
-with_ready : (names : List (List ℕ)) (edits : List Edit) (actors : List Kept) (ready ready' : BTreeSet ℕ) (h : List Item) (made : ℕ) (s : Settings) → IsImage names edits actors ready h made s → ((q : ℕ) → has ready' q ≡ has ready q) → IsImage names edits actors ready' h made s
-with_ready names edits actors ready ready' h made s k e = record {
-  lawful = k.lawful;
-  shows = ready_same edits actors ready ready' (world_of names h) k.shows e;
-  world = k.world;
-  counted = k.counted;
-  numbers = k.numbers;
-  created = k.created;
-  few_items = k.few_items;
-  few_actors = k.few_actors;
-  few_accepted = k.few_accepted;
-}
-
-same_number : (a q : ℕ) → nat_eq a q ≡ true → a ≡ q
-same_number a q h = grind (arith, nat_tests)
-
--- to put in what is in, or nothing, changes nothing
-also_same : (ready ready' : BTreeSet ℕ) (a : ℕ) (t : Bool) → t ≡ true → has ready a ≡ true → HasAlso ready ready' a t → (q : ℕ) → has ready' q ≡ has ready q
-also_same ready ready' a t e h k q = k q ∙ elim_test (nat_eq a q) refl
+not_past : (code : List Instruction) (pc : ℕ) → slice_get code pc ≡ None → pc < length code → ⊥
+not_past code pc e l = elim (slice_get_cases code pc).1 [
+  | inl t ↦ absurd (some_none t.0 (sym t.2 ∙ e))
+  | inr t ↦ absurd (omega (arith, t.0, l))
+]
   where
-    elim_test : (x : Bool) → nat_eq a q ≡ x → cond x t (has ready q) ≡ has ready q
-    elim_test true f = e ∙ sym h ∙ ap (has ready) (same_number a q f)
-    elim_test false f = refl
+    some_none : (i : Instruction) → Some i ≡ None → ⊥
+    some_none i f = cc
 
-itself : (ready : BTreeSet ℕ) (a : ℕ) → has ready a ≡ true → HasAlso ready ready a true
-itself ready a h q = at_test (nat_eq a q) refl
+performed_over : (edits : List Edit) (a : ActorId) (objects : List Object) (fs : FramesView) (m : MethodParts) (o : Option Instruction) → slice_get m.code fs.running.pc ≡ o → fs.running.pc < length m.code → IsOver (performed edits a objects fs m o) → is_outer (performed edits a objects fs m o) ≡ true
+performed_over edits a objects fs m None e l h = absurd (not_past m.code fs.running.pc e l)
+performed_over edits a objects fs m (Some i) e l h = followed_over edits objects m fs (effect a objects i fs.running) h
+
+frames_over : (given : Given) (edits : List Edit) (a : ActorId) (objects : List Object) (fs : FramesView) → FitsPhase given edits objects (Frames fs) → IsOver (run_frames edits a objects fs (method_at edits fs.running.method)) → is_outer (run_frames edits a objects fs (method_at edits fs.running.method)) ≡ true
+frames_over given edits a objects fs f =
+    let m : MethodParts = f.1.0 in
+    subst (λ (o : Option MethodParts). IsOver (run_frames edits a objects fs o) → is_outer (run_frames edits a objects fs o) ≡ true) (sym f.1.1.method) (λ h. performed_over edits a objects fs m (slice_get m.code fs.running.pc) refl f.1.1.within h)
+
+phase_over : (given : Given) (edits : List Edit) (a : ActorId) (objects : List Object) (phase : Phase) → FitsPhase given edits objects phase → is_idle phase ≡ false → IsOver (step_in edits a objects phase) → is_outer (step_in edits a objects phase) ≡ true
+phase_over given edits a objects Fresh f b h = cc
+phase_over given edits a objects (Start s args) f b h = absurd h
+phase_over given edits a objects (Frames fs) f b h = frames_over given edits a objects fs f h
+phase_over given edits a objects (Done outcome) f b h = cc
+
+some_by : (edits : List Edit) (a : ActorId) (limit : ℕ) (b : Body) (n own : ℕ) (last : Body) → (IsOver (step edits a b) → is_outer (step edits a b) ≡ true) → 1 ≤ limit → own_steps edits a own b ≡ Some last → (own ≡ limit) ⊎ IsOver (step edits a last) → n ≡ own + cond (is_outer (step edits a last)) 1 0 → 1 ≤ n
+some_by edits a limit b n zero last f l e o k = elim o [
+  | inl z ↦ absurd (omega (arith, l, z))
+  | inr h ↦ (let same : b ≡ last = cc in
+      let g : is_outer (step edits a last) ≡ true = subst (λ (x : Body). IsOver (step edits a x) → is_outer (step edits a x) ≡ true) same f h in
+      let m : n ≡ 0 + 1 = k ∙ ap (λ (t : Bool). 0 + cond t 1 0) g in
+      omega (arith, m))
+]
+some_by edits a limit b n (suc own) last f l e o k = omega (arith, k)
+
+-- a quantum of a body in a turn has a step
+pub some_step : (given : Given) (edits : List Edit) (a : ActorId) (limit : ℕ) (b : Body) (n : ℕ) → Fits given edits b → is_idle b.phase ≡ false → 1 ≤ limit → IsQuantum edits a limit b n → 1 ≤ n
+some_step given edits a limit b n f busy l q = some_by edits a limit b n q.own q.last (phase_over given edits a b.objects b.phase f.phase busy) l q.taken q.stops q.count
+
+-- ---- a message begins
+
+-- an image where the actor's turn has begun, with room for an item more
+pub record HasBegun (base : World) (names : List (List ℕ)) (edits : List Edit) (actors : List Kept) (h : List Item) (made : ℕ) (s : Settings) (a : ActorId) : Type 0 where
+  pub image : IsImage base names edits actors h made s
+  pub busy : idle_at (slice_get (world_of (constants_of names s.capacity) base h).actors a.0) ≡ false
+  pub room : length h + 1 ≤ s.history
+
+first_pending : (ms : List Message) → (length ms == 0) ≡ false → (m : Message) × (slice_get ms 0 ≡ Some m)
+first_pending [] e = cc
+first_pending (m ∷ ms) e = (m, refl)
+
+and_true : (t u : Bool) → t ≡ true → (t && u) ≡ false → u ≡ false
+and_true true u e f = f
+and_true false u e f = cc
+
+begun_option : (base : World) (names : List (List ℕ)) (edits : List Edit) (actors actors' : List Kept) (h : List Item) (made : ℕ) (s : Settings) (from : ℕ) (a : ActorId) (b : Being)
+    → IsImage base names edits actors h made s → slice_get (world_of (constants_of names s.capacity) base h).actors a.0 ≡ Some b → first_of (advance_rules (seen base names h s from) (Some b)) ≡ None → is_idle b.body.phase ≡ true → actors' ≡ change_at begun_first a.0 actors
+    → HasBegun base names edits actors' (h ++ Begun a ∷ []) made s a
+begun_option base names edits actors actors' h made s from a b k at allowed idle put =
+    let w : World = world_of (constants_of names s.capacity) base h in
+    let both = off (is_idle b.body.phase && (length (pending b) == 0)) NothingToDo (no_room (seen base names h s from) (cond (is_idle b.body.phase) 2 1) ∷ []) allowed in
+    let some = first_pending (pending b) (and_true (is_idle b.body.phase) (length (pending b) == 0) idle both.0) in
+    let m : Message = some.0 in
+    let more : length h + cond (is_idle b.body.phase) 2 1 ≤ s.history = has_room s.history (length h) (cond (is_idle b.body.phase) 2 1) HistoryFull both.1 in
+    let two : length h + 2 ≤ s.history = subst (λ (t : Bool). length h + cond t 2 1 ≤ s.history) idle more in
+    let first : next_message (slice_get w.actors a.0) ≡ Some m = ap next_message at ∙ ap (λ (t : Bool). cond t (slice_get (pending b) 0) None) idle ∙ some.1 in
+    let after : IsNext base names edits actors' (h ++ Begun a ∷ []) made s (change (beginning m) a w) = begun_kept base names edits actors actors' h made s a m k first (omega (arith, two)) put in
+    let now : slice_get (world_of (constants_of names s.capacity) base (h ++ Begun a ∷ [])).actors a.0 ≡ Some (beginning m b) = ap (λ (x : World). slice_get x.actors a.0) after.world ∙ get-change (beginning m) a.0 w.actors b at in
+    record { image = after.image; busy = ap idle_at now; room = omega (arith, two, length-append h (Begun a ∷ [])) }
+
+-- the actor that is kept is idle in the world too
+pub idle_there : (edits : List Edit) (actors : List Kept) (w : World) (a : ActorId) (k : Kept) → Shows edits actors w → slice_get actors a.0 ≡ Some k → is_idle k.body.phase ≡ true → idle_at (slice_get w.actors a.0) ≡ true
+idle_there edits actors w a k s at idle =
+    let b = being_at_kept edits actors w a.0 k s at in
+    ap idle_at b.1 ∙ ap (λ (x : Kept). is_idle x.body.phase) b.2 ∙ idle
+
+pub begins : (base : World) (names : List (List ℕ)) (edits : List Edit) (actors actors' : List Kept) (h : List Item) (made : ℕ) (s : Settings) (from : ℕ) (a : ActorId) (x : Kept)
+    → IsImage base names edits actors h made s → first_of (advance_rules (seen base names h s from) (slice_get (world_of (constants_of names s.capacity) base h).actors a.0)) ≡ None → slice_get actors a.0 ≡ Some x → is_idle x.body.phase ≡ true → actors' ≡ change_at begun_first a.0 actors
+    → HasBegun base names edits actors' (h ++ Begun a ∷ []) made s a
+begins base names edits actors actors' h made s from a x k allowed at idle put =
+    let w : World = world_of (constants_of names s.capacity) base h in
+    let b = being_at_kept edits actors w a.0 x k.shows at in
+    begun_option base names edits actors actors' h made s from a b.0 k b.1 (subst (λ (o : Option Being). first_of (advance_rules (seen base names h s from) o) ≡ None) b.1 allowed) (ap (λ (y : Kept). is_idle y.body.phase) b.2 ∙ idle) put
+
+pub begun_is : (i : ImageView) (a : ActorId) → idle_at (slice_get (world i).actors a.0) ≡ true → begun_image i a ≡ record i { history = i.history ++ Begun a ∷ []; next_from = a.0 + 1 }
+begun_is i a e = ap (λ (t : Bool). cond t (record i { history = i.history ++ Begun a ∷ []; next_from = a.0 + 1 }) i) e
+
+-- ---- a quantum
+
+pub busy_being : (o : Option Being) → idle_at o ≡ false → (b : Being) × (o ≡ Some b) × (is_idle b.body.phase ≡ false)
+busy_being None e = cc
+busy_being (Some b) e = (b, refl, e)
+
+pub ran_keeps : (base : World) (names : List (List ℕ)) (edits : List Edit) (actors actors' : List Kept) (h : List Item) (made : ℕ) (s : Settings) (from : ℕ) (a : ActorId) (limit n : ℕ) (whole : Bool)
+    → IsImage base names edits actors h made s → 0 < n → first_of (no_room (seen base names h s from) 1 ∷ []) ≡ None → Quantum (constants_of names s.capacity) edits actors' a limit (world_of (constants_of names s.capacity) base h) n whole → GrowsByOne actors actors'
+    → IsImage base names edits actors' (h ++ Ran a n ∷ []) made s
+ran_keeps base names edits actors actors' h made s from a limit n whole k some room q grown =
+    (ran_kept base names edits actors actors' h made s a n q.last k some q.taken (has_room s.history (length h) 1 HistoryFull room) q.shows (grown (length h) k.few_accepted)).image
+
+-- nothing changed where no step was taken
+pub none_ran : (base : World) (names : List (List ℕ)) (edits : List Edit) (actors actors' : List Kept) (h : List Item) (made : ℕ) (s : Settings) (a : ActorId) (limit n : ℕ) (whole : Bool)
+    → IsImage base names edits actors h made s → n ≡ 0 → Quantum (constants_of names s.capacity) edits actors' a limit (world_of (constants_of names s.capacity) base h) n whole → actors' ≡ actors
+none_ran base names edits actors actors' h made s a limit zero whole k e q =
+    let w : World = world_of (constants_of names s.capacity) base h in
+    let same : q.last ≡ w = some_world q.last w (sym q.taken) in
+    q.shows.actors_are ∙ ap (λ (x : World). list_of x) same ∙ sym k.shows.actors_are
   where
-    at_test : (x : Bool) → nat_eq a q ≡ x → has ready q ≡ cond x true (has ready q)
-    at_test true f = sym (ap (has ready) (same_number a q f)) ∙ h
-    at_test false f = refl
+    some_world : (u v : World) → Some u ≡ Some v → u ≡ v
+    some_world u v f = cc
 
--- an image after an advance, whose actor has a body
-pub record IsAdvanced (names : List (List ℕ)) (edits : List Edit) (actors : List Kept) (ready : BTreeSet ℕ) (h : List Item) (made : ℕ) (s : Settings) (a : ActorId) (body : Body) : Type 0 where
-  pub image : IsImage names edits actors ready h made s
-  pub at : idle_at (slice_get (world_of names h).actors a.0) ≡ is_idle body.phase
+    list_of : World → List Kept
+    list_of x = map kept_of x.actors
+none_ran base names edits actors actors' h made s a limit (suc n) whole k e q = cc
 
--- ---- the steps of an actor that is in a turn
+-- a whole quantum of an actor in a turn
+pub record HasTaken (i : ImageView) (a : ActorId) (limit n : ℕ) : Type 0 where
+  pub some : 1 ≤ n
+  pub quantum : TakesQuantum i a limit n
 
-busy_ready : (b : Being) → is_idle b.body.phase ≡ false → is_ready b ≡ true
-busy_ready b h = ap (λ (x : Bool). not x || not (length (pending b) == 0)) h
-
-ran_on : (names : List (List ℕ)) (edits : List Edit) (actors actors' : List Kept) (ready ready' : BTreeSet ℕ) (h : List Item) (made : ℕ) (s : Settings) (a : ActorId) (b : Being) (n : ℕ) (body : Body)
-    → IsImage names edits actors ready h made s → slice_get (world_of names h).actors a.0 ≡ Some b → is_idle b.body.phase ≡ false → steps edits a n b.body ≡ Some body → length h + 1 ≤ s.history → actors' ≡ slice_set actors a.0 (stepped_to (kept_of b) body) → HasAlso ready ready' a.0 (is_ready_kept (stepped_to (kept_of b) body)) → has ready a.0 ≡ true
-    → IsAdvanced names edits actors' ready' (h ++ (cond (n == 0) [] (Ran a n ∷ []))) made s a body
-ran_on names edits actors actors' ready ready' h made s a b zero body k at busy taken room put queue here =
-    let same : stepped_to (kept_of b) body ≡ kept_of b = no_steps (kept_of b) edits a body busy taken in
-    let actors_same : actors' ≡ actors = put ∙ ap (slice_set actors a.0) same ∙ set_at_same actors a.0 (kept_of b) (kept_at edits actors ready (world_of names h) a.0 b k.shows at) in
-    let stays : is_ready_kept (stepped_to (kept_of b) body) ≡ true = ap is_ready_kept same ∙ busy_ready b busy in
-    let image : IsImage names edits actors ready' h made s = with_ready names edits actors ready ready' h made s k (also_same ready ready' a.0 (is_ready_kept (stepped_to (kept_of b) body)) stays here queue) in
-    subst (λ (is : List Item). IsAdvanced names edits actors' ready' is made s a body) (sym (append-nil h)) (record {
-      image = subst (λ (xs : List Kept). IsImage names edits xs ready' h made s) (sym actors_same) image;
-      at = ap idle_at at ∙ ap (λ (x : Body). is_idle x.phase) (sym (some_body b.body body taken));
-    })
-ran_on names edits actors actors' ready ready' h made s a b (suc n) body k at busy taken room put queue here =
-    let r = ran_kept names edits actors ready ready' h made s a b (suc n) body k at (omega arith) taken room queue in
-    let items : cond (suc n == 0) [] (Ran a (suc n) ∷ []) ≡ Ran a (suc n) ∷ [] = ap (λ (x : Bool). cond x [] (Ran a (suc n) ∷ [])) (eqb-suc-zero n) in
-    subst (λ (is : List Item). IsAdvanced names edits actors' ready' (h ++ is) made s a body) (sym items) (record {
-      image = subst (λ (xs : List Kept). IsImage names edits xs ready' (h ++ Ran a (suc n) ∷ []) made s) (sym put) r.0;
-      at = ap idle_at r.1;
-    })
-
--- ---- the whole
-
-went_on : (names : List (List ℕ)) (edits : List Edit) (actors actors' : List Kept) (ready ready' : BTreeSet ℕ) (h : List Item) (made : ℕ) (s : Settings) (a : ActorId) (b : Being) (n : ℕ) (body : Body)
-    → IsImage names edits actors ready h made s → slice_get (world_of names h).actors a.0 ≡ Some b → MayGo b → length h + cond (is_idle b.body.phase) 2 1 ≤ s.history → steps edits a n (started (kept_of b)).body ≡ Some body → actors' ≡ slice_set actors a.0 (stepped_to (started (kept_of b)) body) → HasAlso ready ready' a.0 (is_ready_kept (stepped_to (started (kept_of b)) body)) → has ready a.0 ≡ true
-    → IsAdvanced names edits actors' ready' (h ++ advance_items a (is_idle b.body.phase) n) made s a body
-went_on names edits actors actors' ready ready' h made s a b n body k at (goes_on busy) room taken put queue here =
-    let same : started (kept_of b) ≡ kept_of b = started_busy (kept_of b) busy in
-    let r : IsAdvanced names edits actors' ready' (h ++ (cond (n == 0) [] (Ran a n ∷ []))) made s a body = ran_on names edits actors actors' ready ready' h made s a b n body k at busy
-    (subst (λ (x : Kept). steps edits a n x.body ≡ Some body) same taken)
-    (subst (λ (x : Bool). length h + cond x 2 1 ≤ s.history) busy room)
-    (subst (λ (x : Kept). actors' ≡ slice_set actors a.0 (stepped_to x body)) same put)
-    (subst (λ (x : Kept). HasAlso ready ready' a.0 (is_ready_kept (stepped_to x body))) same queue) here in
-    subst (λ (x : Bool). IsAdvanced names edits actors' ready' (h ++ advance_items a x n) made s a body) (sym busy) r
-went_on names edits actors actors' ready ready' h made s a b n body k at (begins m ms idle first) room taken put queue here =
-    let c : Being = beginning b m in
-    let same : started (kept_of b) ≡ kept_of c = started_idle (kept_of b) idle ∙ sym (kept_beginning b m ms first) in
-    let room2 : length h + 2 ≤ s.history = subst (λ (x : Bool). length h + cond x 2 1 ≤ s.history) idle room in
-    let one : length (h ++ Begun a ∷ []) ≡ length h + 1 = length-append h (Begun a ∷ []) in
-    let middle : List Kept = slice_set actors a.0 (begun_first (kept_of b)) in
-    let first_step = begun_kept names edits actors ready h made s a b m ms k at idle first (omega arith) (itself ready a.0 here) in
-    let put' : actors' ≡ slice_set middle a.0 (stepped_to (kept_of c) body) = put ∙ ap (λ (x : Kept). slice_set actors a.0 (stepped_to x body)) same ∙ sym (set_twice actors a.0 (begun_first (kept_of b)) (stepped_to (kept_of c) body)) in
-    let r : IsAdvanced names edits actors' ready' ((h ++ Begun a ∷ []) ++ (cond (n == 0) [] (Ran a n ∷ []))) made s a body = ran_on names edits middle actors' ready ready' (h ++ Begun a ∷ []) made s a c n body first_step.0 first_step.1 refl
-    (subst (λ (x : Kept). steps edits a n x.body ≡ Some body) same taken) (omega arith) put'
-    (subst (λ (x : Kept). HasAlso ready ready' a.0 (is_ready_kept (stepped_to x body))) same queue) here in
-    let items : (h ++ Begun a ∷ []) ++ (cond (n == 0) [] (Ran a n ∷ [])) ≡ h ++ advance_items a true n = append_assoc h (Begun a ∷ []) (cond (n == 0) [] (Ran a n ∷ [])) in
-    subst (λ (x : Bool). IsAdvanced names edits actors' ready' (h ++ advance_items a x n) made s a body) (sym idle) (subst (λ (is : List Item). IsAdvanced names edits actors' ready' is made s a body) items r)
-
--- ---- as the call sees it
-
-begun_phase : (b : Being) → MayGo b → is_idle (started (kept_of b)).body.phase ≡ false
-begun_phase b (goes_on busy) = ap (λ (k : Kept). is_idle k.body.phase) (started_busy (kept_of b) busy) ∙ busy
-begun_phase b (begins m ms idle first) = ap (λ (k : Kept). is_idle k.body.phase) (started_idle (kept_of b) idle ∙ sym (kept_beginning b m ms first))
-
--- what the rules leave
-pub record Allowed (names : List (List ℕ)) (h : List Item) (s : Settings) (a : ActorId) (b : Being) : Type 0 where
-  pub there : slice_get (world_of names h).actors a.0 ≡ Some b
-  pub goes : MayGo b
-  pub room : length h + cond (is_idle b.body.phase) 2 1 ≤ s.history
-
-allowed_option : (names : List (List ℕ)) (h : List Item) (s : Settings) (from : ℕ) (a : ActorId) (o : Option Being) → slice_get (world_of names h).actors a.0 ≡ o → first_of (advance_rules (seen names h s from) o) ≡ None → (b : Being) × Allowed names h s a b
-allowed_option names h s from a None at e = cc
-allowed_option names h s from a (Some b) at e =
-    let rest : List Rule = no_room (seen names h s from) (cond (is_idle b.body.phase) 2 1) ∷ [] in
-    let o = off (is_idle b.body.phase && (length (pending b) == 0)) NothingToDo rest e in
-    (b, record { there = at; goes = may_go b (is_idle b.body.phase) refl o.0; room = has_room s.history (length h) (cond (is_idle b.body.phase) 2 1) HistoryFull o.1 })
-
-pub allowed_by : (names : List (List ℕ)) (h : List Item) (s : Settings) (from : ℕ) (a : ActorId) → first_of (advance_rules (seen names h s from) (slice_get (world_of names h).actors a.0)) ≡ None → (b : Being) × Allowed names h s a b
-allowed_by names h s from a e = allowed_option names h s from a (slice_get (world_of names h).actors a.0) refl e
-
-ready_here : (b : Being) → MayGo b → is_ready b ≡ true
-ready_here b (goes_on busy) = busy_ready b busy
-ready_here b (begins m ms idle first) = ap (λ (x : Bool). not x || not (length (pending b) == 0)) idle ∙ ap (λ (xs : List Message). not (length xs == 0)) first ∙ ap not (eqb-suc-zero (length ms))
-
-ready_being : (w : World) (a : ℕ) (b : Being) → slice_get w.actors a ≡ Some b → is_ready_at w a ≡ is_ready b
-ready_being w a b e = rw e refl
-
-pub is_queued : (names : List (List ℕ)) (edits : List Edit) (actors : List Kept) (ready : BTreeSet ℕ) (h : List Item) (made : ℕ) (s : Settings) (a : ActorId) (b : Being) → IsImage names edits actors ready h made s → Allowed names h s a b → has ready a.0 ≡ true
-is_queued names edits actors ready h made s a b k l = k.shows.ready_are a.0 ∙ ready_being (world_of names h) a.0 b l.there ∙ ready_here b l.goes
-
-some_kept : (k l : Kept) → Some k ≡ Some l → k ≡ l
-some_kept k l e = cc
-
-pub runs : (names : List (List ℕ)) (edits : List Edit) (actors : List Kept) (ready : BTreeSet ℕ) (h : List Item) (made : ℕ) (s : Settings) (a : ActorId) (b : Being) → IsImage names edits actors ready h made s → Allowed names h s a b → (k : Kept) → slice_get actors a.0 ≡ Some k → CanRun edits a (started k).body
-runs names edits actors ready h made s a b i l k e =
-    let w : World = world_of names h in
-    let same : kept_of b ≡ k = some_kept (kept_of b) k (sym (kept_at edits actors ready w a.0 b i.shows l.there) ∙ e) in
-    subst (λ (x : Kept). CanRun edits a (started x).body) same (subst (λ (es : List Edit). CanRun es a (started (kept_of b)).body) (sym i.shows.edits_are) (can_run names w a b i.world l.there l.goes))
-
--- an image after an advance: how many steps it took, and what it did first
-pub record HasAdvanced (names : List (List ℕ)) (edits : List Edit) (actors : List Kept) (ready : BTreeSet ℕ) (h : List Item) (made : ℕ) (s : Settings) (a : ActorId) (begins : Bool) (n limit : ℕ) (is_whole : Bool) : Type 0 where
-  pub image : IsImage names edits actors ready (h ++ advance_items a begins n) made s
-  pub idle : begins ≡ idle_at (slice_get (world_of names h).actors a.0)
-  pub within : n ≤ limit
-  pub some : IsTrue is_whole → 1 ≤ n
-  pub whole : IsTrue is_whole → (n ≡ limit) ⊎ (idle_at (slice_get (world_of names (h ++ advance_items a begins n)).actors a.0) ≡ true)
-  pub cut : is_whole ≡ false → (n < limit) × (idle_at (slice_get (world_of names (h ++ advance_items a begins n)).actors a.0) ≡ false)
-
-some_steps : (edits : List Edit) (a : ActorId) (n limit : ℕ) (b c : Body) → is_idle b.phase ≡ false → 1 ≤ limit → steps edits a n b ≡ Some c → (n ≡ limit) ⊎ (is_idle c.phase ≡ true) → 1 ≤ n
-some_steps edits a (suc n) limit b c busy l e w = omega arith
-some_steps edits a zero limit b c busy l e (inl w) = omega arith
-some_steps edits a zero limit b c busy l e (inr w) = let same : c ≡ b = some_body b c e in let both : is_idle b.phase ≡ true = ap (λ (x : Body). is_idle x.phase) (sym same) ∙ w in cc
-
-pub has_advanced : (names : List (List ℕ)) (edits : List Edit) (actors actors' : List Kept) (ready ready' : BTreeSet ℕ) (h : List Item) (made : ℕ) (s : Settings) (a : ActorId) (b : Being) (t : Bool) (n limit : ℕ) (is_whole : Bool)
-    → IsImage names edits actors ready h made s → Allowed names h s a b → 1 ≤ limit
-    → ((k : Kept) → slice_get actors a.0 ≡ Some k → t ≡ is_idle k.body.phase)
-    → ((k : Kept) → slice_get actors a.0 ≡ Some k → (body : Body) × Advances edits a limit k n is_whole body × (actors' ≡ slice_set actors a.0 (stepped_to (started k) body)) × HasAlso ready ready' a.0 (is_ready_kept (stepped_to (started k) body)))
-    → HasAdvanced names edits actors' ready' h made s a t n limit is_whole
-has_advanced names edits actors actors' ready ready' h made s a b t n limit is_whole i l least first went =
-    let w : World = world_of names h in
-    let at : slice_get actors a.0 ≡ Some (kept_of b) = kept_at edits actors ready w a.0 b i.shows l.there in
-    let g = went (kept_of b) at in
-    let idle : t ≡ is_idle b.body.phase = first (kept_of b) at in
-    let r : IsAdvanced names edits actors' ready' (h ++ advance_items a (is_idle b.body.phase) n) made s a g.0 = went_on names edits actors actors' ready ready' h made s a b n g.0 i l.there l.goes l.room g.1.taken g.2 g.3 (is_queued names edits actors ready h made s a b i l) in
-    let r' : IsAdvanced names edits actors' ready' (h ++ advance_items a t n) made s a g.0 = subst (λ (x : Bool). IsAdvanced names edits actors' ready' (h ++ advance_items a x n) made s a g.0) (sym idle) r in
+pub has_taken : (base : World) (names : List (List ℕ)) (edits : List Edit) (actors actors' : List Kept) (h : List Item) (made : ℕ) (s : Settings) (from : ℕ) (a : ActorId) (limit n : ℕ) (whole : Bool)
+    → IsImage base names edits actors h made s → idle_at (slice_get (world_of (constants_of names s.capacity) base h).actors a.0) ≡ false → 1 ≤ limit → Quantum (constants_of names s.capacity) edits actors' a limit (world_of (constants_of names s.capacity) base h) n whole → IsTrue whole
+    → HasTaken (seen base names h s from) a limit n
+has_taken base names edits actors actors' h made s from a limit n whole k busy l q t =
+    let w : World = world_of (constants_of names s.capacity) base h in
+    let b = busy_being (slice_get w.actors a.0) busy in
+    let u : IsQuantum w.edits a limit b.0.body n = q.whole t b.0 b.1 in
     record {
-      image = r'.image;
-      idle = idle ∙ sym (ap idle_at l.there);
-      within = g.1.within;
-      some = λ y. some_steps edits a n limit (started (kept_of b)).body g.0 (begun_phase b l.goes) least g.1.taken (g.1.whole y);
-      whole = λ y. whole_at (g.1.whole y) r'.at;
-      cut = λ y. let p = g.1.cut y in (p.0, r'.at ∙ p.1);
+      some = some_step (given names (length w.actors)) w.edits a limit b.0.body n (being_at (constants_of names s.capacity) w a.0 b.0 k.world b.1).fits b.2 l u;
+      quantum = (b.0, b.1, u);
     }
-  where
-    whole_at : {m k : ℕ} {x y : Bool} → (m ≡ k) ⊎ (x ≡ true) → y ≡ x → (m ≡ k) ⊎ (y ≡ true)
-    whole_at (inl e) f = inl e
-    whole_at (inr e) f = inr (f ∙ e)
 
--- ---- the answer
+pub has_cut : (base : World) (names : List (List ℕ)) (edits : List Edit) (actors' : List Kept) (h : List Item) (s : Settings) (from : ℕ) (a : ActorId) (limit n : ℕ) (whole : Bool)
+    → idle_at (slice_get (world_of (constants_of names s.capacity) base h).actors a.0) ≡ false → Quantum (constants_of names s.capacity) edits actors' a limit (world_of (constants_of names s.capacity) base h) n whole → whole ≡ false
+    → CutsQuantum (seen base names h s from) a limit n
+has_cut base names edits actors' h s from a limit n whole busy q e =
+    let w : World = world_of (constants_of names s.capacity) base h in
+    let b = busy_being (slice_get w.actors a.0) busy in
+    (b.0, b.1, q.cut e b.0 b.1)
 
-pub finished : (t : Bool) (first : Option Refusal) (n : ℕ) (P : ℕ → Type 0) → first ≡ None → (IsTrue t → P n) → Answers first (cond t (Ok n) (Err NoMemory)) P
-finished true first n P h f = (h, f refl)
-finished false first n P h f = inl refl
+-- a quantum that was cut short before its first step
+pub cut_none : (i : ImageView) (a : ActorId) (limit : ℕ) → idle_at (slice_get (world i).actors a.0) ≡ false → 1 ≤ limit → CutsQuantum i a limit 0
+cut_none i a limit busy l =
+    let b = busy_being (slice_get (world i).actors a.0) busy in
+    (b.0, b.1, record { last = b.0.body; taken = refl; goes_on = b.2; fewer = inl (omega (arith, l)) })
 
-pub stopped : (t : Bool) (n : ℕ) (P : Refusal → Type 0) → (t ≡ false → P NoMemory) → IfErr (cond t (Ok n) (Err NoMemory)) P
-stopped true n P h = tt
-stopped false n P h = h refl
+pub ran_none : (i : ImageView) (a : ActorId) (n : ℕ) → n ≡ 0 → ran_or_same i a n ≡ i
+ran_none i a zero e = refl
+ran_none i a (suc n) e = cc
 
-items_ran : (a : ActorId) (t : Bool) (n : ℕ) → 1 ≤ n → advance_items a t n ≡ beginnings a t ++ Ran a n ∷ []
-items_ran a t zero h = absurd (omega arith)
-items_ran a t (suc n) h = ap (λ (x : Bool). beginnings a t ++ cond x [] (Ran a (suc n) ∷ [])) (eqb-suc-zero n)
+pub ran_some : (i : ImageView) (a : ActorId) (n : ℕ) → 0 < n → ran_or_same i a n ≡ ran_image i a n
+ran_some i a zero l = absurd (omega (arith, l))
+ran_some i a (suc n) l = ap (λ (t : Bool). cond t i (ran_image i a (suc n))) (eqb-suc-zero n)
 
-next_moves : (from : ℕ) (a : ActorId) (t : Bool) (n : ℕ) → 1 ≤ n → next_after from a t n ≡ a.0 + 1
-next_moves from a true n h = refl
-next_moves from a false zero h = absurd (omega arith)
-next_moves from a false (suc n) h = ap (λ (x : Bool). cond x from (a.0 + 1)) (eqb-suc-zero n)
+-- ---- what the progress of a quantum answers
 
-pub is_advanced : (names : List (List ℕ)) (h : List Item) (s : Settings) (from : ℕ) (a : ActorId) (t : Bool) (n : ℕ) → t ≡ idle_at (slice_get (world_of names h).actors a.0) → 1 ≤ n → seen names (h ++ advance_items a t n) s (next_after from a t n) ≡ advanced (seen names h s from) a n
-is_advanced names h s from a t n e some =
-    ap (seen names (h ++ advance_items a t n) s) (next_moves from a t n some)
-    ∙ ap (λ (is : List Item). seen names (h ++ is) s (a.0 + 1)) (items_ran a t n some ∙ ap (λ (x : Bool). beginnings a x ++ Ran a n ∷ []) e)
+pub answered_ok : (r : Result ℕ Refusal) (whole : Bool) (n : ℕ) (P : ℕ → Type 0) → r ≡ cond whole (Ok n) (Err NoMemory) → (IsTrue whole → P n) → IfOk r P
+answered_ok (Ok m) true n P e h = let same : m ≡ n = cc in subst P (sym same) (h refl)
+answered_ok (Ok m) false n P e h = cc
+answered_ok (Err x) whole n P e h = tt
 
--- what want of memory leaves, where the history ends with these items
-abbrev pub Stops : ImageView → ActorId → ℕ → ImageView → Type 0
-Stops i a limit j = (j ≡ i) ⊎ HasStopped i a limit j
+pub answered_err : (r : Result ℕ Refusal) (whole : Bool) (n : ℕ) (P : Refusal → Type 0) → r ≡ cond whole (Ok n) (Err NoMemory) → (whole ≡ false → P NoMemory) → IfErr r P
+answered_err (Ok m) whole n P e h = tt
+answered_err (Err x) true n P e h = cc
+answered_err (Err x) false n P e h = let same : x ≡ NoMemory = cc in subst P (sym same) (h refl)
 
-pub has_stopped : (names : List (List ℕ)) (h : List Item) (s : Settings) (from : ℕ) (a : ActorId) (t : Bool) (n limit : ℕ) → first_of (advance_rules (seen names h s from) (slice_get (world_of names h).actors a.0)) ≡ None → t ≡ idle_at (slice_get (world_of names h).actors a.0) → (n < limit) × (idle_at (slice_get (world_of names (h ++ advance_items a t n)).actors a.0) ≡ false) → Stops (seen names h s from) a limit (seen names (h ++ advance_items a t n) s (next_after from a t n))
-has_stopped names h s from a true zero limit allowed e l = inr (allowed, inl (sym e, refl))
-has_stopped names h s from a false zero limit allowed e l = inl (ap (λ (is : List Item). seen names is s from) (append-nil h))
-has_stopped names h s from a t (suc n) limit allowed e l = inr (allowed, inr (suc n, omega arith, is_advanced names h s from a t (suc n) e (omega arith), l))
+-- ---- the numbers of actors
+
+-- so many actors more than acts can make
+abbrev pub FewActors : ℕ → World → Type 0
+FewActors k w = length w.actors ≤ 65536 + k
+
+fewer : (m n : ℕ) → nat_le m n ≡ false → n < m
+fewer m n h = grind (arith, nat_tests)
+
+few_change : (k : ℕ) (f : Being → Being) (a : ActorId) (w : World) → FewActors k w → FewActors k (change f a w)
+few_change k f a w h = omega (arith, h, length-change f a.0 w.actors)
+
+few_last : (k : ℕ) (s : Sender) (n : ℕ) (w : World) → FewActors k w → FewActors k (with_last s n w)
+few_last k (Client s) n w h = h
+few_last k (Actor a) n w h = few_change k (λ b. record b { last = n }) a w h
+
+few_posted : (k : ℕ) (c : Constants) (w v : World) (a : ActorId) (m : Message) → FewActors k w → posted c w a m ≡ Some v → FewActors k v
+few_posted k c w v a m h e = subst (FewActors k) (let_through _ _ v e).1 (few_last k m.sender m.seq (change (accepting m) a w) (few_change k (accepting m) a w h))
+
+few_closed : (k : ℕ) (w v : World) (a : ActorId) → FewActors k w → closed w a ≡ Some v → FewActors k v
+few_closed k w v a h e = subst (FewActors k) (let_through _ _ v e).1 (few_change k (λ b. record b { is_open = false }) a w h)
+
+few_tried : (k : ℕ) (w : World) (o : Option World) → FewActors k w → ((v : World) → o ≡ Some v → FewActors k v) → FewActors k (tried w o).world
+few_tried k w None h f = h
+few_tried k w (Some v) h f = f v refl
+
+few_either : (k : ℕ) (b : Bool) (p q : Acted) → FewActors k p.world → (b ≡ false → FewActors k q.world) → FewActors k (cond b p q).world
+few_either k true p q h f = h
+few_either k false p q h f = f refl
+
+few_posted_by : (k : ℕ) (c : Constants) (to : ActorId) (s : Selector) (args : List Value) (a : ActorId) (w v : World) (o : Option Being) → FewActors k w → posted_by c to s args a w o ≡ Some v → FewActors k v
+few_posted_by k c to s args a w v None h e = cc
+few_posted_by k c to s args a w v (Some b) h e = few_posted k c w v to _ h (cond_some _ _ v e).1
+
+few_post : (k : ℕ) (c : Constants) (to : ActorId) (s : Selector) (args : List Value) (a : ActorId) (w : World) → FewActors k w → FewActors k (post_done c to s args a w).world
+few_post k c to s args a w h =
+    let o : Option World = posted_by c to s args a w (slice_get w.actors a.0) in
+    few_either k (not (is_number (arity_at c.names s) (length args))) (failed w BadArgument) (cond (list_any is_local args) (failed w LocalArgument) (tried w o)) h
+    (λ x. few_either k (list_any is_local args) (failed w LocalArgument) (tried w o) h
+    (λ y. few_tried k w o h (λ v e. few_posted_by k c to s args a w v (slice_get w.actors a.0) h e)))
+
+few_create : (k : ℕ) (c : Constants) (class : ClassId) (w : World) → FewActors k w → FewActors k (create_done c class w).world
+few_create k c class w h =
+    let made : Acted = record { world = with_new c class w; answer = Ok (Reference (record { 0 = length w.actors })) } in
+    few_either k (is_closed class) (failed w BadArgument) (cond (nat_le 65536 (length w.actors)) (failed w TooManyActors) made) h
+    (λ x. few_either k (nat_le 65536 (length w.actors)) (failed w TooManyActors) made h
+    (λ y. let few : length w.actors < 65536 = fewer 65536 (length w.actors) y in omega (arith, few, length-append w.actors (new_being w.edits class c.capacity ∷ []))))
+
+few_done : (k : ℕ) (c : Constants) (a : ActorId) (w : World) (act : Act) → FewActors k w → FewActors k (done c a w act).world
+few_done k c a w (Post to (Sym s ∷ args)) h = few_post k c to s args a w h
+few_done k c a w (Post to []) h = h
+few_done k c a w (Post to (Int z ∷ args)) h = h
+few_done k c a w (Post to (Boolean b ∷ args)) h = h
+few_done k c a w (Post to (Nil ∷ args)) h = h
+few_done k c a w (Post to (Class d ∷ args)) h = h
+few_done k c a w (Post to (Reference d ∷ args)) h = h
+few_done k c a w (Post to (Local n ∷ args)) h = h
+few_done k c a w (Close to) h = few_tried k w (closed w to) h (λ v e. few_closed k w v to h e)
+few_done k c a w (Create class) h = few_create k c class w h
+
+some_world : (w v : World) → Some w ≡ Some v → w ≡ v
+some_world w v e = cc
+
+few_taken : (k : ℕ) (c : Constants) (a : ActorId) (w v : World) (s : Step) → FewActors k w → taken c a w s ≡ Some v → FewActors k v
+few_taken k c a w v (leads body) h e = subst (FewActors k) (some_world _ v e) (few_change k (with_body body) a w h)
+few_taken k c a w v ended h e = cc
+few_taken k c a w v (outer act) h e = let d : Acted = done c a w act in subst (FewActors k) (some_world _ v e) (few_change k (λ b. with_body (replied act d.answer b.body) b) a d.world (few_done k c a w act h))
+
+few_stepped : (k : ℕ) (c : Constants) (a : ActorId) (w v : World) → FewActors k w → stepped c a w ≡ Some v → FewActors k v
+few_stepped k c a w v h e = let p = bound (λ b. taken c a w (step w.edits a b.body)) (slice_get w.actors a.0) v e in few_taken k c a w v (step w.edits a p.0.body) h p.2
+
+few_after : (k : ℕ) (c : Constants) (a : ActorId) (n : ℕ) (w v : World) → FewActors k w → world_after c a n w ≡ Some v → FewActors k v
+few_after k c a zero w v h e = subst (FewActors k) (some_world w v e) h
+few_after k c a (suc n) w v h e = let p = bound (world_after c a n) (stepped c a w) v e in few_after k c a n p.0 v (few_stepped k c a w p.0 h p.1) p.2
+
+few_next : (k : ℕ) (c : Constants) (w v : World) (i : Item) → FewActors k w → next c w i ≡ Some v → FewActors (k + 1) v
+few_next k c w v (Edited e) h f = subst (FewActors (k + 1)) (let_through _ _ v f).1 (omega (arith, h))
+few_next k c w v (Created class) h f = subst (FewActors (k + 1)) (let_through _ _ v f).1 (omega (arith, h, length-append w.actors (new_being w.edits class c.capacity ∷ [])))
+few_next k c w v (Posted a m) h f = omega (arith, few_posted k c w v a m h f)
+few_next k c w v (Closed a) h f = omega (arith, few_closed k w v a h f)
+few_next k c w v (Begun a) h f =
+    let p = mapped (λ m. change (beginning m) a w) (next_message (slice_get w.actors a.0)) v f in
+    let g : FewActors k v = subst (FewActors k) p.2 (few_change k (beginning p.0) a w h) in
+    omega (arith, g)
+few_next k c w v (Ran a n) h f = omega (arith, few_after k c a n w v h (cond_some (nat_lt 0 n) (world_after c a n w) v (sym (ran_after c w a n) ∙ f)).1)
+
+few_replay : (k : ℕ) (c : Constants) (w v : World) (is : List Item) → FewActors k w → replay c w is ≡ Some v → FewActors (k + length is) v
+few_replay k c w v [] h e = subst (FewActors (k + 0)) (some_world w v e) (omega (arith, h))
+few_replay k c w v (i ∷ is) h e =
+    let p = bound (λ x. replay c x is) (next c w i) v e in
+    let r : FewActors (k + 1 + length is) v = few_replay (k + 1) c p.0 v is (few_next k c w p.0 i h p.1) p.2 in
+    omega (arith, r)
+
+-- the number after that of an actor that is there fits
+pub small_number : (names : List (List ℕ)) (edits : List Edit) (actors : List Kept) (h : List Item) (made : ℕ) (s : Settings) (a : ℕ) (x : Kept) → IsImage start names edits actors h made s → slice_get actors a ≡ Some x → FitsIn w32 (a + 1)
+small_number names edits actors h made s a x k at =
+    let c : Constants = constants_of names s.capacity in
+    let w : World = world_of c start h in
+    let few : FewActors (0 + length h) w = few_replay 0 c start w h (omega arith) k.lawful in
+    let there : a < length actors = slice_get_within actors a x at in
+    omega (arith, few, there, count_is edits actors w k.shows, k.few_items, k.numbers.few_items)
+
+pub small_by : (names : List (List ℕ)) (edits : List Edit) (actors : List Kept) (h : List Item) (made : ℕ) (s : Settings) (a : ActorId) → IsImage start names edits actors h made s → idle_at (slice_get (world_of (constants_of names s.capacity) start h).actors a.0) ≡ false → FitsIn w32 (a.0 + 1)
+small_by names edits actors h made s a k busy =
+    let w : World = world_of (constants_of names s.capacity) start h in
+    let b = busy_being (slice_get w.actors a.0) busy in
+    small_number names edits actors h made s a.0 (kept_of b.0) k (kept_at edits actors w a.0 b.0 k.shows b.1)
+
+-- the room of an item more, as a rule that refuses nothing
+pub begun_room : (limit n : ℕ) → n + 1 ≤ limit → first_of ((nat_lt limit (n + 1), HistoryFull) ∷ []) ≡ None
+begun_room limit n h = let off' : nat_lt limit (n + 1) ≡ false = grind (arith, nat_tests) in ap (λ (t : Bool). first_of ((t, HistoryFull) ∷ [])) off'

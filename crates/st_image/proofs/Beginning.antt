@@ -1,19 +1,22 @@
 -- New images.
-use Rattle.std.proofs.Common.{arith, ◌≡◌, ℕ, ◌≤◌, [], Bool, true, false, None, refl, nat_le, append-nil, sym}
+use Rattle.std.proofs.Common.{arith, ◌≡◌, ℕ, ◌≤◌, [], Bool, true, false, None, refl, nat_le, append-nil, sym, List, subst}
 use Rattle.std.specs.Prelude.{not, ◌&&◌, ◌||◌}
-use Rattle.std.specs.BTreeSet.{BTreeSet}
 use Rattle.std.proofs.lemmas.Bool.{and_parts}
 use Rattle.std.proofs.lemmas.Bool.Decides.{nat_tests}
 use Rattle.std.proofs.lemmas.List.Elements.{All-nil}
 use Rattle.st_classes.specs.declared.refusals.Refusal.TheVariants.{BadArguments}
 use Rattle.st_classes.specs.Refusals.{first_of}
 use Rattle.st_classes.specs.Kernel.{kernel_selectors}
+use Rattle.st_classes.specs.declared.edits.Edit.{Edit}
+use Rattle.st_image.specs.declared.items.Item.{Item}
 use Rattle.st_image.specs.declared.settings.Settings.{Settings}
 use Rattle.st_image.specs.Images.{world_of, settings_rules}
-use Rattle.st_image.specs.Kepts.{Kept, has}
-use Rattle.st_image.specs.Lasting.{AreSettings, HasCapacity}
+use Rattle.st_image.specs.Worlds.{start}
+use Rattle.st_image.specs.Kepts.{Kept}
+use Rattle.st_image.specs.Lasting.{AreConstants, AreSettings, IsSoundItem}
+use Rattle.st_image.specs.Acting.{constants_of}
 use Rattle.st_image.specs.Keeping.{IsImage}
-use Rattle.st_image.proofs.Lasting.{start_is_world}
+use Rattle.st_image.proofs.Lasting.{start_has_turns, start_is_world}
 use Rattle.st_image.proofs.Lists.{off}
 
 or_off : (a b : Bool) → (not a || not b) ≡ false → (a ≡ true) × (b ≡ true)
@@ -32,16 +35,43 @@ settings_are s e =
     let h = and_parts (nat_le 1 s.history) (nat_le s.history 1000000) b.1 in
     record { some_capacity = at_most 1 s.capacity c.0; few_messages = at_most s.capacity 1024 c.1; some_history = at_most 1 s.history h.0; few_items = at_most s.history 1000000 h.1 }
 
-pub new_is : (ready : BTreeSet ℕ) (s : Settings) → ((a : ℕ) → has ready a ≡ false) → AreSettings s → IsImage kernel_selectors [] [] ready [] 0 s
+new_constants : (s : Settings) → AreSettings s → AreConstants (constants_of kernel_selectors s.capacity)
+new_constants s f = record { kernel = ([], sym (append-nil kernel_selectors)); some_capacity = f.some_capacity; few_messages = f.few_messages }
+
+-- an image with no history yet, with numbers that are set for it
+pub new_is : (s : Settings) → AreSettings s → IsImage start kernel_selectors [] [] [] 0 s
 unfolding world_of
-new_is ready s h f = record {
+new_is s f = record {
+  base_is = start_is_world (constants_of kernel_selectors s.capacity) (new_constants s f);
+  sound = All-nil IsSoundItem;
   lawful = refl;
-  shows = record { edits_are = refl; actors_are = refl; ready_are = h };
-  world = start_is_world kernel_selectors ([], sym (append-nil kernel_selectors));
+  shows = record { edits_are = refl; actors_are = refl };
+  world = start_is_world (constants_of kernel_selectors s.capacity) (new_constants s f);
+  turns = start_has_turns;
   counted = refl;
   numbers = f;
-  created = All-nil (HasCapacity s.capacity);
   few_items = omega arith;
-  few_actors = omega arith;
   few_accepted = All-nil (λ (k : Kept). k.accepted ≤ 0);
 }
+
+no_items : (names : List (List ℕ)) (edits : List Edit) (actors : List Kept) (made : ℕ) (s t : Settings) → IsImage start names edits actors [] made s → AreSettings t → IsImage start names edits actors [] made t
+unfolding world_of
+no_items names edits actors made s t k f =
+    let c : AreConstants (constants_of names t.capacity) = record { kernel = k.base_is.constants.kernel; some_capacity = f.some_capacity; few_messages = f.few_messages } in
+    record {
+      base_is = start_is_world (constants_of names t.capacity) c;
+      sound = k.sound;
+      lawful = refl;
+      shows = k.shows;
+      world = start_is_world (constants_of names t.capacity) c;
+      turns = start_has_turns;
+      counted = k.counted;
+      numbers = f;
+      few_items = omega arith;
+      few_accepted = k.few_accepted;
+    }
+
+-- an image with no history yet, with other numbers
+pub set_is : (names : List (List ℕ)) (edits : List Edit) (actors : List Kept) (h : List Item) (made : ℕ) (s t : Settings) → IsImage start names edits actors h made s → h ≡ [] → AreSettings t → IsImage start names edits actors h made t
+set_is names edits actors h made s t k none f =
+    subst (λ (x : List Item). IsImage start names edits actors x made t) (sym none) (no_items names edits actors made s t (subst (λ (x : List Item). IsImage start names edits actors x made s) none k) f)

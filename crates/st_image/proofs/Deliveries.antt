@@ -1,34 +1,65 @@
--- Each item keeps the order of delivery.
-use Rattle.std.proofs.Common.{◌≡◌, ℕ, ◌++◌, [], ◌∷◌, List, Option, Some, None, refl, ap, sym, ◌∙◌, subst, length, slice_get, slice_set, Bool, true, false, append_assoc, drop, option_and_then, inl, inr, append-nil}
-use Rattle.std.specs.Prelude.{All}
-use Rattle.std.proofs.lemmas.List.Elements.{All-set, All-push, All-nil}
+-- Delivery: each item keeps the order, and actors only grow.
+use Rattle.std.proofs.Common.{◌≡◌, ℕ, zero, suc, ◌++◌, [], ◌∷◌, List, Option, Some, None, Ok, refl, ap, sym, ◌∙◌, subst, length, slice_get, Bool, true, false, cond, drop, append_assoc, append-nil, option_and_then, inl, inr}
+use Rattle.std.specs.Prelude.{All, not, nat_le, nat_lt}
+use Rattle.std.specs.List.{list_any}
 use Rattle.std.proofs.Math.Seq.{drop-append_seam}
-use Rattle.std.specs.Prelude.{nat_lt}
-use Rattle.std.proofs.Common.{cond}
-use Rattle.st_image.specs.Next.{with_result}
+use Rattle.std.proofs.lemmas.List.Elements.{All-push, All-weaker}
 use Rattle.st_classes.specs.declared.values.ActorId.{ActorId}
 use Rattle.st_classes.specs.declared.values.ClassId.{ClassId}
+use Rattle.st_classes.specs.declared.values.Selector.{Selector}
+use Rattle.st_classes.specs.declared.values.Value.{Value}
+use Rattle.st_classes.specs.declared.values.Value.TheVariants.{Int, Bool as Boolean, Nil, Sym, Class, Actor as Reference, Local}
+use Rattle.st_classes.specs.declared.faults.Fault.TheVariants.{BadArgument, LocalArgument, TooManyActors}
 use Rattle.st_classes.specs.declared.edits.Edit.{Edit}
+use Rattle.st_classes.specs.Accepting.{is_closed}
+use Rattle.st_classes.specs.Suiting.{arity_at, is_number}
+use Rattle.st_classes.proofs.LawLists.{slice_get_kept}
+use Rattle.st_turn.specs.declared.acts.Act.{Act}
+use Rattle.st_turn.specs.declared.acts.Act.TheVariants.{Post, Close, Create}
 use Rattle.st_turn.specs.declared.body.Body.{Body}
-use Rattle.st_image.specs.declared.messages.Message.{Message}
-use Rattle.st_image.specs.declared.items.Item.{Item}
-use Rattle.st_image.specs.declared.items.Item.TheVariants.{Edited, Created, Posted, Closed, Begun, Ran}
-use Rattle.st_image.specs.Worlds.{World, Being, start, pending, with_actor}
-use Rattle.st_image.specs.Next.{next, replay, only_if, edited, created, new_being, posted_to, accepting, closed, begun_by, begun_at, beginning, ran, ran_at, steps}
-use Rattle.st_image.specs.Images.{ImageView, world}
-use Rattle.st_image.specs.Lasting.{IsLawful}
-use Rattle.st_image.specs.Delivery.{IsPrefixOf, BeginsInOrder, HasGrown, OnlyGrow, Delivers, HasDelivered}
 use Rattle.st_turn.specs.declared.body.Outcome.{Outcome}
 use Rattle.st_turn.specs.declared.body.Phase.{Phase}
-use Rattle.st_turn.specs.declared.body.Phase.TheVariants.{Fresh, Start, Frames, Done}
-use Rattle.st_classes.proofs.LawLists.{slice_get_kept}
-use Rattle.st_image.proofs.Places.{same_or_not, at_all, get_set_same, get_set_other}
+use Rattle.st_turn.specs.declared.body.Phase.TheVariants.{Fresh, Start, Frames, Done as Ended}
+use Rattle.st_turn.specs.Steps.{Step, next as leads, ended, outer, replied, step}
+use Rattle.st_turn.specs.Idling.{is_idle}
+use Rattle.st_image.specs.declared.messages.Message.{Message}
+use Rattle.st_image.specs.declared.messages.Sender.{Sender}
+use Rattle.st_image.specs.declared.messages.Sender.TheVariants.{Client, Actor}
+use Rattle.st_image.specs.declared.items.Item.{Item}
+use Rattle.st_image.specs.declared.items.Item.TheVariants.{Edited, Created, Posted, Closed, Begun, Ran}
+use Rattle.st_image.specs.Worlds.{Constants, World, Being, change, change_at, pending}
+use Rattle.st_image.specs.Next.{Done, accepting, acted, begun, beginning, closed, create_done, created, done, edited, failed, is_local, new_being, next, next_message, only_if, post_done, posted, posted_by, replay, stepped, taken, tried, with_body, with_last, with_new, with_result}
+use Rattle.st_image.specs.Acting.{world_after}
+use Rattle.st_image.specs.Images.{ImageView, constants, world}
+use Rattle.st_image.specs.Lasting.{IsBeing, IsLawful}
+use Rattle.st_image.specs.Delivery.{IsPrefixOf, BeginsInOrder, HasGrown, OnlyGrow, Delivers, HasDelivered}
+use Rattle.st_image.proofs.Changing.{All-change, get-change-any}
 use Rattle.st_image.proofs.Replays.{replay_append}
+use Rattle.st_image.proofs.Stepping.{bound, mapped, cond_some, ran_after}
 
 -- what a condition lets through is what it was given
 pub let_through : (b : Bool) (w v : World) → only_if b w ≡ Some v → (b ≡ true) × (w ≡ v)
 let_through true w v e = (refl, cc)
 let_through false w v e = cc
+
+-- the first pending message of an idle actor
+pub record IsNextMessage (o : Option Being) (m : Message) : Type 0 where
+  pub being : Being
+  pub rest : List Message
+  pub there : o ≡ Some being
+  pub idle : is_idle being.body.phase ≡ true
+  pub first : pending being ≡ m ∷ rest
+
+first_is : (ms : List Message) (m : Message) → slice_get ms 0 ≡ Some m → (rest : List Message) × (ms ≡ m ∷ rest)
+first_is [] m e = cc
+first_is (n ∷ ms) m e = let same : n ≡ m = cc in (ms, ap (λ (x : Message). x ∷ ms) same)
+
+pub next_is : (o : Option Being) (m : Message) → next_message o ≡ Some m → IsNextMessage o m
+next_is None m e = cc
+next_is (Some b) m e =
+    let t = cond_some (is_idle b.body.phase) (slice_get (pending b) 0) m e in
+    let f = first_is (pending b) m t.1 in
+    record { being = b; rest = f.0; there = refl; idle = t.0; first = f.1 }
 
 -- ---- prefixes
 
@@ -59,100 +90,18 @@ grow_more xs ys zs f g = λ a b e. let p = f a b e in let q = g a p.0 p.1 in (q.
 grow_push : (xs : List Being) (c : Being) → OnlyGrow xs (xs ++ c ∷ [])
 grow_push xs c = λ a b e. (b, slice_get_kept xs (c ∷ []) a b e, grown_refl b)
 
-grow_set : (xs : List Being) (k : ℕ) (b c : Being) → slice_get xs k ≡ Some b → HasGrown b c → OnlyGrow xs (slice_set xs k c)
-grow_set xs k b c at p = λ a d e. elim (same_or_not a k) [
-  | inl s ↦ let here : slice_get xs a ≡ Some b = subst (λ (n : ℕ). slice_get xs n ≡ Some b) (sym s) at in
-      let same : b ≡ d = cc in
-      (c, subst (λ (n : ℕ). slice_get (slice_set xs k c) n ≡ Some c) (sym s) (get_set_same xs k b c at), subst (λ (x : Being). HasGrown x c) same p)
-  | inr f ↦ (d, get_set_other xs a k d c f e, grown_refl d)
+grow_change : (xs : List Being) (k : ℕ) (f : Being → Being) → ((b : Being) → slice_get xs k ≡ Some b → HasGrown b (f b)) → OnlyGrow xs (change_at f k xs)
+grow_change xs k f h = λ a b e. elim (get-change-any f k xs a b e) [
+  | inl there ↦ (b, there, grown_refl b)
+  | inr s ↦ (f b, s.1, h b (subst (λ (n : ℕ). slice_get xs n ≡ Some b) s.0 e))
 ]
 
--- ---- one item
+-- ---- one change
 
 -- an item keeps the order, and actors only grow
 pub record Keeps (w v : World) : Type 0 where
   pub begins : All BeginsInOrder w.actors → All BeginsInOrder v.actors
   pub grows : OnlyGrow w.actors v.actors
-
-keeps_actors : (w v : World) → v.actors ≡ w.actors → Keeps w v
-keeps_actors w v e = record {
-  begins = λ h. subst (λ (xs : List Being). All BeginsInOrder xs) (sym e) h;
-  grows = subst (λ (xs : List Being). OnlyGrow w.actors xs) (sym e) (grow_refl w.actors);
-}
-
-keeps_set : (w : World) (a : ActorId) (b c : Being) (v : World) → slice_get w.actors a.0 ≡ Some b → (BeginsInOrder b → BeginsInOrder c) → HasGrown b c → v.actors ≡ slice_set w.actors a.0 c → Keeps w v
-keeps_set w a b c v at f p e = record {
-  begins = λ h. subst (λ (xs : List Being). All BeginsInOrder xs) (sym e) (All-set BeginsInOrder w.actors a.0 c (f (at_all BeginsInOrder w.actors a.0 b h at)) h);
-  grows = subst (λ (xs : List Being). OnlyGrow w.actors xs) (sym e) (grow_set w.actors a.0 b c at p);
-}
-
-keeps_edited : (names : List (List ℕ)) (w v : World) (e : Edit) → edited names w e ≡ Some v → Keeps w v
-keeps_edited names w v e h = let t = let_through _ _ v h in keeps_actors w v (ap (λ (x : World). x.actors) (sym t.1))
-
-pub nothing_begun : (b : Being) → b.begun ≡ [] → BeginsInOrder b
-nothing_begun b e = (b.accepted, ap (λ (l : List Message). l ++ b.accepted) (sym e))
-
-keeps_created : (w v : World) (c : ClassId) (n : ℕ) → created w c n ≡ Some v → Keeps w v
-keeps_created w v c n h = let t = let_through _ _ v h in record {
-  begins = λ all. subst (λ (x : World). All BeginsInOrder x.actors) t.1 (All-push BeginsInOrder w.actors (new_being w.edits c n) all (nothing_begun (new_being w.edits c n) refl));
-  grows = subst (λ (x : World). OnlyGrow w.actors x.actors) t.1 (grow_push w.actors (new_being w.edits c n));
-}
-
-pub accepting_begins : (b : Being) (m : Message) → BeginsInOrder b → BeginsInOrder (accepting b m)
-accepting_begins b m h = (h.0 ++ m ∷ [], ap (λ (l : List Message). l ++ m ∷ []) h.1 ∙ append_assoc b.begun h.0 (m ∷ []))
-
-keeps_posted : (names : List (List ℕ)) (w v : World) (a : ActorId) (m : Message) (o : Option Being) → slice_get w.actors a.0 ≡ o → posted_to names w a m o ≡ Some v → Keeps w v
-keeps_posted names w v a m None at h = cc
-keeps_posted names w v a m (Some b) at h = let t = let_through _ _ v h in keeps_set w a b (accepting b m) v at (accepting_begins b m) (record { accepted = (m ∷ [], refl); begun = prefix_refl b.begun; results = prefix_refl b.results }) (ap (λ (x : World). x.actors) (sym t.1))
-
-keeps_closed : (w v : World) (a : ActorId) (o : Option Being) → slice_get w.actors a.0 ≡ o → closed w a o ≡ Some v → Keeps w v
-keeps_closed w v a None at h = cc
-keeps_closed w v a (Some b) at h = let t = let_through _ _ v h in keeps_set w a b (record b { is_open = false }) v at (λ p. p) (record { accepted = prefix_refl b.accepted; begun = prefix_refl b.begun; results = prefix_refl b.results }) (ap (λ (x : World). x.actors) (sym t.1))
-
--- what was begun, and then the first that is pending
-pub beginning_begins : (b : Being) (m : Message) (ms : List Message) → pending b ≡ m ∷ ms → BeginsInOrder b → BeginsInOrder (beginning b m)
-beginning_begins b m ms e h =
-    let rest : pending b ≡ h.0 = ap (λ (l : List Message). drop (length b.begun) l) h.1 ∙ drop-append_seam b.begun h.0 in
-    let next_first : h.0 ≡ m ∷ ms = sym rest ∙ e in
-    (ms, h.1 ∙ ap (λ (l : List Message). b.begun ++ l) next_first ∙ sym (append_assoc b.begun (m ∷ []) ms))
-
-keeps_begun_by : (w v : World) (a : ActorId) (b : Being) (ms : List Message) → slice_get w.actors a.0 ≡ Some b → pending b ≡ ms → begun_by w a b ms ≡ Some v → Keeps w v
-keeps_begun_by w v a b [] at e h = cc
-keeps_begun_by w v a b (m ∷ ms) at e h = let t = let_through _ _ v h in keeps_set w a b (beginning b m) v at (beginning_begins b m ms e) (record { accepted = prefix_refl b.accepted; begun = (m ∷ [], refl); results = prefix_refl b.results }) (ap (λ (x : World). x.actors) (sym t.1))
-
-keeps_begun : (w v : World) (a : ActorId) (o : Option Being) → slice_get w.actors a.0 ≡ o → begun_at w a o ≡ Some v → Keeps w v
-keeps_begun w v a None at h = cc
-keeps_begun w v a (Some b) at h = keeps_begun_by w v a b (pending b) at refl h
-
-results_grow : (phase : Phase) (results : List Outcome) → IsPrefixOf results (with_result phase results)
-results_grow Fresh results = prefix_refl results
-results_grow (Start s args) results = prefix_refl results
-results_grow (Frames fs) results = prefix_refl results
-results_grow (Done outcome) results = (outcome ∷ [], refl)
-
-keeps_ran_to : (w v : World) (a : ActorId) (b : Being) (o : Option Body) → slice_get w.actors a.0 ≡ Some b → ran w a b o ≡ Some v → Keeps w v
-keeps_ran_to w v a b None at h = cc
-keeps_ran_to w v a b (Some body) at h =
-    let t : with_actor w a (record b { body = body; results = with_result body.phase b.results }) ≡ v = cc in
-    keeps_set w a b (record b { body = body; results = with_result body.phase b.results }) v at (λ p. p) (record { accepted = prefix_refl b.accepted; begun = prefix_refl b.begun; results = results_grow body.phase b.results }) (ap (λ (x : World). x.actors) (sym t))
-
-keeps_ran_some : (w v : World) (a : ActorId) (n : ℕ) (b : Being) (c : Bool) → slice_get w.actors a.0 ≡ Some b → cond c (ran w a b (steps w.edits a n b.body)) None ≡ Some v → Keeps w v
-keeps_ran_some w v a n b true at h = keeps_ran_to w v a b (steps w.edits a n b.body) at h
-keeps_ran_some w v a n b false at h = cc
-
-keeps_ran : (w v : World) (a : ActorId) (n : ℕ) (o : Option Being) → slice_get w.actors a.0 ≡ o → ran_at w a n o ≡ Some v → Keeps w v
-keeps_ran w v a n None at h = cc
-keeps_ran w v a n (Some b) at h = keeps_ran_some w v a n b (nat_lt 0 n) at h
-
-pub next_keeps_order : (names : List (List ℕ)) (w v : World) (i : Item) → next names w i ≡ Some v → Keeps w v
-next_keeps_order names w v (Edited e) h = keeps_edited names w v e h
-next_keeps_order names w v (Created c n) h = keeps_created w v c n h
-next_keeps_order names w v (Posted a m) h = keeps_posted names w v a m (slice_get w.actors a.0) refl h
-next_keeps_order names w v (Closed a) h = keeps_closed w v a (slice_get w.actors a.0) refl h
-next_keeps_order names w v (Begun a) h = keeps_begun w v a (slice_get w.actors a.0) refl h
-next_keeps_order names w v (Ran a n) h = keeps_ran w v a n (slice_get w.actors a.0) refl h
-
--- ---- a history
 
 keeps_refl : (w : World) → Keeps w w
 keeps_refl w = record { begins = λ h. h; grows = grow_refl w.actors }
@@ -160,32 +109,168 @@ keeps_refl w = record { begins = λ h. h; grows = grow_refl w.actors }
 keeps_more : (w v u : World) → Keeps w v → Keeps v u → Keeps w u
 keeps_more w v u f g = record { begins = λ h. g.begins (f.begins h); grows = grow_more w.actors v.actors u.actors f.grows g.grows }
 
-keeps_then : (names : List (List ℕ)) (w u : World) (is : List Item) (o : Option World) → ((v : World) → o ≡ Some v → Keeps w v) → ((v : World) → replay names v is ≡ Some u → Keeps v u) → option_and_then (λ v. replay names v is) o ≡ Some u → Keeps w u
-keeps_then names w u is None f g h = cc
-keeps_then names w u is (Some v) f g h = keeps_more w v u (f v refl) (g v h)
+-- what a change of an actor keeps
+abbrev KeepsBeing : Being → Being → Type 0
+KeepsBeing b d = (BeginsInOrder b → BeginsInOrder d) × HasGrown b d
 
-pub replay_keeps_order : (names : List (List ℕ)) (w u : World) (is : List Item) → replay names w is ≡ Some u → Keeps w u
-replay_keeps_order names w u [] h = let e : w ≡ u = cc in subst (λ (x : World). Keeps w x) e (keeps_refl w)
-replay_keeps_order names w u (i ∷ is) h = keeps_then names w u is (next names w i) (λ v e. next_keeps_order names w v i e) (λ v e. replay_keeps_order names v u is e) h
+keeps_change : (w : World) (a : ActorId) (f : Being → Being) → ((b : Being) → slice_get w.actors a.0 ≡ Some b → KeepsBeing b (f b)) → Keeps w (change f a w)
+keeps_change w a f h = record {
+  begins = λ all. All-change BeginsInOrder f a.0 w.actors (λ b at p. (h b at).0 p) all;
+  grows = grow_change w.actors a.0 f (λ b at. (h b at).1);
+}
+
+keeps_edited : (c : Constants) (w v : World) (e : Edit) → edited c w e ≡ Some v → Keeps w v
+keeps_edited c w v e h =
+    let t = let_through _ _ v h in
+    let same : w.actors ≡ v.actors = ap (λ (x : World). x.actors) t.1 in
+    record {
+      begins = λ all. subst (λ (xs : List Being). All BeginsInOrder xs) same all;
+      grows = subst (λ (xs : List Being). OnlyGrow w.actors xs) same (grow_refl w.actors);
+    }
+
+pub nothing_begun : (b : Being) → b.begun ≡ [] → BeginsInOrder b
+nothing_begun b e = (b.accepted, ap (λ (l : List Message). l ++ b.accepted) (sym e))
+
+keeps_new : (c : Constants) (class : ClassId) (w : World) → Keeps w (with_new c class w)
+keeps_new c class w = record {
+  begins = λ all. All-push BeginsInOrder w.actors (new_being w.edits class c.capacity) all (nothing_begun (new_being w.edits class c.capacity) refl);
+  grows = grow_push w.actors (new_being w.edits class c.capacity);
+}
+
+keeps_created : (c : Constants) (w v : World) (class : ClassId) → created c w class ≡ Some v → Keeps w v
+keeps_created c w v class h = let t = let_through _ _ v h in subst (Keeps w) t.1 (keeps_new c class w)
+
+pub accepting_begins : (m : Message) (b : Being) → BeginsInOrder b → BeginsInOrder (accepting m b)
+accepting_begins m b h = (h.0 ++ m ∷ [], ap (λ (l : List Message). l ++ m ∷ []) h.1 ∙ append_assoc b.begun h.0 (m ∷ []))
+
+keeps_last : (s : Sender) (n : ℕ) (w : World) → Keeps w (with_last s n w)
+keeps_last (Client s) n w = record { begins = λ h. h; grows = grow_refl w.actors }
+keeps_last (Actor a) n w = keeps_change w a (λ b. record b { last = n }) (λ b at. (λ p. p, record { accepted = prefix_refl b.accepted; begun = prefix_refl b.begun; results = prefix_refl b.results }))
+
+keeps_posted : (c : Constants) (w v : World) (a : ActorId) (m : Message) → posted c w a m ≡ Some v → Keeps w v
+keeps_posted c w v a m h =
+    let t = let_through _ _ v h in
+    let one : Keeps w (change (accepting m) a w) = keeps_change w a (accepting m) (λ b at. (accepting_begins m b, record { accepted = (m ∷ [], refl); begun = prefix_refl b.begun; results = prefix_refl b.results })) in
+    subst (Keeps w) t.1 (keeps_more w (change (accepting m) a w) (with_last m.sender m.seq (change (accepting m) a w)) one (keeps_last m.sender m.seq (change (accepting m) a w)))
+
+keeps_closed : (w v : World) (a : ActorId) → closed w a ≡ Some v → Keeps w v
+keeps_closed w v a h =
+    let t = let_through _ _ v h in
+    subst (Keeps w) t.1 (keeps_change w a (λ b. record b { is_open = false }) (λ b at. (λ p. p, record { accepted = prefix_refl b.accepted; begun = prefix_refl b.begun; results = prefix_refl b.results })))
+
+-- what was begun, and then the first that is pending
+pub beginning_begins : (m : Message) (b : Being) (ms : List Message) → pending b ≡ m ∷ ms → BeginsInOrder b → BeginsInOrder (beginning m b)
+beginning_begins m b ms e h =
+    let rest : pending b ≡ h.0 = ap (λ (l : List Message). drop (length b.begun) l) h.1 ∙ drop-append_seam b.begun h.0 in
+    let next_first : h.0 ≡ m ∷ ms = sym rest ∙ e in
+    (ms, h.1 ∙ ap (λ (l : List Message). b.begun ++ l) next_first ∙ sym (append_assoc b.begun (m ∷ []) ms))
+
+same_being : (b d : Being) → Some b ≡ Some d → b ≡ d
+same_being b d e = cc
+
+keeps_begun : (w v : World) (a : ActorId) → begun w a ≡ Some v → Keeps w v
+keeps_begun w v a h =
+    let p = mapped (λ m. change (beginning m) a w) (next_message (slice_get w.actors a.0)) v h in
+    let n : IsNextMessage (slice_get w.actors a.0) p.0 = next_is (slice_get w.actors a.0) p.0 p.1 in
+    subst (Keeps w) p.2 (keeps_change w a (beginning p.0) (λ b at.
+    let same : n.being ≡ b = same_being n.being b (sym n.there ∙ at) in
+    (beginning_begins p.0 b n.rest (subst (λ (x : Being). pending x ≡ p.0 ∷ n.rest) same n.first), record { accepted = prefix_refl b.accepted; begun = (p.0 ∷ [], refl); results = prefix_refl b.results })))
+
+-- ---- acts
+
+either_keeps : (w : World) (b : Bool) (p q : Done) → Keeps w p.world → Keeps w q.world → Keeps w (cond b p q).world
+either_keeps w true p q h k = h
+either_keeps w false p q h k = k
+
+tried_keeps : (w : World) (o : Option World) → ((v : World) → o ≡ Some v → Keeps w v) → Keeps w (tried w o).world
+tried_keeps w None h = keeps_refl w
+tried_keeps w (Some v) h = h v refl
+
+keeps_posted_by : (c : Constants) (to : ActorId) (s : Selector) (args : List Value) (a : ActorId) (w v : World) (o : Option Being) → posted_by c to s args a w o ≡ Some v → Keeps w v
+keeps_posted_by c to s args a w v None e = cc
+keeps_posted_by c to s args a w v (Some b) e = keeps_posted c w v to _ (cond_some _ _ v e).1
+
+keeps_post : (c : Constants) (to : ActorId) (s : Selector) (args : List Value) (a : ActorId) (w : World) → Keeps w (post_done c to s args a w).world
+keeps_post c to s args a w =
+    let o : Option World = posted_by c to s args a w (slice_get w.actors a.0) in
+    either_keeps w (not (is_number (arity_at c.names s) (length args))) (failed w BadArgument) (cond (list_any is_local args) (failed w LocalArgument) (tried w o)) (keeps_refl w)
+    (either_keeps w (list_any is_local args) (failed w LocalArgument) (tried w o) (keeps_refl w) (tried_keeps w o (λ v e. keeps_posted_by c to s args a w v (slice_get w.actors a.0) e)))
+
+keeps_create : (c : Constants) (class : ClassId) (w : World) → Keeps w (create_done c class w).world
+keeps_create c class w =
+    let made : Done = record { world = with_new c class w; answer = Ok (Reference (record { 0 = length w.actors })) } in
+    either_keeps w (is_closed class) (failed w BadArgument) (cond (nat_le 65536 (length w.actors)) (failed w TooManyActors) made) (keeps_refl w)
+    (either_keeps w (nat_le 65536 (length w.actors)) (failed w TooManyActors) made (keeps_refl w) (keeps_new c class w))
+
+keeps_done : (c : Constants) (a : ActorId) (w : World) (act : Act) → Keeps w (done c a w act).world
+keeps_done c a w (Post to (Sym s ∷ args)) = keeps_post c to s args a w
+keeps_done c a w (Post to []) = keeps_refl w
+keeps_done c a w (Post to (Int z ∷ args)) = keeps_refl w
+keeps_done c a w (Post to (Boolean b ∷ args)) = keeps_refl w
+keeps_done c a w (Post to (Nil ∷ args)) = keeps_refl w
+keeps_done c a w (Post to (Class d ∷ args)) = keeps_refl w
+keeps_done c a w (Post to (Reference d ∷ args)) = keeps_refl w
+keeps_done c a w (Post to (Local n ∷ args)) = keeps_refl w
+keeps_done c a w (Close to) = tried_keeps w (closed w to) (λ v e. keeps_closed w v to e)
+keeps_done c a w (Create class) = keeps_create c class w
+
+-- ---- steps
+
+results_grow : (phase : Phase) (results : List Outcome) → IsPrefixOf results (with_result phase results)
+results_grow Fresh results = prefix_refl results
+results_grow (Start s args) results = prefix_refl results
+results_grow (Frames fs) results = prefix_refl results
+results_grow (Ended outcome) results = (outcome ∷ [], refl)
+
+body_keeps : (body : Body) (b : Being) → KeepsBeing b (with_body body b)
+body_keeps body b = (λ p. p, record { accepted = prefix_refl b.accepted; begun = prefix_refl b.begun; results = results_grow body.phase b.results })
+
+some_world : (w v : World) → Some w ≡ Some v → w ≡ v
+some_world w v e = cc
+
+keeps_taken : (c : Constants) (a : ActorId) (w v : World) (s : Step) → taken c a w s ≡ Some v → Keeps w v
+keeps_taken c a w v (leads body) e = subst (Keeps w) (some_world _ v e) (keeps_change w a (with_body body) (λ b at. body_keeps body b))
+keeps_taken c a w v ended e = cc
+keeps_taken c a w v (outer act) e =
+    let d : Done = done c a w act in
+    subst (Keeps w) (some_world _ v e) (keeps_more w d.world (acted a act d) (keeps_done c a w act) (keeps_change d.world a (λ b. with_body (replied act d.answer b.body) b) (λ b at. body_keeps (replied act d.answer b.body) b)))
+
+keeps_stepped : (c : Constants) (a : ActorId) (w v : World) → stepped c a w ≡ Some v → Keeps w v
+keeps_stepped c a w v e = let p = bound (λ b. taken c a w (step w.edits a b.body)) (slice_get w.actors a.0) v e in keeps_taken c a w v (step w.edits a p.0.body) p.2
+
+keeps_after : (c : Constants) (a : ActorId) (n : ℕ) (w v : World) → world_after c a n w ≡ Some v → Keeps w v
+keeps_after c a zero w v e = subst (Keeps w) (some_world w v e) (keeps_refl w)
+keeps_after c a (suc n) w v e = let p = bound (world_after c a n) (stepped c a w) v e in keeps_more w p.0 v (keeps_stepped c a w p.0 p.1) (keeps_after c a n p.0 v p.2)
+
+pub next_keeps_order : (c : Constants) (w v : World) (i : Item) → next c w i ≡ Some v → Keeps w v
+next_keeps_order c w v (Edited e) h = keeps_edited c w v e h
+next_keeps_order c w v (Created class) h = keeps_created c w v class h
+next_keeps_order c w v (Posted a m) h = keeps_posted c w v a m h
+next_keeps_order c w v (Closed a) h = keeps_closed w v a h
+next_keeps_order c w v (Begun a) h = keeps_begun w v a h
+next_keeps_order c w v (Ran a n) h = keeps_after c a n w v (cond_some (nat_lt 0 n) (world_after c a n w) v (sym (ran_after c w a n) ∙ h)).1
+
+-- ---- a history
+
+pub replay_keeps_order : (c : Constants) (w u : World) (is : List Item) → replay c w is ≡ Some u → Keeps w u
+replay_keeps_order c w u [] h = subst (Keeps w) (some_world w u h) (keeps_refl w)
+replay_keeps_order c w u (i ∷ is) h = let p = bound (λ v. replay c v is) (next c w i) u h in keeps_more w p.0 u (next_keeps_order c w p.0 i p.1) (replay_keeps_order c p.0 u is p.2)
 
 -- delivery, over each prefix of a lawful history
 pub delivers : Delivers
-delivers names first later v w f h =
-    let one : Keeps start v = replay_keeps_order names start v first f in
-    let rest : replay names v later ≡ Some w = sym (ap (λ (o : Option World). option_and_then (λ u. replay names u later) o) f) ∙ sym (replay_append names start first later) ∙ h in
-    let two : Keeps v w = replay_keeps_order names v w later rest in
-    let all : All BeginsInOrder v.actors = one.begins (All-nil BeginsInOrder) in
-    (all, two.begins all, two.grows)
-
--- the first items of a lawful history are a lawful history
-first_lawful : (names : List (List ℕ)) (later : List Item) (w : World) (o p : Option World) → p ≡ o → option_and_then (λ v. replay names v later) o ≡ Some w → (v : World) × (p ≡ Some v)
-first_lawful names later w None p e h = cc
-first_lawful names later w (Some v) p e h = (v, e)
+delivers c base first later v w all f h =
+    let one : Keeps base v = replay_keeps_order c base v first f in
+    let rest : replay c v later ≡ Some w = sym (ap (λ (o : Option World). option_and_then (λ u. replay c u later) o) f) ∙ sym (replay_append c base first later) ∙ h in
+    let two : Keeps v w = replay_keeps_order c v w later rest in
+    let here : All BeginsInOrder v.actors = one.begins all in
+    (here, two.begins here, two.grows)
 
 -- delivery in an image
 pub has_delivered : (i : ImageView) → IsLawful i → HasDelivered i
 has_delivered i h first later e =
-    let whole : replay i.names start (first ++ later) ≡ Some (world i) = subst (λ (is : List Item). replay i.names start is ≡ Some (world i)) e h.lawful in
-    let f = first_lawful i.names later (world i) (replay i.names start first) (replay i.names start first) refl (sym (replay_append i.names start first later) ∙ whole) in
-    let d = delivers i.names first later f.0 (world i) f.1 whole in
+    let c : Constants = constants i in
+    let all : All BeginsInOrder i.base.actors = All-weaker (IsBeing c.names i.base.edits (length i.base.actors)) BeginsInOrder (λ b g. g.begins) i.base.actors h.base.actors in
+    let whole : replay c i.base (first ++ later) ≡ Some (world i) = subst (λ (is : List Item). replay c i.base is ≡ Some (world i)) e h.lawful in
+    let f = bound (λ v. replay c v later) (replay c i.base first) (world i) (sym (replay_append c i.base first later) ∙ whole) in
+    let d = delivers c i.base first later f.0 (world i) all f.1 whole in
     (f.0, f.1, d.0, d.2)

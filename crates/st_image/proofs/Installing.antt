@@ -6,6 +6,7 @@ use Rattle.std.proofs.lemmas.Bool.Decides.{nat_tests}
 use Rattle.std.proofs.lemmas.Slice.Eq.{bytes_eq-Decides}
 use Rattle.std.proofs.lemmas.Option.{same_Some}
 use Rattle.std.proofs.lemmas.Bool.{cases_lt}
+use Rattle.std.specs.Prelude.{◌||◌}
 use Rattle.st_classes.specs.declared.values.ClassId.{ClassId}
 use Rattle.st_classes.specs.declared.values.Selector.{Selector}
 use Rattle.st_classes.specs.declared.methods.MethodParts.{MethodParts}
@@ -16,7 +17,7 @@ use Rattle.st_classes.specs.declared.refusals.Refusal.{Refusal}
 use Rattle.st_classes.specs.declared.refusals.Refusal.TheVariants.{UnknownClass, KernelMethod, TooMany, HistoryFull, NoMemory, BadSource}
 use Rattle.st_classes.specs.declared.refusals.Limited.TheVariants.{Names, Edits}
 use Rattle.st_classes.specs.Refusals.{Rule, first_of, Answers}
-use Rattle.st_classes.specs.Kernel.{selector, kernel_selectors, kernel_method, object_method, integer_method, boolean_method}
+use Rattle.st_classes.specs.Kernel.{selector, kernel_selectors, kernel_method, object_method, integer_method, boolean_method, actor_method, class_method}
 use Rattle.st_classes.specs.Selectors.{place_of}
 use Rattle.st_classes.specs.Classes.{is_class}
 use Rattle.st_classes.specs.Accepting.{edit_rules, too_many_edits}
@@ -38,8 +39,8 @@ use Rattle.st_image.proofs.Editing.{edited_world}
 use Rattle.st_image.specs.Next.{replay}
 use Rattle.st_classes.specs.Suiting.{suits}
 use Rattle.st_image.specs.declared.items.Item.TheVariants.{Edited}
-use Rattle.st_image.specs.Worlds.{World, start}
-use Rattle.st_image.specs.Images.{ImageView, world, appended, edits_in, run_rules}
+use Rattle.st_image.specs.Worlds.{World}
+use Rattle.st_image.specs.Images.{ImageView, constants, world, appended, edits_in, run_rules}
 use Rattle.st_image.specs.Lasting.{BeginsWithKernel}
 use Rattle.st_image.specs.Installing.{has_kernel, is_kernel_text, source_rules, image_install_rules, AddsNames, AddsAllNames, LeavesNames, with_names_of, Installs, memory, first as first_refusal, AnswersInstall}
 
@@ -57,13 +58,19 @@ integer_high n h = rw (differ n 5 (omega arith), differ n 6 (omega arith), diffe
 boolean_high : (n : ℕ) → 21 < n → boolean_method n ≡ None
 boolean_high n h = rw (differ n 14 (omega arith), differ n 15 (omega arith)) refl
 
+actor_high : (n : ℕ) → 21 < n → actor_method n ≡ None
+actor_high n h = rw (differ n 16 (omega arith), differ n 17 (omega arith), differ n 18 (omega arith)) refl
+
+class_high : (n : ℕ) → 21 < n → class_method n ≡ None
+class_high n h = rw (differ n 20 (omega arith), differ n 21 (omega arith)) refl
+
 chosen_none : (b : Bool) (x y : Option Kernel) → x ≡ None → y ≡ None → cond b x y ≡ None
 chosen_none true x y e f = e
 chosen_none false x y e f = f
 
 -- no name behind the kernel's is a kernel method's
 kernel_high : (c : ClassId) (n : ℕ) → 21 < n → kernel_method c (selector n) ≡ None
-kernel_high c n h = chosen_none (eqb c.0 0) _ _ (object_high n h) (chosen_none (eqb c.0 1) _ _ (integer_high n h) (chosen_none _ _ _ (boolean_high n h) refl))
+kernel_high c n h = chosen_none (eqb c.0 0) _ _ (object_high n h) (chosen_none (eqb c.0 1) _ _ (integer_high n h) (chosen_none (eqb c.0 2 || eqb c.0 3) _ _ (boolean_high n h) (chosen_none (eqb c.0 6) _ _ (actor_high n h) (chosen_none (eqb c.0 7) _ _ (class_high n h) refl))))
 
 same_text : (text : List ℕ) → bytes_eq text text ≡ true
 same_text text = (bytes_eq-Decides text text).1 refl
@@ -149,7 +156,7 @@ answers_same f g P Q (Ok x) e h a = (sym e ∙ a.0, h x a.0 a.1)
 answers_same f g P Q (Err x) e h (inl m) = inl m
 answers_same f g P Q (Err x) e h (inr s) = inr (sym e ∙ s)
 
-pub tree_installed : (i j k : ImageView) (c : ClassId) (tree : Method) (text : List ℕ) (m : MethodParts) (r : Result ℕ Refusal) → is_class (world i).edits c ≡ true → is_kernel_text c (pattern_selector tree.pattern) ≡ false → first_of (method_rules i.names (world i).edits c tree) ≡ None → j ≡ with_names_of i tree → world j ≡ world i → replay j.names start j.history ≡ Some (world j) → BeginsWithKernel j.names → IsCompiled j.names (world i).edits c tree text m → Answers (first_of (edit_rules (world j).edits (Install c m) ++ run_rules j)) r (λ n. (k ≡ appended j (Edited (Install c m) ∷ [])) × (n ≡ length (world k).edits)) → Answers (first_of (image_install_rules i c tree)) r (λ n. Installs i c tree text k n)
+pub tree_installed : (i j k : ImageView) (c : ClassId) (tree : Method) (text : List ℕ) (m : MethodParts) (r : Result ℕ Refusal) → is_class (world i).edits c ≡ true → is_kernel_text c (pattern_selector tree.pattern) ≡ false → first_of (method_rules i.names (world i).edits c tree) ≡ None → j ≡ with_names_of i tree → world j ≡ world i → replay (constants j) j.base j.history ≡ Some (world j) → BeginsWithKernel j.names → IsCompiled j.names (world i).edits c tree text m → Answers (first_of (edit_rules (world j).edits (Install c m) ++ run_rules j)) r (λ n. (k ≡ appended j (Edited (Install c m) ∷ [])) × (n ≡ length (world k).edits)) → Answers (first_of (image_install_rules i c tree)) r (λ n. Installs i c tree text k n)
 tree_installed i j k c tree text m r h f t e w lawful b p a =
     let free : is_some (kernel_method c m.selector) ≡ false = number_free j.names b c (pattern_selector tree.pattern) m.selector p.selector f in
     let mine : first_of (image_install_rules i c tree) ≡ first_of (too_many_edits (world i).edits ∷ run_rules i) = tree_part i c tree h f ∙ first_later (method_rules i.names (world i).edits c tree) (too_many_edits (world i).edits ∷ run_rules i) t in

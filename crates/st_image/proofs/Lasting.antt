@@ -1,54 +1,60 @@
--- Each item keeps what is true of every world.
-use Rattle.std.proofs.Common.{arith, ◌≡◌, ℕ, zero, suc, ◌+◌, ◌<◌, ◌≤◌, ◌++◌, [], ◌∷◌, List, Option, Some, None, refl, ap, sym, ◌∙◌, subst, length, slice_get, slice_set, Bool, true, false, append_assoc, append-nil, option_and_then, cond, drop, length-append}
-use Rattle.std.specs.Prelude.{All, is_none, nat_lt}
-use Rattle.std.specs.List.{list_all}
-use Rattle.std.proofs.Math.ListN.{length-set}
+-- Each item keeps what is true of every world, and each turn its result.
+use Rattle.std.proofs.Common.{arith, ◌≡◌, ℕ, zero, suc, ◌+◌, ◌<◌, ◌≤◌, ◌++◌, [], ◌∷◌, List, Option, Some, None, Result, Ok, refl, ap, sym, ◌∙◌, subst, length, slice_get, Bool, true, false, append_assoc, append-nil, cond, drop, length-append, ltb-true, nat_le, inl, inr}
+use Rattle.std.specs.Prelude.{All, is_none, nat_lt, not}
+use Rattle.std.specs.List.{list_all, list_any}
 use Rattle.std.proofs.lemmas.Bool.Decides.{nat_tests}
-use Rattle.std.proofs.lemmas.List.Elements.{All-set, All-push, All-nil, All-cons}
+use Rattle.std.proofs.lemmas.Bool.{and_parts, and_from}
+use Rattle.std.proofs.lemmas.Option.{slice_get_within, slice_get_past}
+use Rattle.std.proofs.lemmas.List.Elements.{All-push, All-nil, All-cons}
 use Rattle.st_classes.specs.declared.values.ActorId.{ActorId}
 use Rattle.st_classes.specs.declared.values.ClassId.{ClassId}
+use Rattle.st_classes.specs.declared.values.Selector.{Selector}
 use Rattle.st_classes.specs.declared.values.Value.{Value}
 use Rattle.st_classes.specs.declared.values.Value.TheVariants.{Int, Bool as Boolean, Nil, Sym, Class, Actor, Local}
+use Rattle.st_classes.specs.declared.faults.Fault.{Fault}
+use Rattle.st_classes.specs.declared.faults.Fault.TheVariants.{BadArgument, LocalArgument, TooManyActors}
 use Rattle.st_classes.specs.declared.edits.Edit.{Edit}
+use Rattle.st_classes.specs.declared.refusals.Refusal.TheVariants.{BadArguments, Closed as IsClosed, Full}
 use Rattle.st_classes.specs.Kernel.{kernel_selectors, does_not_understand}
-use Rattle.st_classes.specs.Refusals.{first_of}
-use Rattle.st_classes.specs.Accepting.{edit_rules}
-use Rattle.st_classes.specs.Classes.{class_count}
-use Rattle.st_classes.specs.Suiting.{arity_at}
-use Rattle.st_classes.specs.Lawful.{AreLawful, AllSuit, AllSound}
+use Rattle.st_classes.specs.Refusals.{Rule, first_of}
+use Rattle.st_classes.specs.Accepting.{edit_rules, is_closed}
+use Rattle.st_classes.specs.Classes.{class_count, is_class}
+use Rattle.st_classes.specs.Suiting.{arity_at, is_number}
+use Rattle.st_classes.specs.Lawful.{AreLawful, AllSuit, IsSoundEdit}
+use Rattle.st_classes.proofs.Accepted.{sound_push}
+use Rattle.st_classes.proofs.LawLists.{list_all_weaker, slice_get_kept}
+use Rattle.st_classes.proofs.LawGrowing.{lawful_with, class_count_grows, number_is, all_suit_with, all_suit_more_names, kernel_names_know}
+use Rattle.st_turn.specs.declared.acts.Act.{Act}
+use Rattle.st_turn.specs.declared.acts.Act.TheVariants.{Post, Close, Create}
 use Rattle.st_turn.specs.declared.body.Body.{Body}
 use Rattle.st_turn.specs.declared.body.Object.{Object}
 use Rattle.st_turn.specs.declared.body.Outcome.{Outcome}
 use Rattle.st_turn.specs.declared.body.Phase.{Phase}
 use Rattle.st_turn.specs.declared.body.Phase.TheVariants.{Fresh, Start, Frames, Done}
-use Rattle.st_turn.specs.Steps.{Stepped, stepped, ended, outer, step, step_in}
-use Rattle.st_turn.specs.Fitting.{Given, Fits, FitsPhase, FitsStepped, IsThere, has_instances}
+use Rattle.st_turn.specs.Steps.{Step, next as leads, ended, outer, replied, step, step_in}
+use Rattle.st_turn.specs.Fitting.{Given, Fits, FitsPhase, IsThere, has_instances}
+use Rattle.st_turn.specs.Idling.{is_idle}
+use Rattle.st_turn.proofs.KeepingValues.{Gives}
+use Rattle.st_turn.proofs.KeepingActs.{FitsAct}
+use Rattle.st_turn.proofs.Keeping.{FitsStep, step_fits}
+use Rattle.st_turn.proofs.KeepingGrowth.{fresh_fits, begin_fits}
+use Rattle.st_turn.proofs.Leading.{IsBegun, Led, LeadsTo, step_leads}
 use Rattle.st_image.specs.declared.messages.Message.{Message}
+use Rattle.st_image.specs.declared.messages.Sender.{Sender}
+use Rattle.st_image.specs.declared.messages.Sender.TheVariants.{Client, Actor as Acting}
 use Rattle.st_image.specs.declared.items.Item.{Item}
 use Rattle.st_image.specs.declared.items.Item.TheVariants.{Edited, Created, Posted, Closed, Begun, Ran}
-use Rattle.st_turn.specs.Idling.{is_idle}
-use Rattle.st_image.specs.Worlds.{World, Being, start, is_capacity, pending, with_actor}
-use Rattle.st_image.specs.Posting.{argument_fits, message_fits, message_suits, box_rules}
-use Rattle.st_image.specs.Next.{next, edited, created, new_being, posted_to, accepting, closed, begun_by, begun_at, beginning, ran, ran_at, steps, body_after, with_result}
-use Rattle.st_image.specs.Delivery.{BeginsInOrder}
-use Rattle.st_classes.specs.Lawful.{IsSoundEdit}
-use Rattle.st_image.specs.Lasting.{given, IsBeing, BeginsWithKernel, IsSoundItem, IsWorld}
-use Rattle.st_classes.specs.declared.refusals.Refusal.{Refusal}
-use Rattle.st_classes.specs.declared.refusals.Refusal.TheVariants.{BadArguments, Closed as IsClosed, Full}
-use Rattle.st_classes.specs.Refusals.{Rule}
-use Rattle.std.specs.Prelude.{not}
-use Rattle.std.proofs.Common.{ltb-true, nat_le}
-use Rattle.std.proofs.lemmas.Bool.{and_parts, and_from}
-use Rattle.std.proofs.lemmas.Option.{slice_get_within}
+use Rattle.st_image.specs.Worlds.{Constants, World, Being, start, change, change_at, pending}
+use Rattle.st_image.specs.Posting.{argument_fits, message_fits, message_suits, number_rule, box_rules, post_rules}
+use Rattle.st_image.specs.Next.{Done as Acted, accepting, acted, begun, beginning, closed, create_done, created, done, edited, failed, is_local, new_being, next, next_message, post_done, posted, posted_by, stepped, taken, tried, with_body, with_last, with_new, with_result}
+use Rattle.st_image.specs.Acting.{world_after}
+use Rattle.st_image.specs.Lasting.{AreConstants, given, IsBeing, BeginsWithKernel, HasTurns, HaveTurns, first_turn, IsSoundItem, IsWorld}
 use Rattle.st_image.proofs.Places.{at_all}
-use Rattle.st_image.proofs.GrowingNames.{fits_more}
-use Rattle.st_image.proofs.Deliveries.{let_through, accepting_begins, beginning_begins, nothing_begun}
-use Rattle.st_classes.proofs.Accepted.{sound_push}
-use Rattle.st_classes.proofs.LawLists.{list_all_weaker}
-use Rattle.st_classes.proofs.LawGrowing.{lawful_with, class_count_grows, number_is, all_suit_with, all_suit_more_names, kernel_names_know}
-use Rattle.st_turn.proofs.Keeping.{step_fits}
-use Rattle.st_turn.proofs.KeepingGrowth.{fresh_fits, begin_fits}
-use Rattle.st_turn.proofs.Leading.{IsBegun, Keeps, LeadsTo, keeps_refl, keeps_more, step_leads}
+use Rattle.st_image.proofs.Lists.{off}
+use Rattle.st_image.proofs.Changing.{All-change, length-change, get-change-any, get-change-back, get-push-back}
+use Rattle.st_image.proofs.MoreNames.{fits_more}
+use Rattle.st_image.proofs.Stepping.{bound, mapped, cond_some, ran_after}
+use Rattle.st_image.proofs.Deliveries.{let_through, IsNextMessage, next_is, accepting_begins, beginning_begins, nothing_begun}
 use Rattle.st_image.proofs.Showing.{pending_accepting, pending_beginning}
 use Rattle.st_image.proofs.BodyLaws.{fits_after, fits_given, told_after, told_given, told_later}
 
@@ -81,7 +87,6 @@ being_after names edits n e b l r h = record {
   few_messages = h.few_messages;
   within = h.within;
   begins = h.begins;
-  turns = h.turns;
   told = all_map _ _ b.results (told_after (given names n) edits e b.body.objects) h.told;
   mail = all_map _ _ b.accepted (λ m f. message_later names (class_count edits) n (class_count (edits ++ e ∷ [])) n (class_count_grows edits (e ∷ [])) (omega arith) m f) h.mail;
 }
@@ -94,7 +99,6 @@ being_given names more edits n m b l s k h = record {
   few_messages = h.few_messages;
   within = h.within;
   begins = h.begins;
-  turns = h.turns;
   told = all_map _ _ b.results (told_given names more n m edits b.body.objects k) h.told;
   mail = all_map _ _ b.accepted (λ x f. fits_more names more (class_count edits) m x (message_later names (class_count edits) n (class_count edits) m (omega arith) k x f)) h.mail;
 }
@@ -104,118 +108,205 @@ being_more names edits n m b l s k h = subst (λ (ns : List (List ℕ)). IsBeing
 
 -- ---- worlds
 
--- with another actor at a place
-world_set : (names : List (List ℕ)) (w v : World) (a : ActorId) (c : Being) → IsWorld names w → IsBeing names w.edits (length w.actors) c → v.edits ≡ w.edits → v.actors ≡ slice_set w.actors a.0 c → IsWorld names v
-world_set names w v a c h b e f =
-    let count : length (slice_set w.actors a.0 c) ≡ length w.actors = length-set w.actors a.0 c in
+-- what a change of one actor keeps: it is an actor, and its turns have their results
+pub record Lasts (names : List (List ℕ)) (edits : List Edit) (n : ℕ) (b d : Being) : Type 0 where
+  pub being : IsBeing names edits n d
+  pub turns : length d.results + cond (is_idle d.body.phase) 0 1 + length b.begun ≡ length b.results + cond (is_idle b.body.phase) 0 1 + length d.begun
+
+-- what one item keeps
+pub record KeepsWorld (c : Constants) (w v : World) : Type 0 where
+  pub world : IsWorld c v
+  pub turns : (base : World) → HaveTurns base w → HaveTurns base v
+
+keeps_same : (c : Constants) (w : World) → IsWorld c w → KeepsWorld c w w
+keeps_same c w h = record { world = h; turns = λ base t. t }
+
+keeps_both : (c : Constants) (w v u : World) → KeepsWorld c w v → (IsWorld c v → KeepsWorld c v u) → KeepsWorld c w u
+keeps_both c w v u f g = let k : KeepsWorld c v u = g f.world in record { world = k.world; turns = λ base t. k.turns base (f.turns base t) }
+
+turns_of : (first : ℕ) (names : List (List ℕ)) (edits : List Edit) (n : ℕ) (b d : Being) → Lasts names edits n b d → HasTurns first b → HasTurns first d
+turns_of first names edits n b d l h = omega (arith, l.turns, h)
+
+-- another actor in the place of one
+pub change_keeps : (c : Constants) (w : World) (a : ActorId) (f : Being → Being) → IsWorld c w → ((b : Being) → slice_get w.actors a.0 ≡ Some b → IsBeing c.names w.edits (length w.actors) b → Lasts c.names w.edits (length w.actors) b (f b)) → KeepsWorld c w (change f a w)
+change_keeps c w a f h k =
+    let count : length (change_at f a.0 w.actors) ≡ length w.actors = length-change f a.0 w.actors in
     record {
-      kernel = h.kernel;
-      lawful = subst AreLawful (sym e) h.lawful;
-      suited = subst (AllSuit names) (sym e) h.suited;
-      sound = subst AllSound (sym e) h.sound;
-      actors = subst (λ (es : List Edit). All (IsBeing names es (length v.actors)) v.actors) (sym e)
-          (subst (λ (xs : List Being). All (IsBeing names w.edits (length xs)) xs) (sym f)
-          (subst (λ (n : ℕ). All (IsBeing names w.edits n) (slice_set w.actors a.0 c)) (sym count) (All-set (IsBeing names w.edits (length w.actors)) w.actors a.0 c b h.actors)));
+      world = record {
+        constants = h.constants;
+        lawful = h.lawful;
+        suited = h.suited;
+        sound = h.sound;
+        actors = subst (λ (n : ℕ). All (IsBeing c.names w.edits n) (change_at f a.0 w.actors)) (sym count) (All-change (IsBeing c.names w.edits (length w.actors)) f a.0 w.actors (λ b at p. (k b at p).being) h.actors);
+      };
+      turns = λ base t. record {
+        long = omega (arith, t.long, count);
+        each = λ j d e.
+            let back = get-change-back f a.0 w.actors j d e in
+            elim back.2 [
+              | inl same ↦ subst (HasTurns (first_turn (slice_get base.actors j))) (sym same) (t.each j back.0 back.1)
+              | inr s ↦ let at : slice_get w.actors a.0 ≡ Some back.0 = subst (λ (n : ℕ). slice_get w.actors n ≡ Some back.0) s.0 back.1 in
+                  let l = k back.0 at (at_all (IsBeing c.names w.edits (length w.actors)) w.actors a.0 back.0 h.actors at) in
+                  subst (HasTurns (first_turn (slice_get base.actors j))) (sym s.1) (turns_of (first_turn (slice_get base.actors j)) c.names w.edits (length w.actors) back.0 (f back.0) l (t.each j back.0 back.1))
+            ];
+      };
     }
 
 none_from : {X : Type 0} (o : Option X) → is_none o ≡ true → o ≡ None
 none_from None e = refl
 none_from (Some x) e = cc
 
-edited_keeps : (names : List (List ℕ)) (w v : World) (e : Edit) → IsWorld names w → IsSoundEdit e → edited names w e ≡ Some v → IsWorld names v
-edited_keeps names w v e h s f =
+edited_keeps : (c : Constants) (w v : World) (e : Edit) → IsWorld c w → IsSoundEdit e → edited c w e ≡ Some v → KeepsWorld c w v
+edited_keeps c w v e h s f =
     let t = let_through _ _ v f in
     let b = and_parts _ _ t.0 in
     let r : first_of (edit_rules w.edits e) ≡ None = none_from _ b.0 in
-    subst (IsWorld names) t.1 (record {
-      kernel = h.kernel;
-      lawful = lawful_with w.edits e h.lawful r;
-      suited = all_suit_with names w.edits e h.lawful r h.suited b.1;
-      sound = sound_push w.edits e h.sound s;
-      actors = all_map (IsBeing names w.edits (length w.actors)) (IsBeing names (w.edits ++ e ∷ []) (length w.actors)) w.actors (λ x g. being_after names w.edits (length w.actors) e x h.lawful h.suited g) h.actors;
+    subst (KeepsWorld c w) t.1 (record {
+      world = record {
+        constants = h.constants;
+        lawful = lawful_with w.edits e h.lawful r;
+        suited = all_suit_with c.names w.edits e h.lawful r h.suited b.1;
+        sound = sound_push w.edits e h.sound s;
+        actors = all_map (IsBeing c.names w.edits (length w.actors)) (IsBeing c.names (w.edits ++ e ∷ []) (length w.actors)) w.actors (λ x g. being_after c.names w.edits (length w.actors) e x h.lawful h.suited g) h.actors;
+      };
+      turns = λ base t. record { long = t.long; each = t.each };
     })
+
+-- ---- a new actor
 
 at_most : (m n : ℕ) → nat_le m n ≡ true → m ≤ n
 at_most m n e = grind (arith, nat_tests)
 
-created_keeps : (names : List (List ℕ)) (w v : World) (c : ClassId) (n : ℕ) → IsWorld names w → created w c n ≡ Some v → IsWorld names v
-created_keeps names w v c n h f =
-    let t = let_through _ _ v f in
-    let p = and_parts (has_instances w.edits c) (is_capacity n) t.0 in
-    let q = and_parts (nat_le 1 n) (nat_le n 1024) p.1 in
-    let one : length (w.actors ++ new_being w.edits c n ∷ []) ≡ length w.actors + 1 = length-append w.actors (new_being w.edits c n ∷ []) in
-    let count : length w.actors ≤ length (w.actors ++ new_being w.edits c n ∷ []) = omega arith in
-    let fresh : IsBeing names w.edits (length (w.actors ++ new_being w.edits c n ∷ [])) (new_being w.edits c n) = record {
-      fits = fresh_fits (given names (length (w.actors ++ new_being w.edits c n ∷ []))) w.edits c p.0;
+first_beyond : (xs : List Being) (j : ℕ) → length xs ≤ j → first_turn (slice_get xs j) ≡ 1
+first_beyond xs j h = ap first_turn (slice_get_past xs j h)
+
+new_turns : (c : Constants) (class : ClassId) (base w : World) → HaveTurns base w → HaveTurns base (with_new c class w)
+new_turns c class base w t =
+    let x : Being = new_being w.edits class c.capacity in
+    record {
+      long = omega (arith, t.long, length-append w.actors (x ∷ []));
+      each = λ j d e. elim (get-push-back w.actors x j d e) [
+        | inl there ↦ t.each j d there
+        | inr s ↦ subst (HasTurns (first_turn (slice_get base.actors j))) (sym s.1) (subst (λ (n : ℕ). HasTurns n x) (sym (first_beyond base.actors j (omega (arith, t.long, s.0)))) refl)
+      ];
+    }
+
+new_keeps : (c : Constants) (class : ClassId) (w : World) → IsWorld c w → has_instances w.edits class ≡ true → KeepsWorld c w (with_new c class w)
+new_keeps c class w h inst =
+    let x : Being = new_being w.edits class c.capacity in
+    let one : length (w.actors ++ x ∷ []) ≡ length w.actors + 1 = length-append w.actors (x ∷ []) in
+    let count : length w.actors ≤ length (w.actors ++ x ∷ []) = omega arith in
+    let fresh : IsBeing c.names w.edits (length (w.actors ++ x ∷ [])) x = record {
+      fits = fresh_fits (given c.names (length (w.actors ++ x ∷ []))) w.edits class inst;
       itself = refl;
-      some_capacity = at_most 1 n q.0;
-      few_messages = at_most n 1024 q.1;
+      some_capacity = h.constants.some_capacity;
+      few_messages = h.constants.few_messages;
       within = omega arith;
-      begins = nothing_begun (new_being w.edits c n) refl;
+      begins = nothing_begun x refl;
       mail = All-nil _;
-      turns = refl;
       told = All-nil _;
     } in
-    subst (IsWorld names) t.1 (record {
-      kernel = h.kernel;
-      lawful = h.lawful;
-      suited = h.suited;
-      sound = h.sound;
-      actors = All-push (IsBeing names w.edits (length (w.actors ++ new_being w.edits c n ∷ []))) w.actors (new_being w.edits c n) (all_map (IsBeing names w.edits (length w.actors)) (IsBeing names w.edits (length (w.actors ++ new_being w.edits c n ∷ []))) w.actors (λ x g. being_more names w.edits (length w.actors) (length (w.actors ++ new_being w.edits c n ∷ [])) x h.lawful h.suited count g) h.actors) fresh;
-    })
+    record {
+      world = record {
+        constants = h.constants;
+        lawful = h.lawful;
+        suited = h.suited;
+        sound = h.sound;
+        actors = All-push (IsBeing c.names w.edits (length (w.actors ++ x ∷ []))) w.actors x (all_map (IsBeing c.names w.edits (length w.actors)) (IsBeing c.names w.edits (length (w.actors ++ x ∷ []))) w.actors (λ b g. being_more c.names w.edits (length w.actors) (length (w.actors ++ x ∷ [])) b h.lawful h.suited count g) h.actors) fresh;
+      };
+      turns = λ base t. new_turns c class base w t;
+    }
 
--- where a post is accepted, the message suits
-free_rule : (b : Bool) (r : Refusal) (rules : List Rule) → is_none (first_of ((not b, r) ∷ rules)) ≡ true → b ≡ true
-free_rule true r rules e = refl
-free_rule false r rules e = cc
+created_keeps : (c : Constants) (w v : World) (class : ClassId) → IsWorld c w → created c w class ≡ Some v → KeepsWorld c w v
+created_keeps c w v class h f = let t = let_through _ _ v f in subst (KeepsWorld c w) t.1 (new_keeps c class w h t.0)
 
--- a mailbox that does not refuse a message for its capacity has room for it
-box_free : (p q : Bool) (m n : ℕ) (d e f : Refusal) → is_none (first_of ((p, d) ∷ (q, e) ∷ (nat_le m n, f) ∷ [])) ≡ true → n < m
-box_free true q m n d e f h = cc
-box_free false true m n d e f h = cc
-box_free false false m n d e f h = by_test (nat_le m n) refl h
-  where
-    by_test : (b : Bool) → nat_le m n ≡ b → is_none (first_of ((b, f) ∷ [])) ≡ true → n < m
-    by_test true g k = cc
-    by_test false g k = grind (arith, nat_tests)
+-- ---- a message
 
-one_more_within : (b : Being) (m : Message) → BeginsInOrder b → length (pending b) < b.capacity → length (pending (accepting b m)) ≤ b.capacity
-one_more_within b m h room = omega (arith, ap (λ (xs : List Message). length xs) (pending_accepting b m h), length-append (pending b) (m ∷ []), room)
+-- a number that is not too great
+above : (m n : ℕ) → nat_le m n ≡ false → n < m
+above m n e = grind (arith, nat_tests)
 
-posted_keeps : (names : List (List ℕ)) (w v : World) (a : ActorId) (m : Message) (o : Option Being) → slice_get w.actors a.0 ≡ o → IsWorld names w → posted_to names w a m o ≡ Some v → IsWorld names v
-posted_keeps names w v a m None at h f = cc
-posted_keeps names w v a m (Some b) at h f =
+is_true : (b : Bool) → not b ≡ false → b ≡ true
+is_true true e = refl
+is_true false e = cc
+
+-- what no refusal of a post leaves
+pub record MayPost (c : Constants) (w : World) (m : Message) (b : Being) : Type 0 where
+  pub suits : message_suits c.names w m ≡ true
+  pub number : (number_rule w m.sender m.seq).0 ≡ false
+  pub is_open : b.is_open ≡ true
+  pub room : length (pending b) < b.capacity
+
+pub may_post : (c : Constants) (w : World) (m : Message) (b : Being) → first_of (post_rules c.names w (Some b) m) ≡ None → MayPost c w m b
+may_post c w m b e =
+    let r : Rule = number_rule w m.sender m.seq in
+    let o1 = off (not (message_suits c.names w m)) BadArguments (r ∷ box_rules b) e in
+    let o2 = off r.0 r.1 (box_rules b) o1.1 in
+    let o3 = off (not b.is_open) IsClosed ((nat_le b.capacity (length (pending b)), Full) ∷ []) o2.1 in
+    let o4 = off (nat_le b.capacity (length (pending b))) Full [] o3.1 in
+    record { suits = is_true _ o1.0; number = o2.0; is_open = is_true _ o3.0; room = above b.capacity (length (pending b)) o4.0 }
+
+accepting_lasts : (c : Constants) (w : World) (m : Message) (b : Being) → MayPost c w m b → IsBeing c.names w.edits (length w.actors) b → Lasts c.names w.edits (length w.actors) b (accepting m b)
+accepting_lasts c w m b may here = record {
+  being = record {
+    fits = here.fits;
+    itself = here.itself;
+    some_capacity = here.some_capacity;
+    few_messages = here.few_messages;
+    within = omega (arith, ap (λ (xs : List Message). length xs) (pending_accepting m b here.begins), length-append (pending b) (m ∷ []), may.room);
+    begins = accepting_begins m b here.begins;
+    mail = All-push (λ (x : Message). message_fits c.names (class_count w.edits) (length w.actors) x ≡ true) b.accepted m here.mail may.suits;
+    told = here.told;
+  };
+  turns = refl;
+}
+
+last_keeps : (c : Constants) (s : Sender) (n : ℕ) (w : World) → IsWorld c w → KeepsWorld c w (with_last s n w)
+last_keeps c (Client s) n w h = record {
+  world = record { constants = h.constants; lawful = h.lawful; suited = h.suited; sound = h.sound; actors = h.actors };
+  turns = λ base t. record { long = t.long; each = t.each };
+}
+last_keeps c (Acting a) n w h = change_keeps c w a (λ b. record b { last = n }) h (λ b at here. record {
+  being = record {
+    fits = here.fits;
+    itself = here.itself;
+    some_capacity = here.some_capacity;
+    few_messages = here.few_messages;
+    within = here.within;
+    begins = here.begins;
+    mail = here.mail;
+    told = here.told;
+  };
+  turns = refl;
+})
+
+rules_of : (c : Constants) (w : World) (m : Message) (o : Option Being) (b : Being) → o ≡ Some b → is_none (first_of (post_rules c.names w o m)) ≡ true → first_of (post_rules c.names w (Some b) m) ≡ None
+rules_of c w m o b e h = none_from _ (subst (λ (x : Option Being). is_none (first_of (post_rules c.names w x m)) ≡ true) e h)
+
+pub posted_keeps : (c : Constants) (w v : World) (a : ActorId) (m : Message) → IsWorld c w → posted c w a m ≡ Some v → KeepsWorld c w v
+posted_keeps c w v a m h f =
     let t = let_through _ _ v f in
-    let suits : message_fits names (class_count w.edits) (length w.actors) m ≡ true = free_rule (message_suits names w m) BadArguments (box_rules b) t.0 in
-    let here : IsBeing names w.edits (length w.actors) b = at_all (IsBeing names w.edits (length w.actors)) w.actors a.0 b h.actors at in
-    world_set names w v a (accepting b m) h (record {
-      fits = here.fits;
-      itself = here.itself;
-      some_capacity = here.some_capacity;
-      few_messages = here.few_messages;
-      within = one_more_within b m here.begins (box_free (not (message_suits names w m)) (not b.is_open) b.capacity (length (pending b)) BadArguments IsClosed Full t.0);
-      begins = accepting_begins b m here.begins;
-      mail = All-push (λ (x : Message). message_fits names (class_count w.edits) (length w.actors) x ≡ true) b.accepted m here.mail suits;
-      turns = here.turns;
-      told = here.told;
-    }) (ap (λ (x : World). x.edits) (sym t.1)) (ap (λ (x : World). x.actors) (sym t.1))
+    let one : World = change (accepting m) a w in
+    subst (KeepsWorld c w) t.1 (keeps_both c w one (with_last m.sender m.seq one)
+    (change_keeps c w a (accepting m) h (λ b at here. accepting_lasts c w m b (may_post c w m b (rules_of c w m (slice_get w.actors a.0) b at t.0)) here))
+    (λ g. last_keeps c m.sender m.seq one g))
 
-closed_keeps : (names : List (List ℕ)) (w v : World) (a : ActorId) (o : Option Being) → slice_get w.actors a.0 ≡ o → IsWorld names w → closed w a o ≡ Some v → IsWorld names v
-closed_keeps names w v a None at h f = cc
-closed_keeps names w v a (Some b) at h f =
+pub closed_keeps : (c : Constants) (w v : World) (a : ActorId) → IsWorld c w → closed w a ≡ Some v → KeepsWorld c w v
+closed_keeps c w v a h f =
     let t = let_through _ _ v f in
-    let here : IsBeing names w.edits (length w.actors) b = at_all (IsBeing names w.edits (length w.actors)) w.actors a.0 b h.actors at in
-    world_set names w v a (record b { is_open = false }) h (record {
-      fits = here.fits;
-      itself = here.itself;
-      some_capacity = here.some_capacity;
-      few_messages = here.few_messages;
-      within = here.within;
-      begins = here.begins;
-      mail = here.mail;
-      turns = here.turns;
-      told = here.told;
-    }) (ap (λ (x : World). x.edits) (sym t.1)) (ap (λ (x : World). x.actors) (sym t.1))
+    subst (KeepsWorld c w) t.1 (change_keeps c w a (λ b. record b { is_open = false }) h (λ b at here. record {
+      being = record {
+        fits = here.fits;
+        itself = here.itself;
+        some_capacity = here.some_capacity;
+        few_messages = here.few_messages;
+        within = here.within;
+        begins = here.begins;
+        mail = here.mail;
+        told = here.told;
+      };
+      turns = refl;
+    }))
 
 -- ---- a message that begins
 
@@ -242,33 +333,38 @@ first_of_drop (y ∷ xs) (suc n) x rest e = first_of_drop xs n x rest e
 first_pending : (b : Being) (m : Message) (ms : List Message) → pending b ≡ m ∷ ms → slice_get b.accepted (length b.begun) ≡ Some m
 first_pending b m ms e = first_of_drop b.accepted (length b.begun) m ms e
 
-one_turn_more : (b : Being) (m : Message) (idle : Bool) → idle ≡ true → length b.results + cond idle 0 1 ≡ length b.begun → length b.results + 1 ≡ length (b.begun ++ m ∷ [])
-one_turn_more b m true e h = omega (arith, h, length-append b.begun (m ∷ []))
-one_turn_more b m false e h = cc
+one_turn_more : (b : Being) (m : Message) (idle : Bool) → idle ≡ true → length b.results + 1 + length b.begun ≡ length b.results + cond idle 0 1 + length (b.begun ++ m ∷ [])
+one_turn_more b m true e = omega (arith, length-append b.begun (m ∷ []))
+one_turn_more b m false e = cc
 
-beginning_keeps : (names : List (List ℕ)) (w v : World) (a : ActorId) (b : Being) (ms : List Message) → slice_get w.actors a.0 ≡ Some b → pending b ≡ ms → IsWorld names w → begun_by w a b ms ≡ Some v → IsWorld names v
-beginning_keeps names w v a b [] at e h f = cc
-beginning_keeps names w v a b (m ∷ ms) at e h f =
-    let t = let_through _ _ v f in
-    let here : IsBeing names w.edits (length w.actors) b = at_all (IsBeing names w.edits (length w.actors)) w.actors a.0 b h.actors at in
-    let suits : message_fits names (class_count w.edits) (length w.actors) m ≡ true = at_all (λ (x : Message). message_fits names (class_count w.edits) (length w.actors) x ≡ true) b.accepted (length b.begun) m here.mail (first_pending b m ms e) in
+beginning_lasts : (c : Constants) (w : World) (m : Message) (ms : List Message) (b : Being) → is_idle b.body.phase ≡ true → pending b ≡ m ∷ ms → IsBeing c.names w.edits (length w.actors) b → Lasts c.names w.edits (length w.actors) b (beginning m b)
+beginning_lasts c w m ms b idle e here =
+    let suits : message_fits c.names (class_count w.edits) (length w.actors) m ≡ true = at_all (λ (x : Message). message_fits c.names (class_count w.edits) (length w.actors) x ≡ true) b.accepted (length b.begun) m here.mail (first_pending b m ms e) in
     let both = and_parts _ _ suits in
-    let fits : Fits (given names (length w.actors)) w.edits (beginning b m).body = begin_fits (given names (length w.actors)) w.edits b.body m.selector m.args here.fits (number_is _ _ both.0) (all_from_tests (argument_fits names (class_count w.edits) (length w.actors)) (IsThere (given names (length w.actors)) w.edits (length b.body.objects)) m.args (argument_there names w.edits (length w.actors) (length b.body.objects)) both.1) in
-    world_set names w v a (beginning b m) h (record {
-      fits = fits;
-      itself = here.itself;
-      some_capacity = here.some_capacity;
-      few_messages = here.few_messages;
-      within = omega (arith, here.within, ap (λ (xs : List Message). length xs) e, ap (λ (xs : List Message). length xs) (pending_beginning b m ms e));
-      begins = beginning_begins b m ms e here.begins;
-      mail = here.mail;
-      turns = one_turn_more b m (is_idle b.body.phase) t.0 here.turns;
-      told = here.told;
-    }) (ap (λ (x : World). x.edits) (sym t.1)) (ap (λ (x : World). x.actors) (sym t.1))
+    record {
+      being = record {
+        fits = begin_fits (given c.names (length w.actors)) w.edits b.body m.selector m.args here.fits (number_is _ _ both.0) (all_from_tests (argument_fits c.names (class_count w.edits) (length w.actors)) (IsThere (given c.names (length w.actors)) w.edits (length b.body.objects)) m.args (argument_there c.names w.edits (length w.actors) (length b.body.objects)) both.1);
+        itself = here.itself;
+        some_capacity = here.some_capacity;
+        few_messages = here.few_messages;
+        within = omega (arith, here.within, ap (λ (xs : List Message). length xs) e, ap (λ (xs : List Message). length xs) (pending_beginning m b ms e));
+        begins = beginning_begins m b ms e here.begins;
+        mail = here.mail;
+        told = here.told;
+      };
+      turns = one_turn_more b m (is_idle b.body.phase) idle;
+    }
 
-begun_keeps : (names : List (List ℕ)) (w v : World) (a : ActorId) (o : Option Being) → slice_get w.actors a.0 ≡ o → IsWorld names w → begun_at w a o ≡ Some v → IsWorld names v
-begun_keeps names w v a None at h f = cc
-begun_keeps names w v a (Some b) at h f = beginning_keeps names w v a b (pending b) at refl h f
+same_being : (b d : Being) → Some b ≡ Some d → b ≡ d
+same_being b d e = cc
+
+pub begun_keeps : (c : Constants) (w v : World) (a : ActorId) → IsWorld c w → begun w a ≡ Some v → KeepsWorld c w v
+begun_keeps c w v a h f =
+    let p = mapped (λ m. change (beginning m) a w) (next_message (slice_get w.actors a.0)) v f in
+    let n : IsNextMessage (slice_get w.actors a.0) p.0 = next_is (slice_get w.actors a.0) p.0 p.1 in
+    subst (KeepsWorld c w) p.2 (change_keeps c w a (beginning p.0) h (λ b at here.
+    let same : n.being ≡ b = same_being n.being b (sym n.there ∙ at) in
+    beginning_lasts c w p.0 n.rest b (subst (λ (x : Being). is_idle x.body.phase ≡ true) same n.idle) (subst (λ (x : Being). pending x ≡ p.0 ∷ n.rest) same n.first) here))
 
 -- ---- steps
 
@@ -276,62 +372,13 @@ begun_keeps names w v a (Some b) at h f = beginning_keeps names w v a b (pending
 pub kernel_known : (names : List (List ℕ)) → BeginsWithKernel names → arity_at names does_not_understand ≡ Some 1
 kernel_known names h = subst (λ (ns : List (List ℕ)). arity_at ns does_not_understand ≡ Some 1) (sym h.1) (kernel_names_know h.0)
 
-one_step : (g : Given) (edits : List Edit) (s : Stepped) (c : Body) → FitsStepped g edits s → body_after s ≡ Some c → Fits g edits c
-one_step g edits (stepped told) c f e = let same : told.body ≡ c = cc in subst (Fits g edits) same f
-one_step g edits ended c f e = cc
-one_step g edits outer c f e = cc
-
-then_steps : (g : Given) (edits : List Edit) (a : ActorId) (n : ℕ) (c : Body) (o : Option Body) → ((d : Body) → o ≡ Some d → Fits g edits d) → ((d : Body) → Fits g edits d → steps edits a n d ≡ Some c → Fits g edits c) → option_and_then (steps edits a n) o ≡ Some c → Fits g edits c
-then_steps g edits a n c None f k e = cc
-then_steps g edits a n c (Some d) f k e = k d (f d refl) e
-
-pub steps_fit : (names : List (List ℕ)) (actors : ℕ) (edits : List Edit) (a : ActorId) → BeginsWithKernel names → AreLawful edits → AllSuit names edits → AllSound edits → a.0 < actors → (n : ℕ) (b c : Body) → Fits (given names actors) edits b → steps edits a n b ≡ Some c → Fits (given names actors) edits c
-steps_fit names actors edits a k l s t r zero b c f e = let same : b ≡ c = cc in subst (Fits (given names actors) edits) same f
-steps_fit names actors edits a k l s t r (suc n) b c f e = then_steps (given names actors) edits a n c (body_after (step edits a b)) (λ d g. one_step (given names actors) edits (step edits a b) d (step_fits (given names actors) edits a b l s t (kernel_known names k) r f) g) (λ d g. steps_fit names actors edits a k l s t r n d c g) e
-
--- what steps lead to, one or more
-record HasRun (old new : Body) : Type 0 where
-  pub busy : is_idle old.phase ≡ false
-  pub begun : IsBegun new.phase
-  pub keeps : Keeps old.objects new.objects
-
-step_busy : (edits : List Edit) (a : ActorId) (objects : List Object) (phase : Phase) (c : Body) → body_after (step_in edits a objects phase) ≡ Some c → is_idle phase ≡ false
-step_busy edits a objects Fresh c e = cc
-step_busy edits a objects (Start s args) c e = refl
-step_busy edits a objects (Frames fs) c e = refl
-step_busy edits a objects (Done outcome) c e = cc
-
-step_kept : (objects : List Object) (s : Stepped) (c : Body) → LeadsTo objects s → body_after s ≡ Some c → IsBegun c.phase × Keeps objects c.objects
-step_kept objects (stepped told) c l e = let same : told.body ≡ c = cc in subst (λ (d : Body). IsBegun d.phase × Keeps objects d.objects) same l
-step_kept objects ended c l e = cc
-step_kept objects outer c l e = cc
-
--- a body as it was, or after steps
-abbrev Later : Body → Body → Type 0
-Later b c = (IsBegun b.phase → IsBegun c.phase) × Keeps b.objects c.objects
-
-then_ran : (edits : List Edit) (a : ActorId) (n : ℕ) (b c : Body) (o : Option Body) → body_after (step edits a b) ≡ o → ((d : Body) → steps edits a n d ≡ Some c → Later d c) → option_and_then (steps edits a n) o ≡ Some c → HasRun b c
-then_ran edits a n b c None at later e = cc
-then_ran edits a n b c (Some d) at later e =
-    let one : IsBegun d.phase × Keeps b.objects d.objects = step_kept b.objects (step edits a b) d (step_leads edits a b) at in
-    let two : Later d c = later d e in
-    record { busy = step_busy edits a b.objects b.phase d at; begun = two.0 one.0; keeps = keeps_more b.objects d.objects c.objects one.1 two.1 }
-
-steps_later : (edits : List Edit) (a : ActorId) (n : ℕ) (b c : Body) → steps edits a n b ≡ Some c → Later b c
-steps_later edits a zero b c e = let same : b ≡ c = cc in subst (Later b) same (λ h. h, keeps_refl b.objects)
-steps_later edits a (suc n) b c e = let r : HasRun b c = then_ran edits a n b c (body_after (step edits a b)) refl (λ d f. steps_later edits a n d c f) e in (λ h. r.begun, r.keeps)
-
-steps_ran : (edits : List Edit) (a : ActorId) (n : ℕ) (b c : Body) → 0 < n → steps edits a n b ≡ Some c → HasRun b c
-steps_ran edits a zero b c h e = absurd (omega (arith, h))
-steps_ran edits a (suc n) b c h e = then_ran edits a n b c (body_after (step edits a b)) refl (λ d f. steps_later edits a n d c f) e
-
 -- a turn that was going on has ended with a result, or goes on
-turns_after : (idle : Bool) (phase : Phase) (results : List Outcome) (begun : ℕ) → idle ≡ false → IsBegun phase → length results + cond idle 0 1 ≡ begun → length (with_result phase results) + cond (is_idle phase) 0 1 ≡ begun
-turns_after true phase results begun f h e = cc
-turns_after false Fresh results begun f h e = absurd h
-turns_after false (Start s args) results begun f h e = e
-turns_after false (Frames fs) results begun f h e = e
-turns_after false (Done outcome) results begun f h e = omega (arith, e, length-append results (outcome ∷ []))
+turns_after : (idle : Bool) (phase : Phase) (results : List Outcome) (begun : ℕ) → idle ≡ false → IsBegun phase → length (with_result phase results) + cond (is_idle phase) 0 1 + begun ≡ length results + cond idle 0 1 + begun
+turns_after true phase results begun f h = cc
+turns_after false Fresh results begun f h = absurd h
+turns_after false (Start s args) results begun f h = refl
+turns_after false (Frames fs) results begun f h = refl
+turns_after false (Done outcome) results begun f h = omega (arith, length-append results (outcome ∷ []))
 
 told_results : (g : Given) (edits : List Edit) (old new : List Object) (phase : Phase) (results : List Outcome) → length old ≤ length new → FitsPhase g edits new phase → All (λ (o : Outcome). FitsPhase g edits old (Done o)) results → All (λ (o : Outcome). FitsPhase g edits new (Done o)) (with_result phase results)
 told_results g edits old new Fresh results l h all = all_map _ _ results (told_later g edits old new l) all
@@ -339,61 +386,202 @@ told_results g edits old new (Start s args) results l h all = all_map _ _ result
 told_results g edits old new (Frames fs) results l h all = all_map _ _ results (told_later g edits old new l) all
 told_results g edits old new (Done outcome) results l h all = All-push (λ (o : Outcome). FitsPhase g edits new (Done o)) results outcome (all_map _ _ results (told_later g edits old new l) all) h
 
-ran_to_keeps : (names : List (List ℕ)) (w v : World) (a : ActorId) (n : ℕ) (b : Being) (o : Option Body) → 0 < n → steps w.edits a n b.body ≡ o → slice_get w.actors a.0 ≡ Some b → IsWorld names w → ran w a b o ≡ Some v → IsWorld names v
-ran_to_keeps names w v a n b None some st at h f = cc
-ran_to_keeps names w v a n b (Some body) some st at h f =
-    let t : with_actor w a (record b { body = body; results = with_result body.phase b.results }) ≡ v = cc in
-    let here : IsBeing names w.edits (length w.actors) b = at_all (IsBeing names w.edits (length w.actors)) w.actors a.0 b h.actors at in
-    let fits : Fits (given names (length w.actors)) w.edits body = steps_fit names (length w.actors) w.edits a h.kernel h.lawful h.suited h.sound (slice_get_within w.actors a.0 b at) n b.body body here.fits st in
-    let r : HasRun b.body body = steps_ran w.edits a n b.body body some st in
-    world_set names w v a (record b { body = body; results = with_result body.phase b.results }) h (record {
-      fits = fits;
-      itself = r.keeps.itself ∙ here.itself;
-      some_capacity = here.some_capacity;
-      few_messages = here.few_messages;
-      within = here.within;
-      begins = here.begins;
-      mail = here.mail;
-      turns = turns_after (is_idle b.body.phase) body.phase b.results (length b.begun) r.busy r.begun here.turns;
-      told = told_results (given names (length w.actors)) w.edits b.body.objects body.objects body.phase b.results r.keeps.objects fits.phase here.told;
-    }) (ap (λ (x : World). x.edits) (sym t)) (ap (λ (x : World). x.actors) (sym t))
+-- an actor with the body that a step led to
+body_lasts : (c : Constants) (w : World) (body : Body) (b : Being) → is_idle b.body.phase ≡ false → Led b.body.objects body → Fits (given c.names (length w.actors)) w.edits body → IsBeing c.names w.edits (length w.actors) b → Lasts c.names w.edits (length w.actors) b (with_body body b)
+body_lasts c w body b busy led fits here = record {
+  being = record {
+    fits = fits;
+    itself = led.keeps.itself ∙ here.itself;
+    some_capacity = here.some_capacity;
+    few_messages = here.few_messages;
+    within = here.within;
+    begins = here.begins;
+    mail = here.mail;
+    told = told_results (given c.names (length w.actors)) w.edits b.body.objects body.objects body.phase b.results led.keeps.objects fits.phase here.told;
+  };
+  turns = turns_after (is_idle b.body.phase) body.phase b.results (length b.begun) busy led.begun;
+}
 
-ran_some_keeps : (names : List (List ℕ)) (w v : World) (a : ActorId) (n : ℕ) (b : Being) (c : Bool) → nat_lt 0 n ≡ c → slice_get w.actors a.0 ≡ Some b → IsWorld names w → cond c (ran w a b (steps w.edits a n b.body)) None ≡ Some v → IsWorld names v
-ran_some_keeps names w v a n b true some at h f = ran_to_keeps names w v a n b (steps w.edits a n b.body) (ltb-true 0 n some) refl at h f
-ran_some_keeps names w v a n b false some at h f = cc
+pub next_busy : (edits : List Edit) (a : ActorId) (objects : List Object) (phase : Phase) (c : Body) → step_in edits a objects phase ≡ leads c → is_idle phase ≡ false
+next_busy edits a objects Fresh c e = cc
+next_busy edits a objects (Start s args) c e = refl
+next_busy edits a objects (Frames fs) c e = refl
+next_busy edits a objects (Done outcome) c e = cc
 
-ran_keeps : (names : List (List ℕ)) (w v : World) (a : ActorId) (n : ℕ) (o : Option Being) → slice_get w.actors a.0 ≡ o → IsWorld names w → ran_at w a n o ≡ Some v → IsWorld names v
-ran_keeps names w v a n None at h f = cc
-ran_keeps names w v a n (Some b) at h f = ran_some_keeps names w v a n b (nat_lt 0 n) refl at h f
+pub outer_busy : (edits : List Edit) (a : ActorId) (objects : List Object) (phase : Phase) (act : Act) → step_in edits a objects phase ≡ outer act → is_idle phase ≡ false
+outer_busy edits a objects Fresh act e = cc
+outer_busy edits a objects (Start s args) act e = refl
+outer_busy edits a objects (Frames fs) act e = refl
+outer_busy edits a objects (Done outcome) act e = cc
+
+pub fits_step : (c : Constants) (w : World) (a : ActorId) (b : Being) → IsWorld c w → slice_get w.actors a.0 ≡ Some b → FitsStep (given c.names (length w.actors)) w.edits b.body (step w.edits a b.body)
+fits_step c w a b h at = step_fits (given c.names (length w.actors)) w.edits a b.body h.lawful h.suited h.sound (kernel_known c.names h.constants.kernel) (slice_get_within w.actors a.0 b at) (at_all (IsBeing c.names w.edits (length w.actors)) w.actors a.0 b h.actors at).fits
+
+being_of : (c : Constants) (w : World) (a : ActorId) (b : Being) → IsWorld c w → slice_get w.actors a.0 ≡ Some b → IsBeing c.names w.edits (length w.actors) b
+being_of c w a b h at = at_all (IsBeing c.names w.edits (length w.actors)) w.actors a.0 b h.actors at
+
+own_keeps : (c : Constants) (w : World) (a : ActorId) (b : Being) (body : Body) → IsWorld c w → slice_get w.actors a.0 ≡ Some b → step w.edits a b.body ≡ leads body → KeepsWorld c w (change (with_body body) a w)
+own_keeps c w a b body h at e = change_keeps c w a (with_body body) h (λ d there here.
+    let same : b ≡ d = same_being b d (sym at ∙ there) in
+    let fits : Fits (given c.names (length w.actors)) w.edits body = subst (FitsStep (given c.names (length w.actors)) w.edits b.body) e (fits_step c w a b h at) in
+    let led : Led b.body.objects body = subst (LeadsTo b.body.objects b.body.phase) e (step_leads w.edits a b.body (being_of c w a b h at).fits.some) in
+    subst (λ (x : Being). Lasts c.names w.edits (length w.actors) x (with_body body x)) same (body_lasts c w body b (next_busy w.edits a b.body.objects b.body.phase body e) led fits (being_of c w a b h at)))
+
+-- ---- acts
+
+-- what an act keeps: the edits, and the body of each actor
+pub record KeepsBodies (w v : World) : Type 0 where
+  pub edits : v.edits ≡ w.edits
+  pub bodies : (j : ℕ) (b : Being) → slice_get w.actors j ≡ Some b → (d : Being) × (slice_get v.actors j ≡ Some d) × (d.body ≡ b.body)
+
+bodies_same : (w : World) → KeepsBodies w w
+bodies_same w = record { edits = refl; bodies = λ j b e. (b, e, refl) }
+
+bodies_both : (w v u : World) → KeepsBodies w v → KeepsBodies v u → KeepsBodies w u
+bodies_both w v u f g = record {
+  edits = g.edits ∙ f.edits;
+  bodies = λ j b e. let p = f.bodies j b e in let q = g.bodies j p.0 p.1 in (q.0, q.1, q.2 ∙ p.2);
+}
+
+bodies_change : (w : World) (a : ActorId) (f : Being → Being) → ((b : Being) → (f b).body ≡ b.body) → KeepsBodies w (change f a w)
+bodies_change w a f h = record {
+  edits = refl;
+  bodies = λ j b e. elim (get-change-any f a.0 w.actors j b e) [ inl there ↦ (b, there, refl) | inr s ↦ (f b, s.1, h b) ];
+}
+
+bodies_last : (s : Sender) (n : ℕ) (w : World) → KeepsBodies w (with_last s n w)
+bodies_last (Client s) n w = record { edits = refl; bodies = λ j b e. (b, e, refl) }
+bodies_last (Acting a) n w = bodies_change w a (λ b. record b { last = n }) (λ b. refl)
+
+bodies_posted : (c : Constants) (w v : World) (a : ActorId) (m : Message) → posted c w a m ≡ Some v → KeepsBodies w v
+bodies_posted c w v a m h =
+    let t = let_through _ _ v h in
+    subst (KeepsBodies w) t.1 (bodies_both w (change (accepting m) a w) (with_last m.sender m.seq (change (accepting m) a w)) (bodies_change w a (accepting m) (λ b. refl)) (bodies_last m.sender m.seq (change (accepting m) a w)))
+
+bodies_closed : (w v : World) (a : ActorId) → closed w a ≡ Some v → KeepsBodies w v
+bodies_closed w v a h = let t = let_through _ _ v h in subst (KeepsBodies w) t.1 (bodies_change w a (λ b. record b { is_open = false }) (λ b. refl))
+
+bodies_new : (c : Constants) (class : ClassId) (w : World) → KeepsBodies w (with_new c class w)
+bodies_new c class w = record { edits = refl; bodies = λ j b e. (b, slice_get_kept w.actors (new_being w.edits class c.capacity ∷ []) j b e, refl) }
+
+-- an act leaves a world, its actors' bodies, and an answer that is there
+pub record KeepsAct (c : Constants) (w : World) (d : Acted) : Type 0 where
+  pub keeps : KeepsWorld c w d.world
+  pub bodies : KeepsBodies w d.world
+  pub gives : (n : ℕ) → Gives (given c.names (length d.world.actors)) d.world.edits n d.answer
+
+act_failed : (c : Constants) (w : World) (e : Fault) → IsWorld c w → KeepsAct c w (failed w e)
+act_failed c w e h = record { keeps = keeps_same c w h; bodies = bodies_same w; gives = λ n. tt }
+
+act_tried : (c : Constants) (w : World) (o : Option World) → IsWorld c w → ((v : World) → o ≡ Some v → KeepsWorld c w v) → ((v : World) → o ≡ Some v → KeepsBodies w v) → KeepsAct c w (tried w o)
+act_tried c w None h f g = record { keeps = keeps_same c w h; bodies = bodies_same w; gives = λ n. tt }
+act_tried c w (Some v) h f g = record { keeps = f v refl; bodies = g v refl; gives = λ n. tt }
+
+act_either : (c : Constants) (w : World) (b : Bool) (p q : Acted) → (b ≡ true → KeepsAct c w p) → (b ≡ false → KeepsAct c w q) → KeepsAct c w (cond b p q)
+act_either c w true p q h k = h refl
+act_either c w false p q h k = k refl
+
+by_posted : (c : Constants) (to : ActorId) (s : Selector) (args : List Value) (a : ActorId) (w v : World) (o : Option Being) → posted_by c to s args a w o ≡ Some v → (m : Message) × (posted c w to m ≡ Some v)
+by_posted c to s args a w v None e = cc
+by_posted c to s args a w v (Some b) e = (_, (cond_some _ _ v e).1)
+
+act_post : (c : Constants) (to : ActorId) (s : Selector) (args : List Value) (a : ActorId) (w : World) → IsWorld c w → KeepsAct c w (post_done c to s args a w)
+act_post c to s args a w h =
+    let o : Option World = posted_by c to s args a w (slice_get w.actors a.0) in
+    act_either c w (not (is_number (arity_at c.names s) (length args))) (failed w BadArgument) (cond (list_any is_local args) (failed w LocalArgument) (tried w o)) (λ x. act_failed c w BadArgument h)
+    (λ x. act_either c w (list_any is_local args) (failed w LocalArgument) (tried w o) (λ y. act_failed c w LocalArgument h)
+    (λ y. act_tried c w o h
+    (λ v e. let p = by_posted c to s args a w v (slice_get w.actors a.0) e in posted_keeps c w v to p.0 h p.1)
+    (λ v e. let p = by_posted c to s args a w v (slice_get w.actors a.0) e in bodies_posted c w v to p.0 p.1)))
+
+act_create : (c : Constants) (class : ClassId) (w : World) → IsWorld c w → class.0 < class_count w.edits → KeepsAct c w (create_done c class w)
+act_create c class w h there =
+    let made : Acted = record { world = with_new c class w; answer = Ok (Actor (record { 0 = length w.actors })) } in
+    act_either c w (is_closed class) (failed w BadArgument) (cond (nat_le 65536 (length w.actors)) (failed w TooManyActors) made) (λ x. act_failed c w BadArgument h)
+    (λ x. act_either c w (nat_le 65536 (length w.actors)) (failed w TooManyActors) made (λ y. act_failed c w TooManyActors h)
+    (λ y. let class_there : is_class w.edits class ≡ true = grind (arith, nat_tests) in
+    record {
+      keeps = new_keeps c class w h (and_from (is_class w.edits class) (not (is_closed class)) class_there (ap not x));
+      bodies = bodies_new c class w;
+      gives = λ n. omega (arith, length-append w.actors (new_being w.edits class c.capacity ∷ []));
+    }))
+
+pub act_keeps : (c : Constants) (a : ActorId) (w : World) (n : ℕ) (act : Act) → IsWorld c w → FitsAct (given c.names (length w.actors)) w.edits n act → KeepsAct c w (done c a w act)
+act_keeps c a w n (Post to (Sym s ∷ args)) h fits = act_post c to s args a w h
+act_keeps c a w n (Post to []) h fits = act_failed c w BadArgument h
+act_keeps c a w n (Post to (Int z ∷ args)) h fits = act_failed c w BadArgument h
+act_keeps c a w n (Post to (Boolean b ∷ args)) h fits = act_failed c w BadArgument h
+act_keeps c a w n (Post to (Nil ∷ args)) h fits = act_failed c w BadArgument h
+act_keeps c a w n (Post to (Class d ∷ args)) h fits = act_failed c w BadArgument h
+act_keeps c a w n (Post to (Actor d ∷ args)) h fits = act_failed c w BadArgument h
+act_keeps c a w n (Post to (Local k ∷ args)) h fits = act_failed c w BadArgument h
+act_keeps c a w n (Close to) h fits = act_tried c w (closed w to) h (λ v e. closed_keeps c w v to h e) (λ v e. bodies_closed w v to e)
+act_keeps c a w n (Create class) h fits = act_create c class w h fits
+
+acted_keeps : (c : Constants) (w : World) (a : ActorId) (b : Being) (act : Act) → IsWorld c w → slice_get w.actors a.0 ≡ Some b → step w.edits a b.body ≡ outer act → KeepsWorld c w (acted a act (done c a w act))
+acted_keeps c w a b act h at e =
+    let d : Acted = done c a w act in
+    let fits = subst (FitsStep (given c.names (length w.actors)) w.edits b.body) e (fits_step c w a b h at) in
+    let k : KeepsAct c w d = act_keeps c a w (length b.body.objects) act h fits.0 in
+    keeps_both c w d.world (acted a act d) k.keeps (λ g. change_keeps c d.world a (λ x. with_body (replied act d.answer x.body) x) g (λ x there here.
+    let old = k.bodies.bodies a.0 b at in
+    let same : old.0 ≡ x = same_being old.0 x (sym old.1 ∙ there) in
+    let body : x.body ≡ b.body = ap (λ (y : Being). y.body) (sym same) ∙ old.2 in
+    let e' : step d.world.edits a x.body ≡ outer act = ap (λ (es : List Edit). step es a x.body) k.bodies.edits ∙ ap (step w.edits a) body ∙ e in
+    let f = subst (FitsStep (given c.names (length d.world.actors)) d.world.edits x.body) e' (fits_step c d.world a x g there) in
+    let led : (answer : Result Value Fault) → Led x.body.objects (replied act answer x.body) = subst (LeadsTo x.body.objects x.body.phase) e' (step_leads d.world.edits a x.body here.fits.some) in
+    body_lasts c d.world (replied act d.answer x.body) x (outer_busy d.world.edits a x.body.objects x.body.phase act e') (led d.answer) (f.1 d.answer (k.gives (length x.body.objects))) here))
+
+some_world : (w v : World) → Some w ≡ Some v → w ≡ v
+some_world w v e = cc
+
+taken_keeps : (c : Constants) (a : ActorId) (w v : World) (b : Being) (s : Step) → IsWorld c w → slice_get w.actors a.0 ≡ Some b → step w.edits a b.body ≡ s → taken c a w s ≡ Some v → KeepsWorld c w v
+taken_keeps c a w v b (leads body) h at e f = subst (KeepsWorld c w) (some_world _ v f) (own_keeps c w a b body h at e)
+taken_keeps c a w v b ended h at e f = cc
+taken_keeps c a w v b (outer act) h at e f = subst (KeepsWorld c w) (some_world _ v f) (acted_keeps c w a b act h at e)
+
+pub stepped_keeps : (c : Constants) (a : ActorId) (w v : World) → IsWorld c w → stepped c a w ≡ Some v → KeepsWorld c w v
+stepped_keeps c a w v h e = let p = bound (λ b. taken c a w (step w.edits a b.body)) (slice_get w.actors a.0) v e in taken_keeps c a w v p.0 (step w.edits a p.0.body) h p.1 refl p.2
+
+pub after_keeps : (c : Constants) (a : ActorId) (n : ℕ) (w v : World) → IsWorld c w → world_after c a n w ≡ Some v → KeepsWorld c w v
+after_keeps c a zero w v h e = subst (KeepsWorld c w) (some_world w v e) (keeps_same c w h)
+after_keeps c a (suc n) w v h e = let p = bound (world_after c a n) (stepped c a w) v e in keeps_both c w p.0 v (stepped_keeps c a w p.0 h p.1) (λ g. after_keeps c a n p.0 v g p.2)
 
 -- ---- any item
 
-pub next_keeps : (names : List (List ℕ)) (w v : World) (i : Item) → IsWorld names w → IsSoundItem i → next names w i ≡ Some v → IsWorld names v
-next_keeps names w v (Edited e) h s f = edited_keeps names w v e h s f
-next_keeps names w v (Created c n) h s f = created_keeps names w v c n h f
-next_keeps names w v (Posted a m) h s f = posted_keeps names w v a m (slice_get w.actors a.0) refl h f
-next_keeps names w v (Closed a) h s f = closed_keeps names w v a (slice_get w.actors a.0) refl h f
-next_keeps names w v (Begun a) h s f = begun_keeps names w v a (slice_get w.actors a.0) refl h f
-next_keeps names w v (Ran a n) h s f = ran_keeps names w v a n (slice_get w.actors a.0) refl h f
+pub next_keeps : (c : Constants) (w v : World) (i : Item) → IsWorld c w → IsSoundItem i → next c w i ≡ Some v → KeepsWorld c w v
+next_keeps c w v (Edited e) h s f = edited_keeps c w v e h s f
+next_keeps c w v (Created class) h s f = created_keeps c w v class h f
+next_keeps c w v (Posted a m) h s f = posted_keeps c w v a m h f
+next_keeps c w v (Closed a) h s f = closed_keeps c w v a h f
+next_keeps c w v (Begun a) h s f = begun_keeps c w v a h f
+next_keeps c w v (Ran a n) h s f = after_keeps c a n w v h (cond_some (nat_lt 0 n) (world_after c a n w) v (sym (ran_after c w a n) ∙ f)).1
 
-pub start_is_world : (names : List (List ℕ)) → BeginsWithKernel names → IsWorld names start
-start_is_world names k = record {
-  kernel = k;
+pub start_is_world : (c : Constants) → AreConstants c → IsWorld c start
+start_is_world c k = record {
+  constants = k;
   lawful = λ place e at. cc;
-  suited = λ place c m at. cc;
-  sound = λ place c m at. cc;
+  suited = λ place d m at. cc;
+  sound = λ place d m at. cc;
   actors = All-nil _;
 }
+
+pub start_has_turns : HaveTurns start start
+start_has_turns = record { long = omega arith; each = λ a b e. cc }
 
 kernel_more : (names more : List (List ℕ)) → BeginsWithKernel names → BeginsWithKernel (names ++ more)
 kernel_more names more h = (h.0 ++ more, ap (λ (ns : List (List ℕ)). ns ++ more) h.1 ∙ append_assoc kernel_selectors h.0 more)
 
+-- the constants with more names
+abbrev pub named_more : Constants → List (List ℕ) → Constants
+named_more c more = record { names = c.names ++ more; capacity = c.capacity }
+
 -- more names leave a world a world
-pub names_keep : (names more : List (List ℕ)) (w : World) → IsWorld names w → IsWorld (names ++ more) w
-names_keep names more w h = record {
-  kernel = kernel_more names more h.kernel;
+pub names_keep : (c : Constants) (more : List (List ℕ)) (w : World) → IsWorld c w → IsWorld (named_more c more) w
+names_keep c more w h = record {
+  constants = record { kernel = kernel_more c.names more h.constants.kernel; some_capacity = h.constants.some_capacity; few_messages = h.constants.few_messages };
   lawful = h.lawful;
-  suited = all_suit_more_names names more w.edits h.suited;
+  suited = all_suit_more_names c.names more w.edits h.suited;
   sound = h.sound;
-  actors = all_map (IsBeing names w.edits (length w.actors)) (IsBeing (names ++ more) w.edits (length w.actors)) w.actors (λ b g. being_given names more w.edits (length w.actors) (length w.actors) b h.lawful h.suited (omega arith) g) h.actors;
+  actors = all_map (IsBeing c.names w.edits (length w.actors)) (IsBeing (c.names ++ more) w.edits (length w.actors)) w.actors (λ b g. being_given c.names more w.edits (length w.actors) (length w.actors) b h.lawful h.suited (omega arith) g) h.actors;
 }

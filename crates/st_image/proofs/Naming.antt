@@ -1,51 +1,54 @@
 -- More names leave an image the replay of its history.
 use Rattle.std.proofs.Common.{◌≡◌, ℕ, ◌++◌, [], ◌∷◌, List, Bool, true, false, cond, refl, sym, subst, Result, Ok, Err, OnOk, OnErr}
-use Rattle.std.specs.BTreeSet.{BTreeSet}
 use Rattle.st_classes.specs.declared.edits.Edit.{Edit}
 use Rattle.st_classes.specs.Names.{is_name, interned}
 use Rattle.st_image.specs.declared.settings.Settings.{Settings}
 use Rattle.st_image.specs.declared.items.Item.{Item}
+use Rattle.st_image.specs.Worlds.{Constants, World}
 use Rattle.st_image.specs.Images.{world_of}
-use Rattle.st_image.specs.Kepts.{Kept}
-use Rattle.st_image.specs.Lasting.{IsWorld}
-use Rattle.st_image.specs.Keeping.{Shows, IsImage}
+use Rattle.st_image.specs.Kepts.{Kept, Shows}
+use Rattle.st_image.specs.Lasting.{HaveTurns, IsWorld}
+use Rattle.st_image.specs.Acting.{constants_of}
+use Rattle.st_image.specs.Keeping.{IsImage}
 use Rattle.st_image.proofs.GrowingNames.{world_more}
 use Rattle.st_image.proofs.Lasting.{names_keep}
 
 -- an image with other names, at the same world
-pub record IsRenamed (names : List (List ℕ)) (names' : List (List ℕ)) (edits : List Edit) (actors : List Kept) (ready : BTreeSet ℕ) (h : List Item) (made : ℕ) (s : Settings) : Type 0 where
-  pub image : IsImage names' edits actors ready h made s
-  pub world : world_of names' h ≡ world_of names h
+pub record IsRenamed (base : World) (names : List (List ℕ)) (names' : List (List ℕ)) (edits : List Edit) (actors : List Kept) (h : List Item) (made : ℕ) (s : Settings) : Type 0 where
+  pub image : IsImage base names' edits actors h made s
+  pub world : world_of (constants_of names' s.capacity) base h ≡ world_of (constants_of names s.capacity) base h
 
-pub more_kept : (names more : List (List ℕ)) (edits : List Edit) (actors : List Kept) (ready : BTreeSet ℕ) (h : List Item) (made : ℕ) (s : Settings) → IsImage names edits actors ready h made s → IsRenamed names (names ++ more) edits actors ready h made s
-more_kept names more edits actors ready h made s k =
-    let m = world_more names more h k.lawful in
+pub more_kept : (base : World) (names more : List (List ℕ)) (edits : List Edit) (actors : List Kept) (h : List Item) (made : ℕ) (s : Settings) → IsImage base names edits actors h made s → IsRenamed base names (names ++ more) edits actors h made s
+more_kept base names more edits actors h made s k =
+    let c : Constants = constants_of names s.capacity in
+    let m = world_more c more base h k.base_is k.sound k.lawful in
     record {
       image = record {
+        base_is = names_keep c more base k.base_is;
+        sound = k.sound;
         lawful = m.0;
-        shows = subst (Shows edits actors ready) (sym m.1) k.shows;
-        world = subst (IsWorld (names ++ more)) (sym m.1) (names_keep names more (world_of names h) k.world);
+        shows = subst (Shows edits actors) (sym m.1) k.shows;
+        world = subst (IsWorld (constants_of (names ++ more) s.capacity)) (sym m.1) (names_keep c more (world_of c base h) k.world);
+        turns = subst (HaveTurns base) (sym m.1) k.turns;
         counted = k.counted;
         numbers = k.numbers;
-        created = k.created;
         few_items = k.few_items;
-        few_actors = k.few_actors;
         few_accepted = k.few_accepted;
       };
       world = m.1;
     }
 
-pub same_kept : (names : List (List ℕ)) (edits : List Edit) (actors : List Kept) (ready : BTreeSet ℕ) (h : List Item) (made : ℕ) (s : Settings) → IsImage names edits actors ready h made s → IsRenamed names names edits actors ready h made s
-same_kept names edits actors ready h made s k = record { image = k; world = refl }
+pub same_kept : (base : World) (names : List (List ℕ)) (edits : List Edit) (actors : List Kept) (h : List Item) (made : ℕ) (s : Settings) → IsImage base names edits actors h made s → IsRenamed base names names edits actors h made s
+same_kept base names edits actors h made s k = record { image = k; world = refl }
 
-by_test : (b : Bool) (names : List (List ℕ)) (text : List ℕ) (edits : List Edit) (actors : List Kept) (ready : BTreeSet ℕ) (h : List Item) (made : ℕ) (s : Settings) → IsImage names edits actors ready h made s → IsRenamed names (cond b names (names ++ text ∷ [])) edits actors ready h made s
-by_test true names text edits actors ready h made s k = same_kept names edits actors ready h made s k
-by_test false names text edits actors ready h made s k = more_kept names (text ∷ []) edits actors ready h made s k
+by_test : (b : Bool) (base : World) (names : List (List ℕ)) (text : List ℕ) (edits : List Edit) (actors : List Kept) (h : List Item) (made : ℕ) (s : Settings) → IsImage base names edits actors h made s → IsRenamed base names (cond b names (names ++ text ∷ [])) edits actors h made s
+by_test true base names text edits actors h made s k = same_kept base names edits actors h made s k
+by_test false base names text edits actors h made s k = more_kept base names (text ∷ []) edits actors h made s k
 
-pub renamed : (names names' other : List (List ℕ)) (edits : List Edit) (actors : List Kept) (ready : BTreeSet ℕ) (h : List Item) (made : ℕ) (s : Settings) → names' ≡ other → IsRenamed names other edits actors ready h made s → IsRenamed names names' edits actors ready h made s
-renamed names names' other edits actors ready h made s e r = subst (λ (ns : List (List ℕ)). IsRenamed names ns edits actors ready h made s) (sym e) r
+pub renamed : (base : World) (names names' other : List (List ℕ)) (edits : List Edit) (actors : List Kept) (h : List Item) (made : ℕ) (s : Settings) → names' ≡ other → IsRenamed base names other edits actors h made s → IsRenamed base names names' edits actors h made s
+renamed base names names' other edits actors h made s e r = subst (λ (ns : List (List ℕ)). IsRenamed base names ns edits actors h made s) (sym e) r
 
 -- after an intern, refused or not
-pub interned_kept : {T E : Type 0} (r : Result T E) (names names' : List (List ℕ)) (text : List ℕ) (edits : List Edit) (actors : List Kept) (ready : BTreeSet ℕ) (h : List Item) (made : ℕ) (s : Settings) → IsImage names edits actors ready h made s → OnOk r (names' ≡ interned names text) → OnErr r (names' ≡ names) → IsRenamed names names' edits actors ready h made s
-interned_kept (Ok x) names names' text edits actors ready h made s k a b = renamed names names' (interned names text) edits actors ready h made s a (by_test (is_name names text) names text edits actors ready h made s k)
-interned_kept (Err x) names names' text edits actors ready h made s k a b = renamed names names' names edits actors ready h made s b (same_kept names edits actors ready h made s k)
+pub interned_kept : {T E : Type 0} (r : Result T E) (base : World) (names names' : List (List ℕ)) (text : List ℕ) (edits : List Edit) (actors : List Kept) (h : List Item) (made : ℕ) (s : Settings) → IsImage base names edits actors h made s → OnOk r (names' ≡ interned names text) → OnErr r (names' ≡ names) → IsRenamed base names names' edits actors h made s
+interned_kept (Ok x) base names names' text edits actors h made s k a b = renamed base names names' (interned names text) edits actors h made s a (by_test (is_name names text) base names text edits actors h made s k)
+interned_kept (Err x) base names names' text edits actors h made s k a b = renamed base names names' names edits actors h made s b (same_kept base names edits actors h made s k)

@@ -1,92 +1,83 @@
 -- What is kept of a world, after a change of one actor or with one more.
-use Rattle.std.proofs.Common.{arith, ◌≡◌, ℕ, zero, suc, ◌+◌, ◌≤◌, ◌++◌, [], ◌∷◌, List, length, drop, map, Some, Bool, true, false, cond, refl, ap, sym, ◌∙◌, slice_get, slice_set, nat_eq, length-append}
-use Rattle.std.specs.Prelude.{not, ◌||◌, ◌==◌}
-use Rattle.std.specs.BTreeSet.{BTreeSet}
-use Rattle.std.proofs.lemmas.List.{drop-append-le, map-set, map-append}
-use Rattle.std.proofs.Math.Dec.{eqb-suc-zero, eqb-zero-suc, eqb-suc-suc}
+use Rattle.std.proofs.Common.{arith, ◌≡◌, ℕ, ◌+◌, ◌≤◌, ◌++◌, [], ◌∷◌, List, length, drop, map, Option, Some, None, false, refl, ap, sym, ◌∙◌, slice_get, length-append, IfNone, is_some}
+use Rattle.std.specs.Option.{option_map}
+use Rattle.std.proofs.lemmas.List.{drop-append-le, map-append, length-map}
+use Rattle.std.proofs.lemmas.Option.{slice_get-map}
+use Rattle.st_classes.specs.declared.values.ActorId.{ActorId}
 use Rattle.st_classes.specs.declared.edits.Edit.{Edit}
 use Rattle.st_image.specs.declared.messages.Message.{Message}
-use Rattle.st_turn.specs.Idling.{is_idle}
-use Rattle.st_image.specs.Worlds.{World, Being, pending}
+use Rattle.st_image.specs.Worlds.{World, Being, change, change_at, pending}
 use Rattle.st_image.specs.Next.{accepting, beginning}
 use Rattle.st_image.specs.Delivery.{BeginsInOrder}
-use Rattle.st_image.specs.Ready.{is_ready, is_ready_at}
-use Rattle.st_image.specs.Kepts.{Kept, kept_of, taken_in, started, begun_first, first_phase, HasAlso}
-use Rattle.st_image.specs.Keeping.{Shows}
+use Rattle.st_image.specs.Ready.{is_ready_at}
+use Rattle.st_image.specs.Kepts.{Kept, Shows, begun_first, is_ready_in, kept_of, taken_in}
 use Rattle.st_image.proofs.Lists.{drop_first}
-
--- ---- which actors are ready
-
-abbrev among : World → List Being → ℕ → Bool
-among w xs a = is_ready_at (record w { actors = xs }) a
-
-ready_set : (w : World) (xs : List Being) (a q : ℕ) (b c : Being) → slice_get xs a ≡ Some b → among w (slice_set xs a c) q ≡ cond (nat_eq a q) (is_ready c) (among w xs q)
-ready_set w [] a q b c e = cc
-ready_set w (x ∷ xs) zero zero b c e = refl
-ready_set w (x ∷ xs) zero (suc q) b c e = ap (λ (t : Bool). cond t (is_ready c) (among w (x ∷ xs) (suc q))) (sym (eqb-zero-suc q))
-ready_set w (x ∷ xs) (suc a) zero b c e = ap (λ (t : Bool). cond t (is_ready c) (among w (x ∷ xs) zero)) (sym (eqb-suc-zero a))
-ready_set w (x ∷ xs) (suc a) (suc q) b c e = ready_set w xs a q b c e ∙ ap (λ (t : Bool). cond t (is_ready c) (among w xs q)) (sym (eqb-suc-suc a q))
-
-ready_push : (w : World) (xs : List Being) (x : Being) (a : ℕ) → is_ready x ≡ false → among w (xs ++ x ∷ []) a ≡ among w xs a
-ready_push w [] x zero h = h
-ready_push w [] x (suc a) h = refl
-ready_push w (y ∷ xs) x zero h = refl
-ready_push w (y ∷ xs) x (suc a) h = ready_push w xs x a h
+use Rattle.st_image.proofs.Changing.{map-change}
 
 -- ---- what is shown
 
-pub shows_set : (edits : List Edit) (actors after : List Kept) (ready ready' : BTreeSet ℕ) (w v : World) (a : ℕ) (b c : Being) → Shows edits actors ready w → slice_get w.actors a ≡ Some b → v.edits ≡ w.edits → v.actors ≡ slice_set w.actors a c → after ≡ slice_set actors a (kept_of c) → HasAlso ready ready' a (is_ready c) → Shows edits after ready' v
-shows_set edits actors after ready ready' w v a b c s at e f g h = record {
-  edits_are = s.edits_are ∙ sym e;
-  actors_are = g ∙ ap (λ (xs : List Kept). slice_set xs a (kept_of c)) s.actors_are ∙ sym (map-set kept_of w.actors a c) ∙ ap (map kept_of) (sym f);
-  ready_are = λ q. h q ∙ ap (λ (x : Bool). cond (nat_eq a q) (is_ready c) x) (s.ready_are q) ∙ sym (ready_set w w.actors a q b c at) ∙ ap (λ (xs : List Being). among w xs q) (sym f);
+-- what is kept of an actor that is there
+pub kept_at : (edits : List Edit) (actors : List Kept) (w : World) (a : ℕ) (b : Being) → Shows edits actors w → slice_get w.actors a ≡ Some b → slice_get actors a ≡ Some (kept_of b)
+kept_at edits actors w a b s e = ap (λ (xs : List Kept). slice_get xs a) s.actors_are ∙ slice_get-map kept_of w.actors a ∙ ap (option_map kept_of) e
+
+-- what is there of an actor that is kept
+pub being_of : (edits : List Edit) (actors : List Kept) (w : World) (a : ℕ) (o : Option Kept) → Shows edits actors w → slice_get actors a ≡ o → option_map kept_of (slice_get w.actors a) ≡ o
+being_of edits actors w a o s e = sym (slice_get-map kept_of w.actors a) ∙ ap (λ (xs : List Kept). slice_get xs a) (sym s.actors_are) ∙ e
+
+some_being : (o : Option Being) (k : Kept) → option_map kept_of o ≡ Some k → (b : Being) × (o ≡ Some b) × (kept_of b ≡ k)
+some_being None k e = cc
+some_being (Some b) k e = (b, refl, cc)
+
+pub being_at_kept : (edits : List Edit) (actors : List Kept) (w : World) (a : ℕ) (k : Kept) → Shows edits actors w → slice_get actors a ≡ Some k → (b : Being) × (slice_get w.actors a ≡ Some b) × (kept_of b ≡ k)
+being_at_kept edits actors w a k s e = some_being (slice_get w.actors a) k (being_of edits actors w a (Some k) s e)
+
+pub count_is : (edits : List Edit) (actors : List Kept) (w : World) → Shows edits actors w → length actors ≡ length w.actors
+count_is edits actors w s = ap (λ (xs : List Kept). length xs) s.actors_are ∙ length-map w.actors kept_of
+
+pub shows_change : (edits : List Edit) (actors after : List Kept) (w : World) (a : ActorId) (f : Being → Being) (g : Kept → Kept) → Shows edits actors w → ((b : Being) → slice_get w.actors a.0 ≡ Some b → kept_of (f b) ≡ g (kept_of b)) → after ≡ change_at g a.0 actors → Shows edits after (change f a w)
+shows_change edits actors after w a f g s same e = record {
+  edits_are = s.edits_are;
+  actors_are = e ∙ ap (change_at g a.0) s.actors_are ∙ sym (map-change kept_of f g a.0 w.actors same);
 }
 
-pub shows_push : (edits : List Edit) (actors after : List Kept) (ready : BTreeSet ℕ) (w v : World) (c : Being) → Shows edits actors ready w → v.edits ≡ w.edits → v.actors ≡ w.actors ++ c ∷ [] → after ≡ actors ++ kept_of c ∷ [] → is_ready c ≡ false → Shows edits after ready v
-shows_push edits actors after ready w v c s e f g h = record {
+pub shows_push : (edits : List Edit) (actors after : List Kept) (w v : World) (c : Being) → Shows edits actors w → v.edits ≡ w.edits → v.actors ≡ w.actors ++ c ∷ [] → after ≡ actors ++ kept_of c ∷ [] → Shows edits after v
+shows_push edits actors after w v c s e f g = record {
   edits_are = s.edits_are ∙ sym e;
   actors_are = g ∙ ap (λ (xs : List Kept). xs ++ kept_of c ∷ []) s.actors_are ∙ sym (map-append kept_of w.actors (c ∷ [])) ∙ ap (map kept_of) (sym f);
-  ready_are = λ q. s.ready_are q ∙ sym (ready_push w w.actors c q h) ∙ ap (λ (xs : List Being). among w xs q) (sym f);
 }
+
+ready_by : (w : World) (o : Option Being) (p : Option Kept) (a : ℕ) → slice_get w.actors a ≡ o → is_ready_in (map kept_of w.actors) a ≡ is_ready_at w a
+ready_by w None p a e = rw (slice_get-map kept_of w.actors a, e) refl
+ready_by w (Some b) p a e = rw (slice_get-map kept_of w.actors a, e) refl
+
+-- the ready ones are the world's
+pub ready_is : (edits : List Edit) (actors : List Kept) (w : World) (a : ℕ) → Shows edits actors w → is_ready_in actors a ≡ is_ready_at w a
+ready_is edits actors w a s = ap (λ (xs : List Kept). is_ready_in xs a) s.actors_are ∙ ready_by w (slice_get w.actors a) None a refl
+
+-- none is ready where none of the kept ones is
+pub none_ready : {X Y : Type 0} (o : Option X) (p : Option Y) (edits : List Edit) (actors : List Kept) (w : World) → is_some o ≡ is_some p → Shows edits actors w → IfNone p ((a : ℕ) → is_ready_in actors a ≡ false) → IfNone o ((a : ℕ) → is_ready_at w a ≡ false)
+none_ready None None edits actors w e s f = λ a. sym (ready_is edits actors w a s) ∙ f a
+none_ready None (Some y) edits actors w e s f = cc
+none_ready (Some x) p edits actors w e s f = tt
 
 -- ---- one actor
 
 pub begun_length : (b : Being) → BeginsInOrder b → length b.begun ≤ length b.accepted
 begun_length b h = rw h.1 (omega (arith, length-append b.begun h.0))
 
-pub kept_accepting : (b : Being) (m : Message) → BeginsInOrder b → kept_of (accepting b m) ≡ taken_in (kept_of b) m
-kept_accepting b m h =
+pub kept_accepting : (m : Message) (b : Being) → BeginsInOrder b → kept_of (accepting m b) ≡ taken_in m (kept_of b)
+kept_accepting m b h =
     let p : drop (length b.begun) (b.accepted ++ m ∷ []) ≡ drop (length b.begun) b.accepted ++ m ∷ [] = drop-append-le (length b.begun) b.accepted (m ∷ []) (begun_length b h) in
     let n : length (b.accepted ++ m ∷ []) ≡ length b.accepted + 1 = length-append b.accepted (m ∷ []) in
     rw (p, n) refl
 
-pub pending_accepting : (b : Being) (m : Message) → BeginsInOrder b → pending (accepting b m) ≡ pending b ++ m ∷ []
-pending_accepting b m h = drop-append-le (length b.begun) b.accepted (m ∷ []) (begun_length b h)
+pub pending_accepting : (m : Message) (b : Being) → BeginsInOrder b → pending (accepting m b) ≡ pending b ++ m ∷ []
+pending_accepting m b h = drop-append-le (length b.begun) b.accepted (m ∷ []) (begun_length b h)
 
-some_last : (xs : List Message) (m : Message) → (length (xs ++ m ∷ []) == 0) ≡ false
-some_last [] m = refl
-some_last (x ∷ xs) m = eqb-suc-zero (length (xs ++ m ∷ []))
-
-or_true : (b : Bool) → (b || true) ≡ true
-or_true true = refl
-or_true false = refl
-
-pub ready_accepting : (b : Being) (m : Message) → BeginsInOrder b → is_ready (accepting b m) ≡ true
-ready_accepting b m h = rw (pending_accepting b m h, some_last (pending b) m) (or_true (not (is_idle b.body.phase)))
-
-pub pending_beginning : (b : Being) (m : Message) (ms : List Message) → pending b ≡ m ∷ ms → pending (beginning b m) ≡ ms
-pending_beginning b m ms e =
+pub pending_beginning : (m : Message) (b : Being) (ms : List Message) → pending b ≡ m ∷ ms → pending (beginning m b) ≡ ms
+pending_beginning m b ms e =
     let n : length (b.begun ++ m ∷ []) ≡ length b.begun + 1 = length-append b.begun (m ∷ []) in
     rw n (drop_first (length b.begun) b.accepted m ms e)
 
-pub kept_beginning : (b : Being) (m : Message) (ms : List Message) → pending b ≡ m ∷ ms → kept_of (beginning b m) ≡ begun_first (kept_of b)
-kept_beginning b m ms e = rw (pending_beginning b m ms e, e) refl
-
-abbrev started_if : Kept → Bool → Kept
-started_if k x = record k { pending = cond x (drop 1 k.pending) k.pending; body = cond x (record k.body { phase = first_phase k.body.phase k.pending }) k.body }
-
-pub started_idle : (k : Kept) → is_idle k.body.phase ≡ true → started k ≡ begun_first k
-started_idle k e = ap (started_if k) e
-
-pub started_busy : (k : Kept) → is_idle k.body.phase ≡ false → started k ≡ k
-started_busy k e = ap (started_if k) e
+pub kept_beginning : (m : Message) (b : Being) (ms : List Message) → pending b ≡ m ∷ ms → kept_of (beginning m b) ≡ begun_first (kept_of b)
+kept_beginning m b ms e = rw (pending_beginning m b ms e, e) refl

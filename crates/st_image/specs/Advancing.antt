@@ -1,20 +1,18 @@
 -- What an advance adds to an image, when it is refused, what want of memory leaves of it, and how a turn ended.
-use Rattle.std.specs.Prelude.{◌≡◌, ◌⊎◌, ◌≤◌, ◌<◌, ℕ, ◌+◌, ◌-◌, ◌==◌, ◌&&◌, List, [], ◌∷◌, ◌++◌, length, Bool, true, false, Option, Some, None, Result, Ok, Err, slice_get, if◌then◌else◌}
+use Rattle.std.specs.Prelude.{◌≡◌, ◌⊎◌, ◌≤◌, ◌<◌, ℕ, ◌+◌, ◌-◌, ◌==◌, ◌&&◌, List, [], ◌∷◌, ◌++◌, length, Bool, true, false, Option, Some, None, Result, Ok, Err, nat_lt, slice_get, if◌then◌else◌}
 use Rattle.st_classes.specs.declared.values.ActorId.{ActorId}
 use Rattle.st_classes.specs.declared.refusals.Refusal.{Refusal}
 use Rattle.st_classes.specs.declared.refusals.Refusal.TheVariants.{UnknownActor, NothingToDo, Pending, Expired}
 use Rattle.st_classes.specs.Refusals.{Rule, first_of}
 use Rattle.st_turn.specs.declared.body.Outcome.{Outcome}
+use Rattle.st_turn.specs.declared.body.Body.{Body}
 use Rattle.st_turn.specs.Idling.{is_idle}
-use Rattle.st_image.specs.declared.items.Item.{Item}
+use Rattle.st_turn.specs.Steps.{Step, next, ended, outer, own_steps, step}
+use Rattle.st_classes.specs.declared.edits.Edit.{Edit}
 use Rattle.st_image.specs.declared.items.Item.TheVariants.{Begun, Ran}
 use Rattle.st_image.specs.Worlds.{Being, pending}
 use Rattle.st_image.specs.Images.{ImageView, world, no_room}
-
--- what an advance adds before its steps: an idle actor begins its next message
-abbrev pub beginnings : ActorId → Bool → List Item
-beginnings a true = Begun a ∷ []
-beginnings a false = []
+use Rattle.st_image.specs.Lasting.{first_turn}
 
 -- the refusals of an advance, in their order: an idle actor needs a message, and the history room for its items
 abbrev pub advance_rules : ImageView → Option Being → List Rule
@@ -26,33 +24,86 @@ abbrev pub idle_at : Option Being → Bool
 idle_at None = true
 idle_at (Some b) = is_idle b.body.phase
 
--- the image after an advance of so many steps
-abbrev pub advanced : ImageView → ActorId → ℕ → ImageView
-advanced i a n = record i { history = i.history ++ (beginnings a (idle_at (slice_get (world i).actors a.0)) ++ Ran a n ∷ []); next_from = a.0 + 1 }
+-- the image after an idle actor began its next message
+abbrev pub begun_image : ImageView → ActorId → ImageView
+begun_image i a = if idle_at (slice_get (world i).actors a.0) then record i { history = i.history ++ Begun a ∷ []; next_from = a.0 + 1 } else i
 
--- the image after an advance that began a message and found no memory for its first step
-abbrev pub only_begun : ImageView → ActorId → ImageView
-only_begun i a = record i { history = i.history ++ Begun a ∷ []; next_from = a.0 + 1 }
+-- the image after an actor took so many steps
+abbrev pub ran_image : ImageView → ActorId → ℕ → ImageView
+ran_image i a n = record i { history = i.history ++ Ran a n ∷ []; next_from = a.0 + 1 }
 
--- the advance of an actor may go on after so many steps: they are fewer than it may take, and the turn has not ended
-abbrev pub GoesOn : ImageView → ActorId → ℕ → ℕ → Type 0
-GoesOn i a limit n = (n < limit) × (idle_at (slice_get (world i).actors a.0) ≡ false)
+-- ---- a quantum: steps of the actor's own, and the image's step where it comes next
 
--- what want of memory leaves in the middle of an advance that nothing refuses: an idle actor's message begun and no step taken, or the steps before it
-abbrev pub HasStopped : ImageView → ActorId → ℕ → ImageView → Type 0
-HasStopped i a limit j = (first_of (advance_rules i (slice_get (world i).actors a.0)) ≡ None) × (((idle_at (slice_get (world i).actors a.0) ≡ true) × (j ≡ only_begun i a)) ⊎ ((n : ℕ) × (1 ≤ n) × (j ≡ advanced i a n) × GoesOn j a limit n))
+-- no step of the actor's own is next
+abbrev pub IsOver : Step → Type 0
+IsOver (next b) = ⊥
+IsOver ended = Unit {0}
+IsOver (outer act) = Unit {0}
+
+-- an act is next
+abbrev pub is_outer : Step → Bool
+is_outer (next b) = false
+is_outer ended = false
+is_outer (outer act) = true
+
+-- from a body: own steps, as many as the limit or up to where none is next, and the image's step where that is next
+pub record IsQuantum (edits : List Edit) (a : ActorId) (limit : ℕ) (b : Body) (n : ℕ) : Type 0 where
+  pub own : ℕ
+  pub last : Body
+  pub taken : own_steps edits a own b ≡ Some last
+  pub most : own ≤ limit
+  pub stops : (own ≡ limit) ⊎ IsOver (step edits a last)
+  pub count : n ≡ own + (if is_outer (step edits a last) then 1 else 0)
+
+-- the quantum of an actor that is there
+abbrev pub TakesQuantum : ImageView → ActorId → ℕ → ℕ → Type 0
+TakesQuantum i a limit n = (b : Being) × (slice_get (world i).actors a.0 ≡ Some b) × IsQuantum (world i).edits a limit b.body n
+
+-- what want of memory leaves of a quantum: own steps, no more than the limit, and a step is next that it could have taken
+pub record IsCut (edits : List Edit) (a : ActorId) (limit : ℕ) (b : Body) (n : ℕ) : Type 0 where
+  pub last : Body
+  pub taken : own_steps edits a n b ≡ Some last
+  pub goes_on : is_idle last.phase ≡ false
+  pub fewer : (n < limit) ⊎ ((n ≡ limit) × (is_outer (step edits a last) ≡ true))
+
+-- the quantum of an actor that is there is cut short
+abbrev pub CutsQuantum : ImageView → ActorId → ℕ → ℕ → Type 0
+CutsQuantum i a limit n = (b : Being) × (slice_get (world i).actors a.0 ≡ Some b) × IsCut (world i).edits a limit b.body n
+
+-- the image after so many steps, or none
+abbrev pub ran_or_same : ImageView → ActorId → ℕ → ImageView
+ran_or_same i a n = if n == 0 then i else ran_image i a n
+
+-- ---- an advance: an idle actor begins its next message, and then takes a quantum
+
+-- the advance of an actor took so many steps
+pub record HasAdvanced (i : ImageView) (a : ActorId) (limit n : ℕ) (j : ImageView) : Type 0 where
+  pub some : 1 ≤ n
+  pub quantum : TakesQuantum (begun_image i a) a limit n
+  pub image : j ≡ ran_image (begun_image i a) a n
+
+-- what want of memory leaves in the middle of an advance that nothing refuses: the message begun, and the steps that were taken
+pub record HasStopped (i : ImageView) (a : ActorId) (limit : ℕ) (j : ImageView) : Type 0 where
+  pub allowed : first_of (advance_rules i (slice_get (world i).actors a.0)) ≡ None
+  pub count : ℕ
+  pub quantum : CutsQuantum (begun_image i a) a limit count
+  pub image : j ≡ ran_or_same (begun_image i a) a count
 
 -- ---- the outcome of a turn
 
--- turn 0 is no turn; a turn that has no result yet has not ended
-abbrev pub outcome_in : List Outcome → ℕ → Result Outcome Refusal
-outcome_in results turn = if turn == 0 then Err Expired else or_pending (slice_get results (turn - 1))
+-- the outcome of a turn, where the first of the results is that of a turn of this number; a turn that has no result yet has not ended
+abbrev pub outcome_in : ℕ → List Outcome → ℕ → Result Outcome Refusal
+outcome_in first results turn = if nat_lt turn first then Err Expired else or_pending (slice_get results (turn - first))
   where
     or_pending : Option Outcome → Result Outcome Refusal
     or_pending None = Err Pending
     or_pending (Some outcome) = Ok outcome
 
 -- the outcome of an actor's turn
-abbrev pub outcome_at : Option Being → ℕ → Result Outcome Refusal
-outcome_at None turn = Err UnknownActor
-outcome_at (Some b) turn = outcome_in b.results turn
+abbrev pub outcome_at : ℕ → Option Being → ℕ → Result Outcome Refusal
+outcome_at first None turn = Err UnknownActor
+outcome_at first (Some b) turn = outcome_in first b.results turn
+
+-- the outcome of a turn in an image
+abbrev pub image_outcome : ImageView → ActorId → ℕ → Result Outcome Refusal
+image_outcome i a turn = outcome_at (first_turn (slice_get i.base.actors a.0)) (slice_get (world i).actors a.0) turn

@@ -2,41 +2,47 @@
 use Rattle.std.specs.Prelude.{ℕ, ◌+◌, ◌&&◌, ◌||◌, List, [], ◌∷◌, ◌++◌, length, not, Option, Some, None, nat_le, nat_lt, slice_get, unwrap_or}
 use Rattle.st_classes.specs.declared.values.ClassId.{ClassId}
 use Rattle.st_classes.specs.declared.values.ActorId.{ActorId}
+use Rattle.st_classes.specs.declared.values.Selector.{Selector}
 use Rattle.st_classes.specs.declared.refusals.Refusal.TheVariants.{UnknownClass, KernelClass, BadArguments, HistoryFull, TooMany}
 use Rattle.st_classes.specs.declared.refusals.Limited.TheVariants.{Edits, Actors}
 use Rattle.st_classes.specs.Refusals.{Rule}
 use Rattle.st_classes.specs.Kernel.{kernel_selectors}
 use Rattle.st_classes.specs.Classes.{is_class}
-use Rattle.st_classes.specs.Accepting.{is_closed, define_rules}
+use Rattle.st_classes.specs.Accepting.{is_closed, define_rules, remove_rules}
 use Rattle.st_image.specs.declared.messages.Message.{Message}
 use Rattle.st_image.specs.declared.items.Item.{Item}
 use Rattle.st_image.specs.declared.items.Item.TheVariants.{Edited, Created, Posted, Closed, Begun, Ran}
 use Rattle.st_image.specs.declared.settings.Settings.{Settings}
-use Rattle.st_image.specs.Worlds.{World, Being, start, is_capacity}
+use Rattle.st_image.specs.Worlds.{Constants, World, Being, start, is_capacity}
 use Rattle.st_image.specs.Posting.{post_rules}
 use Rattle.st_image.specs.Next.{replay}
 
--- an image: its names, its history, the capacity of new actors, the most items of the history, and the number from which the next ready actor is looked for
+-- an image: the world that it began with, its names, its history, the capacity of new actors, the most items of the history, and the number from which the next ready actor is looked for
 pub record ImageView : Type 0 where
+  pub base : World
   pub names : List (List ℕ)
   pub history : List Item
   pub capacity : ℕ
   pub most_items : ℕ
   pub next_from : ℕ
 
--- the world that the history of an image leads to
-unfoldable pub world_of : List (List ℕ) → List Item → World
-world_of names history = unwrap_or (replay names start history) start
+-- the constants of an image
+abbrev pub constants : ImageView → Constants
+constants i = record { names = i.names; capacity = i.capacity }
+
+-- the world that a history leads to from a base
+unfoldable pub world_of : Constants → World → List Item → World
+world_of c base history = unwrap_or (replay c base history) base
 
 -- the world of an image
 abbrev pub world : ImageView → World
-world i = world_of i.names i.history
+world i = world_of (constants i) i.base i.history
 
 -- how many of the items are edits
 abbrev pub edits_in : List Item → ℕ
 edits_in [] = 0
 edits_in (Edited e ∷ is) = edits_in is + 1
-edits_in (Created c n ∷ is) = edits_in is
+edits_in (Created c ∷ is) = edits_in is
 edits_in (Posted a m ∷ is) = edits_in is
 edits_in (Closed a ∷ is) = edits_in is
 edits_in (Begun a ∷ is) = edits_in is
@@ -44,7 +50,7 @@ edits_in (Ran a n ∷ is) = edits_in is
 
 -- a new image: the kernel's names and no history
 abbrev pub new_image : Settings → ImageView
-new_image s = record { names = kernel_selectors; history = []; capacity = s.capacity; most_items = s.history; next_from = 0 }
+new_image s = record { base = start; names = kernel_selectors; history = []; capacity = s.capacity; most_items = s.history; next_from = 0 }
 
 -- the image with items behind its history
 abbrev pub appended : ImageView → List Item → ImageView
@@ -67,6 +73,10 @@ run_rules i = (nat_le 2048 (edits_in i.history), TooMany Edits) ∷ no_room i 1 
 -- the refusals of a definition in an image, in their order
 abbrev pub image_define_rules : ImageView → List ℕ → ClassId → List (List ℕ) → List Rule
 image_define_rules i name parent added = define_rules (world i).edits name parent added ++ run_rules i
+
+-- the refusals of a removal in an image, in their order
+abbrev pub image_remove_rules : ImageView → ClassId → Selector → List Rule
+image_remove_rules i c s = remove_rules (world i).edits c s ++ run_rules i
 
 -- the refusals of a new actor, in their order
 abbrev pub create_rules : ImageView → ClassId → List Rule

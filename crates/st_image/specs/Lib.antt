@@ -2,10 +2,11 @@ pub mod Worlds
 pub mod Posting
 pub mod Next
 pub mod Images
+pub mod Delivery
+pub mod Lasting
 pub mod Advancing
 pub mod Ready
-pub mod Lasting
 pub mod Kepts
+pub mod Acting
 pub mod Keeping
 pub mod Installing
-pub mod Delivery

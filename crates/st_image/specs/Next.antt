@@ -1,26 +1,33 @@
 -- What each item makes of a world, and the replay of a history.
-use Rattle.std.specs.Prelude.{ℕ, zero, suc, ◌&&◌, List, [], ◌∷◌, ◌++◌, length, replicate, Bool, true, false, Option, Some, None, is_none, nat_eq, nat_lt, slice_get, option_and_then, if◌then◌else◌}
+use Rattle.std.specs.Prelude.{ℕ, zero, suc, ◌+◌, ◌-◌, ◌^◌, ◌&&◌, List, [], ◌∷◌, ◌++◌, length, Bool, true, false, not, Option, Some, None, Result, Ok, Err, is_none, nat_le, nat_lt, slice_get, option_and_then, option_map, option_to_list, if◌then◌else◌}
+use Rattle.std.specs.List.{list_any}
 use Rattle.st_classes.specs.declared.values.ClassId.{ClassId}
 use Rattle.st_classes.specs.declared.values.ActorId.{ActorId}
-use Rattle.st_classes.specs.declared.values.Value.TheVariants.{Nil}
+use Rattle.st_classes.specs.declared.values.Selector.{Selector}
+use Rattle.st_classes.specs.declared.values.Value.{Value}
+use Rattle.st_classes.specs.declared.values.Value.TheVariants.{Bool as Boolean, Sym, Actor as Reference, Local}
+use Rattle.st_classes.specs.declared.faults.Fault.{Fault}
+use Rattle.st_classes.specs.declared.faults.Fault.TheVariants.{BadArgument, LocalArgument, TooManyActors}
 use Rattle.st_classes.specs.declared.edits.Edit.{Edit}
 use Rattle.st_classes.specs.Refusals.{first_of}
-use Rattle.st_classes.specs.Classes.{slots}
-use Rattle.st_classes.specs.Accepting.{edit_rules}
-use Rattle.st_classes.specs.Suiting.{edit_suits}
+use Rattle.st_classes.specs.Accepting.{edit_rules, is_closed}
+use Rattle.st_classes.specs.Suiting.{arity_at, edit_suits, is_number}
+use Rattle.st_turn.specs.declared.acts.Act.{Act}
+use Rattle.st_turn.specs.declared.acts.Act.TheVariants.{Post, Close, Create}
 use Rattle.st_turn.specs.declared.body.Body.{Body}
 use Rattle.st_turn.specs.declared.body.Outcome.{Outcome}
 use Rattle.st_turn.specs.declared.body.Phase.{Phase}
-use Rattle.st_turn.specs.declared.body.Phase.TheVariants.{Fresh, Start, Frames, Done}
-use Rattle.st_turn.specs.Steps.{Stepped, stepped, ended, outer, step}
+use Rattle.st_turn.specs.declared.body.Phase.TheVariants.{Fresh, Start, Frames, Done as Ended}
+use Rattle.st_turn.specs.Objects.{new_object}
+use Rattle.st_turn.specs.Steps.{Asked, Step, next as leads, ended, outer, asked, replied, step}
 use Rattle.st_turn.specs.Fitting.{has_instances}
+use Rattle.st_turn.specs.Idling.{is_idle}
 use Rattle.st_image.specs.declared.messages.Message.{Message}
 use Rattle.st_image.specs.declared.messages.Sender.{Sender}
 use Rattle.st_image.specs.declared.messages.Sender.TheVariants.{Client, Actor}
 use Rattle.st_image.specs.declared.items.Item.{Item}
 use Rattle.st_image.specs.declared.items.Item.TheVariants.{Edited, Created, Posted, Closed, Begun, Ran}
-use Rattle.st_turn.specs.Idling.{is_idle}
-use Rattle.st_image.specs.Worlds.{World, Being, is_capacity, pending, with_actor}
+use Rattle.st_image.specs.Worlds.{Constants, World, Being, change, pending, put_number}
 use Rattle.st_image.specs.Posting.{post_rules}
 
 -- a world, under a condition
@@ -30,104 +37,180 @@ only_if b w = if b then Some w else None
 -- ---- an edit goes last in the class table
 
 -- the edit is accepted at the table, and its method suits
-abbrev pub edited : List (List ℕ) → World → Edit → Option World
-edited names w e = only_if (is_none (first_of (edit_rules w.edits e)) && edit_suits names w.edits e) (record w { edits = w.edits ++ e ∷ [] })
+abbrev pub edited : Constants → World → Edit → Option World
+edited c w e = only_if (is_none (first_of (edit_rules w.edits e)) && edit_suits c.names w.edits e) (record w { edits = w.edits ++ e ∷ [] })
 
 -- ---- a new last actor, of Object or a user's class
 
--- the body of a new actor: itself, with its instance variables nil
-abbrev pub fresh_body : List Edit → ClassId → Body
-fresh_body edits c = record { objects = record { class = c; slots = replicate (length (slots edits c)) Nil } ∷ []; phase = Fresh }
-
--- a new actor is open, and has accepted, begun and answered nothing
+-- a new actor is open, and has accepted, begun and answered nothing; its body is itself, with its instance variables nil
 abbrev pub new_being : List Edit → ClassId → ℕ → Being
-new_being edits c capacity = record { class = c; capacity = capacity; is_open = true; body = fresh_body edits c; last = 0; accepted = []; begun = []; results = [] }
+new_being edits class capacity = record {
+  class = class;
+  capacity = capacity;
+  is_open = true;
+  body = record { objects = new_object edits class ∷ []; phase = Fresh };
+  last = 0;
+  accepted = [];
+  begun = [];
+  results = [];
+}
 
--- only Object and a user's classes have actors, and each mailbox has a capacity
-abbrev pub created : World → ClassId → ℕ → Option World
-created w c capacity = only_if (has_instances w.edits c && is_capacity capacity) (record w { actors = w.actors ++ new_being w.edits c capacity ∷ [] })
+-- the world with a new actor
+abbrev pub with_new : Constants → ClassId → World → World
+with_new c class w = record w { actors = w.actors ++ new_being w.edits class c.capacity ∷ [] }
+
+-- only Object and a user's classes have actors
+abbrev pub created : Constants → World → ClassId → Option World
+created c w class = only_if (has_instances w.edits class) (with_new c class w)
 
 -- ---- a message goes last in what its actor accepted
 
--- a client's last number becomes the message's
-abbrev pub with_last : (ℕ → ℕ) → Sender → ℕ → ℕ → ℕ
-with_last clients (Client s) n t = if nat_eq s t then n else clients t
-with_last clients (Actor a) n t = clients t
+-- the sender's last number is the message's
+abbrev pub with_last : Sender → ℕ → World → World
+with_last (Client s) n w = record w { clients = put_number s n w.clients }
+with_last (Actor a) n w = change (λ b. record b { last = n }) a w
 
 -- the message goes last
-abbrev pub accepting : Being → Message → Being
-accepting b m = record b { accepted = b.accepted ++ m ∷ [] }
+abbrev pub accepting : Message → Being → Being
+accepting m b = record b { accepted = b.accepted ++ m ∷ [] }
 
--- the actor is there, and no refusal of the post applies
-abbrev pub posted_to : List (List ℕ) → World → ActorId → Message → Option Being → Option World
-posted_to names w a m None = None
-posted_to names w a m (Some b) = only_if (is_none (first_of (post_rules names w (Some b) m))) (record (with_actor w a (accepting b m)) { clients = with_last w.clients m.sender m.seq })
+-- no refusal of the post applies
+abbrev pub posted : Constants → World → ActorId → Message → Option World
+posted c w a m = only_if (is_none (first_of (post_rules c.names w (slice_get w.actors a.0) m))) (with_last m.sender m.seq (change (accepting m) a w))
 
 -- ---- the mailbox closes
 
+-- an actor is there, and its mailbox is open
+abbrev pub is_open_at : Option Being → Bool
+is_open_at None = false
+is_open_at (Some b) = b.is_open
+
 -- the mailbox is open
-abbrev pub closed : World → ActorId → Option Being → Option World
-closed w a None = None
-closed w a (Some b) = only_if b.is_open (with_actor w a (record b { is_open = false }))
+abbrev pub closed : World → ActorId → Option World
+closed w a = only_if (is_open_at (slice_get w.actors a.0)) (change (λ b. record b { is_open = false }) a w)
 
 -- ---- the first pending message of an idle actor begins
 
 -- the message goes last in what is begun, and the body starts it
-abbrev pub beginning : Being → Message → Being
-beginning b m = record b { begun = b.begun ++ m ∷ []; body = record b.body { phase = Start m.selector m.args } }
+abbrev pub beginning : Message → Being → Being
+beginning m b = record b { begun = b.begun ++ m ∷ []; body = record b.body { phase = Start m.selector m.args } }
 
--- a message is pending, and no turn goes on
-abbrev pub begun_by : World → ActorId → Being → List Message → Option World
-begun_by w a b [] = None
-begun_by w a b (m ∷ ms) = only_if (is_idle b.body.phase) (with_actor w a (beginning b m))
+-- the first pending message of an actor that is there and idle
+abbrev pub next_message : Option Being → Option Message
+next_message None = None
+next_message (Some b) = if is_idle b.body.phase then slice_get (pending b) 0 else None
 
--- the actor is there
-abbrev pub begun_at : World → ActorId → Option Being → Option World
-begun_at w a None = None
-begun_at w a (Some b) = begun_by w a b (pending b)
+-- there is such a message
+abbrev pub begun : World → ActorId → Option World
+begun w a = option_map (λ m. change (beginning m) a w) (next_message (slice_get w.actors a.0))
+
+-- ---- an act of an actor on the world, and what it answers
+
+-- the world after an act, and its answer or its fault
+pub record Done : Type 0 where
+  pub world : World
+  pub answer : Result Value Fault
+
+-- an act that ends the turn with a fault and does nothing else
+abbrev pub failed : World → Fault → Done
+failed w e = record { world = w; answer = Err e }
+
+-- an act that answers whether it could be done
+abbrev pub tried : World → Option World → Done
+tried w None = record { world = w; answer = Ok (Boolean false) }
+tried w (Some v) = record { world = v; answer = Ok (Boolean true) }
+
+-- a value is an object of an actor's own
+abbrev pub is_local : Value → Bool
+is_local (Local n) = true
+is_local _ = false
+
+-- an actor's message has the number after its last one, and there is none after 2^64 - 1
+abbrev pub posted_by : Constants → ActorId → Selector → List Value → ActorId → World → Option Being → Option World
+posted_by c to s args a w None = None
+posted_by c to s args a w (Some b) = if nat_lt b.last (2 ^ 64 - 1) then posted c w to (record { sender = Actor a; seq = b.last + 1; selector = s; args = args }) else None
+
+-- the selector takes as many arguments, and none of them is a local
+abbrev pub post_done : Constants → ActorId → Selector → List Value → ActorId → World → Done
+post_done c to s args a w =
+    if not (is_number (arity_at c.names s) (length args)) then failed w BadArgument
+    else (if list_any is_local args then failed w LocalArgument else tried w (posted_by c to s args a w (slice_get w.actors a.0)))
+
+-- an actor of Object or a user's class, where there are fewer than 65,536
+abbrev pub create_done : Constants → ClassId → World → Done
+create_done c class w =
+    if is_closed class then failed w BadArgument
+    else (if nat_le 65536 (length w.actors) then failed w TooManyActors else record { world = with_new c class w; answer = Ok (Reference (record { 0 = length w.actors })) })
+
+-- by the act; the first argument of a post is the symbol of a selector
+abbrev pub done : Constants → ActorId → World → Act → Done
+done c a w (Post to (Sym s ∷ args)) = post_done c to s args a w
+done c a w (Post to _) = failed w BadArgument
+done c a w (Close to) = tried w (closed w to)
+done c a w (Create class) = create_done c class w
 
 -- ---- an actor takes steps; a turn that ends adds its result
-
--- the body after a step that is taken
-abbrev pub body_after : Stepped → Option Body
-body_after (stepped told) = Some told.body
-body_after ended = None
-body_after outer = None
-
--- the body after so many steps, one after the other
-abbrev pub steps : List Edit → ActorId → ℕ → Body → Option Body
-steps edits a zero b = Some b
-steps edits a (suc n) b = option_and_then (steps edits a n) (body_after (step edits a b))
 
 -- a turn that is done adds how it ended
 abbrev pub with_result : Phase → List Outcome → List Outcome
 with_result Fresh results = results
 with_result (Start s args) results = results
 with_result (Frames fs) results = results
-with_result (Done outcome) results = results ++ outcome ∷ []
+with_result (Ended outcome) results = results ++ outcome ∷ []
 
--- the actor with the body that its steps led to
-abbrev pub ran : World → ActorId → Being → Option Body → Option World
-ran w a b None = None
-ran w a b (Some body) = Some (with_actor w a (record b { body = body; results = with_result body.phase b.results }))
+-- the actor with the body that a step led to
+abbrev pub with_body : Body → Being → Being
+with_body body b = record b { body = body; results = with_result body.phase b.results }
 
--- the actor is there, and takes one step or more
-abbrev pub ran_at : World → ActorId → ℕ → Option Being → Option World
-ran_at w a n None = None
-ran_at w a n (Some b) = if nat_lt 0 n then ran w a b (steps w.edits a n b.body) else None
+-- an act is done on the whole world, and its answer given to the actor
+abbrev pub acted : ActorId → Act → Done → World
+acted a act d = change (λ b. with_body (replied act d.answer b.body) b) a d.world
+
+-- the step of an actor's body, as one of the world
+abbrev pub taken : Constants → ActorId → World → Step → Option World
+taken c a w (leads body) = Some (change (with_body body) a w)
+taken c a w ended = None
+taken c a w (outer act) = Some (acted a act (done c a w act))
+
+-- one step of an actor that is there
+abbrev pub stepped : Constants → ActorId → World → Option World
+stepped c a w = option_and_then (λ b. taken c a w (step w.edits a b.body)) (slice_get w.actors a.0)
+
+-- a world on the way of an actor's steps, and what they asked the class table for, in order
+pub record Trail : Type 0 where
+  pub world : World
+  pub asked : List Asked
+
+-- what the next step of an actor asks for
+abbrev pub asked_at : List Edit → Option Being → Option Asked
+asked_at edits None = None
+asked_at edits (Some b) = asked edits b.body
+
+-- one step more
+abbrev pub one_more : Constants → ActorId → Trail → Option Trail
+one_more c a t = option_map (λ w. record { world = w; asked = t.asked ++ option_to_list (asked_at t.world.edits (slice_get t.world.actors a.0)) }) (stepped c a t.world)
+
+-- so many steps, one after the other
+abbrev pub steps : Constants → ActorId → ℕ → Trail → Option Trail
+steps c a zero t = Some t
+steps c a (suc n) t = option_and_then (steps c a n) (one_more c a t)
+
+-- the actor takes one step or more
+abbrev pub ran : Constants → World → ActorId → ℕ → Option World
+ran c w a n = if nat_lt 0 n then option_map (λ t. t.world) (steps c a n (record { world = w; asked = [] })) else None
 
 -- ---- the world after an item, where the item is allowed
 
 -- by the kind of the item
-abbrev pub next : List (List ℕ) → World → Item → Option World
-next names w (Edited e) = edited names w e
-next names w (Created c capacity) = created w c capacity
-next names w (Posted a m) = posted_to names w a m (slice_get w.actors a.0)
-next names w (Closed a) = closed w a (slice_get w.actors a.0)
-next names w (Begun a) = begun_at w a (slice_get w.actors a.0)
-next names w (Ran a n) = ran_at w a n (slice_get w.actors a.0)
+abbrev pub next : Constants → World → Item → Option World
+next c w (Edited e) = edited c w e
+next c w (Created class) = created c w class
+next c w (Posted a m) = posted c w a m
+next c w (Closed a) = closed w a
+next c w (Begun a) = begun w a
+next c w (Ran a n) = ran c w a n
 
 -- the world after the items of a history, one after the other
-abbrev pub replay : List (List ℕ) → World → List Item → Option World
-replay names w [] = Some w
-replay names w (i ∷ is) = option_and_then (λ v. replay names v is) (next names w i)
+abbrev pub replay : Constants → World → List Item → Option World
+replay c w [] = Some w
+replay c w (i ∷ is) = option_and_then (λ v. replay c v is) (next c w i)

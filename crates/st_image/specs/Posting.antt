@@ -1,15 +1,16 @@
 -- When a message is accepted.
-use Rattle.std.specs.Prelude.{ℕ, ◌&&◌, List, [], ◌∷◌, length, Bool, true, false, not, Option, Some, None, nat_le, nat_lt}
+use Rattle.std.specs.Prelude.{ℕ, ◌&&◌, List, [], ◌∷◌, length, Bool, true, false, not, Option, Some, None, nat_le, nat_lt, slice_get}
 use Rattle.std.specs.List.{list_all}
 use Rattle.st_classes.specs.declared.values.Selector.{Selector}
 use Rattle.st_classes.specs.declared.values.Value.{Value}
 use Rattle.st_classes.specs.declared.values.Value.TheVariants.{Int, Bool as Boolean, Nil, Sym, Class, Actor, Local}
-use Rattle.st_classes.specs.declared.refusals.Refusal.TheVariants.{UnknownActor, BadArguments, Closed, Full}
+use Rattle.st_classes.specs.declared.refusals.Refusal.TheVariants.{UnknownActor, BadArguments, Closed, Full, Old}
 use Rattle.st_classes.specs.Refusals.{Rule}
 use Rattle.st_classes.specs.Classes.{class_count}
 use Rattle.st_classes.specs.Suiting.{arity_at, is_number}
 use Rattle.st_image.specs.declared.messages.Message.{Message}
-use Rattle.st_image.specs.declared.messages.Sender.TheVariants.{Client}
+use Rattle.st_image.specs.declared.messages.Sender.{Sender}
+use Rattle.st_image.specs.declared.messages.Sender.TheVariants.{Client, Actor as Acting}
 use Rattle.st_image.specs.Worlds.{World, Being, pending}
 
 -- an argument of a message is no local, and names something that is there, for so many classes and actors
@@ -34,6 +35,21 @@ message_fits names classes actors m = is_number (arity_at names m.selector) (len
 abbrev pub message_suits : List (List ℕ) → World → Message → Bool
 message_suits names w m = message_fits names (class_count w.edits) (length w.actors) m
 
+-- a number is not above its sender's last; a sender that is not there sends nothing
+abbrev pub old_rule : Option ℕ → ℕ → Rule
+old_rule None n = (true, Old 0)
+old_rule (Some last) n = (nat_le n last, Old last)
+
+-- the last number of an actor, where it is there
+abbrev pub last_at : Option Being → Option ℕ
+last_at None = None
+last_at (Some b) = Some b.last
+
+-- actors number their messages upwards; the numbers of clients are not looked at yet
+abbrev pub number_rule : World → Sender → ℕ → Rule
+number_rule w (Client s) n = (false, Old 0)
+number_rule w (Acting a) n = old_rule (last_at (slice_get w.actors a.0)) n
+
 -- the refusals of a mailbox, in their order
 abbrev pub box_rules : Being → List Rule
 box_rules b = (not b.is_open, Closed) ∷ (nat_le b.capacity (length (pending b)), Full) ∷ []
@@ -41,4 +57,9 @@ box_rules b = (not b.is_open, Closed) ∷ (nat_le b.capacity (length (pending b)
 -- the refusals of a post, in their order
 abbrev pub post_rules : List (List ℕ) → World → Option Being → Message → List Rule
 post_rules names w None m = (true, UnknownActor) ∷ []
-post_rules names w (Some b) m = (not (message_suits names w m), BadArguments) ∷ box_rules b
+post_rules names w (Some b) m = (not (message_suits names w m), BadArguments) ∷ number_rule w m.sender m.seq ∷ box_rules b
+
+-- a sender is a client
+abbrev pub IsClients : Sender → Type 0
+IsClients (Client s) = Unit {0}
+IsClients (Acting a) = ⊥

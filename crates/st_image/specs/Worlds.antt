@@ -1,11 +1,16 @@
 -- The world of an image: its class table, its actors with all that they accepted, and its clients.
-use Rattle.std.specs.Prelude.{ℕ, ◌&&◌, List, [], length, drop, Bool, nat_le, slice_set}
+use Rattle.std.specs.Prelude.{ℕ, ◌&&◌, List, [], length, drop, Bool, Option, Some, None, nat_le, nat_lt, ◌∷◌, ◌==◌, if◌then◌else◌, slice_get, slice_set}
 use Rattle.st_classes.specs.declared.values.ClassId.{ClassId}
 use Rattle.st_classes.specs.declared.values.ActorId.{ActorId}
 use Rattle.st_classes.specs.declared.edits.Edit.{Edit}
 use Rattle.st_turn.specs.declared.body.Body.{Body}
 use Rattle.st_turn.specs.declared.body.Outcome.{Outcome}
 use Rattle.st_image.specs.declared.messages.Message.{Message}
+
+-- the constants of a run: the names, and the capacity of new actors' mailboxes
+pub record Constants : Type 0 where
+  pub names : List (List ℕ)
+  pub capacity : ℕ
 
 -- an actor (Agha 1986): its class, its mailbox, its body, its last number as a sender, every message that it accepted and every one that it began, and how its turns ended
 pub record Being : Type 0 where
@@ -18,11 +23,11 @@ pub record Being : Type 0 where
   pub begun : List Message
   pub results : List Outcome
 
--- the edits, the actors by their numbers, and each client's last number
+-- the edits, the actors by their numbers, and the clients that sent a message, rising, each with the number of its last one
 pub record World : Type 0 where
   pub edits : List Edit
   pub actors : List Being
-  pub clients : ℕ → ℕ
+  pub clients : List (ℕ × ℕ)
 
 -- the capacity of a mailbox: from 1 to 1,024 messages
 abbrev pub is_capacity : ℕ → Bool
@@ -34,8 +39,22 @@ pending b = drop (length b.begun) b.accepted
 
 -- the world of a new image
 abbrev pub start : World
-start = record { edits = []; actors = []; clients = λ _. 0 }
+start = record { edits = []; actors = []; clients = [] }
 
--- the world with an actor in the place of another
-abbrev pub with_actor : World → ActorId → Being → World
-with_actor w a b = record w { actors = slice_set w.actors a.0 b }
+-- the number of a client put in
+abbrev pub put_number : ℕ → ℕ → List (ℕ × ℕ) → List (ℕ × ℕ)
+put_number s n [] = (s, n) ∷ []
+put_number s n (p ∷ ps) = if s == p.0 then (s, n) ∷ ps else (if nat_lt s p.0 then (s, n) ∷ p ∷ ps else p ∷ put_number s n ps)
+
+-- a list whose item at a place is changed, where there is one
+abbrev pub changed : {X : Type 0} → (X → X) → ℕ → List X → Option X → List X
+changed f place xs None = xs
+changed f place xs (Some x) = slice_set xs place (f x)
+
+-- by what is there
+abbrev pub change_at : {X : Type 0} → (X → X) → ℕ → List X → List X
+change_at f place xs = changed f place xs (slice_get xs place)
+
+-- the world with the actor of a number changed
+abbrev pub change : (Being → Being) → ActorId → World → World
+change f a w = record w { actors = change_at f a.0 w.actors }

@@ -1,223 +1,210 @@
-//! What an image keeps of an actor.
-ghost use Rattle.std.specs.Prelude.{◌≡◌, ◌⊎◌, ◌≤◌, ◌<◌, IsTrue, Some, drop, true, false, if◌then◌else◌};
-ghost use Rattle.st_image.specs.Keeping.{CanRun};
-ghost use Rattle.st_image.specs.Kepts.{started_body};
-ghost use Rattle.st_image.specs.Next.{steps};
-ghost use Rattle.st_turn.specs.Idling.{is_idle as idle};
-
+//! The actors of an image, and which of them are ready.
+use crate::actor::{Actor, Progress};
 use crate::messages::Message;
 use crate::queues::Queue;
-use st_classes::refusals::Refusal;
-use st_classes::values::{ActorId, ClassId};
+use st_classes::faults::Fault;
+use st_classes::values::{ActorId, Value};
 use st_classes::version::Version;
-use st_turn::body::{Body, Outcome, Phase};
-use st_turn::plain::step_plain;
+use st_turn::acts::{Act, is_act_next, next_act};
 use std::alloc::{AllocError, Global};
-use std::collections::VecDeque;
 use std::marker::Model;
 
-/// How far an advance went.
+/// The actors by their numbers. Contracts see what is kept of each.
 #[derive(Drop)]
-pub(crate) struct Progress {
-    pub(crate) steps: u32,
-    /// Whether it ended with its last step or with the turn, and not for want of memory.
-    pub(crate) is_whole: bool,
+pub(crate) struct Actors {
+    items: Vec<Actor>,
+    ready: Queue,
 }
 
-impl Progress {
-    ghost use Rattle.std.specs.Prelude.{◌≡◌, if◌then◌else◌, Ok, Err};
-    ghost use Rattle.st_classes.specs.declared.refusals.Refusal.TheVariants.{NoMemory};
+impl Model for Actors {
+    ghost use Rattle.std.specs.Prelude.{List};
+    ghost use Rattle.st_image.specs.Kepts.{Kept, AreActors};
 
-    /// How many steps were taken, or that memory ran out.
-    pub(crate) fn answer(&self) -> Result<u32, Refusal>
-        ensures { result ≡ (if self.now.is_whole then Ok self.now.steps else Err NoMemory) }
+    ghost Value = { List Kept };
+
+    ghost view = { λ a. a.items.items };
+
+    ghost invariant = { λ a. AreActors a.items.items a.ready.numbers };
+}
+
+impl Actors {
+    ghost use Rattle.std.specs.Prelude.{◌≡◌, ◌+◌, ◌<◌, ◌≤◌, ◌^◌, ◌++◌, [], ◌∷◌, ℕ, length, slice_get, slice_set, Some, true, false, IfOk, IfSome, IfNone, OnOk, OnErr, Ok, Err, is_some};
+    ghost use Rattle.std.specs.Option.{option_copied};
+    ghost use Rattle.st_turn.specs.declared.acts.Act.{Act as ActOf};
+    ghost use Rattle.st_turn.specs.declared.body.Body.{Body as BodyOf};
+    ghost use Rattle.st_turn.specs.Idling.{is_idle as idle};
+    ghost use Rattle.st_turn.specs.Fitting.{FitsSome};
+    ghost use Rattle.st_turn.specs.Leaving.{IsAct, act_in};
+    ghost use Rattle.st_turn.specs.Steps.{outer, replied, step};
+    ghost use Rattle.st_image.specs.Keeping.{CanRun};
+    ghost use Rattle.st_image.specs.Worlds.{change_at};
+    ghost use Rattle.st_image.specs.Kepts.{Kept, RunsOwn, begun_first, is_ready_kept, is_ready_in, IsNextKept, stepped_to, taken_in};
+
+    pub(crate) fn new(alloc: Global) -> Actors
+        ensures { result ≡ [] }
     {
-        if self.is_whole {
-            Ok(self.steps)
-        } else {
-            Err(Refusal::NoMemory)
-        }
-    }
-}
-
-/// Begins the first of the pending messages where no turn is going on.
-fn start(body: &mut Body, pending: &mut VecDeque<Message>)
-    ensures body { body.new ≡ started_body body.old pending.old.items }
-    ensures pending { pending.new.items ≡ (if idle body.old.phase then drop 1 pending.old.items else pending.old.items) }
-{
-    if !body.is_idle() {
-        return;
-    }
-    if let Some(message) = pending.pop_front() {
-        body.begin(message.selector, message.args);
-    }
-}
-
-/// Takes up to so many steps, for as long as the turn goes on.
-fn run_steps(
-    body: &mut Body,
-    alloc: Global,
-    version: &Version,
-    actor: ActorId,
-    limit: u32,
-) -> Progress
-    requires { CanRun version.now actor body.old }
-    ensures steps { steps version.now actor result.steps body.old ≡ Some body.new }
-    ensures within { result.steps ≤ limit }
-    ensures whole { IsTrue result.is_whole → (result.steps ≡ limit) ⊎ (idle body.new.phase ≡ true) }
-    ensures cut { result.is_whole ≡ false → (result.steps < limit) × (idle body.new.phase ≡ false) }
-{
-    let mut steps = 0;
-    'turn: while steps < limit && !body.is_idle() {
-        let Ok(_) = step_plain(body, alloc, actor, version) else {
-            return Progress {
-                steps,
-                is_whole: false,
-            };
-        };
-        steps += 1;
-    }
-    Progress {
-        steps,
-        is_whole: true,
-    }
-}
-
-/// An actor. Contracts see what is kept of it.
-#[derive(Drop)]
-pub(crate) struct Actor {
-    class: ClassId,
-    capacity: u32,
-    is_open: bool,
-    body: Body,
-    /// What its mailbox accepted and it has not begun.
-    pending: VecDeque<Message>,
-    /// How many messages its mailbox accepted.
-    accepted: u64,
-    /// How its turns ended.
-    results: Vec<Outcome>,
-}
-
-impl Model for Actor {
-    ghost use Rattle.st_image.specs.Kepts.{Kept};
-
-    ghost Value = { Kept };
-
-    ghost view = { λ a. record { class = a.class; capacity = a.capacity; is_open = a.is_open; body = a.body; pending = a.pending.items; accepted = a.accepted; results = a.results.items } };
-}
-
-impl Actor {
-    ghost use Rattle.std.specs.Prelude.{◌≡◌, ◌+◌, ◌<◌, ◌^◌, ◌==◌, ℕ, length, not, true, false, IfOk, OnOk, OnErr};
-    ghost use Rattle.st_classes.specs.Refusals.{first_of};
-    ghost use Rattle.st_image.specs.Advancing.{outcome_in};
-    ghost use Rattle.st_image.specs.Kepts.{kept_rules, has, HasAlso, is_ready_kept, new_kept, started, stepped_to, taken_in};
-
-    /// A new actor with a body and an open mailbox.
-    pub(crate) fn new(alloc: Global, class: ClassId, capacity: u32, body: Body) -> Actor
-        ensures { result ≡ new_kept class capacity body }
-    {
-        Actor {
-            class,
-            capacity,
-            is_open: true,
-            body,
-            pending: VecDeque::new(alloc),
-            accepted: 0,
-            results: Vec::new(alloc),
+        Actors {
+            items: Vec::new(alloc),
+            ready: Queue::new(alloc),
         }
     }
 
-    /// Whether no turn is going on.
-    pub(crate) fn is_idle(&self) -> bool
-        ensures { result ≡ idle self.now.body.phase }
+    pub(crate) fn len(&self) -> usize
+        ensures value { result ≡ length self.now }
+        ensures few { length self.now ≤ 65536 }
     {
-        self.body.is_idle()
+        let _ready = &self.ready;
+        self.items.len()
     }
 
-    pub(crate) fn has_pending(&self) -> bool
-        ensures { result ≡ not (length self.now.pending == 0) }
+    pub(crate) fn get(&self, actor: ActorId) -> Option<&Actor>
+        ensures { option_copied result ≡ slice_get self.now actor.0 }
     {
-        !self.pending.is_empty()
+        self.items.get(actor.0 as usize)
     }
 
-    /// Whether it is in a turn or has a message pending.
-    pub(crate) fn is_ready(&self) -> bool
-        ensures { result ≡ is_ready_kept self.now }
+    /// The first ready one in cyclic order of numbers from a number.
+    pub(crate) fn next(&self, from: u32) -> Option<u32>
+        ensures some { IfSome result (λ a. IsNextKept self.now from a) }
+        ensures none { IfNone result ((a : ℕ) → is_ready_in self.now a ≡ false) }
     {
-        !self.is_idle() || self.has_pending()
+        let _items = &self.items;
+        self.ready.next(from)
     }
 
-    /// How the turn with a number, from 1, ended.
-    pub(crate) fn outcome(&self, turn: u64) -> Result<Outcome, Refusal>
-        ensures { result ≡ outcome_in self.now.results turn }
-    {
-        if turn == 0 {
-            return Err(Refusal::Expired);
-        }
-        match self.results.get((turn - 1) as usize) {
-            Some(outcome) => Ok(*outcome),
-            None => Err(Refusal::Pending),
-        }
-    }
-
-    /// Why the mailbox refuses a message, if it does.
-    pub(crate) fn refusal(&self) -> Option<Refusal>
-        ensures { result ≡ first_of (kept_rules self.now) }
-    {
-        if !self.is_open {
-            return Some(Refusal::Closed);
-        }
-        if (self.capacity as usize) <= self.pending.len() {
-            return Some(Refusal::Full);
-        }
-        None
-    }
-
-    /// Puts a message last in the mailbox, and the actor, which has this number, into the queue. The answer is how many messages
-    /// the mailbox has accepted.
-    pub(crate) fn take_in(
-        &mut self,
-        message: Message,
-        number: u32,
-        ready: &mut Queue,
-    ) -> Result<u64, AllocError>
-        requires { self.old.accepted < 2 ^ 63 }
-        ensures count { IfOk result (λ n. n ≡ self.old.accepted + 1) }
-        ensures ok { OnOk result (self.new ≡ taken_in self.old message) }
+    /// Puts a new actor last, which is not ready.
+    pub(crate) fn push(&mut self, actor: Actor) -> Result<(), AllocError>
+        requires few { length self.old < 65536 }
+        requires idle { is_ready_kept actor ≡ false }
+        ensures ok { OnOk result (self.new ≡ self.old ++ actor ∷ []) }
         ensures err { OnErr result (self.new ≡ self.old) }
-        ensures queued { OnOk result (HasAlso ready.old.numbers ready.new.numbers number true) }
-        ensures not_queued { OnErr result ((a : ℕ) → has ready.new.numbers a ≡ has ready.old.numbers a) }
     {
-        self.pending.reserve(1)?;
-        ready.insert(number)?;
-        self.pending.push_back(message).unwrap();
-        self.accepted += 1;
-        Ok(self.accepted)
+        self.items.push(actor)?;
+        Ok(())
     }
 
-    /// Begins the first pending message where no turn is going on, and takes up to so many steps. A turn that ends adds its
-    /// result. Where there is no memory for a step, the steps before it stand; an error says that nothing changed.
-    pub(crate) fn advance(
+    /// Puts a message last in the mailbox of an actor, which is then ready. The answer is how many messages it has accepted.
+    pub(crate) fn deliver(&mut self, actor: ActorId, message: Message) -> Result<u64, AllocError>
+        requires there { actor.0 < length self.old }
+        requires few { (k : Kept) → slice_get self.old actor.0 ≡ Some k → k.accepted < 2 ^ 63 }
+        ensures count { IfOk result (λ n. (k : Kept) → slice_get self.old actor.0 ≡ Some k → n ≡ k.accepted + 1) }
+        ensures ok { OnOk result (self.new ≡ change_at (taken_in message) actor.0 self.old) }
+        ensures err { OnErr result (self.new ≡ self.old) }
+    {
+        self.ready.insert(actor.0)?;
+        let kept = &mut self.items[actor.0 as usize];
+        match kept.take_in(message) {
+            Ok(count) => Ok(count),
+            Err(error) => {
+                self.ready.keep_if(actor.0, kept.is_ready());
+                Err(error)
+            }
+        }
+    }
+
+    /// The last message that an actor sent has this number.
+    pub(crate) fn set_last(&mut self, actor: ActorId, number: u64)
+        requires { actor.0 < length self.old }
+        ensures { self.new ≡ change_at (λ (k : Kept). record k { last = number }) actor.0 self.old }
+    {
+        let kept = &mut self.items[actor.0 as usize];
+        kept.set_last(number);
+    }
+
+    /// The mailbox of an actor accepts no more.
+    pub(crate) fn close(&mut self, actor: ActorId)
+        requires { actor.0 < length self.old }
+        ensures { self.new ≡ change_at (λ (k : Kept). record k { is_open = false }) actor.0 self.old }
+    {
+        let kept = &mut self.items[actor.0 as usize];
+        kept.close();
+    }
+
+    /// An actor begins its first pending message, where one is pending.
+    pub(crate) fn begin(&mut self, actor: ActorId)
+        requires { actor.0 < length self.old }
+        ensures { self.new ≡ change_at begun_first actor.0 self.old }
+    {
+        let kept = &mut self.items[actor.0 as usize];
+        kept.begin();
+    }
+
+    /// An actor that is in a turn takes up to so many steps of its own. Where there is no memory for a step, the steps before it
+    /// stand; an error says that nothing changed.
+    pub(crate) fn run(
         &mut self,
         alloc: Global,
         version: &Version,
-        number: ActorId,
+        actor: ActorId,
         limit: u32,
     ) -> Result<Progress, AllocError>
-        requires { CanRun version.now number (started self.old).body }
-        ensures steps { IfOk result (λ p. steps version.now number p.steps (started self.old).body ≡ Some self.new.body) }
-        ensures kept { OnOk result (self.new ≡ stepped_to (started self.old) self.new.body) }
-        ensures within { IfOk result (λ p. p.steps ≤ limit) }
-        ensures whole { IfOk result (λ p. IsTrue p.is_whole → (p.steps ≡ limit) ⊎ (idle self.new.body.phase ≡ true)) }
-        ensures cut { IfOk result (λ p. p.is_whole ≡ false → (p.steps < limit) × (idle self.new.body.phase ≡ false)) }
+        requires there { actor.0 < length self.old }
+        requires runs { (k : Kept) → slice_get self.old actor.0 ≡ Some k → CanRun version.now actor k.body }
+        requires busy { (k : Kept) → slice_get self.old actor.0 ≡ Some k → idle k.body.phase ≡ false }
+        ensures ok { IfOk result (λ p. (k : Kept) → slice_get self.old actor.0 ≡ Some k → (body : BodyOf) × RunsOwn version.now actor limit k.body p.steps p.is_whole body × (self.new ≡ change_at (stepped_to body) actor.0 self.old)) }
         ensures err { OnErr result (self.new ≡ self.old) }
     {
-        self.results.reserve(1)?;
-        start(&mut self.body, &mut self.pending);
-        let progress = run_steps(&mut self.body, alloc, version, number, limit);
-        if let Phase::Done(outcome) = &self.body.phase {
-            self.results.push(*outcome).unwrap();
-        }
+        let kept = &mut self.items[actor.0 as usize];
+        let progress = kept.run(alloc, version, actor, limit)?;
+        self.ready.keep_if(actor.0, kept.is_ready());
         Ok(progress)
+    }
+
+    /// Whether the next step of an actor asks something of the image.
+    pub(crate) fn is_act_next(&self, version: &Version, actor: ActorId) -> bool
+        requires there { actor.0 < length self.now }
+        requires fits { (k : Kept) → slice_get self.now actor.0 ≡ Some k → FitsSome version.now actor k.body }
+        ensures { (k : Kept) → slice_get self.now actor.0 ≡ Some k → result ≡ is_some (act_in (step version.now actor k.body)) }
+    {
+        let kept = &self.items[actor.0 as usize];
+        is_act_next(kept.body(), actor, version)
+    }
+
+    /// What the next step of an actor asks of the image, if it does.
+    pub(crate) fn next_act(
+        &self,
+        alloc: Global,
+        version: &Version,
+        actor: ActorId,
+    ) -> Result<Option<Act>, AllocError>
+        requires there { actor.0 < length self.now }
+        requires fits { (k : Kept) → slice_get self.now actor.0 ≡ Some k → FitsSome version.now actor k.body }
+        ensures { IfOk result (λ act. (k : Kept) → slice_get self.now actor.0 ≡ Some k → act ≡ act_in (step version.now actor k.body)) }
+    {
+        let kept = &self.items[actor.0 as usize];
+        next_act(alloc, kept.body(), actor, version)
+    }
+
+    /// The act of an actor was done, and its turn goes on with the answer.
+    pub(crate) fn give(&mut self, version: &Version, actor: ActorId, value: Value)
+        requires there { actor.0 < length self.old }
+        requires fits { (k : Kept) → slice_get self.old actor.0 ≡ Some k → FitsSome version.now actor k.body }
+        requires act { (k : Kept) → slice_get self.old actor.0 ≡ Some k → IsAct (step version.now actor k.body) }
+        requires busy { (k : Kept) → slice_get self.old actor.0 ≡ Some k → idle k.body.phase ≡ false }
+        ensures { (k : Kept) (act : ActOf) → slice_get self.old actor.0 ≡ Some k → step version.now actor k.body ≡ outer act → self.new ≡ change_at (stepped_to (replied act (Ok value) k.body)) actor.0 self.old }
+    {
+        let kept = &mut self.items[actor.0 as usize];
+        kept.give(version, actor, value);
+        self.ready.keep_if(actor.0, kept.is_ready());
+    }
+
+    /// The act of an actor ends its turn with a fault. An error says that nothing changed.
+    pub(crate) fn fail(
+        &mut self,
+        version: &Version,
+        actor: ActorId,
+        fault: Fault,
+    ) -> Result<(), AllocError>
+        requires there { actor.0 < length self.old }
+        requires fits { (k : Kept) → slice_get self.old actor.0 ≡ Some k → FitsSome version.now actor k.body }
+        requires act { (k : Kept) → slice_get self.old actor.0 ≡ Some k → IsAct (step version.now actor k.body) }
+        requires busy { (k : Kept) → slice_get self.old actor.0 ≡ Some k → idle k.body.phase ≡ false }
+        ensures ok { OnOk result ((k : Kept) (act : ActOf) → slice_get self.old actor.0 ≡ Some k → step version.now actor k.body ≡ outer act → self.new ≡ change_at (stepped_to (replied act (Err fault) k.body)) actor.0 self.old) }
+        ensures err { OnErr result (self.new ≡ self.old) }
+    {
+        let kept = &mut self.items[actor.0 as usize];
+        kept.fail(version, actor, fault)?;
+        self.ready.keep_if(actor.0, kept.is_ready());
+        Ok(())
     }
 }

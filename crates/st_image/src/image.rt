@@ -1,16 +1,17 @@
 //! Images.
-ghost use Rattle.std.specs.Prelude.{◌≡◌, ◌<◌, slice_get};
-ghost use Rattle.std.specs.Option.{option_copied};
 ghost use Rattle.st_image.specs.Delivery.{Delivers};
+ghost use Rattle.st_image.specs.Lasting.{NamesMayGrow};
 
 mod advancing;
 mod defining;
 mod installing;
 mod posting;
+mod removing;
 
-use crate::actors::Actor;
+use crate::actor::Actor;
+use crate::actors::Actors;
 use crate::items::Item;
-use crate::queues::Queue;
+use crate::messages::Message;
 use crate::settings::Settings;
 use st_classes::kernel::KERNEL_CLASSES;
 use st_classes::limits::ACTORS;
@@ -20,14 +21,8 @@ use st_classes::values::{ActorId, ClassId, Selector};
 use st_classes::version::Version;
 use st_turn::body::{Body, Outcome};
 use std::alloc::Global;
+use std::collections::VecDeque;
 use std::marker::Model;
-
-/// What is kept of an actor.
-fn kept_at(actors: &Vec<Actor>, actor: ActorId) -> Option<&Actor>
-    ensures { option_copied result ≡ slice_get actors.now.items actor.0 }
-{
-    actors.get(actor.0 as usize)
-}
 
 /// Whatever happens, the messages that an actor has begun are the first ones that its mailbox accepted, in their order; what a
 /// mailbox accepted stays accepted, what an actor began stays begun, and how its turns ended stays so.
@@ -35,16 +30,20 @@ pub fn delivery()
     ensures { Delivers }
 {}
 
+/// New names change nothing of what is in a history: it is lawful for longer names too, and leads to the same world.
+pub fn names_may_grow()
+    ensures { NamesMayGrow }
+{}
+
 /// An image: a class table, actors, and the history that led to them.
 ///
-/// Contracts see its names, its history, the numbers that are set, and the number from which the next ready actor is looked for.
-/// All else follows from the history.
+/// Contracts see the world that it began with, its names, its history, the numbers that are set, and the number from which the next
+/// ready actor is looked for. All else follows from the history.
 #[derive(Drop)]
 pub struct Image {
     names: Names,
     version: Version,
-    actors: Vec<Actor>,
-    ready: Queue,
+    actors: Actors,
     history: Vec<Item>,
     /// How many edits are in the history.
     edits_made: u32,
@@ -59,21 +58,24 @@ impl Model for Image {
     ghost Value = { ImageView };
 
     ghost use Rattle.st_image.specs.Keeping.{IsImage};
+    ghost use Rattle.st_image.specs.Worlds.{start};
 
-    ghost view = { λ i. record { names = i.names; history = i.history.items; capacity = i.settings.capacity; most_items = i.settings.history; next_from = i.next_from } };
+    ghost view = { λ i. record { base = start; names = i.names; history = i.history.items; capacity = i.settings.capacity; most_items = i.settings.history; next_from = i.next_from } };
 
-    ghost invariant = { λ i. IsImage i.names i.version i.actors.items i.ready.numbers i.history.items i.edits_made i.settings };
+    ghost invariant = { λ i. IsImage start i.names i.version i.actors i.history.items i.edits_made i.settings };
 }
 
 impl Image {
-    ghost use Rattle.std.specs.Prelude.{◌≡◌, ◌+◌, [], ◌∷◌, length, slice_get, OnOk, OnErr, MatchResult, IfSome, IfNone, IfOk, IfErr, None, Some, Err, ℕ, false, option_map};
+    ghost use Rattle.std.specs.Prelude.{◌≡◌, ◌+◌, ◌<◌, [], ◌∷◌, length, slice_get, OnOk, OnErr, MatchResult, IfSome, IfNone, IfOk, IfErr, None, Some, Err, ℕ, false, option_map};
     ghost use Rattle.st_image.specs.Kepts.{kept_of};
     ghost use Rattle.st_classes.specs.declared.refusals.Refusal.TheVariants.{NoMemory};
     ghost use Rattle.st_classes.specs.Names.{interned, intern_rules, is_name};
     ghost use Rattle.st_classes.specs.Refusals.{first_of, Answers};
     ghost use Rattle.st_image.specs.declared.items.Item.TheVariants.{Created as CreatedItem};
     ghost use Rattle.st_image.specs.Images.{appended, create_rules, new_image, no_room, settings_rules, world};
-    ghost use Rattle.st_image.specs.Advancing.{outcome_at};
+    ghost use Rattle.st_image.specs.Advancing.{image_outcome};
+    ghost use Rattle.st_image.specs.Worlds.{pending};
+    ghost use Rattle.std.specs.Option.{option_copied};
     ghost use Rattle.st_image.specs.Ready.{IsNextReady, is_ready_at};
     ghost use Rattle.st_image.specs.Delivery.{HasDelivered};
     ghost use Rattle.st_image.specs.Lasting.{IsLawful};
@@ -96,8 +98,7 @@ impl Image {
         Ok(Image {
             names,
             version,
-            actors: Vec::new(alloc),
-            ready: Queue::new(alloc),
+            actors: Actors::new(alloc),
             history: Vec::new(alloc),
             edits_made: 0,
             settings,
@@ -123,7 +124,7 @@ impl Image {
     pub fn known(&self)
         ensures { IsLawful self.now }
     {
-        let _ = &self.names;
+        self.actors.len();
     }
 
     /// Over each prefix of its own history, what each actor had begun was the front of what it had accepted, and both have only
@@ -180,9 +181,9 @@ impl Image {
     ///
     /// Refusals, in this order: `UnknownActor`; `Expired` for turn 0; `Pending` where the turn has not ended.
     pub fn outcome(&self, actor: ActorId, turn: u64) -> Result<Outcome, Refusal>
-        ensures { result ≡ outcome_at (slice_get (world self.now).actors actor.0) turn }
+        ensures { result ≡ image_outcome self.now actor turn }
     {
-        match self.actors.get(actor.0 as usize) {
+        match self.actors.get(actor) {
             Some(kept) => kept.outcome(turn),
             None => Err(Refusal::UnknownActor),
         }
@@ -194,14 +195,56 @@ impl Image {
         ensures some { IfSome result (λ a. IsNextReady (world self.now) self.now.next_from a.0) }
         ensures none { IfNone result ((a : ℕ) → is_ready_at (world self.now) a ≡ false) }
     {
-        self.ready.next(self.next_from).map(ActorId)
+        self.actors.next(self.next_from).map(ActorId)
+    }
+
+    /// The class of an actor.
+    pub fn class(&self, actor: ActorId) -> Option<ClassId>
+        ensures { result ≡ option_map (λ b. b.class) (slice_get (world self.now).actors actor.0) }
+    {
+        Some(self.actor(actor)?.class())
+    }
+
+    /// The body of an actor.
+    pub fn body(&self, actor: ActorId) -> Option<&Body>
+        ensures { option_copied result ≡ option_map (λ b. b.body) (slice_get (world self.now).actors actor.0) }
+    {
+        Some(self.actor(actor)?.body())
+    }
+
+    /// What the mailbox of an actor accepted and the actor has not begun, the first to be begun in front.
+    pub fn pending(&self, actor: ActorId) -> Option<&VecDeque<Message>>
+        ensures { option_map (λ q. q.items) (option_copied result) ≡ option_map pending (slice_get (world self.now).actors actor.0) }
+    {
+        Some(self.actor(actor)?.pending())
+    }
+
+    /// How many messages the mailbox of an actor holds, from 1 to 1,024.
+    pub fn capacity(&self, actor: ActorId) -> Option<u32>
+        ensures { result ≡ option_map (λ b. b.capacity) (slice_get (world self.now).actors actor.0) }
+    {
+        Some(self.actor(actor)?.capacity())
+    }
+
+    /// Whether the mailbox of an actor is open.
+    pub fn is_open(&self, actor: ActorId) -> Option<bool>
+        ensures { result ≡ option_map (λ b. b.is_open) (slice_get (world self.now).actors actor.0) }
+    {
+        Some(self.actor(actor)?.is_open())
+    }
+
+    /// The number of the last message that an actor sent, 0 where it sent none.
+    pub fn last_sent(&self, actor: ActorId) -> Option<u64>
+        ensures { result ≡ option_map (λ b. b.last) (slice_get (world self.now).actors actor.0) }
+    {
+        Some(self.actor(actor)?.last())
     }
 
     /// What is kept of an actor.
     fn actor(&self, actor: ActorId) -> Option<&Actor>
         ensures { option_copied result ≡ option_map kept_of (slice_get (world self.now).actors actor.0) }
     {
-        kept_at(&self.actors, actor)
+        self.actors.get(actor)
     }
 
     /// Why the history has no place for so many items more, if it has none.
@@ -239,13 +282,13 @@ impl Image {
     /// Refusals, in this order: `UnknownClass`; `KernelClass` for classes 1 to 7; `TooMany` where 65,536 actors are there;
     /// `HistoryFull`. A refused call changes nothing.
     pub fn create(&mut self, alloc: Global, class: ClassId) -> Result<ActorId, Refusal>
-        ensures answers { Answers (first_of (create_rules self.old class)) result (λ a. (self.new ≡ appended self.old (CreatedItem class self.old.capacity ∷ [])) × (a.0 ≡ length (world self.old).actors)) }
+        ensures answers { Answers (first_of (create_rules self.old class)) result (λ a. (self.new ≡ appended self.old (CreatedItem class ∷ [])) × (a.0 ≡ length (world self.old).actors)) }
         ensures unchanged { OnErr result (self.new ≡ self.old) }
     {
         if let Some(refusal) = self.create_refusal(class) {
             return Err(refusal);
         }
-        if self.history.reserve(1).is_err() || self.actors.reserve(1).is_err() {
+        if self.history.reserve(1).is_err() {
             return Err(Refusal::NoMemory);
         }
         let slots = self.version.slots(class).len();
@@ -254,12 +297,11 @@ impl Image {
         };
         let capacity = self.settings.capacity;
         let number = self.actors.len() as u32;
-        self.actors
-            .push(Actor::new(alloc, class, capacity, body))
-            .unwrap();
-        self.history
-            .push(Item::Created { class, capacity })
-            .unwrap();
+        let actor = Actor::new(alloc, class, capacity, body);
+        let Ok(()) = self.actors.push(actor) else {
+            return Err(Refusal::NoMemory);
+        };
+        self.history.push(Item::Created(class)).unwrap();
         Ok(ActorId(number))
     }
 }

@@ -8,8 +8,8 @@ use st_classes::values::{ActorId, ClassId};
 pub enum Item {
     /// An edit of the class table.
     Edited(SharedEdit),
-    /// A new actor, with the capacity of its mailbox.
-    Created { class: ClassId, capacity: u32 },
+    /// A new actor of a class.
+    Created(ClassId),
     /// A message was accepted.
     Posted { actor: ActorId, message: Message },
     /// A mailbox was closed.

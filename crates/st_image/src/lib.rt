@@ -4,6 +4,8 @@
 //! one after the other, each of them allowed where it stands.
 #![tactic(auto)]
 
+mod acting;
+mod actor;
 mod actors;
 pub mod image;
 pub mod items;

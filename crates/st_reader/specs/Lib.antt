@@ -3,6 +3,7 @@ pub mod Tokens
 pub mod Lexemes
 pub mod Cutting
 pub mod Syntax
+pub mod Stored
 pub mod Views
 pub mod Grammar
 pub mod Reading

@@ -1,5 +1,5 @@
 -- The syntax that a tree shows.
-use Rattle.std.specs.Prelude.{List, [], ◌∷◌, Option, Some, None, option_map, map}
+use Rattle.std.specs.Prelude.{ℕ, List, [], ◌∷◌, Option, Some, None, option_map, map}
 use Rattle.std.specs.declared.vec.Vec.{Vec}
 use Rattle.std.specs.declared.alloc.Global.{Global}
 use Rattle.st_reader.specs.declared.trees.Span.{Span}
@@ -10,7 +10,7 @@ use Rattle.st_reader.specs.declared.trees.Chain.{Chain, fold-Chain, Chain-F}
 use Rattle.st_reader.specs.declared.trees.Message.{Message as Sent, fold-Message, Message-F}
 use Rattle.st_reader.specs.declared.trees.Expression.{Expression as Written, fold-Expression, Expression-F}
 use Rattle.st_reader.specs.declared.trees.Statements.{Statements as Row, fold-Statements, Statements-F}
-use Rattle.st_reader.specs.declared.trees.MethodTree.{MethodTree}
+use Rattle.st_reader.specs.declared.trees.MethodSyntax.{MethodSyntax}
 use Rattle.st_reader.specs.Syntax.{Method, Expression, number, symbol, name, parenthesis, empty_block, block, send, cascade, assign, Message, unary, binary, keywords, Parts, no_parts, part, Further, no_further, further, Statements, last, answer, statement}
 
 -- keywords with their arguments
@@ -109,5 +109,10 @@ abbrev pub behind_sentences : {T : Type 0} → List (Expression × Span) → Sta
 behind_sentences before r = (thens before r.0, r.1)
 
 -- the syntax of a method
-abbrev pub method_view : MethodTree → Method
-method_view tree = record { pattern = tree.pattern; temporaries = tree.temporaries; body = option_map statements_view tree.body }
+abbrev pub method_view : MethodSyntax → Method
+method_view m = record { pattern = m.pattern; temporaries = m.temporaries; body = option_map statements_view m.body }
+
+-- the tree of a method: its syntax, and the source that spells it
+pub record TreeView : Type 0 where
+  pub syntax : Method
+  pub source : List ℕ

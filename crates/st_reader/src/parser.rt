@@ -13,7 +13,7 @@ mod patterns;
 use crate::parser::expressions::statements;
 use crate::parser::patterns::{pattern, temporaries};
 use crate::tokens::Lexeme;
-use crate::trees::{MethodTree, Statements};
+use crate::trees::{MethodSyntax, Statements};
 use st_classes::limits;
 use std::alloc::{AllocError, Global};
 
@@ -51,15 +51,19 @@ fn body(alloc: Global, source: &[u8], lexemes: &[Lexeme]) -> Result<Option<State
     }
 }
 
-/// The tree of the tokens of a whole source.
+/// The method of the tokens of a whole source.
 #[tactic(auto, unfolding(crate::specs::Reading::method_of))]
-pub fn method(alloc: Global, source: &[u8], lexemes: &[Lexeme]) -> Result<MethodTree, Wrong>
+pub(crate) fn method(
+    alloc: Global,
+    source: &[u8],
+    lexemes: &[Lexeme],
+) -> Result<MethodSyntax, Wrong>
     ensures { Gives method_view result (method_of (tokens_of source.now lexemes.now)) }
 {
     let (pattern, rest) = pattern(alloc, source, lexemes)?;
     let (temporaries, rest) = temporaries(alloc, source, rest)?;
     let body = body(alloc, source, rest)?;
-    Ok(MethodTree {
+    Ok(MethodSyntax {
         pattern,
         temporaries,
         body,

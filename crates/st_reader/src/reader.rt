@@ -11,15 +11,16 @@ use crate::faults::source_fault;
 use crate::parser::{self, Wrong};
 use crate::rules::keeps_rules;
 use crate::tokens::{self, Tokens};
-use crate::trees::MethodTree;
+use crate::trees::{MethodSyntax, MethodTree};
 use st_classes::limits;
 use st_classes::refusals::Refusal;
+use st_classes::seq::Seq;
 use std::alloc::Global;
 
-// The tree of a method that a source spells by the grammar, whether or not the method keeps the rules.
-fn read_tree(alloc: Global, source: &[u8]) -> Result<MethodTree, Refusal>
-    ensures ok { IfOk result (λ t. SpellsGrammar (method_view t) source.now) }
-    ensures only { IfOk result (λ t. (other : Method) → SpellsGrammar other source.now → other ≡ method_view t) }
+// The method that a source spells by the grammar, whether or not it keeps the rules.
+fn read_syntax(alloc: Global, source: &[u8]) -> Result<MethodSyntax, Refusal>
+    ensures ok { IfOk result (λ m. SpellsGrammar (method_view m) source.now) }
+    ensures only { IfOk result (λ m. (other : Method) → SpellsGrammar other source.now → other ≡ method_view m) }
     ensures refused { IfErr result (λ e. (e ≡ NoMemory) ⊎ (IsBadSource e × ((other : Method) → SpellsGrammar other source.now → ⊥))) }
 {
     if source.len() > limits::SOURCE || !characters::are_characters(source) {
@@ -33,7 +34,7 @@ fn read_tree(alloc: Global, source: &[u8]) -> Result<MethodTree, Refusal>
         return Err(source_fault(alloc, source));
     }
     match parser::method(alloc, source, &lexemes) {
-        Ok(tree) => Ok(tree),
+        Ok(syntax) => Ok(syntax),
         Err(Wrong::NoTree) => Err(source_fault(alloc, source)),
         Err(Wrong::NoMemory) => Err(Refusal::NoMemory),
     }
@@ -46,7 +47,7 @@ pub fn one_reading()
     tokens::one_cut();
 }
 
-/// The tree of the method that a source spells.
+/// The tree of the method that a source spells, with a copy of the source.
 ///
 /// `BadSource` says that the source spells none: it is over 4,096 bytes, has a byte that no source may have, can't be cut into
 /// tokens within their limits, or is no method of the grammar, in which parentheses and blocks nest at most 64 deep; or the
@@ -54,13 +55,17 @@ pub fn one_reading()
 /// arguments and temporaries have names that they may not have, two have one, or they are over 64. Its kind and offset are
 /// tested, not proved. Else the only refusal is `NoMemory`.
 pub fn read_method(alloc: Global, source: &[u8]) -> Result<MethodTree, Refusal>
-    ensures ok { IfOk result (λ t. Spells (method_view t) source.now) }
-    ensures only { IfOk result (λ t. (other : Method) → Spells other source.now → other ≡ method_view t) }
+    ensures ok { IfOk result (λ t. t.source ≡ source.now) }
+    ensures spelled { IfOk result (λ t. Spells t.syntax source.now) }
+    ensures only { IfOk result (λ t. (other : Method) → Spells other source.now → other ≡ t.syntax) }
     ensures refused { IfErr result (λ e. (e ≡ NoMemory) ⊎ (IsBadSource e × ((other : Method) → Spells other source.now → ⊥))) }
 {
-    let tree = read_tree(alloc, source)?;
-    if !keeps_rules(&tree) {
+    let syntax = read_syntax(alloc, source)?;
+    if !keeps_rules(&syntax) {
         return Err(source_fault(alloc, source));
     }
-    Ok(tree)
+    let Ok(copy) = Vec::from_slice(alloc, source) else {
+        return Err(Refusal::NoMemory);
+    };
+    Ok(MethodTree::new(syntax, Seq::from_vec(copy)))
 }

@@ -18,7 +18,7 @@ use crate::rules::assignments::may_assign;
 use crate::rules::messages::cascade_stands;
 use crate::rules::variables::are_variables;
 use crate::trees::{
-    Chain, Expression, Message, MethodTree, Name, Operand, Pattern, Span, Statements,
+    Chain, Expression, Message, MethodSyntax, Name, Operand, Pattern, Span, Statements,
 };
 
 // Whether each expression in an operand is allowed.
@@ -156,8 +156,9 @@ fn body_allowed(pattern: &Pattern, body: &Option<Statements>) -> bool
 }
 
 /// Whether a method keeps the rules.
-pub(crate) fn keeps_rules(tree: &MethodTree) -> bool
-    ensures { result ≡ keeps (method_view tree.now) }
+pub(crate) fn keeps_rules(syntax: &MethodSyntax) -> bool
+    ensures { result ≡ keeps (method_view syntax.now) }
 {
-    are_variables(&tree.pattern, &tree.temporaries) && body_allowed(&tree.pattern, &tree.body)
+    are_variables(&syntax.pattern, &syntax.temporaries)
+        && body_allowed(&syntax.pattern, &syntax.body)
 }

@@ -1,8 +1,10 @@
 //! Trees of methods. Each leaf keeps the place of its token in the source, so a tree has the tokens of its source and no others.
+//! The tree of a method keeps its source too.
 //!
 //! A receiver and the messages that go to it, one after another, are one `Chain`: what nests is what stands in brackets, and no
 //! long row of messages makes a tree deep.
 use st_classes::seq::Seq;
+use std::marker::Model;
 
 /// The bytes of a token: from `start`, counted from 0, to before `end`.
 #[derive(Clone, Copy, PartialEq, Eq, Debug)]
@@ -112,10 +114,81 @@ pub struct Statements {
     pub period: Option<Span>,
 }
 
-/// A method.
+/// What a method is called, its temporaries where it has bars, and its statements where it has any.
 #[derive(Drop)]
-pub struct MethodTree {
+pub(crate) struct MethodSyntax {
     pub pattern: Pattern,
     pub temporaries: Option<Temporaries>,
     pub body: Option<Statements>,
+}
+
+/// A method, and the source that spells it.
+#[derive(Drop)]
+pub struct MethodTree {
+    syntax: MethodSyntax,
+    source: Seq<u8>,
+}
+
+impl Model for MethodTree {
+    ghost use Rattle.std.specs.Coded.{codes};
+    ghost use Rattle.st_reader.specs.Spelling.{Spells};
+    ghost use Rattle.st_reader.specs.Stored.{statements_code};
+    ghost use Rattle.st_reader.specs.Views.{TreeView, method_view};
+
+    ghost Value = { TreeView };
+
+    ghost coded = { Prim.hlevel (codes, statements_code) };
+
+    ghost view = { λ t. record { syntax = method_view t.syntax; source = t.source } };
+
+    ghost invariant = { λ t. Spells (method_view t.syntax) t.source };
+}
+
+impl MethodTree {
+    ghost use Rattle.std.specs.Prelude.{◌≡◌, option_map};
+    ghost use Rattle.st_reader.specs.Spelling.{Spells};
+    ghost use Rattle.st_reader.specs.Views.{method_view, statements_view};
+
+    /// The tree of a method and of the source that spells it.
+    pub(crate) fn new(syntax: MethodSyntax, source: Seq<u8>) -> MethodTree
+        requires { Spells (method_view syntax) source }
+        ensures { result ≡ record { syntax = method_view syntax; source = source } }
+    {
+        MethodTree { syntax, source }
+    }
+
+    /// What the method is called, with the names of its arguments.
+    pub fn pattern(&self) -> &Pattern
+        ensures { result.now ≡ self.now.syntax.pattern }
+    {
+        &self.syntax.pattern
+    }
+
+    /// The temporaries between bars, where there are bars.
+    pub fn temporaries(&self) -> &Option<Temporaries>
+        ensures { result.now ≡ self.now.syntax.temporaries }
+    {
+        &self.syntax.temporaries
+    }
+
+    /// The statements, where there are any.
+    pub fn body(&self) -> &Option<Statements>
+        ensures { option_map statements_view result.now ≡ self.now.syntax.body }
+    {
+        &self.syntax.body
+    }
+
+    /// The source.
+    pub fn source(&self) -> &[u8]
+        ensures { result.now ≡ self.now.source }
+    {
+        self.source.as_slice()
+    }
+
+    /// The source spells the method.
+    pub fn known(&self)
+        ensures { Spells self.now.syntax self.now.source }
+    {
+        let _ = &self.source;
+    }
 }

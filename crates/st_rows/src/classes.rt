@@ -59,8 +59,8 @@ fn texts(alloc: Global, list: &[&[u8]]) -> Result<Seq<Seq<u8>>, AllocError> {
 
 /// One class more.
 pub(crate) fn define(
-    version: &Version,
     alloc: Global,
+    version: &Version,
     name: &[u8],
     parent: ClassId,
     slots: &[&[u8]],
@@ -83,8 +83,8 @@ pub(crate) fn define(
 }
 
 fn install(
-    version: &Version,
     alloc: Global,
+    version: &Version,
     class: ClassId,
     selector: Selector,
 ) -> Result<Version, Refusal> {
@@ -95,8 +95,8 @@ fn install(
 }
 
 fn remove(
-    version: &Version,
     alloc: Global,
+    version: &Version,
     class: ClassId,
     selector: Selector,
 ) -> Result<Version, Refusal> {
@@ -151,20 +151,20 @@ fn three_classes(alloc: Global) -> Result<Version, Refusal> {
     let Ok(version) = Version::kernel(alloc) else {
         return Err(Refusal::NoMemory);
     };
-    let version = define(&version, alloc, b"A", OBJECT, &[b"count"])?;
-    let version = install(&version, alloc, A, WHO)?;
-    let version = define(&version, alloc, b"B", A, &[])?;
-    let version = install(&version, alloc, B, WHO)?;
-    define(&version, alloc, b"C", B, &[b"more"])
+    let version = define(alloc, &version, b"A", OBJECT, &[b"count"])?;
+    let version = install(alloc, &version, A, WHO)?;
+    let version = define(alloc, &version, b"B", A, &[])?;
+    let version = install(alloc, &version, B, WHO)?;
+    define(alloc, &version, b"C", B, &[b"more"])
 }
 
 #[test]
 fn finds_up_a_chain(rt: HostRuntime) -> Result<(), Fail> {
     let before = three_classes(rt.alloc())?;
-    let after = install(&before, rt.alloc(), C, WHO)?;
+    let after = install(rt.alloc(), &before, C, WHO)?;
     assert_eq!(rt; found(&before, C, WHO), Some(Target::Run(MethodId(3))));
     assert_eq!(rt; found(&after, C, WHO), Some(Target::Run(MethodId(5))));
-    let removed = remove(&after, rt.alloc(), C, WHO)?;
+    let removed = remove(rt.alloc(), &after, C, WHO)?;
     assert_eq!(rt; found(&removed, C, WHO), Some(Target::Run(MethodId(3))));
     Ok(())
 }
@@ -210,7 +210,7 @@ fn refuses_classes_in_order(rt: HostRuntime) -> Result<(), Fail> {
     ];
     for (name, parent, refusal) in cases {
         assert_eq!(rt;
-            define(&version, rt.alloc(), name, parent, &[b"count"]).err(),
+            define(rt.alloc(), &version, name, parent, &[b"count"]).err(),
             Some(refusal)
         );
     }
@@ -221,15 +221,15 @@ fn refuses_classes_in_order(rt: HostRuntime) -> Result<(), Fail> {
 fn refuses_methods(rt: HostRuntime) -> Result<(), Fail> {
     let version = three_classes(rt.alloc())?;
     assert_eq!(rt;
-        install(&version, rt.alloc(), ClassId(11), PLUS).err(),
+        install(rt.alloc(), &version, ClassId(11), PLUS).err(),
         Some(Refusal::UnknownClass)
     );
     assert_eq!(rt;
-        install(&version, rt.alloc(), SMALL_INTEGER, PLUS).err(),
+        install(rt.alloc(), &version, SMALL_INTEGER, PLUS).err(),
         Some(Refusal::KernelMethod)
     );
     assert_eq!(rt;
-        remove(&version, rt.alloc(), C, WHO).err(),
+        remove(rt.alloc(), &version, C, WHO).err(),
         Some(Refusal::NoSuchMethod)
     );
     Ok(())

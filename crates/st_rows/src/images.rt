@@ -4,6 +4,7 @@ use st_classes::refusals::Refusal;
 use st_classes::seq::Seq;
 use st_classes::values::{ActorId, ClassId, Selector, Value};
 use st_image::image::Image;
+use st_image::messages::Sender;
 use st_image::settings::Settings;
 use st_turn::body::Outcome;
 use std::alloc::Global;
@@ -14,7 +15,7 @@ const IS_NIL: Selector = Selector(3);
 const FIRST: ActorId = ActorId(0);
 
 /// Posts a unary message of the kernel to the first actor.
-fn ask(image: &mut Image, alloc: Global, seq: u64) -> Result<u64, Refusal> {
+fn ask(alloc: Global, image: &mut Image, seq: u64) -> Result<u64, Refusal> {
     let none = Seq::from_vec(Vec::new(alloc));
     image.post(alloc, 1, seq, FIRST, IS_NIL, none)
 }
@@ -39,9 +40,9 @@ fn sets_numbers(rt: HostRuntime) -> Result<(), Fail> {
     };
     image.set(two)?;
     assert_eq!(rt; image.create(rt.alloc(), OBJECT)?, FIRST);
-    assert_eq!(rt; ask(&mut image, rt.alloc(), 1)?, 1);
-    assert_eq!(rt; ask(&mut image, rt.alloc(), 2)?, 2);
-    let full = ask(&mut image, rt.alloc(), 3);
+    assert_eq!(rt; ask(rt.alloc(), &mut image, 1)?, 1);
+    assert_eq!(rt; ask(rt.alloc(), &mut image, 2)?, 2);
+    let full = ask(rt.alloc(), &mut image, 3);
     assert!(rt; matches!(full, Err(Refusal::Full)));
     assert_eq!(rt; image.history().len(), 3);
     Ok(())
@@ -69,7 +70,7 @@ fn runs_a_turn(rt: HostRuntime) -> Result<(), Fail> {
     assert!(rt; image.next_ready().is_none());
     let idle = image.advance(rt.alloc(), FIRST, 10);
     assert!(rt; matches!(idle, Err(Refusal::NothingToDo)));
-    ask(&mut image, rt.alloc(), 1)?;
+    ask(rt.alloc(), &mut image, 1)?;
     assert_eq!(rt; image.next_ready(), Some(FIRST));
     let pending = image.outcome(FIRST, 1);
     assert!(rt; matches!(pending, Err(Refusal::Pending)));
@@ -124,5 +125,81 @@ fn refuses_an_install(rt: HostRuntime) -> Result<(), Fail> {
     );
     assert_eq!(rt; image.names().len(), 22);
     assert_eq!(rt; image.history().len(), 1);
+    Ok(())
+}
+
+/// Only a class's own method of the user's is taken away.
+#[test]
+fn removes(rt: HostRuntime) -> Result<(), Fail> {
+    let alloc = rt.alloc();
+    let mut image = with_class(alloc)?;
+    let (holder, own) = (ClassId(8), Selector(22));
+    assert_eq!(rt; image.install(alloc, holder, b"a ^3 + 4 * 2")?, 2);
+    for (class, selector, refusal) in [
+        (ClassId(9), own, Refusal::UnknownClass),
+        (OBJECT, IS_NIL, Refusal::KernelMethod),
+        (OBJECT, own, Refusal::NoSuchMethod),
+        (holder, IS_NIL, Refusal::NoSuchMethod),
+    ] {
+        assert_eq!(rt; image.remove(alloc, class, selector), Err(refusal));
+    }
+    assert_eq!(rt; image.remove(alloc, holder, own)?, 3);
+    let again = image.remove(alloc, holder, own);
+    assert_eq!(rt; again, Err(Refusal::NoSuchMethod));
+    assert_eq!(rt; image.history().len(), 3);
+    assert_eq!(rt; image.names().find(b"a"), Some(own));
+    Ok(())
+}
+
+/// What is seen of an actor that has a message, posts one to itself and has that one.
+#[test]
+fn reads_actors(rt: HostRuntime) -> Result<(), Fail> {
+    let alloc = rt.alloc();
+    let mut image = Image::new(alloc, Settings::DEFAULT)?;
+    image.create(alloc, OBJECT)?;
+    image.install(alloc, OBJECT, b"tell ^thisActor post: #isNil")?;
+    let tell = Selector(22);
+    let none = Seq::from_vec(Vec::new(alloc));
+    image.post(alloc, 3, 7, FIRST, tell, none)?;
+    assert_eq!(rt; image.class(FIRST), Some(OBJECT));
+    assert_eq!(rt; image.capacity(FIRST), Some(64));
+    assert_eq!(rt; image.is_open(FIRST), Some(true));
+    assert_eq!(rt; image.last_sent(FIRST), Some(0));
+    assert!(rt; is_first(&image, Sender::Client(3), 7, tell));
+    assert_eq!(rt; image.body(FIRST).map(|body| body.is_idle()), Some(true));
+    assert_eq!(rt; image.advance(alloc, FIRST, 256)?, 4);
+    assert_eq!(rt; image.last_sent(FIRST), Some(1));
+    assert!(rt; is_first(&image, Sender::Actor(FIRST), 1, IS_NIL));
+    assert_eq!(rt; image.body(FIRST).map(|body| body.is_idle()), Some(false));
+    Ok(())
+}
+
+/// Whether the first actor has just one message pending, and that is this one.
+fn is_first(image: &Image, sender: Sender, seq: u64, selector: Selector) -> bool {
+    let Some(pending) = image.pending(FIRST) else {
+        return false;
+    };
+    match pending.front() {
+        Some(message) => {
+            pending.len() == 1
+                && message.sender == sender
+                && message.seq == seq
+                && message.selector == selector
+                && message.args.as_slice().is_empty()
+        }
+        None => false,
+    }
+}
+
+/// Nothing is seen of an actor that isn't there.
+#[test]
+fn reads_no_actor(rt: HostRuntime) -> Result<(), Fail> {
+    let image = Image::new(rt.alloc(), Settings::DEFAULT)?;
+    assert_eq!(rt; image.class(FIRST), None);
+    assert!(rt; image.body(FIRST).is_none());
+    assert!(rt; image.pending(FIRST).is_none());
+    assert_eq!(rt; image.capacity(FIRST), None);
+    assert_eq!(rt; image.is_open(FIRST), None);
+    assert_eq!(rt; image.last_sent(FIRST), None);
     Ok(())
 }

@@ -1,11 +1,7 @@
-//! Tests, all in one crate, so that no library is proved twice for them: public calls by hand, and worked scripts with
-//! the replies that the definitions give them.
+//! Tests of public calls, all in one crate, so that no library is proved twice for them; and worked scripts with the replies that
+//! they must have. Lines and sources are in tests/ at the top of the repository, and run on the built program.
 #![tactic(auto)]
 
-#[cfg(test)]
-mod around;
-#[cfg(test)]
-mod bad_lines;
 #[cfg(test)]
 mod classes;
 #[cfg(test)]
@@ -13,15 +9,11 @@ mod compiling;
 #[cfg(test)]
 mod devices;
 #[cfg(test)]
-mod faults;
-#[cfg(test)]
 mod images;
 #[cfg(test)]
 mod interrupts;
 #[cfg(test)]
 mod limits;
-#[cfg(test)]
-mod longest_lines;
 #[cfg(test)]
 mod names;
 #[cfg(test)]
@@ -30,6 +22,8 @@ mod reply_names;
 mod scripts;
 #[cfg(test)]
 mod sessions;
+#[cfg(test)]
+mod sessions_in_memory;
 #[cfg(test)]
 mod steps;
 #[cfg(test)]

@@ -1,5 +1,6 @@
 //! What there may be at most, and the refusal of one more.
-use crate::around::says_within;
+use crate::sessions_in_memory::says_within;
+use st_classes::faults::Fault;
 use st_classes::kernel::OBJECT;
 use st_classes::refusals::{Limited, Refusal};
 use st_classes::seq::Seq;
@@ -7,6 +8,7 @@ use st_classes::values::{ActorId, ClassId, Selector};
 use st_image::image::Image;
 use st_image::settings::Settings;
 use st_server::settings::ScriptSettings;
+use st_turn::body::Outcome;
 use std::alloc::{AllocError, Global};
 use std::test::*;
 
@@ -35,8 +37,8 @@ fn text(alloc: Global, bytes: &[u8]) -> Result<Seq<u8>, AllocError> {
 
 /// Defines a class with so many instance variables of its own.
 fn define(
-    image: &mut Image,
     alloc: Global,
+    image: &mut Image,
     class: &[u8],
     parent: ClassId,
     slots: u32,
@@ -54,7 +56,7 @@ fn define(
     image.define(alloc, class, parent, Seq::from_vec(names))
 }
 
-fn post(image: &mut Image, alloc: Global, seq: u64) -> Result<u64, Refusal> {
+fn post(alloc: Global, image: &mut Image, seq: u64) -> Result<u64, Refusal> {
     let none = Seq::from_vec(Vec::new(alloc));
     image.post(alloc, 1, seq, FIRST, IS_NIL, none)
 }
@@ -65,19 +67,21 @@ fn classes_and_edits(rt: HostRuntime) -> Result<(), Fail> {
     let alloc = rt.alloc();
     let mut image = Image::new(alloc, Settings::DEFAULT)?;
     for number in 0..1016 {
-        let version = define(&mut image, alloc, &name(b'C', number), OBJECT, 0, b'a')?;
+        let version = define(alloc, &mut image, &name(b'C', number), OBJECT, 0, b'a')?;
         assert_eq!(rt; version, number + 1);
     }
-    let more = define(&mut image, alloc, b"More", OBJECT, 0, b'a');
+    let more = define(alloc, &mut image, b"More", OBJECT, 0, b'a');
     assert_eq!(rt; more, Err(too_many(Limited::Classes)));
-    let again = define(&mut image, alloc, b"Caaa", OBJECT, 0, b'a');
+    let again = define(alloc, &mut image, b"Caaa", OBJECT, 0, b'a');
     assert_eq!(rt; again, Err(Refusal::ClassExists));
     for edits in 1016..2048 {
         assert_eq!(rt; image.install(alloc, ClassId(1023), b"a ^1")?, edits + 1);
     }
     let install = image.install(alloc, ClassId(8), b"b ^1");
     assert_eq!(rt; install, Err(too_many(Limited::Edits)));
-    let define = define(&mut image, alloc, b"More", OBJECT, 0, b'a');
+    let remove = image.remove(alloc, ClassId(1023), Selector(22));
+    assert_eq!(rt; remove, Err(too_many(Limited::Edits)));
+    let define = define(alloc, &mut image, b"More", OBJECT, 0, b'a');
     assert_eq!(rt; define, Err(too_many(Limited::Classes)));
     assert_eq!(rt; image.version().edits(), 2048);
     assert_eq!(rt; image.history().len(), 2048);
@@ -89,14 +93,14 @@ fn classes_and_edits(rt: HostRuntime) -> Result<(), Fail> {
 fn instance_variables(rt: HostRuntime) -> Result<(), Fail> {
     let alloc = rt.alloc();
     let mut image = Image::new(alloc, Settings::DEFAULT)?;
-    let own = define(&mut image, alloc, b"A", OBJECT, 65, b'a');
+    let own = define(alloc, &mut image, b"A", OBJECT, 65, b'a');
     assert_eq!(rt; own, Err(too_many(Limited::Slots)));
-    assert_eq!(rt; define(&mut image, alloc, b"A", OBJECT, 64, b'a')?, 1);
-    assert_eq!(rt; define(&mut image, alloc, b"B", OBJECT, 60, b'a')?, 2);
-    let inherited = define(&mut image, alloc, b"C", ClassId(9), 5, b'b');
+    assert_eq!(rt; define(alloc, &mut image, b"A", OBJECT, 64, b'a')?, 1);
+    assert_eq!(rt; define(alloc, &mut image, b"B", OBJECT, 60, b'a')?, 2);
+    let inherited = define(alloc, &mut image, b"C", ClassId(9), 5, b'b');
     assert_eq!(rt; inherited, Err(too_many(Limited::Slots)));
-    assert_eq!(rt; define(&mut image, alloc, b"C", ClassId(9), 4, b'b')?, 3);
-    assert_eq!(rt; define(&mut image, alloc, b"D", ClassId(8), 0, b'b')?, 4);
+    assert_eq!(rt; define(alloc, &mut image, b"C", ClassId(9), 4, b'b')?, 3);
+    assert_eq!(rt; define(alloc, &mut image, b"D", ClassId(8), 0, b'b')?, 4);
     Ok(())
 }
 
@@ -120,15 +124,26 @@ fn names(rt: HostRuntime) -> Result<(), Fail> {
     Ok(())
 }
 
-/// 65,536 actors.
+/// 65,536 actors: one more is refused, and a turn that asks for one ends with a fault.
 #[test]
 fn actors(rt: HostRuntime) -> Result<(), Fail> {
     let alloc = rt.alloc();
-    let mut image = Image::new(alloc, Settings::DEFAULT)?;
+    let narrowest = Settings {
+        capacity: 1,
+        history: 1_000_000,
+    };
+    let mut image = Image::new(alloc, narrowest)?;
+    image.install(alloc, OBJECT, b"make ^Object newActor")?;
     for number in 0..65536 {
         assert_eq!(rt; image.create(alloc, OBJECT)?, ActorId(number));
     }
     assert_eq!(rt; image.create(alloc, OBJECT), Err(too_many(Limited::Actors)));
+    let none = Seq::from_vec(Vec::new(alloc));
+    image.post(alloc, 1, 1, FIRST, Selector(22), none)?;
+    assert_eq!(rt; image.advance(alloc, FIRST, 1)?, 1);
+    assert_eq!(rt; image.advance(alloc, FIRST, 1)?, 2);
+    let fault = Outcome::Fault(Fault::TooManyActors);
+    assert_eq!(rt; image.outcome(FIRST, 1)?, fault);
     assert_eq!(rt; image.actors(), 65536);
     Ok(())
 }
@@ -145,11 +160,11 @@ fn messages(rt: HostRuntime) -> Result<(), Fail> {
         let mut image = Image::new(alloc, settings)?;
         image.create(alloc, OBJECT)?;
         for number in 1..capacity + 1 {
-            assert_eq!(rt; post(&mut image, alloc, number)?, number);
+            assert_eq!(rt; post(alloc, &mut image, number)?, number);
         }
-        assert_eq!(rt; post(&mut image, alloc, capacity + 1), Err(Refusal::Full));
+        assert_eq!(rt; post(alloc, &mut image, capacity + 1), Err(Refusal::Full));
         assert_eq!(rt; image.advance(alloc, FIRST, 1)?, 1);
-        assert_eq!(rt; post(&mut image, alloc, capacity + 1)?, capacity + 1);
+        assert_eq!(rt; post(alloc, &mut image, capacity + 1)?, capacity + 1);
     }
     Ok(())
 }
@@ -165,7 +180,7 @@ fn history(rt: HostRuntime) -> Result<(), Fail> {
         };
         let mut image = Image::new(alloc, settings)?;
         image.create(alloc, OBJECT)?;
-        let posted = post(&mut image, alloc, 1);
+        let posted = post(alloc, &mut image, 1);
         let taken = image.advance(alloc, FIRST, 1);
         let wanted = match most {
             1 => (Err(Refusal::HistoryFull), Err(Refusal::NothingToDo)),
@@ -173,7 +188,7 @@ fn history(rt: HostRuntime) -> Result<(), Fail> {
             _ => (Ok(1), Ok(1)),
         };
         assert_eq!(rt; (posted, taken), wanted);
-        let edit = define(&mut image, alloc, b"M", OBJECT, 0, b'a');
+        let edit = define(alloc, &mut image, b"M", OBJECT, 0, b'a');
         let wanted = if most == 3 {
             Ok(1)
         } else {

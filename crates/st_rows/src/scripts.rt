@@ -1,10 +1,21 @@
 //! Scripts and their replies.
+mod acts;
 mod dialogues;
+mod lookups;
 
-use crate::around::says_within;
+use crate::scripts::acts::{
+    BAD_ARGUMENTS, FULL_MAILBOX, HEAP_FULL, NEW_ACTOR_BY_STEPS, NEW_OBJECTS, POSTS_AND_NEW_ACTORS,
+    POSTS_WITH_ARGUMENTS,
+};
 use crate::scripts::dialogues::{
     CASCADES, COUNTER, DIVISION, ESCAPE, LIMITS, MISSION, OVERFLOW, RECURSION, REFUSALS, TURNS,
 };
+use crate::scripts::lookups::{
+    CLASSES_OF_REFERENCES, CLASSES_OF_VALUES, DOES_NOT_UNDERSTAND, OWN_SELECTORS_OF_THE_KERNEL,
+    REMOVED_AND_MISSING, REPLACED, REPLACED_WHILE_IT_RUNS, SUPER_AND_THE_KERNEL, SUPER_CHAIN,
+    UNRELATED,
+};
+use crate::sessions_in_memory::says_within;
 use st_server::settings::ScriptSettings;
 use std::alloc::Global;
 use std::test::Fail;
@@ -55,7 +66,29 @@ fn no_input(rt: HostRuntime) -> Result<(), Fail> {
 #[test]
 fn worked_scripts(rt: HostRuntime) -> Result<(), Fail> {
     for dialogue in [
-        MISSION, DIVISION, OVERFLOW, RECURSION, COUNTER, CASCADES, LIMITS, ESCAPE, REFUSALS,
+        MISSION,
+        DIVISION,
+        OVERFLOW,
+        RECURSION,
+        COUNTER,
+        CASCADES,
+        LIMITS,
+        ESCAPE,
+        REFUSALS,
+        SUPER_CHAIN,
+        SUPER_AND_THE_KERNEL,
+        REMOVED_AND_MISSING,
+        DOES_NOT_UNDERSTAND,
+        CLASSES_OF_VALUES,
+        CLASSES_OF_REFERENCES,
+        REPLACED,
+        UNRELATED,
+        OWN_SELECTORS_OF_THE_KERNEL,
+        NEW_OBJECTS,
+        HEAP_FULL,
+        POSTS_AND_NEW_ACTORS,
+        POSTS_WITH_ARGUMENTS,
+        BAD_ARGUMENTS,
     ] {
         let said = is_answered(rt.alloc(), ScriptSettings::DEFAULT, dialogue)?;
         assert!(rt; said, "{dialogue}");
@@ -63,13 +96,23 @@ fn worked_scripts(rt: HostRuntime) -> Result<(), Fail> {
     Ok(())
 }
 
+/// Scripts in quanta of so many steps, with mailboxes of so many messages.
 #[test]
-fn actors_take_turns(rt: HostRuntime) -> Result<(), Fail> {
-    let settings = ScriptSettings {
-        quantum: 16,
-        ..ScriptSettings::DEFAULT
-    };
-    assert!(rt; is_answered(rt.alloc(), settings, TURNS)?);
+fn scripts_with_settings(rt: HostRuntime) -> Result<(), Fail> {
+    for (quantum, capacity, dialogue) in [
+        (16, 64, TURNS),
+        (1, 64, REPLACED_WHILE_IT_RUNS),
+        (1, 64, NEW_ACTOR_BY_STEPS),
+        (256, 1, FULL_MAILBOX),
+    ] {
+        let settings = ScriptSettings {
+            quantum,
+            capacity,
+            ..ScriptSettings::DEFAULT
+        };
+        let said = is_answered(rt.alloc(), settings, dialogue)?;
+        assert!(rt; said, "{dialogue}");
+    }
     Ok(())
 }
 

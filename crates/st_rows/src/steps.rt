@@ -1,48 +1,152 @@
-//! Arithmetic by hand, and the steps of a turn.
-ghost use Rattle.std.specs.Prelude.{◌≡◌, [], ◌∷◌, IfOk};
-ghost use Rattle.st_classes.specs.Kernel.{class, selector};
-ghost use Rattle.st_turn.specs.declared.body.Phase.TheVariants as phase;
+//! Arithmetic by hand, and turns by the plain step alone.
+ghost use Rattle.std.specs.Prelude.{◌≡◌, length, true, Some, IfOk, IfSome};
+ghost use Rattle.std.specs.Bool.{OnTrue};
+ghost use Rattle.st_classes.specs.Classes.{slots};
+ghost use Rattle.st_classes.specs.Suiting.{arity_at};
+ghost use Rattle.st_turn.specs.Fitting.{FitsSome, has_instances};
+ghost use Rattle.st_image.specs.Images.{world};
 
 use st_classes::faults::Fault;
-use st_classes::kernel::{Kernel, OBJECT};
+use st_classes::kernel::{KERNEL_CLASSES, Kernel, OBJECT};
+use st_classes::names::Names;
+use st_classes::refusals::Refusal;
 use st_classes::seq::Seq;
-use st_classes::values::{ActorId, Selector, Value};
+use st_classes::values::{ActorId, ClassId, Selector, Value};
 use st_classes::version::Version;
+use st_image::image::Image;
+use st_image::settings::Settings;
 use st_turn::body::{Body, Outcome, Phase, Stop};
 use st_turn::kernel_methods::kernel_answer;
 use st_turn::plain::step_plain;
 use std::alloc::{AllocError, Global};
 use std::test::Fail;
 
-/// The body of an actor of Object that is asked whether it is nil.
-fn asked(alloc: Global) -> Result<Body, AllocError>
-    ensures { IfOk result (λ b. b ≡ record { objects = record { class = class 0; slots = [] } ∷ []; phase = phase.Start (selector 3) [] }) }
+const FIRST: ActorId = ActorId(0);
+
+const A: ClassId = ClassId(8);
+
+const B: ClassId = ClassId(9);
+
+const C: ClassId = ClassId(10);
+
+/// Whether a class has actors, and no instance variables.
+fn is_plain(version: &Version, class: ClassId) -> bool
+    ensures instances { OnTrue result (has_instances version.now class ≡ true) }
+    ensures slots { OnTrue result (length (slots version.now class) ≡ 0) }
 {
-    let mut body = Body::fresh(alloc, OBJECT, 0)?;
-    body.begin(Selector(3), Seq::from_vec(Vec::new(alloc)));
-    Ok(body)
+    if 1 <= class.0 && class.0 < KERNEL_CLASSES || !version.is_class(class) {
+        return false;
+    }
+    version.slots(class).is_empty()
 }
 
-/// The body after a step, and what stopped it.
-fn stepped(alloc: Global) -> Result<(Body, Stop), AllocError> {
-    let version = Version::kernel(alloc)?;
-    let mut body = asked(alloc)?;
-    let stop = step_plain(&mut body, alloc, ActorId(0), &version)?;
-    Ok((body, stop))
+/// Whether a selector is there, and takes no arguments.
+fn is_unary(names: &Names, selector: Selector) -> bool
+    ensures { OnTrue result (arity_at names.now selector ≡ Some 0) }
+{
+    u32::from(selector.0) < names.len() && names.arity(selector) == 0
 }
 
-#[test]
-fn a_kernel_method_answers_a_message(rt: HostRuntime) -> Result<(), Fail> {
-    let (body, stop) = stepped(rt.alloc())?;
-    assert!(rt; matches!(stop, Stop::More), "no step");
-    match &body.phase {
-        Phase::Done(outcome) => {
-            assert!(rt;
-                *outcome == Outcome::Answer(Value::Bool(false)),
-                "another answer"
-            );
+/// The body of an actor of a class without instance variables, to which a message without arguments was sent.
+fn asked(
+    alloc: Global,
+    image: &Image,
+    class: ClassId,
+    selector: Selector,
+) -> Result<Option<Body>, AllocError>
+    ensures { IfOk result (λ asked. IfSome asked (λ body. FitsSome (world image.now).edits FIRST body)) }
+{
+    if !is_plain(image.version(), class) || !is_unary(image.names(), selector) {
+        return Ok(None);
+    }
+    image.known();
+    let mut body = Body::fresh(alloc, class, 0)?;
+    body.begin(selector, Seq::from_vec(Vec::new(alloc)));
+    Ok(Some(body))
+}
+
+/// Takes steps of the actor's own, 1,000 at most. The answer is how many there were, and what stopped them.
+fn run_plainly(alloc: Global, body: &mut Body, version: &Version) -> Result<(u32, Stop), AllocError>
+    requires { FitsSome version.now FIRST body.old }
+{
+    for steps in 0..1000 {
+        match step_plain(alloc, body, FIRST, version)? {
+            Stop::More => {}
+            stop => return Ok((steps, stop)),
         }
-        _ => assert!(rt; false, "the turn goes on"),
+    }
+    Ok((1000, Stop::More))
+}
+
+/// The turn of a new actor by plain steps: how many there were, what stopped them, and how the turn ended.
+fn plain_turn(
+    alloc: Global,
+    image: &Image,
+    class: ClassId,
+    selector: &[u8],
+) -> Result<Option<(u32, Stop, Option<Outcome>)>, AllocError> {
+    let Some(selector) = image.names().find(selector) else {
+        return Ok(None);
+    };
+    let Some(mut body) = asked(alloc, image, class, selector)? else {
+        return Ok(None);
+    };
+    let (steps, stop) = run_plainly(alloc, &mut body, image.version())?;
+    let outcome = match &body.phase {
+        Phase::Done(outcome) => Some(*outcome),
+        _ => None,
+    };
+    Ok(Some((steps, stop, outcome)))
+}
+
+/// Classes A, B under A and C under B, with methods.
+fn three_classes(alloc: Global) -> Result<Image, Refusal> {
+    let mut image = Image::new(alloc, Settings::DEFAULT)?;
+    let classes: [(&[u8], ClassId); 3] = [(b"A", OBJECT), (b"B", A), (b"C", B)];
+    for (name, parent) in classes {
+        image.define(alloc, name, parent, Seq::from_vec(Vec::new(alloc)))?;
+    }
+    for (class, source) in [
+        (A, "who ^1"),
+        (B, "who ^super who + 10"),
+        (C, "who ^super who + 100"),
+        (A, "c ^1 + 2; + 10; * 4"),
+        (A, "d ^false ifTrue: [1]"),
+        (A, "e ^3 ifTrue: [1]"),
+        (A, "make ^A newActor"),
+    ] {
+        image.install(alloc, class, source.as_bytes())?;
+    }
+    Ok(image)
+}
+
+/// Turns by the plain step alone. A step of the image's is none of them.
+#[test]
+fn plain_steps(rt: HostRuntime) -> Result<(), Fail> {
+    let image = three_classes(rt.alloc())?;
+    let number = |n| Some(Outcome::Answer(Value::Int(n)));
+    for (class, selector, steps, stop, outcome) in [
+        (
+            OBJECT,
+            "isNil",
+            1,
+            Stop::Ended,
+            Some(Outcome::Answer(Value::Bool(false))),
+        ),
+        (C, "who", 13, Stop::Ended, number(111)),
+        (A, "c", 13, Stop::Ended, number(4)),
+        (A, "d", 5, Stop::Ended, Some(Outcome::Answer(Value::Nil))),
+        (
+            A,
+            "e",
+            3,
+            Stop::Ended,
+            Some(Outcome::Fault(Fault::MustBeBoolean)),
+        ),
+        (A, "make", 2, Stop::Outer, None),
+    ] {
+        let turn = plain_turn(rt.alloc(), &image, class, selector.as_bytes())?;
+        assert_eq!(rt; turn, Some((steps, stop, outcome)), "{selector}");
     }
     Ok(())
 }

@@ -1,10 +1,23 @@
--- A run that has come as far as some quantum.
-use Rattle.std.proofs.Common.{◌≡◌, ℕ, suc, ◌+◌, ◌-◌, ◌<◌, refl, inl, inr, arith}
+-- Quanta, and a run that has come as far as some quantum.
+use Rattle.std.proofs.Common.{◌≡◌, ℕ, suc, ◌+◌, ◌-◌, ◌<◌, ◌≤◌, Bool, true, false, if◌then◌else◌, refl, inl, inr, arith}
+use Rattle.st_classes.specs.declared.values.ActorId.{ActorId}
 use Rattle.st_classes.specs.declared.refusals.Refusal.{Refusal}
-use Rattle.st_image.specs.Images.{ImageView}
+use Rattle.st_turn.specs.Steps.{step}
+use Rattle.st_image.specs.Images.{ImageView, world}
+use Rattle.st_image.specs.Advancing.{HasAdvanced, begun_image, is_outer}
 use Rattle.st_wire.specs.declared.replies.Reply.{Reply}
 use Rattle.st_wire.specs.declared.replies.Reply.TheVariants as reply
 use Rattle.st_server.specs.Serving.{NoneReady, TakesQuantum, StopsAt, Runs}
+
+one_or_none : (b : Bool) → (if b then 1 else 0) ≤ 1
+one_or_none true = omega arith
+one_or_none false = omega arith
+
+-- an advance takes no more than one step beside its own
+pub few_steps : (i j : ImageView) (a : ActorId) (limit n : ℕ) → HasAdvanced i a limit n j → n ≤ limit + 1
+few_steps i j a limit n h =
+    let q = h.quantum.2 in
+    omega (arith, q.most, q.count, one_or_none (is_outer (step (world (begun_image i a)).edits a q.last)))
 
 -- whatever run goes on from here, with so many quanta left, is a run from the start
 pub record RunsOn (quantum quanta : ℕ) (i : ImageView) (left : ℕ) (k : ImageView) (q s : ℕ) : Type 0 where

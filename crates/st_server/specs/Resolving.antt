@@ -1,12 +1,14 @@
 -- The values that the texts of a command stand for, and the texts of values.
-use Rattle.std.specs.Prelude.{◌≡◌, ℕ, List, [], ◌∷◌, Option, Some, None, Result, Ok, Err, MatchResult, unwrap_or, slice_get}
+use Rattle.std.specs.Prelude.{◌≡◌, ℕ, List, [], ◌∷◌, Option, Some, None, Result, Ok, Err, MatchResult, unwrap_or, slice_get, if◌then◌else◌}
 use Rattle.st_classes.specs.declared.values.ClassId.{ClassId}
 use Rattle.st_classes.specs.declared.values.Selector.{Selector}
 use Rattle.st_classes.specs.declared.values.Value.{Value}
 use Rattle.st_classes.specs.declared.values.Value.TheVariants as value
 use Rattle.st_classes.specs.declared.refusals.Refusal.{Refusal}
-use Rattle.st_classes.specs.declared.refusals.Refusal.TheVariants.{UnknownClass}
+use Rattle.st_classes.specs.declared.refusals.Refusal.TheVariants.{UnknownClass, BadName, NoSuchMethod}
 use Rattle.st_classes.specs.Names.{interned, intern_rules}
+use Rattle.st_classes.specs.Selectors.{is_selector, place_of}
+use Rattle.st_classes.specs.Kernel.{selector}
 use Rattle.st_classes.specs.Classes.{class_named, class_name}
 use Rattle.st_classes.specs.Refusals.{first_of, Answers}
 use Rattle.st_image.specs.Images.{ImageView, world}
@@ -31,6 +33,14 @@ Interns i text Stands r k = Answers (first_of (intern_rules i.names text)) r (λ
 -- a selector's number stands for its text
 abbrev pub StandsFor : List ℕ → List (List ℕ) → Selector → Type 0
 StandsFor text names s = slice_get names s.0 ≡ Some text
+
+-- a selector is looked up, and not interned: a text that is none is BadName, and no class has a method for one that was never interned
+abbrev pub found_selector : List (List ℕ) → List ℕ → Result Selector Refusal
+found_selector names text = if is_selector text then selector_at (place_of names text) else Err BadName
+  where
+    selector_at : Option ℕ → Result Selector Refusal
+    selector_at None = Err NoSuchMethod
+    selector_at (Some place) = Ok (selector place)
 
 -- a symbol, whose number stands for its text
 abbrev pub IsSymbol : List ℕ → List (List ℕ) → Value → Type 0

@@ -1,10 +1,10 @@
 -- The reply to a command, and the image that it leaves.
-use Rattle.std.specs.Prelude.{◌≡◌, ℕ, zero, suc, ◌+◌, ◌≤◌, ◌⊎◌, List, [], ◌∷◌, length, true, false, Option, Some, None, Result, Ok, Err, MatchOption, IfErr, MatchResult, slice_get}
+use Rattle.std.specs.Prelude.{◌≡◌, ℕ, zero, suc, ◌+◌, ◌⊎◌, List, [], ◌∷◌, length, false, Option, Some, None, Result, Ok, Err, MatchOption, IfErr, MatchResult, slice_get}
 use Rattle.st_classes.specs.declared.values.ClassId.{ClassId}
 use Rattle.st_classes.specs.declared.values.ActorId.{ActorId}
 use Rattle.st_classes.specs.declared.values.Selector.{Selector}
 use Rattle.st_classes.specs.declared.values.Value.{Value}
-use Rattle.st_classes.specs.declared.edits.Edit.TheVariants.{Define}
+use Rattle.st_classes.specs.declared.edits.Edit.TheVariants.{Define, Remove}
 use Rattle.st_classes.specs.declared.refusals.Refusal.{Refusal}
 use Rattle.st_classes.specs.declared.refusals.Refusal.TheVariants.{NoMemory, UnknownClass, BadCommand}
 use Rattle.st_classes.specs.Refusals.{first_of, Answers}
@@ -14,8 +14,8 @@ use Rattle.st_turn.specs.declared.body.Outcome.TheVariants as outcome
 use Rattle.st_image.specs.declared.messages.Message.{Message}
 use Rattle.st_image.specs.declared.items.Item.TheVariants.{Edited, Created, Posted}
 use Rattle.st_image.specs.Posting.{from_client}
-use Rattle.st_image.specs.Images.{ImageView, world, appended, image_define_rules, create_rules, image_post_rules, accepted_by}
-use Rattle.st_image.specs.Advancing.{advance_rules, advanced, HasStopped, outcome_at, idle_at}
+use Rattle.st_image.specs.Images.{ImageView, world, appended, image_define_rules, image_remove_rules, create_rules, image_post_rules, accepted_by}
+use Rattle.st_image.specs.Advancing.{advance_rules, HasAdvanced, HasStopped, image_outcome}
 use Rattle.st_image.specs.Installing.{AnswersInstall, LeavesNames}
 use Rattle.st_image.specs.Ready.{IsNextReady, is_ready_at}
 use Rattle.st_wire.specs.declared.commands.Argument.{Argument}
@@ -24,7 +24,7 @@ use Rattle.st_wire.specs.declared.commands.Command.TheVariants as command
 use Rattle.st_wire.specs.declared.replies.Reply.{Reply}
 use Rattle.st_wire.specs.declared.replies.Reply.TheVariants as reply
 use Rattle.st_wire.specs.Commands.{command_of}
-use Rattle.st_server.specs.Resolving.{Interns, StandsFor, AllResolve, shown}
+use Rattle.st_server.specs.Resolving.{Interns, StandsFor, AllResolve, found_selector, shown}
 
 -- the reply is a refusal, the first that applies or for want of memory
 abbrev pub Refuses : Option Refusal → Reply → Type 0
@@ -44,7 +44,7 @@ Defines i name slots r j parent = Settles (first_of (image_define_rules i name p
 
 -- an actor of a class is made, or refused
 abbrev pub Creates : ImageView → Reply → ImageView → ClassId → Type 0
-Creates i r j c = Settles (first_of (create_rules i c)) i r j ((j ≡ appended i (Created c i.capacity ∷ [])) × (r ≡ reply.Actor (record { 0 = length (world i).actors })))
+Creates i r j c = Settles (first_of (create_rules i c)) i r j ((j ≡ appended i (Created c ∷ [])) × (r ≡ reply.Actor (record { 0 = length (world i).actors })))
 
 -- ---- a post: its selector and its arguments are resolved from the left, and then it is posted
 
@@ -75,15 +75,27 @@ version_or_refused (Err e) = reply.Refused e
 abbrev pub InstallsMethod : ImageView → List ℕ → Reply → ImageView → ClassId → Type 0
 InstallsMethod i source r j c = (result : Result ℕ Refusal) × (r ≡ version_or_refused result) × AnswersInstall i c source j result × IfErr result (λ e. LeavesNames i c source e j × (world j ≡ world i))
 
--- ---- a run: so long as quanta are left and an actor is ready, the next ready one takes up to so many steps
+-- ---- a removal: the selector is resolved, and then the class's own method for it is removed
+
+-- a method is removed, or refused
+abbrev pub RemovesMethod : ImageView → ClassId → Selector → Reply → ImageView → Type 0
+RemovesMethod i c s r j = Settles (first_of (image_remove_rules i c s)) i r j ((j ≡ appended i (Edited (Remove c s) ∷ [])) × (r ≡ reply.Version (length (world j).edits)))
+
+-- by the number of the selector; no name is added
+abbrev pub Removes : ImageView → List ℕ → Reply → ImageView → ClassId → Type 0
+Removes i text r j c = MatchResult (found_selector i.names text)
+    (λ s. RemovesMethod i c s r j)
+    (λ e. (r ≡ reply.Refused e) × (j ≡ i))
+
+-- ---- a run: so long as quanta are left and an actor is ready, the next ready one takes a quantum of so many steps
 
 -- no actor is ready
 abbrev pub NoneReady : ImageView → Type 0
 NoneReady i = (a : ℕ) → is_ready_at (world i) a ≡ false
 
--- an advance of so many steps, as many as a quantum has unless the turn ended
+-- the next ready actor takes so many steps: those of a quantum, and the image's where that comes next
 abbrev pub TakesQuantum : ℕ → ImageView → ℕ → ImageView → Type 0
-TakesQuantum quantum i n k = (a : ActorId) × IsNextReady (world i) i.next_from a.0 × (first_of (advance_rules i (slice_get (world i).actors a.0)) ≡ None) × (1 ≤ n) × (n ≤ quantum) × (k ≡ advanced i a n) × ((n ≡ quantum) ⊎ (idle_at (slice_get (world k).actors a.0) ≡ true))
+TakesQuantum quantum i n k = (a : ActorId) × IsNextReady (world i) i.next_from a.0 × (first_of (advance_rules i (slice_get (world i).actors a.0)) ≡ None) × HasAdvanced i a quantum n k
 
 -- a quantum that is refused: with nothing changed, or for want of memory, with what ran before it
 abbrev pub StopsAt : ℕ → ImageView → Refusal → ImageView → Type 0
@@ -104,19 +116,19 @@ told i (Err e) = reply.Refused e
 
 -- the outcome is told, unless memory ran out
 abbrev pub Tells : ImageView → ActorId → ℕ → Reply → Type 0
-Tells i a turn r = (r ≡ reply.Refused NoMemory) ⊎ (r ≡ told i (outcome_at (slice_get (world i).actors a.0) turn))
+Tells i a turn r = (r ≡ reply.Refused NoMemory) ⊎ (r ≡ told i (image_outcome i a turn))
 
 -- ---- any command
 
--- by the command; the last three are not served yet
+-- by the command; the last two are not served yet
 abbrev pub Serves : ℕ → ImageView → Command → Reply → ImageView → Type 0
 Serves quantum i (command.Define name parent slots) r j = MatchOption (class_named (world i).edits parent) (NoClass i r j) (Defines i name slots r j)
 Serves quantum i (command.Method class source) r j = MatchOption (class_named (world i).edits class) (NoClass i r j) (InstallsMethod i source r j)
+Serves quantum i (command.Remove class text) r j = MatchOption (class_named (world i).edits class) (NoClass i r j) (Removes i text r j)
 Serves quantum i (command.Actor class) r j = MatchOption (class_named (world i).edits class) (NoClass i r j) (Creates i r j)
 Serves quantum i (command.Post actor args text sender seq) r j = Posts i actor args text sender seq r j
 Serves quantum i (command.Run quanta) r j = Runs quantum quanta i 0 0 r j
 Serves quantum i (command.Outcome actor turn) r j = Tells i actor turn r × (j ≡ i)
-Serves quantum i (command.Remove class text) r j = (r ≡ reply.Refused BadCommand) × (j ≡ i)
 Serves quantum i (command.Close actor) r j = (r ≡ reply.Refused BadCommand) × (j ≡ i)
 Serves quantum i (command.Stats class text) r j = (r ≡ reply.Refused BadCommand) × (j ≡ i)
 

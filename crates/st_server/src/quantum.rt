@@ -4,7 +4,7 @@ ghost use Rattle.st_server.specs.Scripts.{is_quantum};
 
 use std::marker::Model;
 
-/// How many steps an actor takes before the next one has its turn, from 1 to 1,024. Contracts see this number.
+/// How many steps of its own an actor takes before the next one has its turn, from 1 to 1,024. Contracts see this number.
 #[derive(Clone, Copy)]
 pub struct Quantum {
     steps: u32,

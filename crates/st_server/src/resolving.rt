@@ -3,9 +3,11 @@ ghost use Rattle.std.specs.Prelude.{◌≡◌, ◌⊎◌, [], Err, IfOk, slice_g
 ghost use Rattle.st_classes.specs.declared.refusals.Refusal.TheVariants.{NoMemory};
 ghost use Rattle.st_classes.specs.Classes.{class_name};
 ghost use Rattle.st_image.specs.Images.{world};
-ghost use Rattle.st_server.specs.Resolving.{Resolves, AllResolve, shown as shown_as};
+ghost use Rattle.st_server.specs.Resolving.{Resolves, AllResolve, found_selector, shown as shown_as};
 
+use st_classes::names::Names;
 use st_classes::refusals::Refusal;
+use st_classes::selectors::arity_of;
 use st_classes::seq::Seq;
 use st_classes::values::{ClassId, Selector, Value, Values};
 use st_image::image::Image;
@@ -14,7 +16,7 @@ use st_wire::replies::Answered;
 use std::alloc::{AllocError, Global};
 
 /// The value of an argument. A symbol is interned.
-fn argument_value(image: &mut Image, alloc: Global, argument: &Argument) -> Result<Value, Refusal>
+fn argument_value(alloc: Global, image: &mut Image, argument: &Argument) -> Result<Value, Refusal>
     ensures { Resolves image.old argument.now result image.new }
 {
     match argument {
@@ -35,8 +37,8 @@ fn argument_value(image: &mut Image, alloc: Global, argument: &Argument) -> Resu
 
 /// The values of arguments, from the left up to the first that has none.
 pub fn argument_values(
-    image: &mut Image,
     alloc: Global,
+    image: &mut Image,
     arguments: &[Argument],
 ) -> Result<Values, Refusal>
     ensures { ((result ≡ Err NoMemory) × (image.new ≡ image.old)) ⊎ AllResolve image.old arguments.now result image.new }
@@ -45,12 +47,24 @@ pub fn argument_values(
         return Err(Refusal::NoMemory);
     };
     for argument in arguments {
-        match argument_value(image, alloc, argument) {
+        match argument_value(alloc, image, argument) {
             Ok(value) => values.push(value).unwrap(),
             Err(refusal) => return Err(refusal),
         }
     }
     Ok(Seq::from_vec(values))
+}
+
+/// The number of a selector's text, which is not interned.
+///
+/// `BadName` says that the text is no selector, and `NoSuchMethod` that it was never interned: then no class has a method for it.
+pub fn find_selector(names: &Names, text: &[u8]) -> Result<Selector, Refusal>
+    ensures { result ≡ found_selector names.now text.now }
+{
+    if arity_of(text).is_none() {
+        return Err(Refusal::BadName);
+    }
+    names.find(text).ok_or(Refusal::NoSuchMethod)
 }
 
 fn text_of(alloc: Global, text: &[u8]) -> Result<Seq<u8>, AllocError>
@@ -82,7 +96,7 @@ fn class_text(image: &Image, class: ClassId) -> &[u8]
 }
 
 /// A value as texts.
-pub fn shown(image: &Image, alloc: Global, value: Value) -> Result<Answered, AllocError>
+pub fn shown(alloc: Global, image: &Image, value: Value) -> Result<Answered, AllocError>
     ensures { IfOk result (λ texts. texts ≡ shown_as image.now value) }
 {
     Ok(match value {

@@ -28,7 +28,7 @@ fn answer_lines<O: Output>(
     ensures failures { O.failures output.new ≡ failures_after (end_of result.1) (O.failures output.old) }
 {
     let mut handler = ImageHandler { image, quantum };
-    let result = session(&mut handler, alloc, output, text);
+    let result = session(alloc, &mut handler, output, text);
     (handler.image, result)
 }
 

@@ -3,14 +3,14 @@ ghost use Rattle.std.specs.Prelude.{◌≡◌, ◌≤◌, ◌⊎◌, MatchOption
 ghost use Rattle.st_classes.specs.Classes.{class_named};
 ghost use Rattle.st_image.specs.Posting.{from_client};
 ghost use Rattle.st_image.specs.Images.{world};
-ghost use Rattle.st_server.specs.Serving.{NoClass, InstallsMethod, Defines, Creates, PostsMessage, PostsArguments, Posts, NoneReady, TakesQuantum, StopsAt, Runs, Tells, Serves, Replies};
+ghost use Rattle.st_server.specs.Serving.{NoClass, InstallsMethod, RemovesMethod, Removes, Defines, Creates, PostsMessage, PostsArguments, Posts, NoneReady, TakesQuantum, StopsAt, Runs, Tells, Serves, Replies};
 
 use crate::quantum::Quantum;
-use crate::resolving::{argument_values, shown};
+use crate::resolving::{argument_values, find_selector, shown};
 use crate::sessions::Handler;
 use st_classes::refusals::Refusal;
 use st_classes::seq::Seq;
-use st_classes::values::{ActorId, Selector, Values};
+use st_classes::values::{ActorId, ClassId, Selector, Values};
 use st_image::image::Image;
 use st_turn::body::Outcome;
 use st_wire::commands::{Argument, Command, read_command};
@@ -18,8 +18,8 @@ use st_wire::replies::Reply;
 use std::alloc::Global;
 
 fn define(
-    image: &mut Image,
     alloc: Global,
+    image: &mut Image,
     name: &[u8],
     parent: &[u8],
     slots: Seq<Seq<u8>>,
@@ -35,7 +35,7 @@ fn define(
     }
 }
 
-fn install(image: &mut Image, alloc: Global, class: &[u8], source: &[u8]) -> Reply
+fn install(alloc: Global, image: &mut Image, class: &[u8], source: &[u8]) -> Reply
     ensures { MatchOption (class_named (world image.old).edits class.now) (NoClass image.old result image.new) (InstallsMethod image.old source.now result image.new) }
 {
     let Some(class) = image.version().class_named(class) else {
@@ -47,7 +47,29 @@ fn install(image: &mut Image, alloc: Global, class: &[u8], source: &[u8]) -> Rep
     }
 }
 
-fn create(image: &mut Image, alloc: Global, class: &[u8]) -> Reply
+/// Takes away a class's own method for a selector.
+fn remove_method(alloc: Global, image: &mut Image, class: ClassId, selector: Selector) -> Reply
+    ensures { RemovesMethod image.old class selector result image.new }
+{
+    match image.remove(alloc, class, selector) {
+        Ok(version) => Reply::Version(version),
+        Err(refusal) => Reply::Refused(refusal),
+    }
+}
+
+fn remove(alloc: Global, image: &mut Image, class: &[u8], selector: &[u8]) -> Reply
+    ensures { MatchOption (class_named (world image.old).edits class.now) (NoClass image.old result image.new) (Removes image.old selector.now result image.new) }
+{
+    let Some(class) = image.version().class_named(class) else {
+        return Reply::Refused(Refusal::UnknownClass);
+    };
+    match find_selector(image.names(), selector) {
+        Ok(selector) => remove_method(alloc, image, class, selector),
+        Err(refusal) => Reply::Refused(refusal),
+    }
+}
+
+fn create(alloc: Global, image: &mut Image, class: &[u8]) -> Reply
     ensures { MatchOption (class_named (world image.old).edits class.now) (NoClass image.old result image.new) (Creates image.old result image.new) }
 {
     let Some(class) = image.version().class_named(class) else {
@@ -60,8 +82,8 @@ fn create(image: &mut Image, alloc: Global, class: &[u8]) -> Reply
 }
 
 fn post_values(
-    image: &mut Image,
     alloc: Global,
+    image: &mut Image,
     actor: ActorId,
     args: Values,
     selector: Selector,
@@ -77,8 +99,8 @@ fn post_values(
 }
 
 fn post_arguments(
-    image: &mut Image,
     alloc: Global,
+    image: &mut Image,
     actor: ActorId,
     arguments: &[Argument],
     selector: Selector,
@@ -87,15 +109,15 @@ fn post_arguments(
 ) -> Reply
     ensures { PostsArguments image.old actor arguments.now selector sender seq result image.new }
 {
-    match argument_values(image, alloc, arguments) {
-        Ok(args) => post_values(image, alloc, actor, args, selector, sender, seq),
+    match argument_values(alloc, image, arguments) {
+        Ok(args) => post_values(alloc, image, actor, args, selector, sender, seq),
         Err(refusal) => Reply::Refused(refusal),
     }
 }
 
 fn post(
-    image: &mut Image,
     alloc: Global,
+    image: &mut Image,
     actor: ActorId,
     arguments: &[Argument],
     selector: &[u8],
@@ -105,13 +127,14 @@ fn post(
     ensures { Posts image.old actor arguments.now selector.now sender seq result image.new }
 {
     match image.intern(alloc, selector) {
-        Ok(selector) => post_arguments(image, alloc, actor, arguments, selector, sender, seq),
+        Ok(selector) => post_arguments(alloc, image, actor, arguments, selector, sender, seq),
         Err(refusal) => Reply::Refused(refusal),
     }
 }
 
-/// Lets the next ready actor take a quantum, and says how many steps that was, or nothing where none is ready.
-fn take_quantum(image: &mut Image, alloc: Global, quantum: Quantum) -> Result<Option<u32>, Refusal>
+/// Lets the next ready actor take a quantum, and says how many steps that was, or nothing where none is ready. Where the step
+/// behind a quantum's own ones is one that the image takes, there is one more.
+fn take_quantum(alloc: Global, image: &mut Image, quantum: Quantum) -> Result<Option<u32>, Refusal>
     ensures { MatchResult result
         (λ taken. MatchOption taken (NoneReady image.old × (image.new ≡ image.old)) (λ n. TakesQuantum quantum image.old n image.new))
         (λ e. StopsAt quantum image.old e image.new) }
@@ -126,12 +149,12 @@ fn take_quantum(image: &mut Image, alloc: Global, quantum: Quantum) -> Result<Op
 }
 
 /// So long as quanta are left and an actor is ready, the next ready one takes a quantum.
-fn run(image: &mut Image, alloc: Global, quantum: Quantum, quanta: u32) -> Reply
+fn run(alloc: Global, image: &mut Image, quantum: Quantum, quanta: u32) -> Reply
     ensures { Runs quantum quanta image.old 0 0 result image.new }
 {
     let mut steps = 0;
     for taken in 0..quanta {
-        match take_quantum(image, alloc, quantum) {
+        match take_quantum(alloc, image, quantum) {
             Ok(Some(count)) => steps += u64::from(count),
             Ok(None) => {
                 return Reply::Ran {
@@ -145,11 +168,11 @@ fn run(image: &mut Image, alloc: Global, quantum: Quantum, quanta: u32) -> Reply
     Reply::Ran { quanta, steps }
 }
 
-fn outcome(image: &Image, alloc: Global, actor: ActorId, turn: u64) -> Reply
+fn outcome(alloc: Global, image: &Image, actor: ActorId, turn: u64) -> Reply
     ensures { Tells image.now actor turn result }
 {
     match image.outcome(actor, turn) {
-        Ok(Outcome::Answer(value)) => match shown(image, alloc, value) {
+        Ok(Outcome::Answer(value)) => match shown(alloc, image, value) {
             Ok(value) => Reply::Answer(value),
             Err(_) => Reply::Refused(Refusal::NoMemory),
         },
@@ -159,7 +182,7 @@ fn outcome(image: &Image, alloc: Global, actor: ActorId, turn: u64) -> Reply
 }
 
 /// The reply to a command.
-fn serve(image: &mut Image, alloc: Global, quantum: Quantum, command: Command) -> Reply
+fn serve(alloc: Global, image: &mut Image, quantum: Quantum, command: Command) -> Reply
     ensures { Serves quantum image.old command result image.new }
 {
     match command {
@@ -167,11 +190,14 @@ fn serve(image: &mut Image, alloc: Global, quantum: Quantum, command: Command) -
             name,
             parent,
             slots,
-        } => define(image, alloc, name.as_slice(), parent.as_slice(), slots),
+        } => define(alloc, image, name.as_slice(), parent.as_slice(), slots),
         Command::Method { class, source } => {
-            install(image, alloc, class.as_slice(), source.as_slice())
+            install(alloc, image, class.as_slice(), source.as_slice())
         }
-        Command::Actor { class } => create(image, alloc, class.as_slice()),
+        Command::Remove { class, selector } => {
+            remove(alloc, image, class.as_slice(), selector.as_slice())
+        }
+        Command::Actor { class } => create(alloc, image, class.as_slice()),
         Command::Post {
             actor,
             args,
@@ -179,28 +205,26 @@ fn serve(image: &mut Image, alloc: Global, quantum: Quantum, command: Command) -
             sender,
             seq,
         } => post(
-            image,
             alloc,
+            image,
             actor,
             args.as_slice(),
             selector.as_slice(),
             sender,
             seq,
         ),
-        Command::Run { quanta } => run(image, alloc, quantum, quanta),
-        Command::Outcome { actor, turn } => outcome(image, alloc, actor, turn),
-        Command::Remove { .. } | Command::Close { .. } | Command::Stats { .. } => {
-            Reply::Refused(Refusal::BadCommand)
-        }
+        Command::Run { quanta } => run(alloc, image, quantum, quanta),
+        Command::Outcome { actor, turn } => outcome(alloc, image, actor, turn),
+        Command::Close { .. } | Command::Stats { .. } => Reply::Refused(Refusal::BadCommand),
     }
 }
 
 /// The reply to a line. One that is no command is BadCommand.
-fn reply_to(image: &mut Image, alloc: Global, quantum: Quantum, line: &[u8]) -> Reply
+fn reply_to(alloc: Global, image: &mut Image, quantum: Quantum, line: &[u8]) -> Reply
     ensures { Replies quantum image.old line.now result image.new }
 {
     match read_command(alloc, line) {
-        Ok(command) => serve(image, alloc, quantum, command),
+        Ok(command) => serve(alloc, image, quantum, command),
         Err(refusal) => Reply::Refused(refusal),
     }
 }
@@ -216,6 +240,6 @@ impl Handler for ImageHandler {
     ghost answers = { λ i line r j. Replies i.quantum i.image line r j.image × (j.quantum ≡ i.quantum) };
 
     fn reply(&mut self, alloc: Global, line: &[u8]) -> Reply {
-        reply_to(&mut self.image, alloc, self.quantum, line)
+        reply_to(alloc, &mut self.image, self.quantum, line)
     }
 }

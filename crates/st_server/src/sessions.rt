@@ -39,8 +39,8 @@ fn write_reply<O: Output>(alloc: Global, output: &mut O, reply: &Reply) -> Resul
 
 /// Answers a line, or says why the session ends at it.
 fn answer<H: Handler, O: Output>(
-    handler: &mut H,
     alloc: Global,
+    handler: &mut H,
     output: &mut O,
     line: &[u8],
 ) -> Result<(), Refusal>
@@ -63,8 +63,8 @@ fn answer<H: Handler, O: Output>(
 /// which is replied to but not handled, with NoMemory where the text of a reply found none, and with WriteFault where a
 /// write failed.
 pub fn session<H: Handler, O: Output>(
-    handler: &mut H,
     alloc: Global,
+    handler: &mut H,
     output: &mut O,
     text: &[u8],
 ) -> Result<u64, Refusal>
@@ -76,7 +76,7 @@ pub fn session<H: Handler, O: Output>(
     let mut count = 0;
     let mut rest = text;
     while let Some((line, others)) = take_line(rest) {
-        answer(handler, alloc, output, line)?;
+        answer(alloc, handler, output, line)?;
         count += 1;
         rest = others;
     }

@@ -2,10 +2,12 @@ pub mod Buffers
 pub mod KeepingValues
 pub mod KeepingEffects
 pub mod KeepingMoves
-pub mod KeepingArrivals
-pub mod Keeping
 pub mod KeepingGrowth
-pub mod Leading
+pub mod KeepingArrivals
 pub mod Meets
+pub mod Acting
+pub mod KeepingActs
+pub mod Keeping
+pub mod Leading
 pub mod Stepping
 pub mod Flooring

@@ -1,5 +1,6 @@
 pub mod Views
 pub mod Arithmetic
+pub mod Objects
 pub mod KernelMethods
 pub mod Answering
 pub mod Frames

@@ -1,10 +1,10 @@
 //! Bodies.
-ghost use Rattle.std.specs.Prelude.{◌≡◌, [], ◌∷◌, length, replicate, slice_get, Bool, IfOk};
+ghost use Rattle.std.specs.Prelude.{◌≡◌, [], ◌∷◌, ◌++◌, length, replicate, slice_get, Bool, IfOk, OnOk, OnErr};
 ghost use Rattle.std.specs.Option.{option_copied};
 ghost use Rattle.st_classes.specs.declared.values.Value.TheVariants.{Nil};
 ghost use Rattle.st_turn.specs.declared.body.Phase.TheVariants as phase;
 ghost use Rattle.st_turn.specs.Frames.{slot_of, stored};
-ghost use Rattle.st_turn.specs.KernelMethods.{class_in};
+ghost use Rattle.st_turn.specs.Objects.{class_in};
 ghost use Rattle.st_turn.specs.Meeting.{HasSlot, IsAmong};
 ghost use Rattle.st_turn.specs.Idling.{is_idle};
 
@@ -16,12 +16,29 @@ use st_classes::values::{ClassId, Selector, Value, Values};
 use std::alloc::{AllocError, Global};
 use std::marker::Model;
 
+/// The most objects of an actor.
+pub const OBJECTS: usize = 1024;
+
 /// An object of an actor's own.
 #[derive(Drop)]
 pub struct Object {
     pub class: ClassId,
     /// The values of its instance variables, inherited ones first.
     pub slots: Values,
+}
+
+impl Object {
+    /// An object of a class with so many instance variables, all nil.
+    fn new(alloc: Global, class: ClassId, slots: usize) -> Result<Object, AllocError>
+        ensures { IfOk result (λ object. object ≡ record { class = class; slots = replicate slots Nil }) }
+    {
+        let mut values = Vec::with_capacity(alloc, slots)?;
+        values.resize(slots, Value::Nil)?;
+        Ok(Object {
+            class,
+            slots: Seq::from_vec(values),
+        })
+    }
 }
 
 /// The objects of an actor, of which object 0 is the actor itself.
@@ -44,14 +61,24 @@ impl Objects {
     fn first(alloc: Global, class: ClassId, slots: usize) -> Result<Objects, AllocError>
         ensures { IfOk result (λ objects. objects ≡ record { class = class; slots = replicate slots Nil } ∷ []) }
     {
-        let mut values = Vec::with_capacity(alloc, slots)?;
-        values.resize(slots, Value::Nil)?;
         let mut items = Vec::with_capacity(alloc, 1)?;
-        items.push(Object {
-            class,
-            slots: Seq::from_vec(values),
-        })?;
+        items.push(Object::new(alloc, class, slots)?)?;
         Ok(Objects { items })
+    }
+
+    /// A new object behind those that are there.
+    pub(crate) fn add(
+        &mut self,
+        alloc: Global,
+        class: ClassId,
+        slots: usize,
+    ) -> Result<(), AllocError>
+        ensures ok { OnOk result (self.new ≡ self.old ++ record { class = class; slots = replicate slots Nil } ∷ []) }
+        ensures err { OnErr result (self.new ≡ self.old) }
+    {
+        let object = Object::new(alloc, class, slots)?;
+        self.items.push(object)?;
+        Ok(())
     }
 
     /// The objects of a vector. No memory is taken.
@@ -158,6 +185,8 @@ pub enum Turn {
     /// Its frames go on.
     Goes,
     Ends(Outcome),
+    /// No step was taken: the next one is an act that the image does.
+    Waits,
 }
 
 /// How a step went.
@@ -167,7 +196,7 @@ pub enum Stop {
     More,
     /// Nothing changed: no turn is going on.
     Ended,
-    /// Nothing changed: the next step is one that the image takes.
+    /// Nothing changed: the next step is an act that the image does.
     Outer,
     /// Nothing changed: the claim has as many steps as it may have.
     Limit,

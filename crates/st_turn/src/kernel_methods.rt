@@ -3,12 +3,30 @@ ghost use Rattle.std.specs.Prelude.{◌≡◌};
 ghost use Rattle.st_turn.specs.Answering.{binary_answer, integer_answer};
 ghost use Rattle.st_turn.specs.KernelMethods.{conjunction, is_nil, is_same, kernel_answer, negated};
 ghost use Rattle.st_turn.specs.Meeting.{IsAmong};
+ghost use Rattle.st_turn.specs.Steps.{is_new as makes_object};
+ghost use Rattle.st_classes.specs.Accepting.{is_closed as closed};
 
 use crate::arithmetic::{difference, product, quotient, remainder, sum};
 use crate::body::Objects;
 use st_classes::faults::Fault;
-use st_classes::kernel::Kernel;
-use st_classes::values::Value;
+use st_classes::kernel::{KERNEL_CLASSES, Kernel};
+use st_classes::values::{ClassId, Value};
+
+/// Whether a class has no instances that a message makes: one of the kernel's, Object aside.
+#[inline]
+pub(crate) fn is_closed(class: ClassId) -> bool
+    ensures { result ≡ closed class }
+{
+    1 <= class.0 && class.0 < KERNEL_CLASSES
+}
+
+/// Whether a method of the kernel is `new`.
+#[inline]
+pub(crate) fn is_new(kernel: Kernel) -> bool
+    ensures { result ≡ makes_object kernel }
+{
+    matches!(kernel, Kernel::New)
+}
 
 #[inline]
 fn is_same(a: Value, b: Value) -> bool

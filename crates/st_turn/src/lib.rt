@@ -4,6 +4,7 @@
 //! by the plain walk of a class table: it is the step of the definitions, and a body that fits a table still fits it.
 #![tactic(auto)]
 
+pub mod acts;
 pub mod arithmetic;
 pub mod body;
 pub mod frame;

@@ -4,7 +4,6 @@ use st_classes::edits::Edit;
 use st_classes::kernel::kernel_at;
 use st_classes::methods::Method;
 use st_classes::refusals::Refusal;
-use st_classes::seq::Seq;
 use st_classes::values::ClassId;
 use st_compile::compile::compile;
 use st_compile::names::joined_pattern;
@@ -18,9 +17,7 @@ impl Image {
     ghost use Rattle.st_classes.specs.declared.refusals.Refusal.TheVariants.{NoMemory};
     ghost use Rattle.st_classes.specs.Refusals.{first_of, Answers};
     ghost use Rattle.st_classes.specs.Classes.{is_class};
-    ghost use Rattle.st_reader.specs.Spelling.{Spells};
     ghost use Rattle.st_reader.specs.Syntax.{Method as MethodOf};
-    ghost use Rattle.st_reader.specs.Views.{method_view};
     ghost use Rattle.st_compile.specs.Compiled.{IsCompiled};
     ghost use Rattle.st_compile.specs.Interning.{InternsFirst, IsFull, interned_all, needed_texts};
     ghost use Rattle.st_compile.specs.Refusing.{code_rules, method_rules};
@@ -66,20 +63,18 @@ impl Image {
         alloc: Global,
         tree: &MethodTree,
         class: ClassId,
-        source: Seq<u8>,
     ) -> Result<Method, Refusal>
-        requires class { is_class (world self.old).edits class ≡ true }
-        requires spells { Spells (method_view tree.now) source }
-        ensures answers { Answers (first_of (method_rules self.old.names (world self.old).edits class (method_view tree.now))) result
-            (λ m. IsCompiled self.new.names (world self.old).edits class (method_view tree.now) source m) }
-        ensures names { OnOk result (self.new ≡ record self.old { names = interned_all self.old.names (needed_texts (method_view tree.now)) }) }
-        ensures some { InternsFirst self.old.names (needed_texts (method_view tree.now)) self.new.names }
+        requires { is_class (world self.old).edits class ≡ true }
+        ensures answers { Answers (first_of (method_rules self.old.names (world self.old).edits class tree.now.syntax)) result
+            (λ m. IsCompiled self.new.names (world self.old).edits class tree.now.syntax tree.now.source m) }
+        ensures names { OnOk result (self.new ≡ record self.old { names = interned_all self.old.names (needed_texts tree.now.syntax) }) }
+        ensures some { InternsFirst self.old.names (needed_texts tree.now.syntax) self.new.names }
         ensures only { self.new ≡ record self.old { names = self.new.names } }
         ensures full { IfErr result (λ e. IsFull self.new.names e) }
-        ensures untouched { (e : RefusalOf) → first_of (code_rules (world self.old).edits class (method_view tree.now)) ≡ Some e → self.new ≡ self.old }
+        ensures untouched { (e : RefusalOf) → first_of (code_rules (world self.old).edits class tree.now.syntax) ≡ Some e → self.new ≡ self.old }
         ensures world { world self.new ≡ world self.old }
     {
-        compile(alloc, tree, class, &self.version, &mut self.names, source)
+        compile(alloc, tree, class, &self.version, &mut self.names)
     }
 
     /// Installs the method of a tree whose selector is no kernel method's in the class, and answers the number of edits.
@@ -88,17 +83,16 @@ impl Image {
         alloc: Global,
         class: ClassId,
         tree: &MethodTree,
-        source: Seq<u8>,
     ) -> Result<u32, Refusal>
         requires class { is_class (world self.old).edits class ≡ true }
-        requires spells { Spells (method_view tree.now) source }
-        requires free { is_kernel_text class (pattern_selector (method_view tree.now).pattern) ≡ false }
-        ensures answers { Answers (first_of (image_install_rules self.old class (method_view tree.now))) result
-            (λ n. Installs self.old class (method_view tree.now) source self.new n) }
-        ensures refused { IfErr result (λ e. LeavesNames self.old class source e self.new) }
+        requires free { is_kernel_text class (pattern_selector tree.now.syntax.pattern) ≡ false }
+        ensures answers { Answers (first_of (image_install_rules self.old class tree.now.syntax)) result
+            (λ n. Installs self.old class tree.now.syntax tree.now.source self.new n) }
+        ensures refused { IfErr result (λ e. LeavesNames self.old class tree.now.source e self.new) }
         ensures world { OnErr result (world self.new ≡ world self.old) }
     {
-        let method = match self.compiled(alloc, tree, class, source) {
+        tree.known();
+        let method = match self.compiled(alloc, tree, class) {
             Ok(method) => method,
             Err(refusal) => return Err(refusal),
         };
@@ -112,19 +106,17 @@ impl Image {
         alloc: Global,
         class: ClassId,
         tree: &MethodTree,
-        source: Seq<u8>,
     ) -> Result<u32, Refusal>
-        requires class { is_class (world self.old).edits class ≡ true }
-        requires spells { Spells (method_view tree.now) source }
-        ensures answers { Answers (first_of (image_install_rules self.old class (method_view tree.now))) result
-            (λ n. Installs self.old class (method_view tree.now) source self.new n) }
-        ensures refused { IfErr result (λ e. LeavesNames self.old class source e self.new) }
+        requires { is_class (world self.old).edits class ≡ true }
+        ensures answers { Answers (first_of (image_install_rules self.old class tree.now.syntax)) result
+            (λ n. Installs self.old class tree.now.syntax tree.now.source self.new n) }
+        ensures refused { IfErr result (λ e. LeavesNames self.old class tree.now.source e self.new) }
         ensures world { OnErr result (world self.new ≡ world self.old) }
     {
-        if self.has_kernel_pattern(alloc, class, &tree.pattern)? {
+        if self.has_kernel_pattern(alloc, class, tree.pattern())? {
             return Err(Refusal::KernelMethod);
         }
-        self.install_free(alloc, class, tree, source)
+        self.install_free(alloc, class, tree)
     }
 
     /// Installs a method in a class, in place of the one that it has for the selector. The answer is the number of edits.
@@ -145,9 +137,6 @@ impl Image {
             Ok(tree) => tree,
             Err(refusal) => return Err(refusal),
         };
-        let Ok(text) = source.to_vec(alloc) else {
-            return Err(Refusal::NoMemory);
-        };
-        self.install_tree(alloc, class, &tree, Seq::from_vec(text))
+        self.install_tree(alloc, class, &tree)
     }
 }

@@ -92,6 +92,22 @@ m ^1 foo: 2 bar + 3 baz: 4
 3 Send(Selector(24), 2)
 1 Answer
 
+who ^super who + 10
+0 PushSelf
+1 SuperSend(Selector(22), 0)
+1 PushLit(Int(10))
+2 Send(Selector(5), 1)
+1 Answer
+
+m: x ^(super m: x) m: super foo
+0 PushSelf
+1 PushTemp(0)
+2 SuperSend(Selector(22), 1)
+1 PushSelf
+2 SuperSend(Selector(23), 0)
+2 Send(Selector(22), 1)
+1 Answer
+
 c ^1 + 2; + 10; * 4
 0 PushLit(Int(1))
 1 Dup

@@ -5,5 +5,5 @@ use Rattle.st_server.proofs.serving.run.Given as goal
 abbrev pub invariant-loop-taken : goal.invariant-loop-taken
 invariant-loop-taken l = record {
   runs : RunsOn l.quantum l.quanta l.initial.image (l.quanta - l.taken) l.image l.taken l.steps;
-  few : l.steps ≤ 1024 * l.taken;
+  few : l.steps ≤ 1025 * l.taken;
 }

@@ -1,11 +1,11 @@
 use Rattle.std.proofs.Common.{◌≡◌, ◌++◌, List, ℕ, ap, ◌∙◌, subst, refl}
 use Rattle.st_classes.specs.declared.edits.Edit.{Edit}
 use Rattle.st_classes.specs.Refusals.{first_of, Answers}
-use Rattle.st_reader.specs.Views.{method_view}
 use Rattle.st_compile.specs.Interning.{InternsFirst, needed_texts}
 use Rattle.st_compile.specs.Refusing.{code_rules, method_rules}
 use Rattle.st_compile.specs.Compiled.{IsCompiled}
 use Rattle.st_compile.proofs.Interning.{Grows, first-grows}
+use Rattle.st_image.specs.Worlds.{start}
 use Rattle.st_image.specs.Images.{ImageView, world}
 use Rattle.st_image.proofs.Naming.{IsRenamed, more_kept, renamed}
 use Rattle.st_image.proofs.image.Image.compiled.Goals as goal
@@ -13,8 +13,8 @@ use Rattle.st_image.proofs.image.Image.compiled.Goals as goal
 pub invariant_of-self : goal.invariant_of-self
 invariant_of-self c =
     let i = c.self.inside in
-    let g : Grows i.names c.compile.new.names = first-grows i.names (needed_texts (method_view c.args.tree.now)) c.compile.new.names c.compile.ensures.some in
-    let r : IsRenamed i.names c.compile.new.names i.version i.actors.items i.ready.numbers i.history.items i.edits_made i.settings = renamed i.names c.compile.new.names (i.names ++ g.0) i.version i.actors.items i.ready.numbers i.history.items i.edits_made i.settings g.1 (more_kept i.names g.0 i.version i.actors.items i.ready.numbers i.history.items i.edits_made i.settings c.self.invariant) in
+    let g : Grows i.names c.compile.new.names = first-grows i.names (needed_texts c.args.tree.now.syntax) c.compile.new.names c.compile.ensures.some in
+    let r : IsRenamed start i.names c.compile.new.names i.version i.actors i.history.items i.edits_made i.settings = renamed start i.names c.compile.new.names (i.names ++ g.0) i.version i.actors i.history.items i.edits_made i.settings g.1 (more_kept start i.names g.0 i.version i.actors i.history.items i.edits_made i.settings c.self.invariant) in
     r.image
 
 pub returns-clause-answers : goal.returns-clause-answers
@@ -22,11 +22,11 @@ returns-clause-answers c =
     let i = c.self.inside in
     let es : i.version ≡ (world c.args.self.now).edits = c.self.invariant.shows.edits_are ∙ ap (λ (v : ImageView). (world v).edits) c.self.view_is in
     let ns : i.names ≡ c.args.self.now.names = ap (λ (v : ImageView). v.names) c.self.view_is in
-    subst (λ (edits : List Edit). Answers (first_of (method_rules c.args.self.now.names edits c.args.class (method_view c.args.tree.now))) c.compile.result (λ m. IsCompiled c.compile.new.names edits c.args.class (method_view c.args.tree.now) c.args.source m)) es
-    (subst (λ (names : List (List ℕ)). Answers (first_of (method_rules names i.version c.args.class (method_view c.args.tree.now))) c.compile.result (λ m. IsCompiled c.compile.new.names i.version c.args.class (method_view c.args.tree.now) c.args.source m)) ns c.compile.ensures.answers)
+    subst (λ (edits : List Edit). Answers (first_of (method_rules c.args.self.now.names edits c.args.class c.args.tree.now.syntax)) c.compile.result (λ m. IsCompiled c.compile.new.names edits c.args.class c.args.tree.now.syntax c.args.tree.now.source m)) es
+    (subst (λ (names : List (List ℕ)). Answers (first_of (method_rules names i.version c.args.class c.args.tree.now.syntax)) c.compile.result (λ m. IsCompiled c.compile.new.names i.version c.args.class c.args.tree.now.syntax c.args.tree.now.source m)) ns c.compile.ensures.answers)
 
 pub returns-clause-some : goal.returns-clause-some
-returns-clause-some c = subst (λ (v : ImageView). InternsFirst v.names (needed_texts (method_view c.args.tree.now)) c.compile.new.names) c.self.view_is c.compile.ensures.some
+returns-clause-some c = subst (λ (v : ImageView). InternsFirst v.names (needed_texts c.args.tree.now.syntax) c.compile.new.names) c.self.view_is c.compile.ensures.some
 
 pub returns-clause-only : goal.returns-clause-only
 returns-clause-only c = rw (← c.self.view_is) refl
@@ -36,12 +36,12 @@ returns-clause-untouched c =
     let i = c.self.inside in
     let es : i.version ≡ (world c.args.self.now).edits = c.self.invariant.shows.edits_are ∙ ap (λ (v : ImageView). (world v).edits) c.self.view_is in
     λ d h.
-    let e : c.compile.new.names ≡ i.names = c.compile.ensures.untouched d (ap (λ (edits : List Edit). first_of (code_rules edits c.args.class (method_view c.args.tree.now))) es ∙ h) in
+    let e : c.compile.new.names ≡ i.names = c.compile.ensures.untouched d (ap (λ (edits : List Edit). first_of (code_rules edits c.args.class c.args.tree.now.syntax)) es ∙ h) in
     rw (e, ← c.self.view_is) refl
 
 pub returns-clause-world : goal.returns-clause-world
 returns-clause-world c =
     let i = c.self.inside in
-    let g : Grows i.names c.compile.new.names = first-grows i.names (needed_texts (method_view c.args.tree.now)) c.compile.new.names c.compile.ensures.some in
-    let r : IsRenamed i.names c.compile.new.names i.version i.actors.items i.ready.numbers i.history.items i.edits_made i.settings = renamed i.names c.compile.new.names (i.names ++ g.0) i.version i.actors.items i.ready.numbers i.history.items i.edits_made i.settings g.1 (more_kept i.names g.0 i.version i.actors.items i.ready.numbers i.history.items i.edits_made i.settings c.self.invariant) in
+    let g : Grows i.names c.compile.new.names = first-grows i.names (needed_texts c.args.tree.now.syntax) c.compile.new.names c.compile.ensures.some in
+    let r : IsRenamed start i.names c.compile.new.names i.version i.actors i.history.items i.edits_made i.settings = renamed start i.names c.compile.new.names (i.names ++ g.0) i.version i.actors i.history.items i.edits_made i.settings g.1 (more_kept start i.names g.0 i.version i.actors i.history.items i.edits_made i.settings c.self.invariant) in
     r.world ∙ ap (λ (v : ImageView). world v) c.self.view_is

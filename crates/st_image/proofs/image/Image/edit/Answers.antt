@@ -1,3 +1,4 @@
+use Rattle.st_image.specs.Acting.{constants_of}
 use Rattle.std.proofs.Common.{arith, ◌≡◌, ◌+◌, ◌++◌, [], ◌∷◌, List, length, true, None, refl, sym, ap, ◌∙◌, subst}
 use Rattle.std.proofs.lemmas.Grind.{common_steps}
 use Rattle.st_classes.specs.declared.edits.Edit.{Edit}
@@ -5,6 +6,7 @@ use Rattle.st_classes.specs.Refusals.{first_of}
 use Rattle.st_classes.specs.Accepting.{edit_rules}
 use Rattle.st_classes.specs.Suiting.{edit_suits}
 use Rattle.st_image.specs.declared.items.Item.TheVariants.{Edited}
+use Rattle.st_image.specs.Worlds.{start}
 use Rattle.st_image.specs.Images.{ImageView, run_rules, world, world_of}
 use Rattle.st_image.proofs.Posting.{seen}
 use Rattle.st_image.proofs.Keeping.{edits_few}
@@ -17,22 +19,22 @@ overflow_add-self c = omega (arith, edits_few c.self.inside.history.items, c.sel
 pub invariant_of-self-2 : goal.invariant_of-self-2
 invariant_of-self-2 c =
     let i = c.self.inside in
-    let w = world_of i.names i.history.items in
+    let w = world_of (constants_of i.names i.settings.capacity) start i.history.items in
     let suits : edit_suits i.names w.edits c.args.edit ≡ true = subst (λ (v : ImageView). edit_suits v.names (world v).edits c.args.edit ≡ true) (sym c.self.view_is) c.requires in
-    let allowed : first_of (edit_rules w.edits c.args.edit ++ run_rules (seen i.names i.history.items i.settings i.next_from)) ≡ None = subst (λ (v : ImageView). first_of (edit_rules (world v).edits c.args.edit ++ run_rules v) ≡ None) (sym c.self.view_is) c.in-Ok.ensures.0 in
+    let allowed : first_of (edit_rules w.edits c.args.edit ++ run_rules (seen start i.names i.history.items i.settings i.next_from)) ≡ None = subst (λ (v : ImageView). first_of (edit_rules (world v).edits c.args.edit ++ run_rules v) ≡ None) (sym c.self.view_is) c.in-Ok.ensures.0 in
     let after : c.in-Ok.version ≡ w.edits ++ c.args.edit ∷ [] = subst (λ (v : ImageView). c.in-Ok.version ≡ (world v).edits ++ c.args.edit ∷ []) (sym c.self.view_is) c.in-Ok.ensures.1 in
     let items : c.push.new.self.items ≡ i.history.items ++ Edited c.args.edit ∷ [] = (let last : c.in-Ok-last_edit.last ≡ c.args.edit = last_is w.edits c.in-Ok.version c.args.edit c.in-Ok-last_edit.last after c.in-Ok-last_edit.ensures in let put : c.push.new.self.items ≡ i.history.items ++ Edited c.in-Ok-last_edit.last ∷ [] = grind (arith, common_steps) in subst (λ (x : Edit). c.push.new.self.items ≡ i.history.items ++ Edited x ∷ []) last put) in
-    let e : IsEdited i.names c.in-Ok.version i.actors.items i.ready.numbers (i.history.items ++ Edited c.args.edit ∷ []) (i.edits_made + 1) i.settings = edited i.names i.version c.in-Ok.version i.actors.items i.ready.numbers i.history.items i.edits_made i.settings i.next_from c.args.edit c.self.invariant c.known.ensures suits allowed after in
+    let e : IsEdited start i.names c.in-Ok.version i.actors (i.history.items ++ Edited c.args.edit ∷ []) (i.edits_made + 1) i.settings = edited start i.names i.version c.in-Ok.version i.actors i.history.items i.edits_made i.settings i.next_from c.args.edit c.self.invariant c.known.ensures suits allowed after in
     rw items e.image
 
 pub returns-clause-answers : goal.returns-clause-answers
 returns-clause-answers c =
     let i = c.self.inside in
-    let w = world_of i.names i.history.items in
+    let w = world_of (constants_of i.names i.settings.capacity) start i.history.items in
     let suits : edit_suits i.names w.edits c.args.edit ≡ true = subst (λ (v : ImageView). edit_suits v.names (world v).edits c.args.edit ≡ true) (sym c.self.view_is) c.requires in
-    let allowed : first_of (edit_rules w.edits c.args.edit ++ run_rules (seen i.names i.history.items i.settings i.next_from)) ≡ None = subst (λ (v : ImageView). first_of (edit_rules (world v).edits c.args.edit ++ run_rules v) ≡ None) (sym c.self.view_is) c.in-Ok.ensures.0 in
+    let allowed : first_of (edit_rules w.edits c.args.edit ++ run_rules (seen start i.names i.history.items i.settings i.next_from)) ≡ None = subst (λ (v : ImageView). first_of (edit_rules (world v).edits c.args.edit ++ run_rules v) ≡ None) (sym c.self.view_is) c.in-Ok.ensures.0 in
     let after : c.in-Ok.version ≡ w.edits ++ c.args.edit ∷ [] = subst (λ (v : ImageView). c.in-Ok.version ≡ (world v).edits ++ c.args.edit ∷ []) (sym c.self.view_is) c.in-Ok.ensures.1 in
     let items : c.push.new.self.items ≡ i.history.items ++ Edited c.args.edit ∷ [] = (let last : c.in-Ok-last_edit.last ≡ c.args.edit = last_is w.edits c.in-Ok.version c.args.edit c.in-Ok-last_edit.last after c.in-Ok-last_edit.ensures in let put : c.push.new.self.items ≡ i.history.items ++ Edited c.in-Ok-last_edit.last ∷ [] = grind (arith, common_steps) in subst (λ (x : Edit). c.push.new.self.items ≡ i.history.items ++ Edited x ∷ []) last put) in
-    let e : IsEdited i.names c.in-Ok.version i.actors.items i.ready.numbers (i.history.items ++ Edited c.args.edit ∷ []) (i.edits_made + 1) i.settings = edited i.names i.version c.in-Ok.version i.actors.items i.ready.numbers i.history.items i.edits_made i.settings i.next_from c.args.edit c.self.invariant c.known.ensures suits allowed after in
-    let count : c.edits.result ≡ length (world_of i.names (i.history.items ++ Edited c.args.edit ∷ [])).edits = c.edits.ensures ∙ ap (λ (es : List Edit). length es) (sym e.edits_are) in
+    let e : IsEdited start i.names c.in-Ok.version i.actors (i.history.items ++ Edited c.args.edit ∷ []) (i.edits_made + 1) i.settings = edited start i.names i.version c.in-Ok.version i.actors i.history.items i.edits_made i.settings i.next_from c.args.edit c.self.invariant c.known.ensures suits allowed after in
+    let count : c.edits.result ≡ length (world_of (constants_of i.names i.settings.capacity) start (i.history.items ++ Edited c.args.edit ∷ [])).edits = c.edits.ensures ∙ ap (λ (es : List Edit). length es) (sym e.edits_are) in
     (c.in-Ok.ensures.0, (rw (items, ← c.self.view_is) refl, rw items count))

@@ -1,4 +1,5 @@
 use Rattle.std.proofs.Common.{ap, ◌∙◌}
+use Rattle.st_image.specs.Worlds.{start}
 use Rattle.st_image.specs.Images.{ImageView, world}
 use Rattle.st_image.proofs.Naming.{IsRenamed, interned_kept}
 use Rattle.st_image.proofs.image.Image.intern.Goals as goal
@@ -6,11 +7,11 @@ use Rattle.st_image.proofs.image.Image.intern.Goals as goal
 pub invariant_of-self : goal.invariant_of-self
 invariant_of-self c =
     let i = c.self.inside in
-    let r : IsRenamed i.names c.intern.new.self i.version i.actors.items i.ready.numbers i.history.items i.edits_made i.settings = interned_kept c.intern.result i.names c.intern.new.self c.args.text.now i.version i.actors.items i.ready.numbers i.history.items i.edits_made i.settings c.self.invariant c.intern.ensures.names c.intern.ensures.unchanged in
+    let r : IsRenamed start i.names c.intern.new.self i.version i.actors i.history.items i.edits_made i.settings = interned_kept c.intern.result start i.names c.intern.new.self c.args.text.now i.version i.actors i.history.items i.edits_made i.settings c.self.invariant c.intern.ensures.names c.intern.ensures.unchanged in
     r.image
 
 pub returns-clause-world : goal.returns-clause-world
 returns-clause-world c =
     let i = c.self.inside in
-    let r : IsRenamed i.names c.intern.new.self i.version i.actors.items i.ready.numbers i.history.items i.edits_made i.settings = interned_kept c.intern.result i.names c.intern.new.self c.args.text.now i.version i.actors.items i.ready.numbers i.history.items i.edits_made i.settings c.self.invariant c.intern.ensures.names c.intern.ensures.unchanged in
+    let r : IsRenamed start i.names c.intern.new.self i.version i.actors i.history.items i.edits_made i.settings = interned_kept c.intern.result start i.names c.intern.new.self c.args.text.now i.version i.actors i.history.items i.edits_made i.settings c.self.invariant c.intern.ensures.names c.intern.ensures.unchanged in
     r.world ∙ ap (λ (v : ImageView). world v) c.self.view_is

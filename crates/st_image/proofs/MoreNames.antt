@@ -1,0 +1,45 @@
+-- What fits some names fits more.
+use Rattle.std.proofs.Common.{arith, ◌≡◌, ℕ, ◌++◌, List, refl, length, true, length-append}
+use Rattle.std.specs.Prelude.{nat_lt}
+use Rattle.std.proofs.lemmas.Bool.{and_parts, and_from}
+use Rattle.std.proofs.lemmas.Bool.Decides.{nat_tests}
+use Rattle.st_classes.specs.declared.values.Value.{Value}
+use Rattle.st_classes.specs.declared.values.Value.TheVariants.{Int, Bool as Boolean, Nil, Sym, Class, Actor, Local}
+use Rattle.st_classes.specs.declared.edits.Edit.{Edit}
+use Rattle.st_classes.specs.declared.edits.Edit.TheVariants.{Define, Install, Remove}
+use Rattle.st_classes.specs.Classes.{class_count}
+use Rattle.st_classes.specs.Suiting.{edit_suits}
+use Rattle.st_classes.proofs.LawLists.{list_all_weaker}
+use Rattle.st_classes.proofs.LawGrowing.{extends_more, number_grows, suits_more_names}
+use Rattle.st_image.specs.declared.messages.Message.{Message}
+use Rattle.st_image.specs.Worlds.{World}
+use Rattle.st_image.specs.Posting.{argument_fits, message_fits, message_suits}
+
+-- ---- tests
+
+less_more : (names more : List (List ℕ)) (n : ℕ) → nat_lt n (length names) ≡ true → nat_lt n (length (names ++ more)) ≡ true
+less_more names more n e = let h = length-append names more in grind (arith, nat_tests)
+
+-- ---- edits
+
+pub edit_suits_more : (names more : List (List ℕ)) (edits : List Edit) (e : Edit) → edit_suits names edits e ≡ true → edit_suits (names ++ more) edits e ≡ true
+edit_suits_more names more edits (Define name parent added) h = refl
+edit_suits_more names more edits (Install c m) h = suits_more_names names more edits c m h
+edit_suits_more names more edits (Remove c s) h = refl
+
+-- ---- messages
+
+argument_more : (names more : List (List ℕ)) (classes actors : ℕ) (v : Value) → argument_fits names classes actors v ≡ true → argument_fits (names ++ more) classes actors v ≡ true
+argument_more names more classes actors (Int z) e = refl
+argument_more names more classes actors (Boolean b) e = refl
+argument_more names more classes actors Nil e = refl
+argument_more names more classes actors (Sym s) e = less_more names more s.0 e
+argument_more names more classes actors (Class c) e = e
+argument_more names more classes actors (Actor a) e = e
+argument_more names more classes actors (Local n) e = e
+
+pub fits_more : (names more : List (List ℕ)) (classes actors : ℕ) (m : Message) → message_fits names classes actors m ≡ true → message_fits (names ++ more) classes actors m ≡ true
+fits_more names more classes actors m e = let t = and_parts _ _ e in and_from _ _ (number_grows names (names ++ more) (extends_more names more) m.selector (length m.args) t.0) (list_all_weaker _ _ (λ v h. argument_more names more classes actors v h) m.args t.1)
+
+pub message_more : (names more : List (List ℕ)) (w : World) (m : Message) → message_suits names w m ≡ true → message_suits (names ++ more) w m ≡ true
+message_more names more w m e = fits_more names more (class_count w.edits) (length w.actors) m e

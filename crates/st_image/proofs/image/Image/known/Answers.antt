@@ -1,0 +1,23 @@
+use Rattle.std.proofs.Common.{arith, ◌≡◌, length, subst}
+use Rattle.st_image.specs.Worlds.{World, start}
+use Rattle.st_image.specs.Images.{world_of}
+use Rattle.st_image.specs.Lasting.{IsLawful}
+use Rattle.st_image.specs.Acting.{constants_of}
+use Rattle.st_image.proofs.Showing.{count_is}
+use Rattle.st_image.proofs.image.Image.known.Goals as goal
+
+pub returns : goal.returns
+returns c =
+    let i = c.self.inside in
+    let k = c.self.invariant in
+    let w : World = world_of (constants_of i.names i.settings.capacity) start i.history.items in
+    let count : length i.actors ≡ length w.actors = count_is i.version i.actors w k.shows in
+    subst IsLawful c.self.view_is (record {
+      base = k.base_is;
+      lawful = k.lawful;
+      standing = k.world;
+      turns = k.turns;
+      numbers = k.numbers;
+      few_items = k.few_items;
+      few_actors = omega (arith, count, c.len.ensures.few);
+    })

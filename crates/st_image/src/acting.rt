@@ -1,0 +1,318 @@
+//! What actors do on the whole image: their posts, new actors, and the quanta in which they do it.
+ghost use Rattle.std.specs.Prelude.{◌≡◌, ◌<◌, ◌≤◌, ◌^◌, ℕ, List, All, length, slice_get, [], ◌∷◌, Some, true, false, Ok, IsErr, IfOk, IfNone, OnOk, OnErr};
+ghost use Rattle.std.specs.List.{list_all, list_any};
+ghost use Rattle.st_turn.specs.Idling.{is_idle as idle};
+ghost use Rattle.st_classes.specs.Classes.{class_count};
+ghost use Rattle.st_classes.specs.Refusals.{first_of};
+ghost use Rattle.st_classes.specs.Suiting.{arity_at, is_number};
+ghost use Rattle.st_image.specs.Acting.{Does, FewAccepted, GrowsByOne, IsShown, NamesClasses, Quantum, StandsBefore, TakesOuter, Tries, constants_of};
+ghost use Rattle.st_image.specs.Kepts.{Kept, Shows};
+ghost use Rattle.st_image.specs.Next.{closed, create_done, done, is_local as is_local_value, post_done, posted_by, tried};
+ghost use Rattle.st_image.specs.Posting.{argument_fits as fits_argument, message_fits as fits_message, number_rule, post_rules};
+ghost use Rattle.st_image.specs.Worlds.{World};
+
+use crate::actor::{Actor, Progress};
+use crate::actors::Actors;
+use crate::messages::{Message, Sender};
+use st_classes::faults::Fault;
+use st_classes::kernel::KERNEL_CLASSES;
+use st_classes::limits::ACTORS;
+use st_classes::names::Names;
+use st_classes::refusals::Refusal;
+use st_classes::seq::Seq;
+use st_classes::values::{ActorId, ClassId, Selector, Value, Values};
+use st_classes::version::Version;
+use st_turn::acts::Act;
+use st_turn::body::Body;
+use std::alloc::{AllocError, Global};
+
+// ---- messages
+
+/// Whether an argument is no local and names something that is there.
+fn argument_fits(names: &Names, version: &Version, actors: &Actors, value: Value) -> bool
+    ensures { result ≡ fits_argument names.now (class_count version.now) (length actors.now) value }
+{
+    match value {
+        Value::Int(_) | Value::Bool(_) | Value::Nil => true,
+        Value::Sym(name) => u32::from(name.0) < names.len(),
+        Value::Class(class) => u32::from(class.0) < version.classes(),
+        Value::Actor(actor) => (actor.0 as usize) < actors.len(),
+        Value::Local(_) => false,
+    }
+}
+
+fn arguments_fit(names: &Names, version: &Version, actors: &Actors, args: &[Value]) -> bool
+    ensures { result ≡ list_all (fits_argument names.now (class_count version.now) (length actors.now)) args.now }
+{
+    args.iter()
+        .all(|value| argument_fits(names, version, actors, *value))
+}
+
+/// Whether a selector is there and takes so many arguments.
+fn takes(names: &Names, selector: Selector, count: usize) -> bool
+    ensures { result ≡ is_number (arity_at names.now selector) count }
+{
+    u32::from(selector.0) < names.len() && usize::from(names.arity(selector)) == count
+}
+
+/// Whether a message has as many arguments as its selector says, all of which fit.
+fn message_fits(names: &Names, version: &Version, actors: &Actors, message: &Message) -> bool
+    ensures { result ≡ fits_message names.now (class_count version.now) (length actors.now) message.now }
+{
+    let args = message.args.as_slice();
+    takes(names, message.selector, args.len()) && arguments_fit(names, version, actors, args)
+}
+
+/// Why a sender's number is refused, if it is.
+fn number_refusal(version: &Version, actors: &Actors, message: &Message) -> Option<Refusal>
+    ensures { (w : World) → Shows version.now actors.now w → result ≡ first_of (number_rule w message.now.sender message.now.seq ∷ []) }
+{
+    match message.sender {
+        Sender::Client(_) => None,
+        Sender::Actor(actor) => match actors.get(actor) {
+            Some(kept) if kept.last() < message.seq => None,
+            Some(kept) => Some(Refusal::Old { last: kept.last() }),
+            None => Some(Refusal::Old { last: 0 }),
+        },
+    }
+}
+
+/// Why a message is refused, if it is.
+pub(crate) fn post_refusal(
+    names: &Names,
+    version: &Version,
+    actors: &Actors,
+    actor: ActorId,
+    message: &Message,
+) -> Option<Refusal>
+    ensures value { (w : World) → Shows version.now actors.now w → result ≡ first_of (post_rules names.now w (slice_get w.actors actor.0) message.now) }
+    ensures there { IfNone result (actor.0 < length actors.now) }
+{
+    let Some(kept) = actors.get(actor) else {
+        return Some(Refusal::UnknownActor);
+    };
+    if !message_fits(names, version, actors, message) {
+        return Some(Refusal::BadArguments);
+    }
+    match number_refusal(version, actors, message) {
+        Some(refusal) => Some(refusal),
+        None => kept.refusal(),
+    }
+}
+
+/// An actor's message, with its next number, goes to the mailbox of an actor. The answer is whether that accepted it.
+fn try_post(
+    alloc: Global,
+    names: &Names,
+    version: &Version,
+    actors: &mut Actors,
+    actor: ActorId,
+    to: ActorId,
+    selector: Selector,
+    args: &[Value],
+) -> Result<bool, AllocError>
+    requires there { actor.0 < length actors.old }
+    requires few { FewAccepted actors.old }
+    ensures ok { IfOk result (λ answer. (capacity : ℕ) (w : World) → IsShown names.now capacity version.now actors.old w → Tries version.now actors.new w (posted_by (constants_of names.now capacity) to selector args.now actor w (slice_get w.actors actor.0)) answer) }
+    ensures grown { OnOk result (GrowsByOne actors.old actors.new) }
+    ensures err { OnErr result (actors.new ≡ actors.old) }
+{
+    let last = match actors.get(actor) {
+        Some(kept) => kept.last(),
+        None => return Ok(false),
+    };
+    if last == u64::MAX {
+        return Ok(false);
+    }
+    let message = Message {
+        sender: Sender::Actor(actor),
+        seq: last + 1,
+        selector,
+        args: Seq::from_vec(args.to_vec(alloc)?),
+    };
+    if post_refusal(names, version, actors, to, &message).is_some() {
+        return Ok(false);
+    }
+    actors.deliver(to, message)?;
+    actors.set_last(actor, last + 1);
+    Ok(true)
+}
+
+fn is_local(value: Value) -> bool
+    ensures { result ≡ is_local_value value }
+{
+    matches!(value, Value::Local(_))
+}
+
+fn has_local(args: &[Value]) -> bool
+    ensures { result ≡ list_any is_local_value args.now }
+{
+    args.iter().any(|value| is_local(*value))
+}
+
+/// A post of an actor: what it answers, or its fault, for which nothing changed.
+fn post(
+    alloc: Global,
+    names: &Names,
+    version: &Version,
+    actors: &mut Actors,
+    actor: ActorId,
+    to: ActorId,
+    selector: Selector,
+    args: &[Value],
+) -> Result<Result<Value, Fault>, AllocError>
+    requires there { actor.0 < length actors.old }
+    requires few { FewAccepted actors.old }
+    ensures ok { IfOk result (λ answer. (capacity : ℕ) (w : World) → IsShown names.now capacity version.now actors.old w → Does version.now actors.new (post_done (constants_of names.now capacity) to selector args.now actor w) answer) }
+    ensures fault { IfOk result (λ answer. IsErr answer → actors.new ≡ actors.old) }
+    ensures grown { OnOk result (GrowsByOne actors.old actors.new) }
+    ensures err { OnErr result (actors.new ≡ actors.old) }
+{
+    if !takes(names, selector, args.len()) {
+        return Ok(Err(Fault::BadArgument));
+    }
+    if has_local(args) {
+        return Ok(Err(Fault::LocalArgument));
+    }
+    let accepted = try_post(alloc, names, version, actors, actor, to, selector, args)?;
+    Ok(Ok(Value::Bool(accepted)))
+}
+
+/// A new actor that an actor asks for: the answer is its reference.
+fn create(
+    alloc: Global,
+    version: &Version,
+    capacity: u32,
+    actors: &mut Actors,
+    class: ClassId,
+) -> Result<Result<Value, Fault>, AllocError>
+    requires { class.0 < class_count version.now }
+    ensures ok { IfOk result (λ answer. (names : List (List ℕ)) (w : World) → IsShown names capacity version.now actors.old w → Does version.now actors.new (create_done (constants_of names capacity) class w) answer) }
+    ensures fault { IfOk result (λ answer. IsErr answer → actors.new ≡ actors.old) }
+    ensures grown { OnOk result (GrowsByOne actors.old actors.new) }
+    ensures err { OnErr result (actors.new ≡ actors.old) }
+{
+    if 1 <= class.0 && class.0 < KERNEL_CLASSES {
+        return Ok(Err(Fault::BadArgument));
+    }
+    if actors.len() >= ACTORS {
+        return Ok(Err(Fault::TooManyActors));
+    }
+    let number = actors.len() as u32;
+    let body = Body::fresh(alloc, class, version.slots(class).len())?;
+    actors.push(Actor::new(alloc, class, capacity, body))?;
+    Ok(Ok(Value::Actor(ActorId(number))))
+}
+
+/// An actor asks that a mailbox be closed: the answer is whether it was open.
+fn close(version: &Version, actors: &mut Actors, to: ActorId) -> Value
+    ensures does { (names : List (List ℕ)) (capacity : ℕ) (w : World) → IsShown names capacity version.now actors.old w → Does version.now actors.new (tried w (closed w to)) (Ok result) }
+    ensures grown { GrowsByOne actors.old actors.new }
+{
+    match actors.get(to) {
+        Some(kept) if kept.is_open() => {
+            actors.close(to);
+            Value::Bool(true)
+        }
+        _ => Value::Bool(false),
+    }
+}
+
+/// Does an act: the answer, or its fault, for which nothing changed.
+fn perform(
+    alloc: Global,
+    names: &Names,
+    version: &Version,
+    capacity: u32,
+    actors: &mut Actors,
+    actor: ActorId,
+    act: Act,
+) -> Result<Result<Value, Fault>, AllocError>
+    requires there { actor.0 < length actors.old }
+    requires few { FewAccepted actors.old }
+    requires class { NamesClasses version.now act }
+    ensures ok { IfOk result (λ answer. (w : World) → IsShown names.now capacity version.now actors.old w → Does version.now actors.new (done (constants_of names.now capacity) actor w act) answer) }
+    ensures fault { IfOk result (λ answer. IsErr answer → actors.new ≡ actors.old) }
+    ensures grown { OnOk result (GrowsByOne actors.old actors.new) }
+    ensures err { OnErr result (actors.new ≡ actors.old) }
+{
+    match act {
+        Act::Post { actor: to, args } => match args.as_slice() {
+            [Value::Sym(selector), rest @ ..] => post(
+                alloc, names, version, actors, actor, to, *selector, rest,
+            ),
+            _ => Ok(Err(Fault::BadArgument)),
+        },
+        Act::Close(to) => Ok(Ok(close(version, actors, to))),
+        Act::Create(class) => create(alloc, version, capacity, actors, class),
+    }
+}
+
+// ---- quanta
+
+/// Takes the next step of an actor where it is the image's to take. The answer is whether it was.
+fn take_outer(
+    alloc: Global,
+    names: &Names,
+    version: &Version,
+    capacity: u32,
+    actors: &mut Actors,
+    actor: ActorId,
+) -> Result<bool, AllocError>
+    requires there { actor.0 < length actors.old }
+    requires few { FewAccepted actors.old }
+    requires shown { (w : World) × IsShown names.now capacity version.now actors.old w }
+    ensures ok { IfOk result (λ outer. (w : World) → IsShown names.now capacity version.now actors.old w → TakesOuter (constants_of names.now capacity) version.now actors.old actors.new actor w outer) }
+    ensures stands { OnErr result ((w : World) → IsShown names.now capacity version.now actors.old w → StandsBefore actor w true) }
+    ensures grown { OnOk result (GrowsByOne actors.old actors.new) }
+    ensures err { OnErr result (actors.new ≡ actors.old) }
+{
+    if !actors.is_act_next(version, actor) {
+        return Ok(false);
+    }
+    let Some(act) = actors.next_act(alloc, version, actor)? else {
+        return Ok(false);
+    };
+    match perform(alloc, names, version, capacity, actors, actor, act)? {
+        Ok(value) => actors.give(version, actor, value),
+        Err(fault) => actors.fail(version, actor, fault)?,
+    }
+    Ok(true)
+}
+
+/// A quantum of an actor that is in a turn: up to so many steps of its own, and the image's step where it comes next. Where there
+/// is no memory for a step, the steps before it stand; an error says that nothing changed.
+pub(crate) fn take_quantum(
+    alloc: Global,
+    names: &Names,
+    version: &Version,
+    capacity: u32,
+    actors: &mut Actors,
+    actor: ActorId,
+    limit: u32,
+) -> Result<Progress, AllocError>
+    requires there { actor.0 < length actors.old }
+    requires few { FewAccepted actors.old }
+    requires shown { (w : World) × IsShown names.now capacity version.now actors.old w }
+    requires busy { (k : Kept) → slice_get actors.old actor.0 ≡ Some k → idle k.body.phase ≡ false }
+    requires limit { limit ≤ 1024 }
+    ensures ok { IfOk result (λ p. (w : World) → IsShown names.now capacity version.now actors.old w → Quantum (constants_of names.now capacity) version.now actors.new actor limit w p.steps p.is_whole) }
+    ensures grown { OnOk result (GrowsByOne actors.old actors.new) }
+    ensures err { OnErr result (actors.new ≡ actors.old) }
+{
+    let progress = actors.run(alloc, version, actor, limit)?;
+    if !progress.is_whole {
+        return Ok(progress);
+    }
+    match take_outer(alloc, names, version, capacity, actors, actor) {
+        Ok(true) => Ok(Progress {
+            steps: progress.steps + 1,
+            is_whole: true,
+        }),
+        Ok(false) => Ok(progress),
+        Err(_) => Ok(Progress {
+            steps: progress.steps,
+            is_whole: false,
+        }),
+    }
+}

@@ -1,0 +1,300 @@
+//! One actor: its body, its mailbox and how its turns ended.
+ghost use Rattle.std.specs.Prelude.{◌≡◌, ◌⊎◌, ◌≤◌, ◌<◌, IsTrue, Some, true, false};
+ghost use Rattle.st_turn.specs.Idling.{is_idle as idle};
+ghost use Rattle.st_turn.specs.Steps.{own_steps, step};
+ghost use Rattle.st_image.specs.Advancing.{IsOver};
+ghost use Rattle.st_image.specs.Keeping.{CanRun};
+
+use crate::messages::Message;
+use st_classes::faults::Fault;
+use st_classes::refusals::Refusal;
+use st_classes::values::{ActorId, ClassId, Value};
+use st_classes::version::Version;
+use st_turn::acts::reply;
+use st_turn::body::{Body, Outcome, Phase, Stop};
+use st_turn::plain::step_plain;
+use std::alloc::{AllocError, Global};
+use std::collections::VecDeque;
+use std::marker::Model;
+
+/// How far a quantum went.
+#[derive(Drop)]
+pub(crate) struct Progress {
+    pub(crate) steps: u32,
+    /// Whether it ended with its last step or where no step of the actor's own is next, and not for want of memory.
+    pub(crate) is_whole: bool,
+}
+
+impl Progress {
+    ghost use Rattle.std.specs.Prelude.{◌≡◌, if◌then◌else◌, Ok, Err};
+    ghost use Rattle.st_classes.specs.declared.refusals.Refusal.TheVariants.{NoMemory};
+
+    /// How many steps were taken, or that memory ran out.
+    pub(crate) fn answer(&self) -> Result<u32, Refusal>
+        ensures { result ≡ (if self.now.is_whole then Ok self.now.steps else Err NoMemory) }
+    {
+        if self.is_whole {
+            Ok(self.steps)
+        } else {
+            Err(Refusal::NoMemory)
+        }
+    }
+}
+
+/// Takes up to so many steps of the actor's own, for as long as one is next.
+fn run_steps(
+    alloc: Global,
+    body: &mut Body,
+    version: &Version,
+    actor: ActorId,
+    limit: u32,
+) -> Progress
+    requires { CanRun version.now actor body.old }
+    ensures steps { own_steps version.now actor result.steps body.old ≡ Some body.new }
+    ensures within { result.steps ≤ limit }
+    ensures whole { IsTrue result.is_whole → (result.steps ≡ limit) ⊎ IsOver (step version.now actor body.new) }
+    ensures cut { result.is_whole ≡ false → (result.steps < limit) × (idle body.new.phase ≡ false) }
+{
+    let mut steps = 0;
+    'turn: while steps < limit && !body.is_idle() {
+        match step_plain(alloc, body, actor, version) {
+            Ok(Stop::More) => steps += 1,
+            Ok(_) => break,
+            Err(_) => {
+                return Progress {
+                    steps,
+                    is_whole: false,
+                };
+            }
+        }
+    }
+    Progress {
+        steps,
+        is_whole: true,
+    }
+}
+
+/// An actor. Contracts see what is kept of it.
+#[derive(Drop)]
+pub(crate) struct Actor {
+    class: ClassId,
+    capacity: u32,
+    is_open: bool,
+    body: Body,
+    /// The number of the last message that it sent.
+    last: u64,
+    /// What its mailbox accepted and it has not begun.
+    pending: VecDeque<Message>,
+    /// How many messages its mailbox accepted.
+    accepted: u64,
+    /// How its turns ended.
+    results: Vec<Outcome>,
+}
+
+impl Model for Actor {
+    ghost use Rattle.st_image.specs.Kepts.{Kept};
+
+    ghost Value = { Kept };
+
+    ghost view = { λ a. record { class = a.class; capacity = a.capacity; is_open = a.is_open; body = a.body; last = a.last; pending = a.pending.items; accepted = a.accepted; results = a.results.items } };
+}
+
+impl Actor {
+    ghost use Rattle.std.specs.Prelude.{◌≡◌, ◌+◌, ◌<◌, ◌≤◌, ◌^◌, ◌==◌, length, not, true, false, IfOk, OnOk, OnErr, Ok, Err};
+    ghost use Rattle.st_classes.specs.Refusals.{first_of};
+    ghost use Rattle.st_turn.specs.declared.acts.Act.{Act as ActOf};
+    ghost use Rattle.st_turn.specs.Fitting.{FitsSome};
+    ghost use Rattle.st_turn.specs.Leaving.{IsAct};
+    ghost use Rattle.st_turn.specs.Steps.{outer, replied};
+    ghost use Rattle.st_image.specs.Advancing.{outcome_in};
+    ghost use Rattle.st_image.specs.Kepts.{kept_rules, begun_first, is_ready_kept, new_kept, stepped_to, taken_in};
+
+    /// A new actor with a body and an open mailbox.
+    pub(crate) fn new(alloc: Global, class: ClassId, capacity: u32, body: Body) -> Actor
+        ensures { result ≡ new_kept class capacity body }
+    {
+        Actor {
+            class,
+            capacity,
+            is_open: true,
+            body,
+            last: 0,
+            pending: VecDeque::new(alloc),
+            accepted: 0,
+            results: Vec::new(alloc),
+        }
+    }
+
+    pub(crate) fn class(&self) -> ClassId
+        ensures { result ≡ self.now.class }
+    {
+        self.class
+    }
+
+    pub(crate) fn body(&self) -> &Body
+        ensures { result.now ≡ self.now.body }
+    {
+        &self.body
+    }
+
+    pub(crate) fn pending(&self) -> &VecDeque<Message>
+        ensures { result.now.items ≡ self.now.pending }
+    {
+        &self.pending
+    }
+
+    pub(crate) fn capacity(&self) -> u32
+        ensures { result ≡ self.now.capacity }
+    {
+        self.capacity
+    }
+
+    pub(crate) fn is_open(&self) -> bool
+        ensures { result ≡ self.now.is_open }
+    {
+        self.is_open
+    }
+
+    /// The number of the last message that it sent, 0 where it sent none.
+    pub(crate) fn last(&self) -> u64
+        ensures { result ≡ self.now.last }
+    {
+        self.last
+    }
+
+    /// Whether no turn is going on.
+    pub(crate) fn is_idle(&self) -> bool
+        ensures { result ≡ idle self.now.body.phase }
+    {
+        self.body.is_idle()
+    }
+
+    pub(crate) fn has_pending(&self) -> bool
+        ensures { result ≡ not (length self.now.pending == 0) }
+    {
+        !self.pending.is_empty()
+    }
+
+    /// Whether it is in a turn or has a message pending.
+    pub(crate) fn is_ready(&self) -> bool
+        ensures { result ≡ is_ready_kept self.now }
+    {
+        !self.is_idle() || self.has_pending()
+    }
+
+    /// How a turn ended, where the first of the results is that of turn 1.
+    pub(crate) fn outcome(&self, turn: u64) -> Result<Outcome, Refusal>
+        ensures { result ≡ outcome_in 1 self.now.results turn }
+    {
+        if turn == 0 {
+            return Err(Refusal::Expired);
+        }
+        match self.results.get((turn - 1) as usize) {
+            Some(outcome) => Ok(*outcome),
+            None => Err(Refusal::Pending),
+        }
+    }
+
+    /// Why the mailbox refuses a message, if it does.
+    pub(crate) fn refusal(&self) -> Option<Refusal>
+        ensures { result ≡ first_of (kept_rules self.now) }
+    {
+        if !self.is_open {
+            return Some(Refusal::Closed);
+        }
+        if (self.capacity as usize) <= self.pending.len() {
+            return Some(Refusal::Full);
+        }
+        None
+    }
+
+    /// Puts a message last in the mailbox. The answer is how many messages the mailbox has accepted.
+    pub(crate) fn take_in(&mut self, message: Message) -> Result<u64, AllocError>
+        requires { self.old.accepted < 2 ^ 63 }
+        ensures count { IfOk result (λ n. n ≡ self.old.accepted + 1) }
+        ensures ok { OnOk result (self.new ≡ taken_in message self.old) }
+        ensures err { OnErr result (self.new ≡ self.old) }
+    {
+        self.pending.push_back(message)?;
+        self.accepted += 1;
+        Ok(self.accepted)
+    }
+
+    /// Its last message has this number.
+    pub(crate) fn set_last(&mut self, number: u64)
+        ensures { self.new ≡ record self.old { last = number } }
+    {
+        self.last = number;
+    }
+
+    /// Its mailbox accepts no more.
+    pub(crate) fn close(&mut self)
+        ensures { self.new ≡ record self.old { is_open = false } }
+    {
+        self.is_open = false;
+    }
+
+    /// Begins the first pending message, where one is pending.
+    pub(crate) fn begin(&mut self)
+        ensures { self.new ≡ begun_first self.old }
+    {
+        if let Some(message) = self.pending.pop_front() {
+            self.body.begin(message.selector, message.args);
+        }
+    }
+
+    /// Takes up to so many steps of its own. A turn that ends adds its result. Where there is no memory for a step, the steps
+    /// before it stand; an error says that nothing changed.
+    pub(crate) fn run(
+        &mut self,
+        alloc: Global,
+        version: &Version,
+        number: ActorId,
+        limit: u32,
+    ) -> Result<Progress, AllocError>
+        requires runs { CanRun version.now number self.old.body }
+        requires busy { idle self.old.body.phase ≡ false }
+        ensures steps { IfOk result (λ p. own_steps version.now number p.steps self.old.body ≡ Some self.new.body) }
+        ensures kept { OnOk result (self.new ≡ stepped_to self.new.body self.old) }
+        ensures within { IfOk result (λ p. p.steps ≤ limit) }
+        ensures whole { IfOk result (λ p. IsTrue p.is_whole → (p.steps ≡ limit) ⊎ IsOver (step version.now number self.new.body)) }
+        ensures cut { IfOk result (λ p. p.is_whole ≡ false → (p.steps < limit) × (idle self.new.body.phase ≡ false)) }
+        ensures err { OnErr result (self.new ≡ self.old) }
+    {
+        self.results.reserve(1)?;
+        let progress = run_steps(alloc, &mut self.body, version, number, limit);
+        if let Phase::Done(outcome) = &self.body.phase {
+            self.results.push(*outcome).unwrap();
+        }
+        Ok(progress)
+    }
+
+    /// Its act was done, and its turn goes on with the answer.
+    pub(crate) fn give(&mut self, version: &Version, number: ActorId, value: Value)
+        requires fits { FitsSome version.now number self.old.body }
+        requires act { IsAct (step version.now number self.old.body) }
+        ensures { (act : ActOf) → step version.now number self.old.body ≡ outer act → self.new ≡ stepped_to (replied act (Ok value) self.old.body) self.old }
+    {
+        reply(&mut self.body, number, version, Ok(value));
+    }
+
+    /// Its act ends its turn with a fault. An error says that nothing changed.
+    pub(crate) fn fail(
+        &mut self,
+        version: &Version,
+        number: ActorId,
+        fault: Fault,
+    ) -> Result<(), AllocError>
+        requires fits { FitsSome version.now number self.old.body }
+        requires act { IsAct (step version.now number self.old.body) }
+        ensures ok { OnOk result ((act : ActOf) → step version.now number self.old.body ≡ outer act → self.new ≡ stepped_to (replied act (Err fault) self.old.body) self.old) }
+        ensures err { OnErr result (self.new ≡ self.old) }
+    {
+        self.results.reserve(1)?;
+        reply(&mut self.body, number, version, Err(fault));
+        if let Phase::Done(outcome) = &self.body.phase {
+            self.results.push(*outcome).unwrap();
+        }
+        Ok(())
+    }
+}

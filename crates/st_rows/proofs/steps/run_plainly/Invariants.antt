@@ -1,0 +1,5 @@
+use Rattle.st_turn.specs.Fitting.{FitsSome}
+use Rattle.st_rows.proofs.steps.run_plainly.Given as goal
+
+abbrev pub invariant-loop-steps : goal.invariant-loop-steps
+invariant-loop-steps l = FitsSome l.version (record { 0 = 0 }) l.body

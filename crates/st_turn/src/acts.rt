@@ -1,0 +1,122 @@
+//! What a step asks of the image.
+ghost use Rattle.std.specs.Prelude.{◌≡◌, List, length, is_some, slice_get, Some, IfOk};
+ghost use Rattle.st_classes.specs.declared.values.Value.{Value as ValueOf};
+ghost use Rattle.st_turn.specs.declared.acts.Act.{Act as ActOf};
+ghost use Rattle.st_turn.specs.Fitting.{FitsSome};
+ghost use Rattle.st_turn.specs.Leaving.{IsAct, act_in};
+ghost use Rattle.st_turn.specs.Steps.{act_of as act_for, outer, replied, step};
+
+use crate::body::{Body, Outcome, Phase};
+use crate::plain::fetch;
+use st_classes::faults::Fault;
+use st_classes::instructions::Instruction;
+use st_classes::seq::Seq;
+use st_classes::values::{ActorId, ClassId, Selector, Value, Values};
+use st_classes::version::Version;
+use std::alloc::{AllocError, Global};
+
+/// A step that is no change of its actor alone. The image does it, and the turn goes on with the answer.
+#[derive(Drop)]
+pub enum Act {
+    /// A message for an actor: the symbol of its selector, and its arguments, as they were handed to the post.
+    Post { actor: ActorId, args: Values },
+    /// The mailbox of an actor closes.
+    Close(ActorId),
+    /// A new actor of a class.
+    Create(ClassId),
+}
+
+/// Whether a message with so many arguments asks something of the image: a post to an actor, or a new actor.
+#[inline]
+pub(crate) fn is_act(receiver: Value, selector: Selector, count: u8) -> bool
+    ensures { (args : List ValueOf) → length args ≡ count → result ≡ is_some (act_for receiver selector args) }
+{
+    match receiver {
+        Value::Actor(_) => 16 <= selector.0 && selector.0 <= 18,
+        Value::Class(_) => selector.0 == 21 && count == 0,
+        _ => false,
+    }
+}
+
+/// What a message asks of the image, if it does.
+fn act_of(
+    alloc: Global,
+    receiver: Value,
+    selector: Selector,
+    args: &[Value],
+) -> Result<Option<Act>, AllocError>
+    ensures { IfOk result (λ act. act ≡ act_for receiver selector args.now) }
+{
+    match receiver {
+        Value::Actor(actor) if 16 <= selector.0 && selector.0 <= 18 => Ok(Some(Act::Post {
+            actor,
+            args: Seq::from_vec(args.to_vec(alloc)?),
+        })),
+        Value::Class(class) if selector.0 == 21 && args.is_empty() => Ok(Some(Act::Create(class))),
+        _ => Ok(None),
+    }
+}
+
+/// Whether the next step of a body asks something of the image.
+pub fn is_act_next(body: &Body, actor: ActorId, version: &Version) -> bool
+    requires { FitsSome version.now actor body.now }
+    ensures { result ≡ is_some (act_in (step version.now actor body.now)) }
+{
+    version.known();
+    let Phase::Frames(frames) = &body.phase else {
+        return false;
+    };
+    let running = frames.running();
+    let method = version.installed(running.method());
+    match fetch(method, running) {
+        Instruction::Send(selector, count) => {
+            is_act(running.receiver_below(count), selector, count)
+        }
+        _ => false,
+    }
+}
+
+/// What the next step of a body asks of the image, if it does.
+pub fn next_act(
+    alloc: Global,
+    body: &Body,
+    actor: ActorId,
+    version: &Version,
+) -> Result<Option<Act>, AllocError>
+    requires { FitsSome version.now actor body.now }
+    ensures { IfOk result (λ act. act ≡ act_in (step version.now actor body.now)) }
+{
+    version.known();
+    let Phase::Frames(frames) = &body.phase else {
+        return Ok(None);
+    };
+    let running = frames.running();
+    let method = version.installed(running.method());
+    match fetch(method, running) {
+        Instruction::Send(selector, count) => {
+            let receiver = running.receiver_below(count);
+            act_of(alloc, receiver, selector, running.arguments(count))
+        }
+        _ => Ok(None),
+    }
+}
+
+/// The image did what the next step of a body asks of it: the turn goes on with the answer, or ends with a fault.
+pub fn reply(body: &mut Body, actor: ActorId, version: &Version, answer: Result<Value, Fault>)
+    requires fits { FitsSome version.now actor body.old }
+    requires act { IsAct (step version.now actor body.old) }
+    ensures { (act : ActOf) → step version.now actor body.old ≡ outer act → body.new ≡ replied act answer body.old }
+{
+    version.known();
+    let Phase::Frames(frames) = &mut body.phase else {
+        return;
+    };
+    let method = version.installed(frames.running().method());
+    let Instruction::Send(_, count) = fetch(method, frames.running()) else {
+        return;
+    };
+    match answer {
+        Ok(value) => frames.give(count, value),
+        Err(fault) => body.phase = Phase::Done(Outcome::Fault(fault)),
+    }
+}

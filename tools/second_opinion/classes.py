@@ -1,10 +1,10 @@
-"""The class table: definitions, installs, and lookup."""
+"""The class table: definitions, installs, removes, and lookup."""
 
 from dataclasses import dataclass, field
 
 from .checks import read_method
 from .compiler import compile_method
-from .language import KERNEL_CLASSES, KERNEL_SELECTORS
+from .language import KERNEL_CLASSES, KERNEL_SELECTORS, is_selector
 
 
 @dataclass
@@ -15,12 +15,16 @@ class Class:
     methods: dict = field(default_factory=dict)
 
 
-class KernelMethod(Exception):
-    """An install in place of a method of the kernel."""
+class Refused(Exception):
+    """An edit is refused, under this name."""
+
+    def __init__(self, name):
+        super().__init__(name)
+        self.name = name
 
 
 class Classes:
-    """`edits` counts the definitions and installs."""
+    """`edits` counts the definitions, installs and removes."""
 
     def __init__(self):
         self.all = [Class(name, None if number == 0 else 0, []) for number, name in enumerate(KERNEL_CLASSES)]
@@ -38,11 +42,25 @@ class Classes:
         holder = self.all[self.numbers[class_name]]
         tree = read_method(source)
         if tree.selector in KERNEL_SELECTORS.get(class_name, ()):
-            raise KernelMethod
+            raise Refused("KernelMethod")
         method = compile_method(tree, holder.slots, self.numbers)
         holder.methods[method.selector] = method
         self.edits += 1
         return method
+
+    def remove(self, class_name, selector):
+        """Takes the class's own method for the selector away. What runs it goes on with it."""
+        if class_name not in self.numbers:
+            raise Refused("UnknownClass")
+        if not is_selector(selector):
+            raise Refused("BadName")
+        if selector in KERNEL_SELECTORS.get(class_name, ()):
+            raise Refused("KernelMethod")
+        methods = self.all[self.numbers[class_name]].methods
+        if selector not in methods:
+            raise Refused("NoSuchMethod")
+        del methods[selector]
+        self.edits += 1
 
     def find(self, number, selector):
         """The number of the class that has the method, and the method: a compiled one, or None for one of the kernel. None

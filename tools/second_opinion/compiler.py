@@ -3,7 +3,7 @@
 from dataclasses import dataclass
 
 from .checks import refuse
-from .language import BadSource, MOST_INSTRUCTIONS, MOST_OPERANDS, RESERVED, SUPER_SENDS
+from .language import BadSource, MOST_INSTRUCTIONS, MOST_OPERANDS, RESERVED
 from .tree import Assignment, Cascade, Name, Number, Parenthesis, Symbol, is_inlined, is_super
 from .values import FALSE, NIL, TRUE, Instruction, Value
 
@@ -12,6 +12,7 @@ PUSHES = ("PushLit", "PushSelf", "PushActor", "PushTemp", "PushSlot", "Dup")
 # What stands for a reserved name.
 RESERVED_CODE = {
     "self": Instruction("PushSelf"),
+    "super": Instruction("PushSelf"),
     "thisActor": Instruction("PushActor"),
     "nil": Instruction("PushLit", NIL),
     "true": Instruction("PushLit", TRUE),
@@ -57,8 +58,6 @@ class Compiler:
         return Compiled(self.method.selector, len(self.method.arguments), len(self.method.temporaries), code, found)
 
     def is_known(self, name):
-        if name == "super":
-            return SUPER_SENDS
         return name in RESERVED or name in self.temps or name in self.slots or name in self.classes
 
     def body(self, statements):
@@ -118,9 +117,8 @@ class Compiler:
         return code + [Instruction(name, message.selector, len(message.arguments))]
 
     def send(self, send):
-        if is_super(send.receiver):
-            return [Instruction("PushSelf")] + self.message(send.message, "SuperSend")
-        return self.code(send.receiver) + self.message(send.message)
+        name = "SuperSend" if is_super(send.receiver) else "Send"
+        return self.code(send.receiver) + self.message(send.message, name)
 
     def cascade(self, cascade):
         code = self.code(cascade.receiver)

@@ -1,7 +1,7 @@
 """The image: what each command of a script answers."""
 
-from .classes import Classes, KernelMethod
-from .language import BadSource, arguments_of
+from .classes import Classes, Refused
+from .language import BadSource, MOST_ACTORS, arguments_of, is_selector
 from .machine import Actor
 from .values import NIL, Value, boolean
 
@@ -13,7 +13,8 @@ class TooManySteps(Exception):
 
 
 class Image:
-    """`patience` is the number of steps that it may take in all, where there is one."""
+    """`ready` has the numbers of the actors that are in a turn or have a message pending; `patience` is the number of steps
+    that a run may take, where there is one."""
 
     def __init__(self, quantum=256, capacity=64, patience=None):
         self.quantum = quantum
@@ -21,11 +22,13 @@ class Image:
         self.patience = patience
         self.classes = Classes()
         self.actors = []
+        self.ready = set()
         self.last = -1
         self.installed = None
 
     def reply(self, command):
-        """The reply to a command of those that the scripts here have: all name classes and actors that are there."""
+        """The reply to a command of those that the scripts here have: a definition, a method and an actor name a class that is
+        there."""
         return getattr(self, command["cmd"])(command)
 
     def define(self, command):
@@ -35,25 +38,68 @@ class Image:
     def method(self, command):
         try:
             self.installed = self.classes.install(command["class"], command["source"].encode())
-        except KernelMethod:
-            return {"error": "KernelMethod"}
+        except Refused as refused:
+            return {"error": refused.name}
         except BadSource as bad:
             return {"error": "BadSource", "kind": bad.kind, "offset": bad.offset}
         return {"ok": {"version": self.classes.edits}}
 
+    def remove(self, command):
+        try:
+            self.classes.remove(command["class"], command["selector"])
+        except Refused as refused:
+            return {"error": refused.name}
+        return {"ok": {"version": self.classes.edits}}
+
     def actor(self, command):
-        self.actors.append(Actor(len(self.actors), self.classes.numbers[command["class"]], self.classes))
-        return {"ok": {"actor": len(self.actors) - 1}}
+        number = self.new_actor(self.classes.numbers[command["class"]])
+        return {"error": "TooMany", "what": "actors"} if number is None else {"ok": {"actor": number}}
+
+    def new_actor(self, class_number):
+        """The number of a new actor; None where there are as many as there may be."""
+        if len(self.actors) >= MOST_ACTORS:
+            return None
+        self.actors.append(Actor(len(self.actors), class_number, self))
+        return len(self.actors) - 1
 
     def post(self, command):
-        actor = self.actors[command["actor"]]
-        if arguments_of(command["selector"]) != len(command["args"]):
+        number, selector, arguments = command["actor"], command["selector"], command["args"]
+        if any(isinstance(argument, dict) and "local" in argument for argument in arguments):
+            return {"error": "BadCommand"}
+        unread = self.unread(selector, arguments)
+        if unread:
+            return {"error": unread}
+        if number >= len(self.actors):
+            return {"error": "UnknownActor"}
+        if arguments_of(selector) != len(arguments) or not all(self.names_something(argument) for argument in arguments):
             return {"error": "BadArguments"}
-        if len(actor.pending) >= self.capacity:
+        if not self.deliver(number, selector, [self.value(argument) for argument in arguments]):
             return {"error": "Full"}
-        actor.pending.append((command["selector"], [self.value(json) for json in command["args"]]))
+        return {"ok": {"turn": self.actors[number].accepted}}
+
+    def unread(self, selector, arguments):
+        """What is wrong with the first text that says nothing; None where all are read."""
+        if not is_selector(selector):
+            return "BadName"
+        for argument in arguments:
+            if isinstance(argument, dict) and not is_selector(argument.get("sym", selector)):
+                return "BadName"
+            if isinstance(argument, dict) and "class" in argument and argument["class"] not in self.classes.numbers:
+                return "UnknownClass"
+        return None
+
+    def names_something(self, argument):
+        return not isinstance(argument, dict) or argument.get("ref", -1) < len(self.actors)
+
+    def deliver(self, number, selector, arguments):
+        """Whether the actor's mailbox had room for the message, which is in it then."""
+        actor = self.actors[number]
+        if len(actor.pending) >= self.capacity:
+            return False
+        actor.pending.append((selector, arguments))
         actor.accepted += 1
-        return {"ok": {"turn": actor.accepted}}
+        self.ready.add(number)
+        return True
 
     def run(self, command):
         taken = steps = 0
@@ -68,25 +114,40 @@ class Image:
         return {"ok": {"quanta": taken, "steps": steps}}
 
     def next_ready(self):
-        """The first ready actor behind the last that had a quantum."""
-        for further in range(len(self.actors)):
-            number = (self.last + 1 + further) % len(self.actors)
-            if self.actors[number].is_ready():
-                self.last = number
-                return self.actors[number]
-        return None
+        """The first ready actor behind the last that had a quantum; behind the highest number comes 0."""
+        if not self.ready:
+            return None
+        self.last = min(self.ready, key=lambda number: (number <= self.last, number))
+        return self.actors[self.last]
 
     def take_quantum(self, actor):
-        """The steps that a quantum took: fewer than it may where the turn ends."""
+        """The steps that a quantum took: as many as it may, fewer where the turn ends or stands before an outer step. That
+        step it takes too, and ends then."""
         if not actor.in_turn():
             actor.begin()
-        for steps in range(1, self.quantum + 1):
+        steps = 0
+        while steps < self.quantum and actor.in_turn() and not actor.at_outer_step():
             actor.step()
-            if not actor.in_turn():
-                return steps
-        return self.quantum
+            steps += 1
+        if actor.at_outer_step():
+            actor.step()
+            steps += 1
+        if not actor.is_ready():
+            self.ready.discard(actor.number)
+        return steps
+
+    def copy(self):
+        """An image that goes its own way from here, with the same classes. All actors are at rest."""
+        assert not self.ready, "an actor is not at rest"
+        twin = Image(self.quantum, self.capacity, self.patience)
+        twin.classes = self.classes
+        twin.last = self.last
+        twin.actors = [actor.copy(twin) for actor in self.actors]
+        return twin
 
     def outcome(self, command):
+        if command["actor"] >= len(self.actors):
+            return {"error": "UnknownActor"}
         results = self.actors[command["actor"]].results
         if command["turn"] == 0:
             return {"error": "Expired"}
@@ -112,4 +173,4 @@ class Image:
             return Value("symbol", json["sym"])
         if "class" in json:
             return Value("class", self.classes.numbers[json["class"]])
-        return Value("actor", self.actors[json["ref"]].number)
+        return Value("actor", json["ref"])

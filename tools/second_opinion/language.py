@@ -1,5 +1,7 @@
 """The words and numbers of the language, and what is not there yet."""
 
+import re
+
 LARGEST = 2**63 - 1
 SMALLEST = -(2**63)
 
@@ -11,6 +13,8 @@ DEEPEST_BRACKET = 64
 MOST_INSTRUCTIONS = 1024
 MOST_OPERANDS = 64
 MOST_FRAMES = 128
+MOST_OBJECTS = 1024
+MOST_ACTORS = 65536
 
 RESERVED = ("self", "super", "nil", "true", "false", "thisActor")
 
@@ -20,15 +24,17 @@ LOOPS = ("whileTrue:", "whileFalse:")
 # The classes that are there from the start, by their numbers. All but the first are directly under it.
 KERNEL_CLASSES = ("Object", "SmallInteger", "True", "False", "UndefinedObject", "Symbol", "ActorRef", "Class")
 
-# Not there yet, and what changes here when it comes. A message to super is read, and refused by the compiler as an unknown
-# name; with super sends this becomes True. ActorRef and Class have no methods, so that one may be put in their place; with
-# actors and objects that methods make they get entries here, and the kernel gets their results.
-SUPER_SENDS = False
+# The messages by which a turn reaches past its actor, by the kind of value that gets them.
+OUTER_SELECTORS = {"actor": ("post:", "post:with:", "post:with:with:"), "class": ("newActor",)}
+
+# Not there yet: `close` of ActorRef, which stands here when it comes, and among the messages above.
 KERNEL_SELECTORS = {
     "Object": ("==", "=", "class", "isNil", "doesNotUnderstand:"),
     "SmallInteger": ("+", "-", "*", "//", "\\\\", "<", ">", "<=", ">="),
     "True": ("not", "&"),
     "False": ("not", "&"),
+    "ActorRef": ("post:", "post:with:", "post:with:with:"),
+    "Class": ("new", "newActor"),
 }
 
 
@@ -44,6 +50,15 @@ class BadSource(Exception):
 def arguments_of(selector):
     """How many arguments a selector takes."""
     return selector.count(":") if selector[0].isalpha() else 1
+
+
+NAME = "[A-Za-z][A-Za-z0-9]{0,%d}" % (LONGEST_WORD - 1)
+SELECTOR = re.compile(r"%s|(%s:){1,%d}|[-+*/\\<>=~&,][+*/\\<>=~&,]?" % (NAME, NAME, MOST_KEYWORDS))
+
+
+def is_selector(text):
+    """Whether a text can be a selector."""
+    return SELECTOR.fullmatch(text) is not None
 
 
 def begins_small(word):

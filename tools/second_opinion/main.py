@@ -4,9 +4,11 @@
     tools/second-opinion PROGRAM --sharp
 
 PROGRAM is `crates/actorimage/out/actorimage`. Compared are the replies to each command of scripts: which sources are refused,
-with which kind and at which byte, and how turns end, in how many quanta and steps. Where they differ, the status is 1, and
-the shortest source and script that show it are printed; with --briefly only that they do. --sharp puts wrong rules into the
-second reader, one at a time, and says which of them no source tells apart from the right ones.
+with which kind and at which byte; which methods are removed; which messages mailboxes take; and how turns end, in how many
+quanta and steps. Some scripts are picked by hand; the replies that are said in these are asked of the second reader first,
+and where it gives others, the status is 3. Where it and the program differ, the status is 1, and the shortest source and
+script that show it are printed; with --briefly only that they do. --sharp puts wrong rules into the second reader, one at a
+time, and says which of them no source tells apart from the right ones.
 """
 
 import argparse
@@ -39,17 +41,21 @@ def arguments():
 
 def compare(program, seed, sources, briefly):
     """The status: 0 where there is no difference."""
-    read = turns = 0
+    read = turns = scripts = 0
     for script in all_scripts(seed, sources):
+        if script.wrong and not briefly:
+            print("\n".join(["tools/second-opinion: the second reader itself breaks a rule"] + script.wrong))
+            return 3
         got = program_replies(program, script.lines, script.quantum, script.capacity)
+        scripts += 1
         read += script.sources
         turns += script.turns
         if differences(script.replies, got):
             if not briefly:
                 print(Difference(program, script, got).report())
-            print(f"tools/second-opinion: a difference within {read:,} sources and {turns:,} turns")
+            print(f"tools/second-opinion: a difference within {scripts:,} scripts, {read:,} sources and {turns:,} turns")
             return 1
-    print(f"tools/second-opinion: {read:,} sources and {turns:,} turns, no difference")
+    print(f"tools/second-opinion: {scripts:,} scripts, {read:,} sources and {turns:,} turns, no difference")
     return 0
 
 

@@ -3,18 +3,20 @@
 import json
 import random
 
-from .image import Image
-from .language import arguments_of
-from .machine import Actor
+from .image import Image, TooManySteps
+from .language import KERNEL_SELECTORS, arguments_of
+from .picked import Taker, all_picked
 from .short import short_sources
 from .sources import Sources
-from .words import CALLING, GOOD
+from .words import ACTING, CALLING, GOOD
 
 SETUP = [
     {"cmd": "define", "name": "A", "slots": ["count", "total"], "super": "Object"},
     {"cmd": "define", "name": "B", "slots": ["extra"], "super": "A"},
+    {"cmd": "define", "name": "C", "slots": ["more"], "super": "B"},
     {"class": "A", "cmd": "actor"},
     {"class": "B", "cmd": "actor"},
+    {"class": "C", "cmd": "actor"},
 ]
 
 # A script stays below the limits of the image, which are tried elsewhere: names, edits, and the bytes of a line.
@@ -23,10 +25,17 @@ MOST_EDITS = 2000
 MOST_LINE = 8000
 # A turn of more steps is not posted where turns are run to their end.
 MOST_STEPS = 4000
+# A script with more actors is long enough.
+MOST_ACTORS = 60
 
 ARGUMENTS = [0, 1, 2, 3, -1, 5, 2**63 - 1, -(2**63), True, False, None]
-ARGUMENTS += [{"sym": "a"}, {"sym": "at:put:"}, {"ref": 0}, {"ref": 1}, {"class": "A"}, {"class": "SmallInteger"}]
+ARGUMENTS += [{"sym": "a"}, {"sym": "at:put:"}, {"ref": 0}, {"ref": 1}, {"ref": 2}, {"class": "A"}, {"class": "SmallInteger"}]
 
+# What a remove may name beside the methods of a class.
+REMOVED = KERNEL_SELECTORS["Object"] + KERNEL_SELECTORS["ActorRef"] + KERNEL_SELECTORS["Class"]
+REMOVED += ("foo", "bar", "neverSeen", "+", "a:b", "")
+
+CLASSES_TO_EDIT = "A A A A B B B C C Object Object SmallInteger Symbol True Class ActorRef".split()
 OTHER_CLASSES = "Object Object SmallInteger SmallInteger True False Symbol UndefinedObject ActorRef Class".split()
 
 
@@ -48,7 +57,7 @@ def names_in(method):
 class Script:
     """The lines of a script, and the replies to them by the second reader, which has taken each command as it was added."""
 
-    def __init__(self, quantum=256, capacity=64):
+    def __init__(self, quantum=256, capacity=64, setup=SETUP):
         self.quantum = quantum
         self.capacity = capacity
         self.image = Image(quantum, capacity)
@@ -56,9 +65,10 @@ class Script:
         self.lines = []
         self.replies = []
         self.names = set()
+        self.wrong = []
         self.sources = 0
         self.turns = 0
-        for command in SETUP:
+        for command in setup:
             self.add(command)
 
     def add(self, command, plain=False):
@@ -70,7 +80,8 @@ class Script:
         return reply
 
     def has_room(self):
-        return len(self.names) < MOST_NAMES and self.image.classes.edits < MOST_EDITS
+        room = len(self.names) < MOST_NAMES and self.image.classes.edits < MOST_EDITS
+        return room and len(self.image.actors) < MOST_ACTORS
 
     def install(self, class_name, source, plain=False):
         """The method, where the source is accepted."""
@@ -83,6 +94,12 @@ class Script:
         method = self.image.installed
         self.names.update(names_in(method))
         return method
+
+    def remove(self, rng, class_name):
+        """Mostly a method of the class's own."""
+        own = list(self.image.classes.all[self.image.classes.numbers[class_name]].methods)
+        selector = rng.choice(own) if own and rng.random() < 0.75 else rng.choice(REMOVED)
+        self.add({"class": class_name, "cmd": "remove", "selector": selector})
 
     def post(self, number, selector, arguments):
         self.names.add(selector)
@@ -99,22 +116,32 @@ class Script:
             self.add({"actor": number, "cmd": "outcome", "turn": turn})
 
     def ends(self, number, selector, arguments):
-        actor = self.image.actors[number]
-        trial = Actor(number, actor.class_number, self.image.classes)
-        trial.slots = list(actor.slots)
-        trial.message = (selector, [self.image.value(argument) for argument in arguments])
-        for _ in range(min(MOST_STEPS, 1000 * self.quantum)):
-            trial.step()
-            if not trial.in_turn():
-                return True
-        return False
+        """Whether all actors come to rest after the post."""
+        trial = self.image.copy()
+        trial.patience = MOST_STEPS
+        try:
+            trial.deliver(number, selector, [trial.value(argument) for argument in arguments])
+            trial.run({})
+        except TooManySteps:
+            return False
+        return not trial.ready
+
+
+def picked_scripts():
+    """Those picked by hand, with what the second reader replies there against the rules."""
+    for picked in all_picked():
+        script = Script(picked.quantum, picked.capacity, setup=())
+        taker = Taker(script)
+        taker.take(picked.text)
+        script.wrong = [f"{picked.says}: {wrong}" for wrong in taker.wrong]
+        yield script
 
 
 def known_script():
-    """The good sources, each run at once, in both classes."""
+    """The good sources, each run at once, in all three classes."""
     script = Script()
-    for number, class_name in enumerate("AB"):
-        for source in GOOD + CALLING:
+    for number, class_name in enumerate("ABC"):
+        for source in GOOD + CALLING + ACTING:
             method = script.install(class_name, source)
             if method:
                 script.run_turn(number, method.selector, list(range(2, 2 + method.arguments)))
@@ -142,16 +169,18 @@ def random_script(rng, sources, size):
     """Random sources, each accepted one run at once."""
     script = Script(rng.choice([256, 256, 256, 256, 1, 2, 5, 16, 255, 1024]))
     while script.sources < size and script.has_room():
-        source = sources.next()
-        class_name = rng.choice(["A"] * 13 + ["B"] * 4 + [rng.choice(OTHER_CLASSES)] * 3)
+        class_name = rng.choice(["A"] * 10 + ["B"] * 4 + ["C"] * 3 + [rng.choice(OTHER_CLASSES)] * 3)
+        source = sources.next(class_name)
         method = script.install(class_name, source, plain=rng.random() < 0.3)
         if method is None:
             continue
         sources.keep(source)
-        if class_name in ("A", "B", "Object") or rng.random() < 0.2:
+        if class_name in ("A", "B", "C", "Object") or rng.random() < 0.2:
             for _ in range(rng.choice([1, 1, 2])):
-                number = 1 if class_name == "B" else rng.choice([0, 1])
+                number = {"B": rng.choice([1, 2]), "C": 2}.get(class_name, rng.choice([0, 1, 2]))
                 script.run_turn(number, method.selector, random_arguments(rng, method.arguments))
+        if rng.random() < 0.1:
+            script.remove(rng, class_name)
     return script
 
 
@@ -174,8 +203,10 @@ class CutTurns:
         return self.script
 
     def command(self, kind):
-        if kind < 0.35:
+        if kind < 0.3:
             self.install()
+        elif kind < 0.37:
+            self.script.remove(self.rng, self.rng.choice(CLASSES_TO_EDIT))
         elif kind < 0.6:
             self.post()
         elif kind < 0.8:
@@ -183,11 +214,11 @@ class CutTurns:
         elif kind < 0.995:
             self.ask()
         elif len(self.script.image.actors) < 8:
-            self.script.add({"class": self.rng.choice(["A", "B", "Object"]), "cmd": "actor"})
+            self.script.add({"class": self.rng.choice(["A", "B", "C", "Object"]), "cmd": "actor"})
 
     def install(self):
-        class_name = self.rng.choice("A A A B B Object SmallInteger Symbol True".split())
-        method = self.script.install(class_name, self.sources.next_to_run())
+        class_name = self.rng.choice(CLASSES_TO_EDIT)
+        method = self.script.install(class_name, self.sources.next_to_run(class_name))
         if method:
             self.selectors.append(method.selector)
 
@@ -198,17 +229,21 @@ class CutTurns:
         self.script.post(self.actor(), selector, random_arguments(self.rng, count))
 
     def actor(self):
-        return self.rng.randrange(len(self.script.image.actors))
+        """An actor's number; seldom one that isn't there."""
+        return self.rng.randrange(len(self.script.image.actors) + (self.rng.random() < 0.03))
 
     def ask(self):
         number = self.actor()
-        ended = len(self.script.image.actors[number].results)
+        actors = self.script.image.actors
+        ended = len(actors[number].results) if number < len(actors) else 0
         turn = max(0, ended + self.rng.choice([0, 0, 0, -1, 1, -2]))
         self.script.add({"actor": number, "cmd": "outcome", "turn": turn})
 
 
 def all_scripts(seed, sources):
-    """The known sources, the short ones, and `sources` random ones. Three in ten scripts of these cut turns."""
+    """The scripts picked by hand, the known sources, the short ones, and `sources` random ones. Three in ten scripts of these
+    cut turns."""
+    yield from picked_scripts()
     yield known_script()
     yield from short_scripts()
     rng = random.Random(seed)

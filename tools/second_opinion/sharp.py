@@ -6,6 +6,7 @@ import subprocess
 import sys
 import tempfile
 
+from .wrong_acting import WRONG_ACTING
 from .wrong_reading import WRONG_READING
 from .wrong_running import WRONG_RUNNING
 
@@ -38,7 +39,7 @@ def trial(rule, program, room):
 
 def try_wrong_rules(program):
     """The status: 0 where each wrong rule is told apart."""
-    rules = WRONG_READING + WRONG_RUNNING
+    rules = WRONG_READING + WRONG_RUNNING + WRONG_ACTING
     missed = 0
     with tempfile.TemporaryDirectory(prefix="second-opinion-") as room:
         for rule in rules:

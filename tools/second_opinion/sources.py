@@ -1,10 +1,11 @@
 """Random sources of the three kinds: mutations of good ones, grown ones, and ones at the limits; and some of special forms."""
 
+from .acting import acting
 from .forms import computing, inlining
 from .grown import grown
 from .limits import at_a_limit, instructions
 from .mutated import mutated
-from .words import CALLING, GOOD
+from .words import ACTING, CALLING, GOOD
 
 MOST_KEPT = 3000
 
@@ -14,7 +15,7 @@ class Sources:
 
     def __init__(self, rng):
         self.rng = rng
-        self.kept = list(GOOD)
+        self.kept = GOOD + ACTING
 
     def keep(self, source):
         if len(self.kept) < MOST_KEPT:
@@ -22,7 +23,10 @@ class Sources:
         else:
             self.kept[self.rng.randrange(MOST_KEPT)] = source
 
-    def next(self):
+    def next(self, class_name):
+        if self.rng.random() < 0.15:
+            source = acting(self.rng, class_name)
+            return source if self.rng.random() < 0.8 else mutated(self.rng, source)
         kind = self.rng.random()
         if kind < 0.06:
             return inlining(self.rng)
@@ -40,8 +44,11 @@ class Sources:
             return grown(self.rng, sane=False)
         return at_a_limit(self.rng) if kind < 0.93 else mutated(self.rng, at_a_limit(self.rng))
 
-    def next_to_run(self):
+    def next_to_run(self, class_name):
         """A source that is likely to be accepted, and to be called by others."""
+        kind = self.rng.random()
+        if kind < 0.5:
+            return acting(self.rng, class_name) if kind < 0.4 else self.rng.choice(ACTING)
         kind = self.rng.random()
         if kind < 0.5:
             return grown(self.rng, sane=True)

@@ -74,6 +74,45 @@ CALLING = [
     "doesNotUnderstand: x ^3",
 ]
 
+# Methods that send to super, make objects and actors, and post, for turns in which several actors take part.
+ACTING = [
+    "who ^super who",
+    "foo ^super foo + 1",
+    "bar super bar. ^count",
+    "foo: x ^super foo: x",
+    "m ^super missing",
+    "m1 ^super m1; foo",
+    "m1 ^super class",
+    "tag ^super == self",
+    "m ^super foo: 1 bar: 2",
+    "+ x ^super + x",
+    "make ^B newActor",
+    "keep count := C new. ^count",
+    "m1 total := A newActor. ^total",
+    "foo ^total post: #bar",
+    "bar ^count == (count := A new)",
+    "m ^(A new) == (A new)",
+    "m ^B new foo",
+    "count ^count",
+    "count: x count := x",
+    "m1 ^(C new count: 3) count",
+    "foo: x ^x post: #count: with: 4",
+    "m ^thisActor post: #foo",
+    "m ^thisActor post: #count: with: self",
+    "m ^thisActor post: #count: with: A new",
+    "m ^thisActor post: #count:",
+    "m ^thisActor post: 3",
+    "m ^(A newActor post: #bar; post: #bar) not",
+    "m ^A newActor class",
+    "m | i | i := 0. [i < 5] whileTrue: [total := B newActor. total post: #foo: with: thisActor. i := i + 1]. ^i",
+    "who [true] whileTrue: [B new]",
+    "tag ^Symbol new",
+    "tag ^Class newActor",
+    "doesNotUnderstand: s ^super doesNotUnderstand: s",
+    "doesNotUnderstand: s ^thisActor post: s",
+    "doesNotUnderstand: s ^A new foo: s",
+]
+
 NAMES = (
     "count total extra x y z a b foo bar m m1 who self super nil true false thisActor Object A B SmallInteger True Symbol "
     "Zork zork class isNil not ifTrue close new value yourself"

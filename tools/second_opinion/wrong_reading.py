@@ -102,6 +102,8 @@ LIMITS = (
     + limit("MOST_INSTRUCTIONS", 1024, 1023, 1025)
     + limit("MOST_OPERANDS", 64, 63, 65)
     + limit("MOST_FRAMES", 128, 127, 129)
+    + limit("MOST_OBJECTS", 1024, 1023, 1025)
+    + limit("MOST_ACTORS", 65536, 65535, 65537)
     + limit("LARGEST", "2**63 - 1", "2**63", "2**63 - 2")
     + limit("SMALLEST", "-(2**63)", "-(2**63) - 1", "-(2**63) + 1")
 )
@@ -136,7 +138,12 @@ NAMES = [
         "self.method.uses",
     ),
     WrongRule("a variable may hide an instance variable", "compiler", "if name.text in self.slots]", "if False]"),
-    WrongRule("super sends are there", "language", "SUPER_SENDS = False", "SUPER_SENDS = True"),
+    WrongRule(
+        "super is an unknown name",
+        "compiler",
+        "        return name in RESERVED or name in self.temps",
+        '        return name in RESERVED and name != "super" or name in self.temps',
+    ),
     WrongRule(
         "a kernel method may be replaced",
         "classes",
@@ -213,13 +220,13 @@ ORDER = [
         "classes",
         (
             "        if tree.selector in KERNEL_SELECTORS.get(class_name, ()):\n"
-            "            raise KernelMethod\n"
+            '            raise Refused("KernelMethod")\n'
             "        method = compile_method(tree, holder.slots, self.numbers)\n"
         ),
         (
             "        method = compile_method(tree, holder.slots, self.numbers)\n"
             "        if tree.selector in KERNEL_SELECTORS.get(class_name, ()):\n"
-            "            raise KernelMethod\n"
+            '            raise Refused("KernelMethod")\n'
         ),
     ),
     WrongRule(

@@ -60,7 +60,12 @@ MACHINE = [
         "[NIL] * method.temporaries",
         '[Value("boolean", False)] * method.temporaries',
     ),
-    WrongRule("instance variables are false", "machine", "self.slots = [NIL]", 'self.slots = [Value("boolean", False)]'),
+    WrongRule(
+        "instance variables are false",
+        "machine",
+        "[NIL] * len(self.classes.all[class_number].slots)",
+        '[Value("boolean", False)] * len(self.classes.all[class_number].slots)',
+    ),
     WrongRule("arguments are reversed", "machine", "range(count)][::-1]", "range(count)]"),
     WrongRule(
         "nil is a false condition",
@@ -81,7 +86,10 @@ MACHINE = [
         "a fault clears the instance variables",
         "machine",
         "            self.results.append(fault.name)\n",
-        "            self.results.append(fault.name)\n            self.slots = [NIL for _ in self.slots]\n",
+        (
+            "            self.results.append(fault.name)\n"
+            "            self.objects[0].slots = [NIL for _ in self.objects[0].slots]\n"
+        ),
     ),
     WrongRule(
         "division truncates",
@@ -104,7 +112,18 @@ MACHINE = [
             '        raise Fault("badArgument")\n'
         ),
     ),
-    WrongRule("badArgument is zeroDivide", "kernel", 'raise Fault("badArgument")', 'raise Fault("zeroDivide")'),
+    WrongRule(
+        "badArgument is zeroDivide",
+        "kernel",
+        (
+            '    if argument.kind != "integer":\n'
+            '        raise Fault("badArgument")\n'
+        ),
+        (
+            '    if argument.kind != "integer":\n'
+            '        raise Fault("zeroDivide")\n'
+        ),
+    ),
     WrongRule("false & x is x", "kernel", 'arguments[0] if holder == "True" else FALSE', "arguments[0]"),
     WrongRule("lookup goes to Object at once", "classes", "number = at.parent\n", "number = at.parent and 0\n"),
     WrongRule(
@@ -119,19 +138,21 @@ TURNS = [
     WrongRule(
         "the same actor goes on while it is ready",
         "image",
-        "(self.last + 1 + further)",
-        "(max(self.last, 0) + further)",
+        "(number <= self.last, number)",
+        "(number < self.last, number)",
     ),
-    WrongRule("the lowest ready actor goes first", "image", "(self.last + 1 + further)", "further"),
-    WrongRule("a quantum has a step more", "image", "range(1, self.quantum + 1)", "range(1, self.quantum + 2)"),
+    WrongRule("the lowest ready actor goes first", "image", "(number <= self.last, number)", "number"),
+    WrongRule("a quantum has a step more", "image", "while steps < self.quantum and", "while steps <= self.quantum and"),
     WrongRule(
         "a quantum goes on with the next message",
         "image",
-        "                return steps\n",
+        "            actor.step()\n            steps += 1\n        if actor.at_outer_step():\n",
         (
-            "                if not actor.pending:\n"
-            "                    return steps\n"
+            "            actor.step()\n"
+            "            steps += 1\n"
+            "            if not actor.in_turn() and actor.pending:\n"
             "                actor.begin()\n"
+            "        if actor.at_outer_step():\n"
         ),
     ),
     WrongRule("the last message is first", "machine", "self.pending.popleft()", "self.pending.pop()"),
@@ -139,8 +160,12 @@ TURNS = [
     WrongRule(
         "Full goes before BadArguments",
         "image",
-        'if arguments_of(command["selector"]) != len(command["args"]):',
-        'if len(actor.pending) < self.capacity and arguments_of(command["selector"]) != len(command["args"]):',
+        "        if arguments_of(selector) != len(arguments) or not all(",
+        (
+            "        if len(self.actors[number].pending) >= self.capacity:\n"
+            '            return {"error": "Full"}\n'
+            "        if arguments_of(selector) != len(arguments) or not all("
+        ),
     ),
 ]
 

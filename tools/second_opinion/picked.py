@@ -1,0 +1,99 @@
+"""Scripts picked by hand, for messages to super, removes, doesNotUnderstand:, and the objects and actors that methods make.
+
+Each is a text: a command a line, and behind a `>` the reply to the last command, where it is said. These replies come from the
+rules, and the second reader is held to them before it is compared with anything.
+
+    class C S x y         a class C under S with the instance variables x and y
+    method C source       actor C         remove C selector
+    post 0 at:put: 1 2    run             run 5
+    outcome 0 1           how turn 1 of actor 0 ended; without the 1, the last message that it got
+    turn 0 at:put: 1 2    posts, runs all there is, and asks how that turn ended
+"""
+
+import json
+from dataclasses import dataclass
+
+from . import picked_actors, picked_lookup, picked_objects
+from .language import LONGEST_WORD
+
+
+@dataclass
+class Picked:
+    says: str
+    text: str
+    quantum: int = 256
+    capacity: int = 64
+
+
+def all_picked():
+    for texts in (
+        picked_lookup.SUPER,
+        picked_lookup.REMOVES,
+        picked_lookup.MISSING,
+        picked_objects.OBJECTS,
+        picked_actors.MAKING,
+        picked_actors.POSTING,
+    ):
+        for says, text in texts.items():
+            yield Picked(says, text)
+    for says, text in picked_lookup.WHILE_RUNNING.items():
+        yield Picked(says, text, quantum=1)
+    for says, text in picked_actors.FULL.items():
+        yield Picked(says, text, capacity=1)
+    for quantum, text in picked_actors.QUANTA.items():
+        yield Picked(f"outer steps in quanta of {quantum}", text, quantum=quantum)
+    for quantum in (1, 2, 3, 4, 5, 6, 256):
+        for capacity in (1, 2):
+            yield Picked(f"posts in quanta of {quantum}", picked_actors.CUT, quantum, capacity)
+    yield Picked("as many actors as there may be", picked_actors.MANY, capacity=1)
+
+
+class Taker:
+    """Takes the lines of a picked text, by the script that it fills; `wrong` are the replies that aren't those of the text."""
+
+    def __init__(self, script):
+        self.script = script
+        self.wrong = []
+
+    def take(self, text):
+        for line in filter(None, map(str.strip, text.split("\n"))):
+            kind, _, rest = line.partition(" ")
+            getattr(self, "says" if kind == ">" else "take_" + kind)(rest)
+
+    def says(self, reply):
+        if self.script.replies[-1] != reply:
+            self.wrong.append(f"{self.script.lines[-1]}: {self.script.replies[-1]} is not {reply}")
+
+    def take_class(self, rest):
+        name, above, *slots = rest.split()
+        self.script.add({"cmd": "define", "name": name, "slots": slots, "super": above})
+
+    def take_method(self, rest):
+        class_name, _, source = rest.partition(" ")
+        self.script.install(class_name, source)
+
+    def take_remove(self, rest):
+        class_name, selector = rest.replace("LONG", "n" * LONGEST_WORD).split()
+        self.script.add({"class": class_name, "cmd": "remove", "selector": selector})
+
+    def take_actor(self, rest):
+        self.script.add({"class": rest, "cmd": "actor"})
+
+    def take_post(self, rest):
+        number, selector, *arguments = rest.split()
+        return self.script.post(int(number), selector, [json.loads(argument) for argument in arguments])
+
+    def take_run(self, rest):
+        self.script.add({"cmd": "run", "quanta": int(rest)} if rest else {"cmd": "run"})
+
+    def take_outcome(self, rest):
+        number, *turn = (int(word) for word in rest.split())
+        actors = self.script.image.actors
+        last = actors[number].accepted if number < len(actors) else 1
+        self.script.add({"actor": number, "cmd": "outcome", "turn": turn[0] if turn else last})
+
+    def take_turn(self, rest):
+        reply = self.take_post(rest)
+        if "ok" in reply:
+            self.take_run("")
+            self.take_outcome("%s %d" % (rest.split()[0], reply["ok"]["turn"]))

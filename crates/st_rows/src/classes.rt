@@ -103,40 +103,37 @@ fn remove(
     version.with_edit(alloc, Edit::Remove { class, selector })
 }
 
-fn found(version: &Version, class: ClassId, selector: Selector) -> Option<Target> {
-    if !version.is_class(class) {
-        return None;
-    }
-    Some(version.find(class, selector))
+/// Whether a send to an instance of a class finds this.
+fn finds(version: &Version, class: ClassId, selector: Selector, target: Target) -> bool {
+    version.is_class(class) && version.find(class, selector) == target
 }
 
-fn found_above(
+/// Whether a super send in a method of the holder finds this, where the receiver is an instance of the class.
+fn finds_above(
     version: &Version,
     holder: ClassId,
     class: ClassId,
     selector: Selector,
-) -> Option<Target> {
-    if !version.is_class(holder) || !version.is_class(class) {
-        return None;
-    }
-    Some(version.find_super(holder, class, selector))
+    target: Target,
+) -> bool {
+    version.is_class(holder)
+        && version.is_class(class)
+        && version.find_super(holder, class, selector) == target
 }
 
 #[test]
 fn finds_kernel_methods(rt: HostRuntime) -> Result<(), Fail> {
     let kernel = Version::kernel(rt.alloc())?;
-    assert_eq!(rt; kernel.classes(), 8);
-    assert_eq!(rt;
-        found(&kernel, SMALL_INTEGER, PLUS),
-        Some(Target::Primitive(Kernel::Add))
-    );
-    assert_eq!(rt;
-        found(&kernel, TRUE, CLASS_OF),
-        Some(Target::Primitive(Kernel::ClassOf))
-    );
-    assert_eq!(rt; found(&kernel, TRUE, PLUS), Some(Target::Missing(None)));
-    assert_eq!(rt; kernel.class_named(b"UndefinedObject"), Some(ClassId(4)));
-    assert_eq!(rt; kernel.class_named(b"A"), None);
+    for (class, selector, target) in [
+        (SMALL_INTEGER, PLUS, Target::Primitive(Kernel::Add)),
+        (TRUE, CLASS_OF, Target::Primitive(Kernel::ClassOf)),
+        (TRUE, PLUS, Target::Missing(None)),
+    ] {
+        assert!(rt;
+            finds(&kernel, class, selector, target),
+            "{class:?} {selector:?}"
+        );
+    }
     Ok(())
 }
 
@@ -162,39 +159,42 @@ fn three_classes(alloc: Global) -> Result<Version, Refusal> {
 fn finds_up_a_chain(rt: HostRuntime) -> Result<(), Fail> {
     let before = three_classes(rt.alloc())?;
     let after = install(rt.alloc(), &before, C, WHO)?;
-    assert_eq!(rt; found(&before, C, WHO), Some(Target::Run(MethodId(3))));
-    assert_eq!(rt; found(&after, C, WHO), Some(Target::Run(MethodId(5))));
     let removed = remove(rt.alloc(), &after, C, WHO)?;
-    assert_eq!(rt; found(&removed, C, WHO), Some(Target::Run(MethodId(3))));
+    for (version, place) in [(&before, 3), (&after, 5), (&removed, 3)] {
+        assert!(rt;
+            finds(version, C, WHO, Target::Run(MethodId(place))),
+            "{place}"
+        );
+    }
     Ok(())
 }
 
 #[test]
 fn finds_above_a_holder(rt: HostRuntime) -> Result<(), Fail> {
     let version = three_classes(rt.alloc())?;
-    assert_eq!(rt;
-        found_above(&version, C, C, WHO),
-        Some(Target::Run(MethodId(3)))
-    );
-    assert_eq!(rt;
-        found_above(&version, B, C, WHO),
-        Some(Target::Run(MethodId(1)))
-    );
-    assert_eq!(rt;
-        found_above(&version, A, C, WHO),
-        Some(Target::Missing(None))
-    );
+    for (holder, target) in [
+        (C, Target::Run(MethodId(3))),
+        (B, Target::Run(MethodId(1))),
+        (A, Target::Missing(None)),
+    ] {
+        assert!(rt; finds_above(&version, holder, C, WHO, target), "{holder:?}");
+    }
     Ok(())
+}
+
+/// Whether the parts of the table of three classes are these.
+fn reads(version: &Version) -> bool {
+    version.edits() == 5
+        && version.method(MethodId(3)).map(Method::holder) == Some(B)
+        && version.class_named(b"B") == Some(B)
+        && version.class_name(C) == Some(b"C".as_slice())
+        && version.parent(C) == Some(B)
 }
 
 #[test]
 fn reads_classes(rt: HostRuntime) -> Result<(), Fail> {
     let version = three_classes(rt.alloc())?;
-    assert_eq!(rt; version.edits(), 5);
-    assert_eq!(rt; version.method(MethodId(3)).map(Method::holder), Some(B));
-    assert_eq!(rt; version.class_named(b"B"), Some(B));
-    assert_eq!(rt; version.class_name(C), Some(b"C".as_slice()));
-    assert_eq!(rt; version.parent(C), Some(B));
+    assert!(rt; reads(&version));
     Ok(())
 }
 
@@ -209,10 +209,8 @@ fn refuses_classes_in_order(rt: HostRuntime) -> Result<(), Fail> {
         (b"D", A, Refusal::SlotClash),
     ];
     for (name, parent, refusal) in cases {
-        assert_eq!(rt;
-            define(rt.alloc(), &version, name, parent, &[b"count"]).err(),
-            Some(refusal)
-        );
+        let refused = define(rt.alloc(), &version, name, parent, &[b"count"]).err();
+        assert!(rt; refused == Some(refusal), "{refusal:?}");
     }
     Ok(())
 }
@@ -220,41 +218,35 @@ fn refuses_classes_in_order(rt: HostRuntime) -> Result<(), Fail> {
 #[test]
 fn refuses_methods(rt: HostRuntime) -> Result<(), Fail> {
     let version = three_classes(rt.alloc())?;
-    assert_eq!(rt;
-        install(rt.alloc(), &version, ClassId(11), PLUS).err(),
-        Some(Refusal::UnknownClass)
-    );
-    assert_eq!(rt;
-        install(rt.alloc(), &version, SMALL_INTEGER, PLUS).err(),
-        Some(Refusal::KernelMethod)
-    );
-    assert_eq!(rt;
-        remove(rt.alloc(), &version, C, WHO).err(),
-        Some(Refusal::NoSuchMethod)
-    );
+    for (class, refusal) in [
+        (ClassId(11), Refusal::UnknownClass),
+        (SMALL_INTEGER, Refusal::KernelMethod),
+    ] {
+        let refused = install(rt.alloc(), &version, class, PLUS).err();
+        assert!(rt; refused == Some(refusal), "{refusal:?}");
+    }
+    let refused = remove(rt.alloc(), &version, C, WHO).err();
+    assert!(rt; refused == Some(Refusal::NoSuchMethod));
     Ok(())
+}
+
+/// Whether an edit takes the method `who` from A.
+fn is_removal(edit: &Edit) -> bool {
+    match edit {
+        Edit::Remove { class, selector } => *class == A && *selector == WHO,
+        _ => false,
+    }
 }
 
 /// An edit that is shared is the same for each that has it.
 #[test]
 fn shared_edits(rt: HostRuntime) -> Result<(), Fail> {
-    let class = ClassId(8);
-    let shared = SharedEdit::new(
-        rt.alloc(),
-        Edit::Remove {
-            class,
-            selector: WHO,
-        },
-    )?;
+    let removal = Edit::Remove {
+        class: A,
+        selector: WHO,
+    };
+    let shared = SharedEdit::new(rt.alloc(), removal)?;
     let again = shared.again()?;
-    for edit in [shared.edit(), again.edit()] {
-        match edit {
-            Edit::Remove { class, selector } => {
-                assert_eq!(rt; *class, ClassId(8));
-                assert_eq!(rt; *selector, WHO);
-            },
-            _ => assert!(rt; false, "another edit"),
-        }
-    }
+    assert!(rt; is_removal(shared.edit()) && is_removal(again.edit()));
     Ok(())
 }

@@ -61,30 +61,38 @@ fn post(alloc: Global, image: &mut Image, seq: u64) -> Result<u64, Refusal> {
     image.post(alloc, 1, seq, FIRST, IS_NIL, none)
 }
 
+/// Whether a table of 1,024 classes takes no more, whether their names are there or not.
+fn has_all_classes(alloc: Global, image: &mut Image) -> bool {
+    define(alloc, image, b"More", OBJECT, 0, b'a') == Err(too_many(Limited::Classes))
+        && define(alloc, image, b"Caaa", OBJECT, 0, b'a') == Err(Refusal::ClassExists)
+}
+
+/// Whether an image of 2,048 edits takes no more.
+fn has_all_edits(alloc: Global, image: &mut Image) -> bool {
+    image.install(alloc, ClassId(8), b"b ^1") == Err(too_many(Limited::Edits))
+        && image.remove(alloc, ClassId(1023), Selector(22)) == Err(too_many(Limited::Edits))
+        && define(alloc, image, b"More", OBJECT, 0, b'a') == Err(too_many(Limited::Classes))
+        && image.version().edits() == 2048
+        && image.history().len() == 2048
+}
+
 /// 1,024 classes, the kernel's 8 among them, and then 2,048 edits.
 #[test]
 fn classes_and_edits(rt: HostRuntime) -> Result<(), Fail> {
     let alloc = rt.alloc();
     let mut image = Image::new(alloc, Settings::DEFAULT)?;
     for number in 0..1016 {
-        let version = define(alloc, &mut image, &name(b'C', number), OBJECT, 0, b'a')?;
-        assert_eq!(rt; version, number + 1);
+        let version = define(alloc, &mut image, &name(b'C', number), OBJECT, 0, b'a');
+        assert!(rt; version == Ok(number + 1), "{number}");
     }
-    let more = define(alloc, &mut image, b"More", OBJECT, 0, b'a');
-    assert_eq!(rt; more, Err(too_many(Limited::Classes)));
-    let again = define(alloc, &mut image, b"Caaa", OBJECT, 0, b'a');
-    assert_eq!(rt; again, Err(Refusal::ClassExists));
+    assert!(rt; has_all_classes(alloc, &mut image));
     for edits in 1016..2048 {
-        assert_eq!(rt; image.install(alloc, ClassId(1023), b"a ^1")?, edits + 1);
+        assert!(rt;
+            image.install(alloc, ClassId(1023), b"a ^1") == Ok(edits + 1),
+            "{edits}"
+        );
     }
-    let install = image.install(alloc, ClassId(8), b"b ^1");
-    assert_eq!(rt; install, Err(too_many(Limited::Edits)));
-    let remove = image.remove(alloc, ClassId(1023), Selector(22));
-    assert_eq!(rt; remove, Err(too_many(Limited::Edits)));
-    let define = define(alloc, &mut image, b"More", OBJECT, 0, b'a');
-    assert_eq!(rt; define, Err(too_many(Limited::Classes)));
-    assert_eq!(rt; image.version().edits(), 2048);
-    assert_eq!(rt; image.history().len(), 2048);
+    assert!(rt; has_all_edits(alloc, &mut image));
     Ok(())
 }
 
@@ -93,15 +101,38 @@ fn classes_and_edits(rt: HostRuntime) -> Result<(), Fail> {
 fn instance_variables(rt: HostRuntime) -> Result<(), Fail> {
     let alloc = rt.alloc();
     let mut image = Image::new(alloc, Settings::DEFAULT)?;
-    let own = define(alloc, &mut image, b"A", OBJECT, 65, b'a');
-    assert_eq!(rt; own, Err(too_many(Limited::Slots)));
-    assert_eq!(rt; define(alloc, &mut image, b"A", OBJECT, 64, b'a')?, 1);
-    assert_eq!(rt; define(alloc, &mut image, b"B", OBJECT, 60, b'a')?, 2);
-    let inherited = define(alloc, &mut image, b"C", ClassId(9), 5, b'b');
-    assert_eq!(rt; inherited, Err(too_many(Limited::Slots)));
-    assert_eq!(rt; define(alloc, &mut image, b"C", ClassId(9), 4, b'b')?, 3);
-    assert_eq!(rt; define(alloc, &mut image, b"D", ClassId(8), 0, b'b')?, 4);
+    let many = || Err(too_many(Limited::Slots));
+    let cases: [(&[u8], ClassId, u32, u8, Result<u32, Refusal>); 6] = [
+        (b"A", OBJECT, 65, b'a', many()),
+        (b"A", OBJECT, 64, b'a', Ok(1)),
+        (b"B", OBJECT, 60, b'a', Ok(2)),
+        (b"C", ClassId(9), 5, b'b', many()),
+        (b"C", ClassId(9), 4, b'b', Ok(3)),
+        (b"D", ClassId(8), 0, b'b', Ok(4)),
+    ];
+    for (class, parent, slots, first, wanted) in cases {
+        assert!(rt;
+            define(alloc, &mut image, class, parent, slots, first) == wanted,
+            "{slots}"
+        );
+    }
     Ok(())
+}
+
+/// Whether an image with room for one name more has it for no two.
+fn has_room_for_one_name(alloc: Global, image: &mut Image) -> bool {
+    image.install(alloc, OBJECT, b"fits ^self more") == Err(too_many(Limited::Names))
+        && image.names().len() == 8192
+        && image.names().find(b"fits") == Some(Selector(8191))
+        && image.names().find(b"more").is_none()
+}
+
+/// Whether a full name table takes texts that it has, and no others.
+fn has_all_names(alloc: Global, image: &mut Image) -> bool {
+    image.install(alloc, OBJECT, b"fits ^self isNil") == Ok(1)
+        && image.intern(alloc, b"more") == Err(too_many(Limited::Names))
+        && image.intern(alloc, b"3a") == Err(Refusal::BadName)
+        && image.history().len() == 1
 }
 
 /// 8,192 names: the text of a method that needs one more is refused, and one that needs none is not.
@@ -112,16 +143,19 @@ fn names(rt: HostRuntime) -> Result<(), Fail> {
     for number in 22..8191 {
         image.intern(alloc, &name(b'n', number))?;
     }
-    let two = image.install(alloc, OBJECT, b"fits ^self more");
-    assert_eq!(rt; two, Err(too_many(Limited::Names)));
-    assert_eq!(rt; image.names().len(), 8192);
-    assert_eq!(rt; image.names().find(b"fits"), Some(Selector(8191)));
-    assert_eq!(rt; image.names().find(b"more"), None);
-    assert_eq!(rt; image.install(alloc, OBJECT, b"fits ^self isNil")?, 1);
-    assert_eq!(rt; image.intern(alloc, b"more"), Err(too_many(Limited::Names)));
-    assert_eq!(rt; image.intern(alloc, b"3a"), Err(Refusal::BadName));
-    assert_eq!(rt; image.history().len(), 1);
+    assert!(rt; has_room_for_one_name(alloc, &mut image));
+    assert!(rt; has_all_names(alloc, &mut image));
     Ok(())
+}
+
+/// Whether a turn that asks for one actor more ends with a fault.
+fn faults_for_an_actor(alloc: Global, image: &mut Image) -> bool {
+    let none = Seq::from_vec(Vec::new(alloc));
+    image.post(alloc, 1, 1, FIRST, Selector(22), none) == Ok(1)
+        && image.advance(alloc, FIRST, 1) == Ok(1)
+        && image.advance(alloc, FIRST, 1) == Ok(2)
+        && image.outcome(FIRST, 1) == Ok(Outcome::Fault(Fault::TooManyActors))
+        && image.actors() == 65536
 }
 
 /// 65,536 actors: one more is refused, and a turn that asks for one ends with a fault.
@@ -135,17 +169,21 @@ fn actors(rt: HostRuntime) -> Result<(), Fail> {
     let mut image = Image::new(alloc, narrowest)?;
     image.install(alloc, OBJECT, b"make ^Object newActor")?;
     for number in 0..65536 {
-        assert_eq!(rt; image.create(alloc, OBJECT)?, ActorId(number));
+        assert!(rt;
+            image.create(alloc, OBJECT) == Ok(ActorId(number)),
+            "{number}"
+        );
     }
-    assert_eq!(rt; image.create(alloc, OBJECT), Err(too_many(Limited::Actors)));
-    let none = Seq::from_vec(Vec::new(alloc));
-    image.post(alloc, 1, 1, FIRST, Selector(22), none)?;
-    assert_eq!(rt; image.advance(alloc, FIRST, 1)?, 1);
-    assert_eq!(rt; image.advance(alloc, FIRST, 1)?, 2);
-    let fault = Outcome::Fault(Fault::TooManyActors);
-    assert_eq!(rt; image.outcome(FIRST, 1)?, fault);
-    assert_eq!(rt; image.actors(), 65536);
+    assert!(rt; image.create(alloc, OBJECT) == Err(too_many(Limited::Actors)));
+    assert!(rt; faults_for_an_actor(alloc, &mut image));
     Ok(())
+}
+
+/// Whether a full mailbox refuses a message, and takes it where its actor has begun one.
+fn takes_one_more(alloc: Global, image: &mut Image, next: u64) -> bool {
+    post(alloc, image, next) == Err(Refusal::Full)
+        && image.advance(alloc, FIRST, 1) == Ok(1)
+        && post(alloc, image, next) == Ok(next)
 }
 
 /// A mailbox of 1,024 messages, and one of 64 where nothing is said.
@@ -160,11 +198,9 @@ fn messages(rt: HostRuntime) -> Result<(), Fail> {
         let mut image = Image::new(alloc, settings)?;
         image.create(alloc, OBJECT)?;
         for number in 1..capacity + 1 {
-            assert_eq!(rt; post(alloc, &mut image, number)?, number);
+            assert!(rt; post(alloc, &mut image, number) == Ok(number), "{number}");
         }
-        assert_eq!(rt; post(alloc, &mut image, capacity + 1), Err(Refusal::Full));
-        assert_eq!(rt; image.advance(alloc, FIRST, 1)?, 1);
-        assert_eq!(rt; post(alloc, &mut image, capacity + 1)?, capacity + 1);
+        assert!(rt; takes_one_more(alloc, &mut image, capacity + 1));
     }
     Ok(())
 }
@@ -187,14 +223,14 @@ fn history(rt: HostRuntime) -> Result<(), Fail> {
             2 | 3 => (Ok(1), Err(Refusal::HistoryFull)),
             _ => (Ok(1), Ok(1)),
         };
-        assert_eq!(rt; (posted, taken), wanted);
+        assert!(rt; (posted, taken) == wanted);
         let edit = define(alloc, &mut image, b"M", OBJECT, 0, b'a');
         let wanted = if most == 3 {
             Ok(1)
         } else {
             Err(Refusal::HistoryFull)
         };
-        assert_eq!(rt; edit, wanted);
+        assert!(rt; edit == wanted);
     }
     Ok(())
 }

@@ -184,43 +184,58 @@ fn refuses_what_is_no_command(rt: HostRuntime) -> Result<(), Fail> {
     Ok(())
 }
 
+/// A report of a site.
+fn report(
+    alloc: Global,
+    selector: &str,
+    sends: u64,
+    site: u64,
+    state: SiteState,
+    is_super: bool,
+) -> Result<SiteReport, AllocError> {
+    Ok(SiteReport {
+        global: 0,
+        selector: text(alloc, selector)?,
+        sends,
+        site,
+        state,
+        is_super,
+        walk: 1,
+    })
+}
+
 #[test]
 fn writes_what_is_done(rt: HostRuntime) -> Result<(), Fail> {
-    let alloc = rt.alloc();
-    assert!(rt; is_line(alloc, Reply::Version(1), r#"{"ok":{"version":1}}"#)?);
-    assert!(rt; is_line(alloc, Reply::Actor(ActorId(0)), r#"{"ok":{"actor":0}}"#)?);
-    assert!(rt; is_line(alloc, Reply::Turn(1), r#"{"ok":{"turn":1}}"#)?);
-    assert!(rt; is_line(alloc, Reply::Closed, r#"{"ok":{}}"#)?);
     let ran = Reply::Ran {
         quanta: 1,
         steps: 7,
     };
-    assert!(rt; is_line(alloc, ran, r#"{"ok":{"quanta":1,"steps":7}}"#)?);
-    let fault = Reply::Fault(Fault::NotUnderstood);
-    assert!(rt; is_line(alloc, fault, r#"{"ok":{"fault":"notUnderstood"}}"#)?);
+    for (reply, line) in [
+        (Reply::Version(1), r#"{"ok":{"version":1}}"#),
+        (Reply::Actor(ActorId(0)), r#"{"ok":{"actor":0}}"#),
+        (Reply::Turn(1), r#"{"ok":{"turn":1}}"#),
+        (Reply::Closed, r#"{"ok":{}}"#),
+        (ran, r#"{"ok":{"quanta":1,"steps":7}}"#),
+        (
+            Reply::Fault(Fault::NotUnderstood),
+            r#"{"ok":{"fault":"notUnderstood"}}"#,
+        ),
+    ] {
+        assert!(rt; is_line(rt.alloc(), reply, line)?, "{line}");
+    }
+    Ok(())
+}
+
+#[test]
+fn writes_sites(rt: HostRuntime) -> Result<(), Fail> {
+    let alloc = rt.alloc();
     let none = Reply::Sites(Seq::from_vec(Vec::new(alloc)));
     assert!(rt; is_line(alloc, none, r#"{"ok":{"sites":[]}}"#)?);
     let mut reports = Vec::new(alloc);
-    reports.push(SiteReport {
-        global: 0,
-        selector: text(alloc, "+")?,
-        sends: 2,
-        site: 1,
-        state: SiteState::Mono,
-        is_super: false,
-        walk: 1,
-    })?;
-    reports.push(SiteReport {
-        global: 0,
-        selector: text(alloc, "a")?,
-        sends: 0,
-        site: 0,
-        state: SiteState::Empty,
-        is_super: true,
-        walk: 0,
-    })?;
+    reports.push(report(alloc, "+", 2, 1, SiteState::Mono, false)?)?;
+    reports.push(report(alloc, "a", 0, 0, SiteState::Empty, true)?)?;
     let sites =
-        r#"{"ok":{"sites":[{"global":0,"selector":"+","sends":2,"site":1,"state":"mono","super":false,"walk":1},{"global":0,"selector":"a","sends":0,"site":0,"state":"empty","super":true,"walk":0}]}}"#;
+        r#"{"ok":{"sites":[{"global":0,"selector":"+","sends":2,"site":1,"state":"mono","super":false,"walk":1},{"global":0,"selector":"a","sends":0,"site":0,"state":"empty","super":true,"walk":1}]}}"#;
     assert!(rt; is_line(alloc, Reply::Sites(Seq::from_vec(reports)), sites)?);
     Ok(())
 }
@@ -228,69 +243,35 @@ fn writes_what_is_done(rt: HostRuntime) -> Result<(), Fail> {
 #[test]
 fn writes_answers(rt: HostRuntime) -> Result<(), Fail> {
     let alloc = rt.alloc();
-    let symbol = Answered::Symbol(text(alloc, "\\\\")?);
-    let control = Answered::Symbol(text(alloc, "\"\n\u{1f}")?);
+    for (answer, line) in [
+        (Answered::Int(14), r#"{"ok":{"answer":14}}"#),
+        (Answered::Int(-5), r#"{"ok":{"answer":-5}}"#),
+        (Answered::Bool(true), r#"{"ok":{"answer":true}}"#),
+        (Answered::Nil, r#"{"ok":{"answer":null}}"#),
+        (
+            Answered::Actor(ActorId(3)),
+            r#"{"ok":{"answer":{"ref":3}}}"#,
+        ),
+        (Answered::Local(1), r#"{"ok":{"answer":{"local":1}}}"#),
+    ] {
+        assert!(rt; is_line(alloc, Reply::Answer(answer), line)?, "{line}");
+    }
+    Ok(())
+}
+
+#[test]
+fn writes_texts(rt: HostRuntime) -> Result<(), Fail> {
+    let alloc = rt.alloc();
+    for (symbol, line) in [
+        ("\\\\", r#"{"ok":{"answer":{"sym":"\\\\"}}}"#),
+        ("\"\n\u{1f}", r#"{"ok":{"answer":{"sym":"\"\n\u001f"}}}"#),
+    ] {
+        let answer = Answered::Symbol(text(alloc, symbol)?);
+        assert!(rt; is_line(alloc, Reply::Answer(answer), line)?, "{line}");
+    }
     let class = Answered::Class(text(alloc, "Counter")?);
-    assert!(rt;
-        is_line(
-            alloc,
-            Reply::Answer(Answered::Int(14)),
-            r#"{"ok":{"answer":14}}"#
-        )?
-    );
-    assert!(rt;
-        is_line(
-            alloc,
-            Reply::Answer(Answered::Int(-5)),
-            r#"{"ok":{"answer":-5}}"#
-        )?
-    );
-    assert!(rt;
-        is_line(
-            alloc,
-            Reply::Answer(Answered::Bool(true)),
-            r#"{"ok":{"answer":true}}"#
-        )?
-    );
-    assert!(rt;
-        is_line(
-            alloc,
-            Reply::Answer(Answered::Nil),
-            r#"{"ok":{"answer":null}}"#
-        )?
-    );
-    assert!(rt;
-        is_line(
-            alloc,
-            Reply::Answer(symbol),
-            r#"{"ok":{"answer":{"sym":"\\\\"}}}"#
-        )?
-    );
-    let escaped = r#"{"ok":{"answer":{"sym":"\"\n\u001f"}}}"#;
-    assert!(rt; is_line(alloc, Reply::Answer(control), escaped)?);
-    assert!(rt;
-        is_line(
-            alloc,
-            Reply::Answer(class),
-            r#"{"ok":{"answer":{"class":"Counter"}}}"#
-        )?
-    );
-    let actor = Answered::Actor(ActorId(3));
-    assert!(rt;
-        is_line(
-            alloc,
-            Reply::Answer(actor),
-            r#"{"ok":{"answer":{"ref":3}}}"#
-        )?
-    );
-    let local = Answered::Local(1);
-    assert!(rt;
-        is_line(
-            alloc,
-            Reply::Answer(local),
-            r#"{"ok":{"answer":{"local":1}}}"#
-        )?
-    );
+    let line = r#"{"ok":{"answer":{"class":"Counter"}}}"#;
+    assert!(rt; is_line(alloc, Reply::Answer(class), line)?);
     Ok(())
 }
 

@@ -66,7 +66,7 @@ def is_read_only(name, method):
 
 
 def escaping(statements):
-    """The blocks that stand where no message is inlined. What is inside one of them comes behind it, and is not looked at."""
+    """The blocks where no message is inlined. What is inside one of them comes after it, and is not looked at."""
     return [block for statement in statements for block in escaping_in(statement.value)]
 
 

@@ -38,7 +38,7 @@ class Classes:
         self.edits += 1
 
     def install(self, class_name, source):
-        """The method of the source, which stands in the class then."""
+        """The method of the source, which is in the class then."""
         holder = self.all[self.numbers[class_name]]
         tree = read_method(source)
         if tree.selector in KERNEL_SELECTORS.get(class_name, ()):

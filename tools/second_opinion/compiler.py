@@ -9,7 +9,7 @@ from .values import FALSE, NIL, TRUE, Instruction, Value
 
 PUSHES = ("PushLit", "PushSelf", "PushActor", "PushTemp", "PushSlot", "Dup")
 
-# What stands for a reserved name.
+# The code of a reserved name.
 RESERVED_CODE = {
     "self": Instruction("PushSelf"),
     "super": Instruction("PushSelf"),
@@ -170,7 +170,7 @@ def depths(code):
             assert found[target] in (None, depth), "a jump with another depth"
             found[target] = depth
         if instruction.name == "Jump" and found[place + 1] is not None:
-            # What stands behind a jump is reached by another one, whose depth it has.
+            # What comes after a jump is reached by another one, whose depth it has.
             depth = found[place + 1]
     return found[:-1]
 

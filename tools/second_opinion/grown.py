@@ -205,7 +205,7 @@ def must_part(left, right):
 
 
 def between(rng, left, right, wild):
-    """What stands between two tokens. A wild source may lose white space that it needs."""
+    """What is between two tokens. A wild source may lose white space that it needs."""
     if left == "-" and right[0].isdigit() and rng.random() < 0.95:
         return ""
     kind = rng.random()

@@ -114,14 +114,14 @@ class Image:
         return {"ok": {"quanta": taken, "steps": steps}}
 
     def next_ready(self):
-        """The first ready actor behind the last that had a quantum; behind the highest number comes 0."""
+        """The first ready actor after the last that had a quantum; after the highest number comes 0."""
         if not self.ready:
             return None
         self.last = min(self.ready, key=lambda number: (number <= self.last, number))
         return self.actors[self.last]
 
     def take_quantum(self, actor):
-        """The steps that a quantum took: as many as it may, fewer where the turn ends or stands before an outer step. That
+        """The steps that a quantum took: as many as it may, fewer if the turn ends or comes to an outer step. That
         step it takes too, and ends then."""
         if not actor.in_turn():
             actor.begin()

@@ -1,4 +1,4 @@
-"""Tokens to tree. The parser refuses what the grammar cannot go on with; limits and names are for the checks behind it."""
+"""Tokens to tree. The parser refuses what the grammar cannot go on with; limits and names are for the checks after it."""
 
 from .language import BadSource, MOST_KEYWORDS, begins_small
 from .tokens import is_digit, tokens
@@ -31,7 +31,7 @@ class Parser:
         raise BadSource("BadToken", self.here.start)
 
     def stuck_in_pattern(self):
-        """A place behind the pattern where no token begins is said first: it is a BadToken, and these go before BadPattern."""
+        """A place after the pattern where no token begins is said first: it is a BadToken, and these go before BadPattern."""
         last = self.tokens[-1]
         if last.kind == "none" and last is not self.here:
             raise BadSource("BadToken", last.start)
@@ -64,7 +64,7 @@ class Parser:
             self.stuck_in_pattern()
 
     def keywords(self):
-        """The keywords that follow, one at a time; what stands behind each is taken between them."""
+        """The keywords that follow, one at a time; what comes after each is taken between them."""
         count = 0
         while self.here.kind == "keyword":
             count += 1
@@ -182,7 +182,7 @@ class Parser:
         self.stuck()
 
     def at_minus(self):
-        """Whether a minus with a digit directly behind it stands here."""
+        """Whether a minus with a digit directly after it is here."""
         token = self.here
         if token.kind != "binary" or token.text != "-" or token.stop == len(self.source):
             return False
@@ -203,7 +203,7 @@ class Parser:
         return Block(statements, start)
 
     def open(self):
-        """Goes behind an opening bracket, and notes how deep it is."""
+        """Goes after an opening bracket, and notes how deep it is."""
         self.depth += 1
         self.method.brackets.append((self.here.start, self.depth))
         return self.take().start

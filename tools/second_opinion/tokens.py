@@ -49,7 +49,7 @@ class Scanner:
         self.place = 0
 
     def byte(self, place):
-        """The byte at a place; zero, which no token has, behind the end."""
+        """The byte at a place; zero, which no token has, after the end."""
         return self.source[place] if place < len(self.source) else 0
 
     def text(self, start, stop):
@@ -64,7 +64,7 @@ class Scanner:
         return stop
 
     def keyword_colon(self, place):
-        """Whether a colon stands here that makes a keyword of the word before it."""
+        """Whether a colon is here that makes a keyword of the word before it."""
         return self.byte(place) == COLON and self.byte(place + 1) != EQUALS
 
     def binary_end(self, start):
@@ -75,7 +75,7 @@ class Scanner:
         return start + 2 if second and second in BINARY and second != MINUS else start + 1
 
     def skip_space(self):
-        """Goes behind white space and comments. False where a comment isn't closed."""
+        """Goes after white space and comments. False where a comment isn't closed."""
         while self.place < len(self.source):
             byte = self.source[self.place]
             if byte in SPACE:
@@ -90,7 +90,7 @@ class Scanner:
         return True
 
     def token(self, kind, stop, words=(), text=None):
-        """The token from here to `stop`, and goes behind it."""
+        """The token from here to `stop`, and goes after it."""
         start = self.place
         self.place = stop
         return Token(kind, self.text(start, stop) if text is None else text, start, stop, list(words))
@@ -131,7 +131,7 @@ class Scanner:
         return self.token("number", stop)
 
     def symbol(self):
-        """A symbol's text is what stands behind its #."""
+        """A symbol's text is what comes after its #."""
         first = self.place + 1
         stop = self.word_end(first)
         if stop == first:

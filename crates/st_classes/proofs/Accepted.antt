@@ -10,11 +10,11 @@ use Rattle.st_classes.specs.declared.edits.Edit.TheVariants.{Define, Install, Re
 use Rattle.st_classes.specs.declared.class_rows.ClassRow.{ClassRow}
 use Rattle.st_classes.specs.Kernel.{class, kernel_method}
 use Rattle.st_classes.specs.Refusals.{first_of}
-use Rattle.st_classes.specs.Accepting.{edit_rules, define_rules, install_rules, remove_rules}
+use Rattle.st_classes.specs.EditRules.{edit_rules, define_rules, install_rules, remove_rules}
 use Rattle.st_classes.specs.Classes.{ClassDef, defined, classes, class_count, is_class}
 use Rattle.st_classes.specs.Walks.{method_id}
 use Rattle.st_classes.specs.ClassIndexes.{Naming, named_in}
-use Rattle.st_classes.specs.Lawful.{AllSound, IsSoundEdit}
+use Rattle.st_classes.specs.EditLists.{AllSound, IsSoundEdit}
 use Rattle.st_classes.specs.Tables.{IsKept, AreRows, IsAt, IsNaming, IsTable}
 use Rattle.st_classes.proofs.LawLists.{slice_get_push}
 use Rattle.st_classes.proofs.Growing.{classes_push, classes_same, kept_at, NoneApply, none_apply}

@@ -13,7 +13,7 @@ use Rattle.st_classes.specs.declared.kernel.Found.TheVariants.{User, Kernel as F
 use Rattle.st_classes.specs.declared.class_rows.ClassRow.{ClassRow}
 use Rattle.st_classes.specs.Kernel.{class, kernel_method}
 use Rattle.st_classes.specs.Refusals.{first_of}
-use Rattle.st_classes.specs.Accepting.{define_rules}
+use Rattle.st_classes.specs.EditRules.{define_rules}
 use Rattle.st_classes.specs.Classes.{ClassDef, classes, class_count, class_named, is_class, chain, own_slots, parent_in, chain_of}
 use Rattle.st_classes.specs.Walks.{or_else}
 use Rattle.st_classes.specs.ClassRows.{IsRow, IsUnder, row_method}

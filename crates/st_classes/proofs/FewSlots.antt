@@ -9,10 +9,10 @@ use Rattle.st_classes.specs.declared.edits.Edit.{Edit}
 use Rattle.st_classes.specs.declared.edits.Edit.TheVariants.{Define, Install, Remove}
 use Rattle.st_classes.specs.declared.refusals.Refusal.TheVariants.{TooMany}
 use Rattle.st_classes.specs.declared.refusals.Limited.TheVariants.{Slots}
-use Rattle.st_classes.specs.Accepting.{edit_rules}
+use Rattle.st_classes.specs.EditRules.{edit_rules}
 use Rattle.st_classes.specs.Classes.{IsForest, ClassDef, kernel_classes, classes, slots, own_slots, chain_of}
 use Rattle.st_classes.specs.Kernel.{class}
-use Rattle.st_classes.specs.Lawful.{AreLawful}
+use Rattle.st_classes.specs.EditLists.{AreLawful}
 use Rattle.st_classes.specs.Refusals.{first_of}
 use Rattle.st_classes.proofs.Chains.{kernel_forest, slots_new}
 use Rattle.st_classes.proofs.LawLists.{take_at_place, no_rule}

@@ -15,7 +15,7 @@ use Rattle.st_classes.specs.declared.kernel.Found.TheVariants.{User, Kernel as F
 use Rattle.st_classes.specs.declared.class_rows.ClassRow.{ClassRow}
 use Rattle.st_classes.specs.Kernel.{class, kernel_method}
 use Rattle.st_classes.specs.Refusals.{Rule, first_of}
-use Rattle.st_classes.specs.Accepting.{edit_rules}
+use Rattle.st_classes.specs.EditRules.{edit_rules}
 use Rattle.st_classes.specs.Classes.{ClassDef, defined, classes, class_count, is_class, own_slots, parent_in, chain_of}
 use Rattle.st_classes.specs.Walks.{own, own_from, decided, is_at, or_else}
 use Rattle.st_classes.specs.ClassRows.{IsRow, Puts, row_method, row_own}

@@ -51,7 +51,7 @@ lt_suc m n = rw (compare.suc-suc (suc m) n)
 zero_lt : (n : ℕ) → nat_lt 0 (suc n) ≡ true
 zero_lt n = grind (arith, nat_tests)
 
-position_cons : {X : Type 0} (p : X → Bool) (x : X) (xs : List X) (b : Bool) → p x ≡ b → position p (x ∷ xs) ≡ cond b (Some 0) (option_map suc (position p xs))
+pub position_cons : {X : Type 0} (p : X → Bool) (x : X) (xs : List X) (b : Bool) → p x ≡ b → position p (x ∷ xs) ≡ cond b (Some 0) (option_map suc (position p xs))
 position_cons p x xs true e = rw e (ap (λ (b : Bool). cond b (Some 0) None) (zero_lt (length xs)))
 position_cons p x xs false e = rw (e, one_more (position_or_len p xs)) (ap (λ (b : Bool). cond b (Some (suc (position_or_len p xs))) None) (lt_suc (position_or_len p xs) (length xs)) ∙ by_test (nat_lt (position_or_len p xs) (length xs)) (position_or_len p xs))
   where

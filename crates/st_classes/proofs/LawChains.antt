@@ -10,8 +10,8 @@ use Rattle.st_classes.specs.declared.refusals.Refusal.TheVariants.{UnknownClass,
 use Rattle.st_classes.specs.Refusals.{first_of}
 use Rattle.st_classes.specs.Kernel.{class}
 use Rattle.st_classes.specs.Classes.{IsForest, ClassDef, kernel_classes, defined, classes, class_count, is_class, parent, chain_of, chain, own_slots, slots}
-use Rattle.st_classes.specs.Accepting.{is_closed, edit_rules}
-use Rattle.st_classes.specs.Lawful.{AreLawful}
+use Rattle.st_classes.specs.EditRules.{is_value_class, edit_rules}
+use Rattle.st_classes.specs.EditLists.{AreLawful}
 use Rattle.st_classes.proofs.LawLists.{take_at_place, no_rule}
 use Rattle.st_classes.proofs.Chains.{forest_push, kernel_forest, flat_map_up}
 
@@ -90,7 +90,7 @@ chain_begins_in edits l (suc n) c (Some p) (suc k) h up short at =
 pub chain_begins : (edits : List Edit) → AreLawful edits → (c h : ClassId) (k : ℕ) → slice_get (chain edits c) k ≡ Some h → Begins (slots edits c) (slots edits h)
 chain_begins edits l c h k at = chain_begins_in edits l (length (chain edits c)) c (parent edits c) k h refl (le_refl (length (chain edits c))) at
 
-closed_slots : (edits : List Edit) (n : ℕ) → is_closed (class n) ≡ true → slots edits (class n) ≡ []
+closed_slots : (edits : List Edit) (n : ℕ) → is_value_class (class n) ≡ true → slots edits (class n) ≡ []
 closed_slots edits zero h = absurd (omega (arith, leb-true 1 0 (and_parts (nat_le 1 0) (nat_lt 0 8) h).0))
 closed_slots edits (suc zero) h = refl
 closed_slots edits (suc (suc zero)) h = refl
@@ -104,7 +104,7 @@ closed_slots edits (suc (suc (suc (suc (suc (suc (suc (suc n)))))))) h =
     absurd (omega (arith, ltb-true m 8 (and_parts (nat_le 1 m) (nat_lt m 8) h).1))
 
 -- the kernel's classes under Object have no instance variables
-pub closed_has_no_slots : (edits : List Edit) (c : ClassId) → is_closed c ≡ true → slots edits c ≡ []
+pub closed_has_no_slots : (edits : List Edit) (c : ClassId) → is_value_class c ≡ true → slots edits c ≡ []
 closed_has_no_slots edits c h = closed_slots edits c.0 h
 
 pub object_has_no_slots : (edits : List Edit) → slots edits (class 0) ≡ []

@@ -17,10 +17,10 @@ use Rattle.st_classes.specs.declared.refusals.Refusal.TheVariants.{UnknownClass}
 use Rattle.st_classes.specs.Refusals.{first_of}
 use Rattle.st_classes.specs.Kernel.{kernel_selectors, does_not_understand}
 use Rattle.st_classes.specs.Classes.{IsForest, ClassDef, defined, classes, class_count, is_class, chain_of, own_slots, slots}
-use Rattle.st_classes.specs.Accepting.{edit_rules}
+use Rattle.st_classes.specs.EditRules.{edit_rules}
 use Rattle.st_classes.specs.Selectors.{arity_of}
-use Rattle.st_classes.specs.Suiting.{arity_at, is_number, literal_suits, instruction_suits, suits, edit_suits}
-use Rattle.st_classes.specs.Lawful.{AreLawful, AllSuit, installed_method, method_at}
+use Rattle.st_classes.specs.MethodSuits.{arity_at, is_number, is_there, instruction_suits, suits, edit_suits}
+use Rattle.st_classes.specs.EditLists.{AreLawful, AllSuit, installed_method, method_at}
 use Rattle.st_classes.proofs.LawLists.{slice_get_old, slice_get_push, slice_get_kept, take_old, take_whole, list_all_weaker, no_rule}
 use Rattle.st_classes.proofs.Chains.{chain_old, slots_old}
 use Rattle.st_classes.proofs.LawChains.{forest, classes_append}
@@ -92,17 +92,18 @@ number_grows names others x s n h = ap (λ (o : Option ℕ). is_number o n) (x.n
 below_grows : (n k j : ℕ) → k ≤ j → nat_lt n k ≡ true → nat_lt n j ≡ true
 below_grows n k j h e = lt-ltb n j (omega (arith, h, ltb-true n k e))
 
-literal_grows : (names others : List (List ℕ)) (count wide : ℕ) → Extends names others → count ≤ wide → (v : Value) → literal_suits names count v ≡ true → literal_suits others wide v ≡ true
-literal_grows names others count wide x w (Int z) h = refl
-literal_grows names others count wide x w (Boolean b) h = refl
-literal_grows names others count wide x w Nil h = refl
-literal_grows names others count wide x w (Sym s) h = below_grows s.0 (length names) (length others) x.long h
-literal_grows names others count wide x w (Class c) h = below_grows c.0 count wide w h
-literal_grows names others count wide x w (Actor a) h = h
-literal_grows names others count wide x w (Local n) h = h
+-- what is there is there among more
+pub there_grows : (names others : List (List ℕ)) (classes wide actors many objects more : ℕ) → length names ≤ length others → classes ≤ wide → actors ≤ many → objects ≤ more → (v : Value) → is_there names classes actors objects v ≡ true → is_there others wide many more v ≡ true
+there_grows names others classes wide actors many objects more n c a o (Int z) h = refl
+there_grows names others classes wide actors many objects more n c a o (Boolean b) h = refl
+there_grows names others classes wide actors many objects more n c a o Nil h = refl
+there_grows names others classes wide actors many objects more n c a o (Sym s) h = below_grows s.0 (length names) (length others) n h
+there_grows names others classes wide actors many objects more n c a o (Class k) h = below_grows k.0 classes wide c h
+there_grows names others classes wide actors many objects more n c a o (Actor k) h = below_grows k.0 actors many a h
+there_grows names others classes wide actors many objects more n c a o (Local k) h = below_grows k objects more o h
 
 instruction_grows : (names others : List (List ℕ)) (count wide slots temps : ℕ) → Extends names others → count ≤ wide → (i : Instruction) → instruction_suits names count slots temps i ≡ true → instruction_suits others wide slots temps i ≡ true
-instruction_grows names others count wide slots temps x w (PushLit v) h = literal_grows names others count wide x w v h
+instruction_grows names others count wide slots temps x w (PushLit v) h = there_grows names others count wide 0 0 0 0 x.long w (le_refl 0) (le_refl 0) v h
 instruction_grows names others count wide slots temps x w PushSelf h = refl
 instruction_grows names others count wide slots temps x w PushActor h = refl
 instruction_grows names others count wide slots temps x w (PushTemp i) h = h

@@ -15,7 +15,7 @@ use Rattle.st_classes.specs.declared.kernel.Target.TheVariants.{Run, Primitive, 
 use Rattle.st_classes.specs.Kernel.{kernel_method, does_not_understand}
 use Rattle.st_classes.specs.Classes.{chain, parent}
 use Rattle.st_classes.specs.Walks.{is_at, method_id, decided, own_from, own, or_else, first_own, walk, walk_from, user_method, or_missing}
-use Rattle.st_classes.specs.Lookup.{decides, LastDecides, HasNone, IsFirst, WalkFinds, Stands, FirstStands, chain_from, IsTarget, TargetStands}
+use Rattle.st_classes.specs.LookupLaws.{decides, LastDecides, HasNone, IsFirst, WalkFinds, Stands, FirstStands, chain_from, IsTarget, TargetStands}
 use Rattle.st_classes.proofs.LawLists.{slice_get_here}
 use Rattle.st_classes.proofs.Growing.{own_push}
 

@@ -16,8 +16,8 @@ use Rattle.st_classes.specs.declared.kernel.Target.TheVariants.{Run, Primitive, 
 use Rattle.st_classes.specs.Kernel.{does_not_understand}
 use Rattle.st_classes.specs.Classes.{class_count, classes, own_slots, chain, parent, slots}
 use Rattle.st_classes.specs.Walks.{walk, walk_from, super_walk, user_method, or_missing, target, super_target}
-use Rattle.st_classes.specs.Suiting.{arity_at, is_number, instruction_suits, suits}
-use Rattle.st_classes.specs.Lawful.{AreLawful, AllSuit, installed_method, method_at}
+use Rattle.st_classes.specs.MethodSuits.{arity_at, is_number, instruction_suits, suits}
+use Rattle.st_classes.specs.EditLists.{AreLawful, AllSuit, installed_method, method_at}
 use Rattle.st_classes.proofs.LawLists.{slice_get_here}
 use Rattle.st_classes.proofs.LawLookup.{same_class, first_stands, stands_at}
 use Rattle.st_classes.proofs.LawChains.{Begins, begins_more, chain_begins, slots_above}

@@ -14,4 +14,5 @@ pub mod Growing
 pub mod Defining
 pub mod Indexing
 pub mod Accepted
+pub mod Refusing
 pub mod Kernels

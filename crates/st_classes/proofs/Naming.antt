@@ -11,7 +11,7 @@ use Rattle.std.proofs.lemmas.Option.{slice_get-get_or, slice_get-map, slice_get_
 use Rattle.std.specs.Option.{option_map}
 use Rattle.std.proofs.lemmas.Slice.Eq.{bytes_eq-Decides}
 use Rattle.indexmap.specs.IndexSet.{insert_key}
-use Rattle.st_classes.specs.Accepting.{has_twice}
+use Rattle.st_classes.specs.EditRules.{has_twice}
 use Rattle.st_classes.specs.Kernel.{kernel_selectors}
 use Rattle.st_classes.specs.Names.{is_name, interned, intern_rules, texts_of, AreNames}
 use Rattle.st_classes.specs.Refusals.{first_of}
@@ -49,7 +49,7 @@ texts-insert_key vs v = by (list_any (same_bytes v) vs) refl
     by true e = rw (sym (found-of_texts v.items vs), e) refl
     by false e = rw (sym (found-of_texts v.items vs), e) (map-append (λ (w : Vec ℕ). w.items) vs (v ∷ []))
 
-or-parts : (a b : Bool) → (a || b) ≡ false → (a ≡ false) × (b ≡ false)
+pub or-parts : (a b : Bool) → (a || b) ≡ false → (a ≡ false) × (b ≡ false)
 or-parts true b h = absurd (true≢false h)
 or-parts false b h = (refl, h)
 
@@ -145,7 +145,7 @@ differ x y h = by (bytes_eq y x) refl
     by true e = absurd (true≢false (sym ((bytes_eq-Decides x y).1 (sym ((bytes_eq-Decides y x).0 e))) ∙ h))
 
 -- the next of some texts that are all different is new
-absent-before : (names : List (List ℕ)) (place : ℕ) (text : List ℕ) → has_twice names ≡ false → slice_get names place ≡ Some text → is_name (take place names) text ≡ false
+pub absent-before : (names : List (List ℕ)) (place : ℕ) (text : List ℕ) → has_twice names ≡ false → slice_get names place ≡ Some text → is_name (take place names) text ≡ false
 absent-before [] place text d h = absurd (let e : None ≡ Some text = h in cc)
 absent-before (x ∷ xs) zero text d h = refl
 absent-before (x ∷ xs) (suc place) text d h =

@@ -52,6 +52,10 @@ pub record IsUnder (above row : ClassRow) (text : List ℕ) (p : ClassId) (added
   pub variables : row.slots ≡ above.slots ++ added
   pub methods : (s : Selector) → row_method row s ≡ None
 
+-- a class that adds no instance variable
+abbrev pub plain_class : List ℕ → Option ClassId → ClassDef
+plain_class name parent = record { name = name; parent = parent; slots = [] }
+
 -- the row of a kernel class: no instance variables, and no methods of the user's
 pub record IsPlain (row : ClassRow) (d : ClassDef) : Type 0 where
   pub name : row.name ≡ d.name

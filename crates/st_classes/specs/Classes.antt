@@ -19,12 +19,22 @@ under_object name = record { name = name; parent = Some (class 0); slots = [] }
 
 -- Object, which has no superclass, and the seven kernel classes under it
 abbrev pub kernel_classes : List ClassDef
-kernel_classes = record { name = codes "Object"; parent = None; slots = [] } ∷ under_object (codes "SmallInteger") ∷ under_object (codes "True") ∷ under_object (codes "False") ∷ under_object (codes "UndefinedObject") ∷ under_object (codes "Symbol") ∷ under_object (codes "ActorRef") ∷ under_object (codes "Class") ∷ []
+kernel_classes =
+    record { name = codes "Object"; parent = None; slots = [] }
+    ∷ under_object (codes "SmallInteger")
+    ∷ under_object (codes "True")
+    ∷ under_object (codes "False")
+    ∷ under_object (codes "UndefinedObject")
+    ∷ under_object (codes "Symbol")
+    ∷ under_object (codes "ActorRef")
+    ∷ under_object (codes "Class")
+    ∷ []
 
 -- the classes that the edits define, in order
 abbrev pub defined : List Edit → List ClassDef
 defined [] = []
-defined (Define name parent slots ∷ edits) = record { name = name; parent = Some parent; slots = slots } ∷ defined edits
+defined (Define name parent slots ∷ edits) =
+    record { name = name; parent = Some parent; slots = slots } ∷ defined edits
 defined (Install c m ∷ edits) = defined edits
 defined (Remove c s ∷ edits) = defined edits
 
@@ -58,7 +68,8 @@ chain_of cs (suc n) (Some c) = c ∷ chain_of cs n (parent_in cs c)
 abbrev pub chain : List Edit → ClassId → List ClassId
 chain edits c = chain_of (classes edits) 64 (Some c)
 
--- each superclass is a class, and the chain of a class is the class and its superclass's chain: no chain is cut off at 64 classes
+-- each superclass is a class, and the chain of a class is the class and its superclass's chain: no chain is cut off at
+-- 64 classes
 pub record IsForest (cs : List ClassDef) : Type 0 where
   pub closed : (c p : ClassId) → parent_in cs c ≡ Some p → p.0 < length cs
   pub chains : (c p : ClassId) → parent_in cs c ≡ Some p → chain_of cs 64 (Some c) ≡ c ∷ chain_of cs 64 (Some p)

@@ -19,7 +19,10 @@ interned names text = if is_name names text then names else names ++ text ∷ []
 
 -- the refusals of a text, in their order
 abbrev pub intern_rules : List (List ℕ) → List ℕ → List Rule
-intern_rules names text = (not (is_selector text), BadName) ∷ (not (is_name names text) && nat_le 8192 (length names), TooMany Names) ∷ []
+intern_rules names text =
+    (not (is_selector text), BadName)
+    ∷ (not (is_name names text) && nat_le 8192 (length names), TooMany Names)
+    ∷ []
 
 -- what is true of every name table
 pub record AreNames (names : List (List ℕ)) : Type 0 where

@@ -12,7 +12,8 @@ abbrev pub first_of : List Rule → Option Refusal
 first_of [] = None
 first_of (rule ∷ rules) = if rule.0 then Some rule.1 else first_of rules
 
--- the answer of a call whose errors say why it is refused: a value only where no refusal applies; a refusal only where it is the first that applies, or for want of memory in place of any answer
+-- the answer of a call whose errors say why it is refused: a value only where no refusal applies; a refusal only
+-- where it is the first that applies, or because memory ran out, in place of any answer
 abbrev pub AnswersBy : {T E : Type 0} → (E → Refusal) → Option Refusal → Result T E → (T → Type 0) → Type 0
 AnswersBy why first (Ok value) P = (first ≡ None) × P value
 AnswersBy why first (Err e) P = (why e ≡ NoMemory) ⊎ (first ≡ Some (why e))

@@ -86,7 +86,9 @@ keyword_arity (Some n) = if nat_le 1 n && nat_le n 8 then Some n else None
 
 -- the number of arguments of a selector; none where the text is no selector
 abbrev pub arity_of : List ℕ → Option ℕ
-arity_of text = if is_identifier text then Some 0 else (if is_binary text then Some 1 else keyword_arity (keywords (parts text)))
+arity_of text =
+    if is_identifier text then Some 0
+    else (if is_binary text then Some 1 else keyword_arity (keywords (parts text)))
 
 -- an identifier, a binary selector, or 1 to 8 keywords
 abbrev pub is_selector : List ℕ → Bool

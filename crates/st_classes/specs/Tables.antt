@@ -1,5 +1,7 @@
 -- The rows that a list of edits gives.
-use Rattle.std.specs.Prelude.{◌≡◌, ℕ, ◌≤◌, List, ◌∷◌, [], length, Option, Some, None, slice_get, option_map, if◌then◌else◌}
+use Rattle.std.specs.Prelude.{◌≡◌, ℕ, ◌≤◌, List, ◌∷◌, [], length, Option, Some, None, slice_get, option_map, position, if◌then◌else◌}
+use Rattle.std.specs.List.{AllZip}
+use Rattle.std.specs.Str.{bytes_eq}
 use Rattle.st_classes.specs.declared.values.ClassId.{ClassId}
 use Rattle.st_classes.specs.declared.values.Selector.{Selector}
 use Rattle.st_classes.specs.declared.edits.Edit.{Edit}
@@ -8,10 +10,10 @@ use Rattle.st_classes.specs.Kernel.{class}
 use Rattle.st_classes.specs.declared.values.MethodId.{MethodId}
 use Rattle.st_classes.specs.declared.kernel.Found.{Found}
 use Rattle.st_classes.specs.declared.kernel.Found.TheVariants.{User}
-use Rattle.st_classes.specs.Classes.{defined, class_count, class_named}
+use Rattle.st_classes.specs.Classes.{ClassDef, defined, class_count, class_named}
 use Rattle.st_classes.specs.Walks.{own, decided, is_at}
-use Rattle.st_classes.specs.Lawful.{AreLawful, AllSound}
-use Rattle.st_classes.specs.ClassRows.{IsRow}
+use Rattle.st_classes.specs.EditLists.{AreLawful, AllSound}
+use Rattle.st_classes.specs.ClassRows.{IsPlain, IsRow}
 use Rattle.st_classes.specs.ClassIndexes.{Naming, named_in}
 
 -- a row for each class, with what the edits say of it
@@ -30,6 +32,11 @@ pub record IsKept (edits : List Edit) : Type 0 where
 abbrev pub IsNaming : List Edit → Naming → Type 0
 IsNaming edits naming = (name : List ℕ) → named_in naming name ≡ class_named edits name
 
+-- the rows of classes without methods, and the class of each name
+pub record ArePlain (cs : List ClassDef) (rows : List ClassRow) (naming : Naming) : Type 0 where
+  pub shown : AllZip IsPlain rows cs
+  pub named : (name : List ℕ) → named_in naming name ≡ option_map class (position (λ d. bytes_eq name d.name) cs)
+
 -- the table of a list of edits
 pub record IsTable (edits : List Edit) (rows : List ClassRow) (naming : Naming) : Type 0 where
   pub kept : IsKept edits
@@ -40,4 +47,5 @@ pub record IsTable (edits : List Edit) (rows : List ClassRow) (naming : Naming) 
 -- an edit that defines no class, and at its place gives a class this method, or none, for a selector
 pub record IsAt (e : Edit) (place : ℕ) (d : ClassId) (t : Selector) (o : Option MethodId) : Type 0 where
   pub no_class : defined (e ∷ []) ≡ []
-  pub decides : (found : Option Found) (c : ClassId) (s : Selector) → decided e place found c s ≡ (if is_at d t c s then option_map User o else found)
+  pub decides : (found : Option Found) (c : ClassId) (s : Selector) →
+      decided e place found c s ≡ (if is_at d t c s then option_map User o else found)

@@ -4,8 +4,8 @@ ghost use Rattle.std.specs.List.{list_any, list_all};
 ghost use Rattle.std.specs.Str.{bytes_eq};
 ghost use Rattle.st_classes.specs.Refusals.{first_of};
 ghost use Rattle.st_classes.specs.Selectors.{is_slot_name as slot_name};
-ghost use Rattle.st_classes.specs.Accepting.{
-  is_closed as closed,
+ghost use Rattle.st_classes.specs.EditRules.{
+  is_value_class as closed,
   has_twice as twice,
   are_names as names,
   too_many_edits,
@@ -157,7 +157,7 @@ impl Version {
     }
 
     /// Why an edit is refused: the first of its refusals that applies.
-    pub(crate) fn refusal(&self, edit: &Edit) -> Option<Refusal>
+    pub fn refusal(&self, edit: &Edit) -> Option<Refusal>
         ensures { result ≡ first_of (edit_rules self.now edit.now) }
     {
         match edit {

@@ -174,7 +174,7 @@ impl ClassRows {
         &self.rows[class.0 as usize]
     }
 
-    /// The same rows once more.
+    /// A second table with the same rows, which it shares, and with room for one more.
     fn again(&self, alloc: Global) -> Result<ClassRows, AllocError>
         ensures { IfOk result (λ rows. rows ≡ self.now) }
     {

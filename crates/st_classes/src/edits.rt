@@ -28,7 +28,7 @@ pub enum Edit {
 }
 
 impl Edit {
-    ghost use Rattle.st_classes.specs.Lawful.{IsSoundEdit};
+    ghost use Rattle.st_classes.specs.EditLists.{IsSoundEdit};
 
     /// What is true of every edit: the method of an install is sound.
     pub fn known(&self)

@@ -1,4 +1,4 @@
-//! Instructions.
+//! The instructions of the stack machine.
 use crate::values::{Selector, Value};
 
 /// An instruction. Jump distances count from the next instruction.

@@ -1,22 +1,21 @@
-//! Laws of lookup.
-ghost use Rattle.st_classes.specs.Lookup.{LastDecides, TargetStands, WalkFinds};
+//! Laws of lookup. Each function here does nothing; its contract is the theorem.
+ghost use Rattle.st_classes.specs.LookupLaws.{LastDecides, TargetStands, WalkFinds};
 
 /// The last edit that installs or removes in a class for a selector decides which method the class has of its own, and where there
-/// is none, the kernel does. A law, without a value.
+/// is none, the kernel does.
 #[tactic(auto, using(crate::proofs::LawLookup::last_decides))]
 pub fn last_edit_decides()
     ensures { LastDecides }
 {}
 
-/// A walk finds the method of the first class on the chain that has one of its own, and nothing where none has one. A law, without
-/// a value.
+/// A walk finds the method of the first class on the chain that has one of its own, and nothing where none has one.
 #[tactic(auto, using(crate::proofs::LawLookup::walk_finds))]
 pub fn walk_finds_first()
     ensures { WalkFinds }
 {}
 
 /// The user's method that a send or a super send runs was installed for its selector in the first class on its way that has one of
-/// its own, and nothing was installed or removed there later; and that for `doesNotUnderstand:` likewise. A law, without a value.
+/// its own, and nothing was installed or removed there later; and that for `doesNotUnderstand:` likewise.
 #[tactic(auto, using(crate::proofs::LawLookup::target_stands))]
 pub fn target_stands()
     ensures { TargetStands }

@@ -1,12 +1,12 @@
 //! The name table.
 ghost use Rattle.std.specs.Prelude.{◌≡◌, ◌<◌, false, length, slice_get, map, is_some, option_map, None, IsTrue, IfOk, IfErr, IfSome, OnOk, OnErr};
 ghost use Rattle.st_classes.specs.declared.refusals.Refusal.TheVariants.{NoMemory};
-ghost use Rattle.st_classes.specs.Accepting.{has_twice};
+ghost use Rattle.st_classes.specs.EditRules.{has_twice};
 ghost use Rattle.st_classes.specs.Kernel.{kernel_selectors, selector};
 ghost use Rattle.st_classes.specs.Names.{is_name, interned, intern_rules, texts_of, AreNames};
 ghost use Rattle.st_classes.specs.Refusals.{first_of, Answers};
 ghost use Rattle.st_classes.specs.Selectors.{is_selector, place_of};
-ghost use Rattle.st_classes.specs.Suiting.{arity_at};
+ghost use Rattle.st_classes.specs.MethodSuits.{arity_at};
 
 use crate::limits;
 use crate::refusals::{Limited, Refusal};

@@ -1,4 +1,8 @@
 //! Refusals, which all layers share.
+ghost use Rattle.std.specs.Prelude.{◌≡◌};
+ghost use Rattle.st_classes.specs.declared.refusals.Refusal.TheVariants.{NoMemory};
+
+use std::alloc::AllocError;
 use thiserror::Error;
 
 /// What is wrong with a method's source.
@@ -97,4 +101,12 @@ pub enum Refusal {
     ReadFault,
     #[error("a write failed")]
     WriteFault,
+}
+
+impl From<AllocError> for Refusal {
+    ghost from_gives = { λ _ refusal. refusal ≡ NoMemory };
+
+    fn from(_: AllocError) -> Refusal {
+        Refusal::NoMemory
+    }
 }

@@ -1,44 +1,33 @@
-//! Versions of the class table.
-ghost use Rattle.std.specs.Prelude.{◌≡◌, ◌≤◌, ℕ, List, [], ◌∷◌, ◌++◌, IfOk, length, true, None};
+//! Versions of the class table: what they say, and lookup.
+ghost use Rattle.std.specs.Prelude.{◌≡◌, ◌≤◌, length, true};
 ghost use Rattle.std.specs.Option.{option_copied};
-ghost use Rattle.std.specs.List.{AllZip, slice_get};
-ghost use Rattle.std.specs.Arc.{arc_value};
-ghost use Rattle.st_classes.specs.declared.edits.Edit.{Edit as EditOf};
-ghost use Rattle.st_classes.specs.declared.edits.Edit.TheVariants.{Define};
-ghost use Rattle.st_classes.specs.Refusals.{Answers, first_of};
-ghost use Rattle.st_classes.specs.Accepting.{define_rules, edit_rules, install_rules};
-ghost use Rattle.st_classes.specs.Suiting.{edit_suits};
+ghost use Rattle.std.specs.List.{slice_get};
 ghost use Rattle.st_classes.specs.Classes.{
-  kernel_classes,
   chain,
   class_count,
   class_name,
   class_named,
   classes,
-  defined,
   IsForest,
   is_class,
   parent,
   slots,
 };
-ghost use Rattle.st_classes.specs.ClassRows.{IsPlain, IsRow};
-ghost use Rattle.st_classes.specs.Tables.{AreRows, IsAt, IsKept, IsNaming};
-ghost use Rattle.st_classes.specs.Lawful.{AllSound, AreLawful, method_at};
+ghost use Rattle.st_classes.specs.ClassRows.{IsRow};
+ghost use Rattle.st_classes.specs.Tables.{IsKept};
+ghost use Rattle.st_classes.specs.EditLists.{AllSound, AreLawful, method_at};
 ghost use Rattle.st_classes.specs.declared.methods.MethodParts.{MethodParts as PartsOf};
 ghost use Rattle.st_classes.specs.Walks.{or_missing, own, super_target, target, walk};
+
+mod building;
 
 use crate::class_index::ClassIndex;
 use crate::class_rows::{ClassRow, ClassRows};
 use crate::edits::{Edit, SharedEdit};
-use crate::kernel::{
-    ACTOR_REF, CLASS, DOES_NOT_UNDERSTAND, FALSE, Found, OBJECT, SMALL_INTEGER, SYMBOL, TRUE,
-    Target, UNDEFINED_OBJECT,
-};
+use crate::kernel::{DOES_NOT_UNDERSTAND, Found, Target};
 use crate::methods::Method;
-use crate::refusals::Refusal;
 use crate::seq::Seq;
 use crate::values::{ClassId, MethodId, Selector};
-use std::alloc::{AllocError, Global};
 use std::marker::Model;
 use std::sync::Arc;
 
@@ -47,7 +36,7 @@ use std::sync::Arc;
 pub struct Version {
     edits: Vec<SharedEdit>,
     rows: ClassRows,
-    /// Tables that differ in methods alone share it.
+    /// The classes by name. Tables that define the same classes share it.
     named: Arc<ClassIndex>,
 }
 
@@ -66,7 +55,7 @@ impl Model for Version {
 }
 
 impl Version {
-    /// What stands of every class table.
+    /// Shows the part of the invariant that is about the edits alone.
     #[inline]
     fn kept(&self)
         ensures { IsKept self.now }
@@ -74,7 +63,7 @@ impl Version {
         let _ = &self.edits;
     }
 
-    /// The methods of every class table are sound.
+    /// Shows that the methods of every class table are sound.
     #[inline]
     fn methods_known(&self)
         ensures { AllSound self.now }
@@ -111,7 +100,7 @@ impl Version {
         self.edits.get(place as usize).map(SharedEdit::edit)
     }
 
-    /// The same, to be shared.
+    /// The edit at a place, from 0, as a pointer that can be shared.
     pub fn shared(&self, place: u32) -> Option<&SharedEdit>
         ensures { option_copied result ≡ slice_get self.now place }
     {
@@ -262,199 +251,5 @@ impl Version {
             None => None,
         };
         self.or_missing(class, found)
-    }
-
-    /// The rows of the kernel's classes.
-    fn kernel_rows(alloc: Global) -> Result<ClassRows, AllocError>
-        ensures { IfOk result (λ rows. AllZip IsPlain rows kernel_classes) }
-    {
-        let mut rows = ClassRows::new(alloc);
-        rows.push_plain(alloc, b"Object", None)?;
-        rows.push_plain(alloc, b"SmallInteger", Some(OBJECT))?;
-        rows.push_plain(alloc, b"True", Some(OBJECT))?;
-        rows.push_plain(alloc, b"False", Some(OBJECT))?;
-        rows.push_plain(alloc, b"UndefinedObject", Some(OBJECT))?;
-        rows.push_plain(alloc, b"Symbol", Some(OBJECT))?;
-        rows.push_plain(alloc, b"ActorRef", Some(OBJECT))?;
-        rows.push_plain(alloc, b"Class", Some(OBJECT))?;
-        Ok(rows)
-    }
-
-    /// The names of the kernel's classes.
-    fn kernel_index(alloc: Global) -> Result<ClassIndex, AllocError>
-        ensures { IfOk result (λ index. IsNaming [] index) }
-    {
-        let mut index = ClassIndex::new(alloc);
-        index.put(alloc, b"Object", OBJECT)?;
-        index.put(alloc, b"SmallInteger", SMALL_INTEGER)?;
-        index.put(alloc, b"True", TRUE)?;
-        index.put(alloc, b"False", FALSE)?;
-        index.put(alloc, b"UndefinedObject", UNDEFINED_OBJECT)?;
-        index.put(alloc, b"Symbol", SYMBOL)?;
-        index.put(alloc, b"ActorRef", ACTOR_REF)?;
-        index.put(alloc, b"Class", CLASS)?;
-        Ok(index)
-    }
-
-    /// The class table of the kernel, with no edits.
-    pub fn kernel(alloc: Global) -> Result<Version, AllocError>
-        ensures { IfOk result (λ version. version ≡ []) }
-    {
-        Ok(Version {
-            edits: Vec::new(alloc),
-            rows: Version::kernel_rows(alloc)?,
-            named: Arc::new(alloc, Version::kernel_index(alloc)?)?,
-        })
-    }
-
-    /// The same edits, with room for one more.
-    fn edits_again(&self, alloc: Global) -> Result<Vec<SharedEdit>, AllocError>
-        ensures { IfOk result (λ edits. edits.items ≡ self.now) }
-    {
-        let mut edits = Vec::with_capacity(alloc, self.edits.len() + 1)?;
-        for edit in &self.edits {
-            edits.push(edit.again()?)?;
-        }
-        Ok(edits)
-    }
-
-    /// The edits with one more.
-    fn edits_with(&self, alloc: Global, edit: Edit) -> Result<Vec<SharedEdit>, AllocError>
-        ensures { IfOk result (λ edits. edits.items ≡ self.now ++ edit ∷ []) }
-    {
-        let mut edits = self.edits_again(alloc)?;
-        edits.push(SharedEdit::new(alloc, edit)?)?;
-        Ok(edits)
-    }
-
-    /// The rows with that of a new class.
-    fn rows_with_class(
-        &self,
-        alloc: Global,
-        name: &[u8],
-        parent: ClassId,
-        added: &[Seq<u8>],
-    ) -> Result<ClassRows, AllocError>
-        requires { first_of (define_rules self.now name.now parent added.now) ≡ None }
-        ensures { IfOk result (λ rows. AreRows (self.now ++ Define name.now parent added.now ∷ []) rows) }
-    {
-        self.kept();
-        let row = self.row(parent).under(alloc, name, parent, added)?;
-        let rows = self.rows.with(alloc, row)?;
-        Ok(rows)
-    }
-
-    /// The rows with a method of a class for a selector, or with none there.
-    fn rows_with_method(
-        &self,
-        alloc: Global,
-        class: ClassId,
-        selector: Selector,
-        method: Option<MethodId>,
-    ) -> Result<ClassRows, AllocError>
-        requires { first_of (install_rules self.now class selector) ≡ None }
-        ensures { IfOk result (λ rows. (e : EditOf) → IsAt e (length self.now) class selector method → AreRows (self.now ++ e ∷ []) rows) }
-    {
-        let row = self.row(class).with_method(alloc, selector, method)?;
-        let rows = self.rows.with_at(alloc, class, row)?;
-        Ok(rows)
-    }
-
-    /// The rows with an accepted edit more.
-    fn rows_with(&self, alloc: Global, edit: &Edit) -> Result<ClassRows, AllocError>
-        requires { first_of (edit_rules self.now edit.now) ≡ None }
-        ensures { IfOk result (λ rows. AreRows (self.now ++ edit.now ∷ []) rows) }
-    {
-        match edit {
-            Edit::Define {
-                name,
-                parent,
-                slots,
-            } => self.rows_with_class(alloc, name.as_slice(), *parent, slots.as_slice()),
-            Edit::Install { class, method } => {
-                let id = MethodId(self.edits());
-                self.rows_with_method(alloc, *class, method.selector(), Some(id))
-            }
-            Edit::Remove { class, selector } => {
-                self.rows_with_method(alloc, *class, *selector, None)
-            }
-        }
-    }
-
-    /// The names with that of a new class.
-    fn named_with_class(
-        &self,
-        alloc: Global,
-        name: &[u8],
-        parent: ClassId,
-        added: &[Seq<u8>],
-    ) -> Result<Arc<ClassIndex>, AllocError>
-        requires { first_of (define_rules self.now name.now parent added.now) ≡ None }
-        ensures { IfOk result (λ named. IsNaming (self.now ++ Define name.now parent added.now ∷ []) (arc_value named)) }
-    {
-        self.kept();
-        let class = ClassId(self.classes() as u16);
-        let index = self.named.with(alloc, name, class)?;
-        let named = Arc::new(alloc, index)?;
-        Ok(named)
-    }
-
-    /// The same names, for a table with a method more or less.
-    fn named_again(&self) -> Result<Arc<ClassIndex>, AllocError>
-        ensures { IfOk result (λ named. (e : EditOf) → defined (e ∷ []) ≡ [] → IsNaming (self.now ++ e ∷ []) (arc_value named)) }
-    {
-        let named = Arc::try_clone(&self.named)?;
-        Ok(named)
-    }
-
-    /// The names with an accepted edit more.
-    fn named_with(&self, alloc: Global, edit: &Edit) -> Result<Arc<ClassIndex>, AllocError>
-        requires { first_of (edit_rules self.now edit.now) ≡ None }
-        ensures { IfOk result (λ named. IsNaming (self.now ++ edit.now ∷ []) (arc_value named)) }
-    {
-        match edit {
-            Edit::Define {
-                name,
-                parent,
-                slots,
-            } => self.named_with_class(alloc, name.as_slice(), *parent, slots.as_slice()),
-            Edit::Install { .. } => self.named_again(),
-            Edit::Remove { .. } => self.named_again(),
-        }
-    }
-
-    /// The table with an accepted edit more.
-    fn with_accepted(&self, alloc: Global, edit: Edit) -> Result<Version, AllocError>
-        requires { first_of (edit_rules self.now edit) ≡ None }
-        ensures { IfOk result (λ version. version ≡ self.now ++ edit ∷ []) }
-    {
-        self.kept();
-        self.methods_known();
-        edit.known();
-        let rows = self.rows_with(alloc, &edit)?;
-        let named = self.named_with(alloc, &edit)?;
-        let edits = self.edits_with(alloc, edit)?;
-        Ok(Version { edits, rows, named })
-    }
-
-    /// The table with one edit more, or the first refusal that applies. This table stays as it is, and the two share what
-    /// the edit leaves alone. A method is to suit its class for the names of the image, whatever they are. A refused edit
-    /// is spent.
-    ///
-    /// Refusals of a definition, in this order: `UnknownClass`, `BadName`, `KernelClass`, `ClassExists`, `SlotClash`,
-    /// `TooDeep`, `TooMany` classes, instance variables or edits. Of an install: `UnknownClass`, `KernelMethod`, `TooMany`
-    /// edits. Of a removal: `UnknownClass`, `KernelMethod`, `NoSuchMethod` where the class has no method of its own for the
-    /// selector, `TooMany` edits.
-    pub fn with_edit(&self, alloc: Global, edit: Edit) -> Result<Version, Refusal>
-        requires { (names : List (List ℕ)) × (edit_suits names self.now edit ≡ true) }
-        ensures { Answers (first_of (edit_rules self.now edit)) result (λ version. version ≡ self.now ++ edit ∷ []) }
-    {
-        match self.refusal(&edit) {
-            Some(refusal) => Err(refusal),
-            None => match self.with_accepted(alloc, edit) {
-                Ok(version) => Ok(version),
-                Err(_) => Err(Refusal::NoMemory),
-            },
-        }
     }
 }

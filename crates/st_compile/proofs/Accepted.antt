@@ -5,9 +5,9 @@ use Rattle.std.proofs.lemmas.Bool.{and_parts, and_from, leb-true, false≢true, 
 use Rattle.std.proofs.lemmas.Bool.Decides.{nat_tests}
 use Rattle.st_classes.specs.Refusals.{Rule, first_of}
 use Rattle.st_reader.specs.declared.trees.Name.{Name}
-use Rattle.st_compile.specs.Refusing.{clash_rule, is_known, is_small, scope_rules, size_rule, start_of, unknown_rule}
-use Rattle.st_compile.specs.Resolving.{Scope}
-use Rattle.st_compile.specs.Words.{Line}
+use Rattle.st_compile.specs.CompileRules.{clash_rule, is_known, is_small, scope_rules, size_rule, start_of, unknown_rule}
+use Rattle.st_compile.specs.NameResolution.{Scope}
+use Rattle.st_compile.specs.DraftCode.{Line}
 
 first_none : (r : Rule) (rs : List Rule) → first_of (r ∷ rs) ≡ None → (r.0 ≡ false) × (first_of rs ≡ None)
 first_none (true, e) rs h = cc

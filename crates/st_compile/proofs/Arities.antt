@@ -3,7 +3,7 @@ use Rattle.std.proofs.Common.{◌≡◌, ℕ, ◌≤◌, Bool, true, false, leb,
 use Rattle.std.proofs.lemmas.Bool.{false≢true, eqb-true, and_parts, leb-true}
 use Rattle.std.proofs.lemmas.Option.{same_Some, none-some}
 use Rattle.st_classes.specs.Selectors.{arity_of, is_selector, is_identifier, is_binary, keyword_arity, keywords, parts}
-use Rattle.st_classes.specs.Suiting.{is_number}
+use Rattle.st_classes.specs.MethodSuits.{is_number}
 
 pub selector_of_number : (text : List ℕ) (n : ℕ) → is_number (arity_of text) n ≡ true → is_selector text ≡ true
 selector_of_number text n h = by (arity_of text) refl

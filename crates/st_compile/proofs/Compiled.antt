@@ -12,17 +12,17 @@ use Rattle.st_classes.specs.Methods.{IsSound}
 use Rattle.st_classes.specs.Refusals.{first_of}
 use Rattle.st_classes.specs.Classes.{class_count, slots}
 use Rattle.st_classes.specs.Selectors.{place_of}
-use Rattle.st_classes.specs.Suiting.{arity_at, is_number, instruction_suits, suits}
+use Rattle.st_classes.specs.MethodSuits.{arity_at, is_number, instruction_suits, suits}
 use Rattle.st_classes.proofs.LawLists.{list_all_get}
 use Rattle.st_reader.specs.Spelling.{Spells}
 use Rattle.st_reader.specs.Syntax.{Method}
 use Rattle.st_reader.specs.Variables.{arguments_of, locals_of, temporaries_of, texts}
 use Rattle.st_compile.specs.Scopes.{pattern_selector, scope_of}
 use Rattle.st_compile.specs.Equations.{method_code}
-use Rattle.st_compile.specs.Refusing.{code_rules, is_small}
-use Rattle.st_compile.specs.Resolving.{instructions_of}
-use Rattle.st_compile.specs.Compiled.{IsCompiled, parts_of}
-use Rattle.st_compile.specs.Proper.{IsReady}
+use Rattle.st_compile.specs.CompileRules.{code_rules, is_small}
+use Rattle.st_compile.specs.NameResolution.{instructions_of}
+use Rattle.st_compile.specs.CompiledMethod.{IsCompiled, parts_of}
+use Rattle.st_compile.specs.Encodable.{IsReady}
 use Rattle.st_compile.proofs.Flowing.{code_fits}
 use Rattle.st_compile.proofs.Accepted.{rules_known, rules_small, small_depths, small_length}
 use Rattle.st_compile.proofs.Ending.{all_fit, begins_empty}

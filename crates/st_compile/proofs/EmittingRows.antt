@@ -9,11 +9,11 @@ use Rattle.st_reader.specs.declared.trees.Chain.{Chain}
 use Rattle.st_reader.specs.declared.trees.Message.{Message as Sent}
 use Rattle.st_reader.specs.Syntax.{Expression, Statements}
 use Rattle.st_reader.specs.Grammar.{count}
-use Rattle.st_reader.specs.Views.{message_view, parts_of, seen_parts, further_of, seen_further, assigns, thens}
-use Rattle.st_compile.specs.Words.{Line, line, store}
-use Rattle.st_compile.specs.Words as word
+use Rattle.st_reader.specs.TreeViews.{message_view, parts_of, seen_parts, further_of, seen_further, assigns, thens}
+use Rattle.st_compile.specs.DraftCode.{Line, line, store}
+use Rattle.st_compile.specs.DraftCode as word
 use Rattle.st_compile.specs.Equations.{code, kept, sent, further_sent, statements_value, body, joined}
-use Rattle.st_compile.specs.Emitting.{dropped, stores}
+use Rattle.st_compile.specs.DraftGrowth.{dropped, stores}
 
 -- an item and those behind it
 pub drop_item : {A : Type 0} (xs : List A) (i : ℕ) (x : A) → i < length xs → x ≡ get_or xs i x → drop i xs ≡ x ∷ drop (i + 1) xs

@@ -14,13 +14,13 @@ use Rattle.st_reader.specs.declared.inlining.Inlining.{Inlining}
 use Rattle.st_reader.specs.Syntax.{Expression, Message, Statements}
 use Rattle.st_reader.specs.Grammar.{count}
 use Rattle.st_reader.specs.Inlining.{inlining, part_texts}
-use Rattle.st_reader.specs.Views.{message_view, expression_view, statements_view, assigns, seen_sentences, parts_of, seen_parts, thens, last_of, message_step, operand_step, chain_step, expression_step, statements_step}
-use Rattle.st_reader.specs.Alone.{value_of}
+use Rattle.st_reader.specs.TreeViews.{message_view, expression_view, statements_view, assigns, seen_sentences, parts_of, seen_parts, thens, last_of, message_step, operand_step, chain_step, expression_step, statements_step}
+use Rattle.st_reader.specs.ExpressionKinds.{value_of}
 use Rattle.st_reader.proofs.Alone.{expression_out}
 use Rattle.st_reader.proofs.Messages.{keyword_is, inlining_many}
-use Rattle.st_compile.specs.Words.{Line, line}
+use Rattle.st_compile.specs.DraftCode.{Line, line}
 use Rattle.st_compile.specs.Equations.{to, inlined, inlining_of, blocks, part_blocks, code, sent, arguments, statements_value, body}
-use Rattle.st_compile.specs.Emitting.{dropped, stores}
+use Rattle.st_compile.specs.DraftGrowth.{dropped, stores}
 use Rattle.st_compile.proofs.EmittingRows.{assigns_code, joined_is, count_is, thens_code, body_code}
 
 -- more rows of lines behind a row

@@ -2,7 +2,7 @@
 use Rattle.std.proofs.Common.{◌≡◌, ℕ, List, [], ◌∷◌, ◌++◌, Option, Some, None, refl, sym, ap, ◌∙◌, subst, arith, append_assoc}
 use Rattle.st_classes.specs.Methods.{DepthAt}
 use Rattle.st_reader.specs.Syntax.{Method, Expression, Statements, last, answer, statement}
-use Rattle.st_compile.specs.Words.{Line, line, receiver, drop, return}
+use Rattle.st_compile.specs.DraftCode.{Line, line, receiver, drop, return}
 use Rattle.st_compile.specs.Equations.{code, body, method_code}
 use Rattle.st_compile.proofs.Fitting.{depths, HasDepths, AllFit, IsCode, begins, fit_join, depths_append, join, one, code_is}
 use Rattle.st_compile.proofs.Leaving.{stands}

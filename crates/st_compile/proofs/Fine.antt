@@ -6,15 +6,15 @@ use Rattle.std.proofs.lemmas.Bool.{and_parts, and_from, le-leb, lt-ltb}
 use Rattle.st_classes.specs.declared.values.Value.{Value}
 use Rattle.st_classes.specs.declared.values.Value.TheVariants.{Nil, Bool as Boolean}
 use Rattle.st_classes.specs.Selectors.{arity_of}
-use Rattle.st_classes.specs.Suiting.{is_number, literal_suits}
+use Rattle.st_classes.specs.MethodSuits.{is_number, literal_suits}
 use Rattle.st_reader.specs.declared.inlining.Inlining.{Inlining}
 use Rattle.st_reader.specs.declared.inlining.Inlining.TheVariants.{IfTrue, IfFalse, IfTrueIfFalse, IfFalseIfTrue, And, Or, WhileTrue, WhileFalse}
 use Rattle.st_reader.specs.Grammar.{AreFurther, AreParts, AreStatements, IsBody, IsExpression, IsMessage, IsMethod, body_toks, count, further_toks, message_toks, method_toks, parts_toks, pattern_toks, period_toks, statements_toks, temporaries_toks, toks}
 use Rattle.st_reader.specs.Inlining.{is_inlined, is_super}
 use Rattle.st_reader.specs.Syntax.{Method, Expression, Message, Parts, Further, Statements, parenthesis, empty_block, block, send, cascade, name, unary, keywords, no_parts, part, no_further, further, last, answer, statement}
 use Rattle.st_compile.specs.Equations.{joined, to, either, loop, plain, inlined, inlining_of, one_of, kept, code, sent, arguments, blocks, part_blocks, further_sent, statements_value, body, method_code}
-use Rattle.st_compile.specs.Proper.{is_near, word_fits}
-use Rattle.st_compile.specs.Words.{Word, Line, line, literal, symbol, receiver, variable, store, drop, repeat, message, super_message, jump, jump_false, jump_true, return}
+use Rattle.st_compile.specs.Encodable.{is_near, word_fits}
+use Rattle.st_compile.specs.DraftCode.{Word, Line, line, literal, symbol, receiver, variable, store, drop, repeat, message, super_message, jump, jump_false, jump_true, return}
 use Rattle.st_compile.proofs.Named.{AreNamed, binary_number, named_back, named_front, parts_number, unary_number}
 
 -- a line suits, and jumps no further than 1,024 instructions

@@ -2,15 +2,14 @@
 use Rattle.std.proofs.Common.{◌≡◌, ℕ, suc, ◌+◌, ◌-◌, ◌<◌, ◌≤◌, pos, negsuc, List, [], ◌∷◌, ◌++◌, length, map, Bool, true, false, Option, Some, None, refl, sym, ap, ◌∙◌, subst, arith, append_assoc}
 use Rattle.st_classes.specs.declared.values.Value.{Value}
 use Rattle.st_classes.specs.declared.values.Value.TheVariants.{Nil, Bool as Boolean}
-use Rattle.st_classes.specs.Methods.{DepthAt}
-use Rattle.st_classes.specs.Ways.{on, branches, flow}
-use Rattle.st_classes.proofs.Flowing.{Fits}
+use Rattle.st_classes.specs.Methods.{DepthAt, AgreesWithDepths}
+use Rattle.st_classes.specs.OperandFlow.{on, branches, flow}
 use Rattle.st_reader.specs.declared.inlining.Inlining.{Inlining}
 use Rattle.st_reader.specs.declared.inlining.Inlining.TheVariants.{IfTrue, IfFalse, IfTrueIfFalse, IfFalseIfTrue, And, Or, WhileTrue, WhileFalse}
 use Rattle.st_reader.specs.Syntax.{Expression, Message, Parts, Further, Statements, parenthesis, empty_block, block, send, cascade, name, unary, keywords, no_parts, part, no_further, further, last, answer, statement}
 use Rattle.st_reader.specs.Grammar.{count}
 use Rattle.st_reader.specs.Inlining.{is_inlined, is_super}
-use Rattle.st_compile.specs.Words.{Word, Line, line, literal, symbol, variable, store, drop, repeat, jump, jump_false, jump_true, return}
+use Rattle.st_compile.specs.DraftCode.{Word, Line, line, literal, symbol, variable, store, drop, repeat, jump, jump_false, jump_true, return}
 use Rattle.st_compile.specs.Equations.{joined, to, either, loop, plain, inlined, inlining_of, one_of, kept, code, sent, arguments, blocks, part_blocks, further_sent, statements_value}
 use Rattle.st_compile.proofs.WordFlows.{word_flow}
 
@@ -26,7 +25,7 @@ HasDepths whole place (n ∷ ns) = DepthAt whole place n × HasDepths whole (pla
 -- each of these lines, from a place on, fits
 abbrev pub AllFit : List ℕ → ℕ → List Line → Type 0
 AllFit whole place [] = Unit {0}
-AllFit whole place (l ∷ ls) = Fits whole place (word_flow l.word) l.depth × AllFit whole (place + 1) ls
+AllFit whole place (l ∷ ls) = AgreesWithDepths whole place (word_flow l.word) l.depth × AllFit whole (place + 1) ls
 
 -- A code that begins with d operands and comes to its end with k: it isn't empty, and wherever it stands with k behind it, it fits.
 pub record IsCode (ls : List Line) (d k : ℕ) : Type 0 where
@@ -123,11 +122,11 @@ either_rest branch e d a b x y =
           let ends_here = has_back whole (q + 1) (depths b) ((d + 1) ∷ []) back.1 in
           let begin_a = begins a d (d + 1) whole (place + 1) ((d + 1) ∷ (depths b ++ (d + 1) ∷ [])) x g in
           let begin_b = begins b d (d + 1) whole (q + 1) ((d + 1) ∷ []) y back.1 in
-          let head : Fits whole place (word_flow (branch (length a + 1))) (d + 1) = rw (e (length a + 1)) (record {
+          let head : AgreesWithDepths whole place (word_flow (branch (length a + 1))) (d + 1) = rw (e (length a + 1)) (record {
             enough = omega arith;
             arrives = (depth_is whole (place + 1) d (d + 1 - 1 + 0) (omega arith) begin_a, (q + 1, omega (arith, la), depth_is whole (q + 1) d (d + 1 - 1 + 0) (omega arith) begin_b));
           }) in
-          let middle : Fits whole q (word_flow (jump (pos (length b)))) (d + 1) = record {
+          let middle : AgreesWithDepths whole q (word_flow (jump (pos (length b)))) (d + 1) = record {
             enough = omega arith;
             arrives = (q + 1 + length (depths b), omega (arith, lb), depth_is whole (q + 1 + length (depths b)) (d + 1) (d + 1 - 0 + 0) (omega arith) ends_here.0);
           } in
@@ -159,16 +158,16 @@ loop_is branch e d c b x y =
           let body_front = has_join whole (q + 1) (depths b) ((d + 1) ∷ []) (has_front whole (q + 1) (depths b) ((d + 1) ∷ d ∷ d ∷ (d + 1) ∷ []) body_here) (end.0, tt) in
           let begin_c = begins c d (d + 1) whole place ((d + 1) ∷ (depths (b ++ tail) ++ (d + 1) ∷ [])) x g in
           let begin_b = begins b d (d + 1) whole (q + 1) ((d + 1) ∷ d ∷ d ∷ (d + 1) ∷ []) y body_here in
-          let head : Fits whole q (word_flow (branch (length b + 2))) (d + 1) = rw (e (length b + 2)) (record {
+          let head : AgreesWithDepths whole q (word_flow (branch (length b + 2))) (d + 1) = rw (e (length b + 2)) (record {
             enough = omega arith;
             arrives = (depth_is whole (q + 1) d (d + 1 - 1 + 0) (omega arith) begin_b, (s + 1 + 1, omega (arith, lb), depth_is whole (s + 1 + 1) d (d + 1 - 1 + 0) (omega arith) end.1.1.0));
           }) in
-          let dropped : Fits whole s (word_flow drop) (d + 1) = record { enough = omega arith; arrives = depth_is whole (s + 1) d (d + 1 - 1 + 0) (omega arith) end.1.0 } in
-          let back_again : Fits whole (s + 1) (word_flow (jump (negsuc (length c + length b + 2)))) d = record {
+          let dropped : AgreesWithDepths whole s (word_flow drop) (d + 1) = record { enough = omega arith; arrives = depth_is whole (s + 1) d (d + 1 - 1 + 0) (omega arith) end.1.0 } in
+          let back_again : AgreesWithDepths whole (s + 1) (word_flow (jump (negsuc (length c + length b + 2)))) d = record {
             enough = omega arith;
             arrives = (place, omega (arith, lb, lc), depth_is whole place d (d - 0 + 0) (omega arith) begin_c);
           } in
-          let nothing : Fits whole (s + 1 + 1) (word_flow (literal Nil)) d = record { enough = omega arith; arrives = depth_is whole (s + 1 + 1 + 1) (d + 1) (d - 0 + 1) (omega arith) end.1.1.1.0 } in
+          let nothing : AgreesWithDepths whole (s + 1 + 1) (word_flow (literal Nil)) d = record { enough = omega arith; arrives = depth_is whole (s + 1 + 1 + 1) (d + 1) (d - 0 + 1) (omega arith) end.1.1.1.0 } in
           let tail_fits : AllFit whole (q + 1 + length b) tail = fit_at whole tail s (q + 1 + length b) (omega (arith, lb)) (dropped, (back_again, (nothing, tt))) in
           let rest = fit_join whole (q + 1) b tail (y.fits whole (q + 1) body_front) tail_fits in
           fit_join whole place c (top ∷ (b ++ tail)) (x.fits whole place front) (fit_at whole (top ∷ (b ++ tail)) q (place + length c) (omega (arith, lc)) (head, rest));

@@ -14,7 +14,7 @@ use Rattle.st_classes.specs.declared.refusals.Limited.TheVariants.{Names}
 use Rattle.st_classes.specs.Names.{is_name, interned, intern_rules, AreNames}
 use Rattle.st_classes.specs.Refusals.{first_of, Answers}
 use Rattle.st_classes.specs.Selectors.{is_selector, place_of}
-use Rattle.st_compile.specs.Interning.{InternsFirst, IsFull, interned_all, names_rule}
+use Rattle.st_compile.specs.NeededNames.{InternsFirst, IsFull, interned_all, names_rule}
 use Rattle.st_compile.proofs.Places.{place-of_name}
 
 -- the one list begins with the other

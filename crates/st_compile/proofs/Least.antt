@@ -12,11 +12,10 @@ use Rattle.st_classes.specs.declared.refusals.Refusal.{Refusal}
 use Rattle.st_classes.specs.Refusals.{Rule, first_of}
 use Rattle.st_reader.specs.declared.trees.Name.{Name}
 use Rattle.st_compile.specs.declared.words.Line.{Line as DraftedLine}
-use Rattle.st_compile.specs.Drafts.{line_of}
-use Rattle.st_compile.specs.Least.{least_of, lesser}
-use Rattle.st_compile.specs.Naming.{named}
-use Rattle.st_compile.specs.Refusing.{at_first_place, clashing, is_known, is_small, start_of, unknown}
-use Rattle.st_compile.specs.Resolving.{Scope}
+use Rattle.st_compile.specs.DraftViews.{line_of}
+use Rattle.st_compile.specs.CompileRules.{least_of, lesser, at_first_place, clashing, is_known, is_small, start_of, unknown}
+use Rattle.st_compile.specs.Scopes.{named}
+use Rattle.st_compile.specs.NameResolution.{Scope}
 
 min-assoc : (a b c : ℕ) → min (min a b) c ≡ min a (min b c)
 min-assoc a b c = omega arith

@@ -3,9 +3,9 @@ use Rattle.std.proofs.Common.{◌≡◌, ℕ, suc, ◌+◌, ◌-◌, pos, List, 
 use Rattle.std.specs.Prelude.{slice_set}
 use Rattle.std.proofs.Math.Seq.{set-append_seam}
 use Rattle.st_classes.specs.declared.values.Value.TheVariants.{Nil}
-use Rattle.st_compile.specs.Words.{Word, Line, line, literal, drop, jump}
+use Rattle.st_compile.specs.DraftCode.{Word, Line, line, literal, drop, jump}
 use Rattle.st_compile.specs.Equations.{either, loop}
-use Rattle.st_compile.specs.Drafts.{back}
+use Rattle.st_compile.specs.DraftViews.{back}
 
 two_writes : (c a b : List Line) (x y i j : Line) → slice_set (slice_set (c ++ x ∷ (a ++ y ∷ b)) (length c) i) (length (c ++ i ∷ a)) j ≡ c ++ i ∷ (a ++ j ∷ b)
 two_writes c a b x y i j =

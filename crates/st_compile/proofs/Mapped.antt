@@ -6,14 +6,14 @@ use Rattle.std.proofs.lemmas.Grind.{flat_map-append}
 use Rattle.std.specs.Prelude.{nat_le}
 use Rattle.std.proofs.lemmas.Bool.{and_parts, leb-true}
 use Rattle.st_compile.specs.declared.words.Line.{Line as DraftedLine}
-use Rattle.st_compile.specs.Drafts.{line_of}
+use Rattle.st_compile.specs.DraftViews.{line_of}
 use Rattle.st_classes.specs.declared.instructions.Instruction.{Instruction}
 use Rattle.st_classes.specs.declared.refusals.Refusal.{Refusal}
 use Rattle.st_classes.specs.declared.refusals.Refusal.TheVariants.{NoMemory}
 use Rattle.st_classes.specs.Refusals.{first_of}
-use Rattle.st_compile.specs.Resolving.{Scope, instruction_of, instructions_of, word_texts}
-use Rattle.st_compile.specs.Interning.{InternsFirst, interned_all, names_rule}
-use Rattle.st_compile.specs.Words.{Line, Word}
+use Rattle.st_compile.specs.NameResolution.{Scope, instruction_of, instructions_of, word_texts}
+use Rattle.st_compile.specs.NeededNames.{InternsFirst, interned_all, names_rule}
+use Rattle.st_compile.specs.DraftCode.{Line, Word}
 use Rattle.st_compile.proofs.Resolving.{instructions-append, instructions-push}
 use Rattle.st_compile.proofs.Interning.{interned_all-append, length-interned_all, grows-interned_all, refused-full, names-full}
 

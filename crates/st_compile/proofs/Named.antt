@@ -5,7 +5,7 @@ use Rattle.std.specs.List.{list_all, flat_map, AllByRecursion}
 use Rattle.std.proofs.lemmas.List.Folds.{list_all-append}
 use Rattle.std.proofs.lemmas.Bool.{and_parts, and_from, leb-true, le-leb, or_left, false≢true}
 use Rattle.st_classes.specs.Selectors.{is_letter, is_digit, is_letter_or_digit, is_identifier, is_binary, is_binary_character, is_selector, arity_of, before_first_part, keyword_arity, keywords, parts}
-use Rattle.st_classes.specs.Suiting.{is_number}
+use Rattle.st_classes.specs.MethodSuits.{is_number}
 use Rattle.st_classes.proofs.Keywords.{keywords-cons}
 use Rattle.st_reader.specs.declared.trees.Span.{Span}
 use Rattle.st_reader.specs.declared.trees.Parameter.{Parameter}

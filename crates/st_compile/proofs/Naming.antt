@@ -6,7 +6,7 @@ use Rattle.st_classes.specs.declared.instructions.Instruction.{Instruction}
 use Rattle.st_classes.specs.declared.instructions.Instruction.TheVariants.{PushLit, PushSelf, PushActor, PushTemp, PushSlot, StoreTemp, StoreSlot}
 use Rattle.st_classes.specs.Classes.{class_named}
 use Rattle.st_classes.specs.Selectors.{place_of, reserved_names}
-use Rattle.st_compile.specs.Resolving.{Scope, pushed, reserved, reserved_values, stored}
+use Rattle.st_compile.specs.NameResolution.{Scope, pushed, reserved, reserved_values, stored}
 use Rattle.st_compile.proofs.There.{IfThere, got_there, map_there, or_there, then_there}
 
 -- what holds of each of their values holds of a reserved name's

@@ -11,7 +11,7 @@ use Rattle.st_classes.specs.Selectors.{place_of}
 use Rattle.st_classes.specs.Names.{AreNames}
 use Rattle.std.specs.Borrow.{Bor}
 use Rattle.st_reader.specs.declared.trees.Name.{Name}
-use Rattle.st_compile.specs.Naming.{named}
+use Rattle.st_compile.specs.Scopes.{named}
 
 -- the first place that passes, by recursion
 abbrev pub first : {X : Type 0} → (X → Bool) → List X → Option ℕ

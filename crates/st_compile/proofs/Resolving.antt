@@ -7,8 +7,8 @@ use Rattle.st_classes.specs.declared.instructions.Instruction.TheVariants.{PushL
 use Rattle.st_classes.specs.declared.values.Value.TheVariants.{Sym}
 use Rattle.st_classes.specs.Kernel.{selector}
 use Rattle.st_classes.specs.Selectors.{place_of}
-use Rattle.st_compile.specs.Words.{Word, Line, literal, symbol, receiver, variable, store, drop, repeat, message, super_message, jump, jump_false, jump_true, return}
-use Rattle.st_compile.specs.Resolving.{Scope, instruction_of, instructions_of}
+use Rattle.st_compile.specs.DraftCode.{Word, Line, literal, symbol, receiver, variable, store, drop, repeat, message, super_message, jump, jump_false, jump_true, return}
+use Rattle.st_compile.specs.NameResolution.{Scope, instruction_of, instructions_of}
 use Rattle.st_compile.proofs.Places.{place-append}
 
 -- more names change no number

@@ -4,7 +4,7 @@ use Rattle.std.proofs.lemmas.List.{append_assoc, append-nil, length-take, take_m
 use Rattle.st_classes.specs.declared.instructions.Instruction.{Instruction}
 use Rattle.st_classes.specs.declared.instructions.Instruction.TheVariants.{PushLit, PushSelf, PushActor, PushTemp, PushSlot, StoreTemp, StoreSlot, Pop, Dup, Send, SuperSend, Jump, JumpFalse, JumpTrue, Answer}
 use Rattle.st_classes.specs.Methods.{send_places}
-use Rattle.st_compile.specs.Sites.{is_send}
+use Rattle.st_compile.specs.Encodable.{is_send}
 
 -- the site of an instruction at a place
 abbrev pub site : ℕ → Instruction → List ℕ

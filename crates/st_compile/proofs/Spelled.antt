@@ -4,11 +4,11 @@ use Rattle.std.specs.List.{list_all}
 use Rattle.std.proofs.lemmas.Bool.{and_parts, leb-true}
 use Rattle.std.proofs.lemmas.List.{length-append}
 use Rattle.st_classes.specs.Selectors.{arity_of}
-use Rattle.st_classes.specs.Suiting.{is_number}
+use Rattle.st_classes.specs.MethodSuits.{is_number}
 use Rattle.st_reader.specs.Grammar.{method_toks, pattern_toks}
-use Rattle.st_classes.specs.Accepting.{has_twice}
+use Rattle.st_classes.specs.EditRules.{has_twice}
 use Rattle.st_classes.specs.Selectors.{is_slot_name}
-use Rattle.st_reader.specs.Rules.{body_allowed}
+use Rattle.st_reader.specs.WellFormed.{body_allowed}
 use Rattle.st_reader.specs.Spelling.{Spells}
 use Rattle.st_reader.specs.Variables.{are_variables, argument_texts, arguments_of, locals_of, temporaries_of, texts}
 use Rattle.st_reader.specs.Syntax.{Method}

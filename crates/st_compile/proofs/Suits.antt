@@ -1,23 +1,24 @@
 -- The code of a method suits its class.
-use Rattle.std.proofs.Common.{◌≡◌, ℕ, ◌<◌, ltb, true, List, [], ◌∷◌, length, Option, Some, None, refl, sym, ap, ◌∙◌, arith}
+use Rattle.std.proofs.Common.{◌≡◌, ℕ, ◌<◌, ltb, true, List, [], ◌∷◌, length, Option, Some, None, refl, sym, ap, ◌∙◌, arith, le_refl}
 use Rattle.std.specs.List.{list_all, position}
 use Rattle.std.specs.Option.{option_map, option_and_then}
 use Rattle.std.specs.Str.{bytes_eq}
-use Rattle.std.proofs.lemmas.Bool.{and_parts, and_from, lt-ltb, ltb-true, false≢true}
+use Rattle.std.proofs.lemmas.Bool.{and_parts, and_from, lt-ltb}
 use Rattle.std.proofs.lemmas.Option.{same_Some, none-some}
 use Rattle.st_classes.specs.declared.values.ClassId.{ClassId}
 use Rattle.st_classes.specs.declared.values.Value.{Value}
-use Rattle.st_classes.specs.declared.values.Value.TheVariants.{Int, Bool as Boolean, Nil, Sym, Class, Actor, Local}
+use Rattle.st_classes.specs.declared.values.Value.TheVariants.{Sym}
 use Rattle.st_classes.specs.declared.edits.Edit.{Edit}
 use Rattle.st_classes.specs.declared.instructions.Instruction.{Instruction}
 use Rattle.st_classes.specs.declared.instructions.Instruction.TheVariants.{PushLit, PushSelf, Pop, Dup, Send, SuperSend, Jump, JumpFalse, JumpTrue, Answer}
 use Rattle.st_classes.specs.Classes.{class_count, class_named, classes}
 use Rattle.st_classes.specs.Kernel.{class, selector}
 use Rattle.st_classes.specs.Selectors.{place_of, arity_of}
-use Rattle.st_classes.specs.Suiting.{arity_at, is_number, instruction_suits, literal_suits}
-use Rattle.st_compile.specs.Proper.{word_fits}
-use Rattle.st_compile.specs.Resolving.{Scope, instruction_of, instructions_of, pushed, stored}
-use Rattle.st_compile.specs.Words.{Word, Line, literal, symbol, receiver, variable, store, drop, repeat, message, super_message, jump, jump_false, jump_true, return}
+use Rattle.st_classes.specs.MethodSuits.{arity_at, is_number, instruction_suits, literal_suits}
+use Rattle.st_classes.proofs.LawGrowing.{there_grows}
+use Rattle.st_compile.specs.Encodable.{word_fits}
+use Rattle.st_compile.specs.NameResolution.{Scope, instruction_of, instructions_of, pushed, stored}
+use Rattle.st_compile.specs.DraftCode.{Word, Line, literal, symbol, receiver, variable, store, drop, repeat, message, super_message, jump, jump_false, jump_true, return}
 use Rattle.st_compile.proofs.Places.{at-place, place-within, position-first, first-within}
 use Rattle.st_compile.proofs.Naming.{pushed_there, reserved_there, stored_there}
 use Rattle.st_compile.proofs.Resolving.{instructions-parts}
@@ -59,13 +60,7 @@ stored_suits : (names : List (List ℕ)) (scope : Scope) (text : List ℕ) → I
 stored_suits names scope text = stored_there (Suit names scope) scope text (place_under scope.locals text) (place_under scope.slots text)
 
 literal_there : (names : List (List ℕ)) (count : ℕ) (v : Value) → literal_suits [] 0 v ≡ true → literal_suits names count v ≡ true
-literal_there names count (Int z) h = refl
-literal_there names count (Boolean b) h = refl
-literal_there names count Nil h = refl
-literal_there names count (Sym s) h = absurd (omega (arith, ltb-true s.0 0 h))
-literal_there names count (Class c) h = absurd (omega (arith, ltb-true c.0 0 h))
-literal_there names count (Actor a) h = absurd (false≢true h)
-literal_there names count (Local n) h = absurd (false≢true h)
+literal_there names count v h = there_grows [] names 0 count 0 0 0 0 (omega arith) (omega arith) (le_refl 0) (le_refl 0) v h
 
 word_suits : (names : List (List ℕ)) (scope : Scope) (word : Word) → word_fits word ≡ true → IfThere (Suit names scope) (instruction_of names scope word)
 word_suits names scope (literal v) h = there_suits names scope (PushLit v) (literal_there names (class_count scope.edits) v h)

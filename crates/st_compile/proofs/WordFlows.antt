@@ -7,9 +7,9 @@ use Rattle.st_classes.specs.declared.instructions.Instruction.{Instruction}
 use Rattle.st_classes.specs.declared.instructions.Instruction.TheVariants.{PushLit, PushSelf, Pop, Dup, Send, SuperSend, Jump, JumpFalse, JumpTrue, Answer}
 use Rattle.st_classes.specs.Kernel.{selector}
 use Rattle.st_classes.specs.Selectors.{place_of}
-use Rattle.st_classes.specs.Ways.{Flow, branches, ends, flow, flow_of, jumps, on}
-use Rattle.st_compile.specs.Resolving.{Scope, instruction_of, instructions_of, pushed, stored}
-use Rattle.st_compile.specs.Words.{Word, Line, literal, symbol, receiver, variable, store, drop, repeat, message, super_message, jump, jump_false, jump_true, return}
+use Rattle.st_classes.specs.OperandFlow.{Flow, branches, ends, flow, flow_of, jumps, on}
+use Rattle.st_compile.specs.NameResolution.{Scope, instruction_of, instructions_of, pushed, stored}
+use Rattle.st_compile.specs.DraftCode.{Word, Line, literal, symbol, receiver, variable, store, drop, repeat, message, super_message, jump, jump_false, jump_true, return}
 use Rattle.st_compile.proofs.Naming.{pushed_there, reserved_there, stored_there}
 use Rattle.st_compile.proofs.Resolving.{instructions-parts}
 use Rattle.st_compile.proofs.There.{IfThere, map_there, there}

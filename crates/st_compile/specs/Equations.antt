@@ -7,7 +7,7 @@ use Rattle.st_reader.specs.declared.inlining.Inlining.TheVariants.{IfTrue, IfFal
 use Rattle.st_reader.specs.Syntax.{Method, Expression, Message, Parts, Further, Statements, parenthesis, empty_block, block, send, cascade, name, unary, keywords, no_parts, part, no_further, further, last, answer, statement}
 use Rattle.st_reader.specs.Grammar.{count}
 use Rattle.st_reader.specs.Inlining.{inlining, is_inlined, is_super, part_texts}
-use Rattle.st_compile.specs.Words.{Word, Line, line, literal, symbol, receiver, variable, store, drop, repeat, message, super_message, jump, jump_false, jump_true, return}
+use Rattle.st_compile.specs.DraftCode.{Word, Line, line, literal, symbol, receiver, variable, store, drop, repeat, message, super_message, jump, jump_false, jump_true, return}
 
 -- the selector of a keyword message: its keywords joined
 abbrev pub joined : Parts → List ℕ
@@ -23,9 +23,16 @@ to true = super_message
 abbrev pub either : (ℕ → Word) → ℕ → List Line → List Line → List Line → List Line
 either branch d r a b = r ++ line (d + 1) (branch (length a + 1)) ∷ (a ++ line (d + 1) (jump (pos (length b))) ∷ b)
 
--- as long as the jump isn't taken behind the condition c, the body b once more; then nil
+-- as long as the jump isn't taken after the condition c, the body b again; then nil
 abbrev pub loop : (ℕ → Word) → ℕ → List Line → List Line → List Line
-loop branch d c b = c ++ line (d + 1) (branch (length b + 2)) ∷ (b ++ line (d + 1) drop ∷ line d (jump (negsuc (length c + length b + 2))) ∷ line d (literal Nil) ∷ [])
+loop branch d c b =
+    c
+    ++ line (d + 1) (branch (length b + 2))
+    ∷ (b
+    ++ line (d + 1) drop
+    ∷ line d (jump (negsuc (length c + length b + 2)))
+    ∷ line d (literal Nil)
+    ∷ [])
 
 -- a value that no block gives
 abbrev pub plain : ℕ → Value → List Line
@@ -66,7 +73,10 @@ abbrev mutual
   code d (parenthesis opening e closing) = code d e
   code d (empty_block opening closing) = line d (literal Nil) ∷ []
   code d (block opening ss closing) = statements_value d ss
-  code d (send e m) = one_of (is_inlined e m) (inlined d (inlining_of m) (code d e) (blocks d m)) (code d e ++ sent (is_super e) (d + 1) m)
+  code d (send e m) =
+      one_of (is_inlined e m)
+      (inlined d (inlining_of m) (code d e) (blocks d m))
+      (code d e ++ sent (is_super e) (d + 1) m)
   code d (cascade e m ms) = code d e ++ (kept (d + 1) (sent false (d + 2) m) ++ further_sent (d + 1) ms)
   code d (Expression.assign n place e) = code d e ++ line (d + 1) (store n) ∷ []
 
@@ -76,7 +86,7 @@ abbrev mutual
   sent up d (Message.binary n e) = code d e ++ line (d + 1) (to up n.text 1) ∷ []
   sent up d (keywords ps) = arguments d ps ++ line (d + count ps) (to up (joined ps) (count ps)) ∷ []
 
-  -- each argument stands on those before it
+  -- each argument is above those before it
   pub arguments : ℕ → Parts → List Line
   arguments d no_parts = []
   arguments d (part n e ps) = code d e ++ arguments (d + 1) ps
@@ -95,7 +105,9 @@ abbrev mutual
   pub further_sent : ℕ → Further → List Line
   further_sent d no_further = []
   further_sent d (further place m no_further) = sent false d m
-  further_sent d (further place m (further after next ms)) = kept d (sent false (d + 1) m) ++ further_sent d (further after next ms)
+  further_sent d (further place m (further after next ms)) =
+      kept d (sent false (d + 1) m)
+      ++ further_sent d (further after next ms)
 
   -- the value of a block's statements is the last one's; an answer counts as leaving one operand
   pub statements_value : ℕ → Statements → List Line
@@ -103,7 +115,8 @@ abbrev mutual
   statements_value d (answer caret e period) = code d e ++ line (d + 1) return ∷ []
   statements_value d (statement e period ss) = code d e ++ line (d + 1) drop ∷ statements_value d ss
 
--- the statements of a method: what is left behind them is dropped, and behind the last one without a caret the receiver is answered
+-- the statements of a method: what is left after them is dropped, and after the last one without a caret the receiver
+-- is answered
 abbrev pub body : Statements → List Line
 body (last e period) = code 0 e ++ line 1 drop ∷ line 0 receiver ∷ line 1 return ∷ []
 body (answer caret e period) = code 0 e ++ line 1 return ∷ []

@@ -1,14 +1,17 @@
--- What the names of a method stand for in a class.
-use Rattle.std.specs.Prelude.{ℕ, List}
+-- What the names of a method mean in a class, and the scope that the code holds.
+use Rattle.std.specs.Prelude.{ℕ, ◌≤◌, List, length, map}
 use Rattle.std.specs.List.{flat_map}
+use Rattle.std.specs.Borrow.{Bor}
 use Rattle.st_classes.specs.declared.values.ClassId.{ClassId}
 use Rattle.st_classes.specs.declared.edits.Edit.{Edit}
 use Rattle.st_classes.specs.Classes.{slots}
+use Rattle.st_reader.specs.declared.trees.Name.{Name}
 use Rattle.st_reader.specs.declared.trees.Pattern.{Pattern}
 use Rattle.st_reader.specs.declared.trees.Pattern.TheVariants.{Unary, Binary, Keyword}
 use Rattle.st_reader.specs.Variables.{locals_of, texts}
 use Rattle.st_reader.specs.Syntax.{Method}
-use Rattle.st_compile.specs.Resolving.{Scope}
+use Rattle.st_compile.specs.declared.scope.Scope.{Scope as Holding}
+use Rattle.st_compile.specs.NameResolution.{Scope}
 
 -- the selector of a pattern
 abbrev pub pattern_selector : Pattern → List ℕ
@@ -19,3 +22,16 @@ pattern_selector (Keyword ps) = flat_map (λ p. p.keyword.text) ps
 -- the names of a method's variables, and the classes that there are
 abbrev pub scope_of : List Edit → ClassId → Method → Scope
 scope_of edits c m = record { edits = edits; slots = slots edits c; locals = texts (locals_of m) }
+
+-- the names that are referred to
+abbrev pub named : List (Bor Name) → List Name
+named ns = map (λ n. n.now) ns
+
+-- the scope that is held
+abbrev pub scope_seen : Holding → Scope
+scope_seen s = record { edits = s.version.now; slots = s.slots.now; locals = map (λ n. n.text) (named s.locals.items) }
+
+-- there are no more than 64 of either sort of variable
+pub record HasFew (scope : Scope) : Type 0 where
+  pub slots : length scope.slots ≤ 64
+  pub locals : length scope.locals ≤ 64

@@ -1,16 +1,15 @@
-//! Methods of trees.
+//! From the tree of a method to the compiled method.
 ghost use Rattle.std.specs.Prelude.{◌≡◌, ◌≤◌, true, Some, length, map, OnOk, IfOk, IfErr};
 ghost use Rattle.st_classes.specs.declared.refusals.Refusal.{Refusal as Refused};
 ghost use Rattle.st_classes.specs.Classes.{is_class};
 ghost use Rattle.st_classes.specs.Refusals.{first_of, Answers};
 ghost use Rattle.st_reader.specs.Variables.{locals_of};
-ghost use Rattle.st_compile.specs.Compiled.{IsCompiled, parts_of};
-ghost use Rattle.st_compile.specs.Drafts.{line_of};
+ghost use Rattle.st_compile.specs.CompiledMethod.{IsCompiled, parts_of};
+ghost use Rattle.st_compile.specs.DraftViews.{line_of};
 ghost use Rattle.st_compile.specs.Equations.{method_code};
-ghost use Rattle.st_compile.specs.Naming.{HasFew, scope_seen};
-ghost use Rattle.st_compile.specs.Interning.{InternsFirst, IsFull, interned_all, needed_texts};
-ghost use Rattle.st_compile.specs.Refusing.{code_rules, is_small, method_rules};
-ghost use Rattle.st_compile.specs.Scopes.{scope_of};
+ghost use Rattle.st_compile.specs.NeededNames.{InternsFirst, IsFull, interned_all, needed_texts};
+ghost use Rattle.st_compile.specs.CompileRules.{code_rules, is_small, method_rules};
+ghost use Rattle.st_compile.specs.Scopes.{HasFew, scope_of, scope_seen};
 
 use crate::depths::depths_of;
 use crate::emit::Draft;
@@ -28,9 +27,9 @@ use st_classes::seq::Seq;
 use st_classes::values::{ClassId, Selector};
 use st_classes::version::Version;
 use st_reader::trees::MethodTree;
-use std::alloc::Global;
+use std::alloc::{AllocError, Global};
 
-/// What the names of a method stand for in a class and its draft, where nothing of its code is refused.
+/// The scope and the draft of a method in a class, or why the class can have no code for it.
 fn checked<'t>(
     alloc: Global,
     tree: &'t MethodTree,
@@ -51,8 +50,7 @@ fn checked<'t>(
     Ok((scope, draft))
 }
 
-/// The parts of a method, by the number of its selector and its instructions, with a copy of its source. The only refusal is
-/// `NoMemory`.
+/// The parts of a method, by the number of its selector and its instructions, with a copy of its source.
 fn parts_of(
     alloc: Global,
     tree: &MethodTree,
@@ -60,19 +58,16 @@ fn parts_of(
     lines: &[Line<'_>],
     selector: Selector,
     code: Vec<Instruction>,
-) -> Result<MethodParts, Refusal>
+) -> Result<MethodParts, AllocError>
     requires lines { map line_of lines.now ≡ method_code tree.now.syntax }
     requires small { is_small (method_code tree.now.syntax) ≡ true }
     requires short { length code.items ≤ 1024 }
-    ensures ok { IfOk result (λ parts. parts ≡ parts_of class tree.now.syntax selector code.items tree.now.source) }
-    ensures err { IfErr result (λ e. e ≡ Refused.NoMemory) }
+    ensures { IfOk result (λ parts. parts ≡ parts_of class tree.now.syntax selector code.items tree.now.source) }
 {
     tree.known();
     let depths = depths_of(alloc, lines)?;
     let sites = sites_of(alloc, code.as_slice())?;
-    let Ok(source) = Vec::from_slice(alloc, tree.source()) else {
-        return Err(Refusal::NoMemory);
-    };
+    let source = Vec::from_slice(alloc, tree.source())?;
     Ok(MethodParts {
         holder: class,
         selector,
@@ -88,7 +83,7 @@ fn parts_of(
 /// The method of a tree in a class, which keeps a copy of the tree's source. Its selector and the selectors and symbols of its
 /// code are interned, in this order.
 ///
-/// `BadSource` says what is wrong and where, in this order: `UnknownName` at the first name that stands for nothing,
+/// `BadSource` says what is wrong and where, in this order: `UnknownName` at the first name that means nothing,
 /// `DuplicateName` at the first argument or temporary that is named as an instance variable, and `TooLarge` at 0 where there are
 /// more than 1,024 instructions or more than 64 operands. No name is interned then. `TooMany` says that there is no room for all
 /// the names; those that fitted stay. Where memory runs out, none, some of the first or all of them stay.

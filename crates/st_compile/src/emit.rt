@@ -1,19 +1,18 @@
 //! Emission: the code of a tree, line by line, with the depth of each.
 //!
-//! Each function appends. A jump is written once what it passes stands. Each operand is left by a line at least, so that a
-//! depth is never above the number of lines.
-ghost use Rattle.std.specs.Prelude.{◌≡◌, ◌+◌, ◌<◌, ◌≤◌, [], ◌∷◌, ◌++◌, length, map, slice_set, IfOk, IfErr, OnOk, false};
+//! Each function appends. The distance of a jump is filled in after the code that it skips. Each operand is left by a line at
+//! least, so that a depth is never above the number of lines.
+ghost use Rattle.std.specs.Prelude.{◌≡◌, ◌+◌, ◌<◌, ◌≤◌, [], ◌∷◌, ◌++◌, length, map, slice_set, IfOk, OnOk, false};
 ghost use Rattle.st_reader.specs.Syntax.{send};
-ghost use Rattle.st_reader.specs.Views.{operand_view, chain_view, message_view, expression_view, statements_view, parts_of, seen_parts, further_of, seen_further, seen_sentences};
+ghost use Rattle.st_reader.specs.TreeViews.{operand_view, chain_view, message_view, expression_view, statements_view, parts_of, seen_parts, further_of, seen_further, seen_sentences};
 ghost use Rattle.st_reader.specs.Inlining.{is_inlined as inlines, inlining_of_one};
-ghost use Rattle.st_reader.specs.Alone.{alone, value_of};
-ghost use Rattle.st_compile.specs.Words.{line, receiver, return};
+ghost use Rattle.st_reader.specs.ExpressionKinds.{expression_kind, value_of};
+ghost use Rattle.st_compile.specs.DraftCode.{line, receiver, return};
 ghost use Rattle.st_compile.specs.Equations.{either, loop, inlined, inlining_of, blocks, kept, code, sent, arguments, further_sent, statements_value, body, method_code};
-ghost use Rattle.st_compile.specs.Drafts.{word_of, line_of};
-ghost use Rattle.st_compile.specs.Emitting.{arm_code, branch_word, dropped, goes_up, stores};
+ghost use Rattle.st_compile.specs.DraftViews.{word_of, line_of};
+ghost use Rattle.st_compile.specs.DraftGrowth.{arm_code, branch_word, dropped, goes_up, stores};
 
 use crate::words::{Arm, Branch, Line, Sent, Word};
-use st_classes::refusals::Refusal;
 use st_classes::values::Value;
 use st_reader::inlining::Inlining;
 use st_reader::rules::alone::{Alone, operand_alone};
@@ -23,10 +22,10 @@ use st_reader::trees::{
 };
 use std::alloc::{AllocError, Global};
 
-// Whether a message is inlined.
+/// Whether a message is inlined.
 #[tactic(auto, using(crate::proofs::EmittingChains::keyword_is))]
 fn is_inlined(receiver: Alone, message: &Message) -> bool
-    ensures { (e : _) → alone e ≡ receiver → result ≡ inlines e (message_view message.now) }
+    ensures { (e : _) → expression_kind e ≡ receiver → result ≡ inlines e (message_view message.now) }
 {
     match message {
         Message::Keyword(parts) => messages::is_inlined(receiver, parts),
@@ -41,7 +40,7 @@ pub struct Draft<'t> {
 }
 
 impl<'t> Draft<'t> {
-    // One line more.
+    /// One line more.
     fn put(&mut self, depth: usize, word: Word<'t>) -> Result<(), AllocError>
         ensures code { OnOk result (map line_of self.new.lines.items ≡ map line_of self.old.lines.items ++ line depth (word_of word.entry) ∷ []) }
         ensures longer { OnOk result (length self.old.lines.items + 1 ≡ length self.new.lines.items) }
@@ -50,7 +49,7 @@ impl<'t> Draft<'t> {
         Ok(())
     }
 
-    // Another line in the place of one.
+    /// Another line in the place of one.
     fn patch(&mut self, place: usize, depth: usize, word: Word<'t>)
         requires { place < length self.old.lines.items }
         ensures code { map line_of self.new.lines.items ≡ slice_set (map line_of self.old.lines.items) place (line depth (word_of word.entry)) }
@@ -59,7 +58,7 @@ impl<'t> Draft<'t> {
         self.lines[place] = Line { depth, word };
     }
 
-    // What messages go to.
+    /// What messages go to.
     #[cycle(emit)]
     fn operand(&mut self, depth: usize, operand: &'t Operand) -> Result<(), AllocError>
         requires { depth ≤ length self.old.lines.items }
@@ -79,7 +78,7 @@ impl<'t> Draft<'t> {
         }
     }
 
-    // An operand and its messages, one after another.
+    /// An operand and its messages, one after another.
     #[cycle(emit)]
     fn chain(&mut self, depth: usize, chain: &'t Chain) -> Result<(), AllocError>
         requires { depth ≤ length self.old.lines.items }
@@ -97,7 +96,7 @@ impl<'t> Draft<'t> {
         Ok(())
     }
 
-    // A message to a receiver whose code begins at `start`.
+    /// A message to a receiver whose code begins at `start`.
     #[tactic(auto, using(crate::proofs::EmittingChains::goes_up_is))]
     #[cycle(emit)]
     fn message(
@@ -109,7 +108,7 @@ impl<'t> Draft<'t> {
     ) -> Result<(), AllocError>
         requires deep { depth < length self.old.lines.items }
         requires begun { start < length self.old.lines.items }
-        ensures code { OnOk result ((front : _) (e : _) → alone e ≡ receiver → start ≡ length front → map line_of self.old.lines.items ≡ front ++ code depth e → map line_of self.new.lines.items ≡ front ++ code depth (send e (message_view message.now))) }
+        ensures code { OnOk result ((front : _) (e : _) → expression_kind e ≡ receiver → start ≡ length front → map line_of self.old.lines.items ≡ front ++ code depth e → map line_of self.new.lines.items ≡ front ++ code depth (send e (message_view message.now))) }
         ensures longer { OnOk result (length self.old.lines.items ≤ length self.new.lines.items) }
     {
         if is_inlined(receiver, message) {
@@ -119,7 +118,7 @@ impl<'t> Draft<'t> {
         }
     }
 
-    // A message that is sent to the topmost of so many operands.
+    /// A message that is sent to the topmost of so many operands.
     #[cycle(emit)]
     fn sent(
         &mut self,
@@ -151,7 +150,7 @@ impl<'t> Draft<'t> {
         }
     }
 
-    // The arguments of keywords, each on those before it.
+    /// The arguments of keywords, each on those before it.
     #[cycle(emit)]
     fn arguments(&mut self, depth: usize, parts: &'t [(Name, Chain)]) -> Result<(), AllocError>
         requires { depth ≤ length self.old.lines.items }
@@ -166,8 +165,8 @@ impl<'t> Draft<'t> {
         Ok(())
     }
 
-    // What is left to do for an inlined message once the code of its receiver stands from `start` on. Nothing is, where no
-    // such message is inlined.
+    /// What is left to do for an inlined message after the code of its receiver, which begins at `start`. Nothing is, where no
+    /// such message is inlined.
     #[cycle(emit)]
     fn inlined(
         &mut self,
@@ -200,7 +199,7 @@ impl<'t> Draft<'t> {
         }
     }
 
-    // The same for a message of one keyword.
+    /// The same for a message of one keyword.
     #[cycle(emit)]
     fn one_block(
         &mut self,
@@ -229,7 +228,7 @@ impl<'t> Draft<'t> {
         }
     }
 
-    // One of two arms: the first where the branch isn't taken, the other where it is.
+    /// One of two arms: the first where the branch isn't taken, the other where it is.
     #[cycle(emit)]
     fn either(
         &mut self,
@@ -254,7 +253,7 @@ impl<'t> Draft<'t> {
         Ok(())
     }
 
-    // A value that a block gives, or a plain one.
+    /// A value that a block gives, or a plain one.
     #[cycle(emit)]
     fn arm(&mut self, depth: usize, arm: Arm<'t>) -> Result<(), AllocError>
         requires { depth ≤ length self.old.lines.items }
@@ -267,7 +266,7 @@ impl<'t> Draft<'t> {
         }
     }
 
-    // The body behind a condition that begins at `start`, as long as the branch isn't taken.
+    /// The body after a condition that begins at `start`, as long as the branch isn't taken.
     #[cycle(emit)]
     fn repeated(
         &mut self,
@@ -293,7 +292,7 @@ impl<'t> Draft<'t> {
         Ok(())
     }
 
-    // A message to a receiver that stays.
+    /// A message to a receiver that stays.
     #[cycle(emit)]
     fn kept(&mut self, depth: usize, message: &'t Message) -> Result<(), AllocError>
         requires { depth ≤ length self.old.lines.items }
@@ -305,7 +304,7 @@ impl<'t> Draft<'t> {
         self.put(depth + 1, Word::Drop)
     }
 
-    // The further messages of a cascade.
+    /// The further messages of a cascade.
     #[cycle(emit)]
     fn further(&mut self, depth: usize, messages: &'t [(Span, Message)]) -> Result<(), AllocError>
         requires { depth ≤ length self.old.lines.items }
@@ -321,7 +320,7 @@ impl<'t> Draft<'t> {
         self.sent(Alone::Other, depth, &last.1)
     }
 
-    // The topmost operand stored in variables, the last one first.
+    /// The topmost operand stored in variables, the last one first.
     fn stores(&mut self, depth: usize, targets: &'t [Target]) -> Result<(), AllocError>
         ensures code { OnOk result (map line_of self.new.lines.items ≡ map line_of self.old.lines.items ++ stores depth targets.now) }
         ensures longer { OnOk result (length self.old.lines.items ≤ length self.new.lines.items) }
@@ -334,7 +333,7 @@ impl<'t> Draft<'t> {
         Ok(())
     }
 
-    // The value of an expression before it is stored.
+    /// The value of an expression before it is stored.
     #[cycle(emit)]
     fn value(&mut self, depth: usize, expression: &'t Expression) -> Result<(), AllocError>
         requires { depth ≤ length self.old.lines.items }
@@ -351,7 +350,7 @@ impl<'t> Draft<'t> {
         }
     }
 
-    // The value of an expression.
+    /// The value of an expression.
     #[cycle(emit)]
     fn expression(&mut self, depth: usize, expression: &'t Expression) -> Result<(), AllocError>
         requires { depth ≤ length self.old.lines.items }
@@ -362,7 +361,7 @@ impl<'t> Draft<'t> {
         self.stores(depth + 1, expression.targets.as_slice())
     }
 
-    // Statements whose values are dropped.
+    /// Statements whose values are dropped.
     #[cycle(emit)]
     fn dropped(
         &mut self,
@@ -380,7 +379,7 @@ impl<'t> Draft<'t> {
         Ok(())
     }
 
-    // The value of the statements of a block.
+    /// The value of the statements of a block.
     #[cycle(emit)]
     fn statements(&mut self, depth: usize, statements: &'t Statements) -> Result<(), AllocError>
         requires { depth ≤ length self.old.lines.items }
@@ -395,7 +394,7 @@ impl<'t> Draft<'t> {
         }
     }
 
-    // The receiver is answered.
+    /// The receiver is answered.
     fn answer_receiver(&mut self) -> Result<(), AllocError>
         ensures { OnOk result (map line_of self.new.lines.items ≡ map line_of self.old.lines.items ++ line 0 receiver ∷ line 1 return ∷ []) }
     {
@@ -403,7 +402,7 @@ impl<'t> Draft<'t> {
         self.put(1, Word::Return)
     }
 
-    // The statements of a method.
+    /// The statements of a method.
     fn body(&mut self, statements: &'t Statements) -> Result<(), AllocError>
         ensures { OnOk result (map line_of self.new.lines.items ≡ map line_of self.old.lines.items ++ body (statements_view statements.now)) }
     {
@@ -427,17 +426,14 @@ impl<'t> Draft<'t> {
         }
     }
 
-    /// The code of a method. The only refusal is `NoMemory`.
-    pub fn of_method(alloc: Global, tree: &'t MethodTree) -> Result<Draft<'t>, Refusal>
-        ensures ok { IfOk result (λ draft. map line_of draft.lines.items ≡ method_code tree.now.syntax) }
-        ensures err { IfErr result (λ e. e ≡ Refusal.NoMemory) }
+    /// The code of a method.
+    pub fn of_method(alloc: Global, tree: &'t MethodTree) -> Result<Draft<'t>, AllocError>
+        ensures { IfOk result (λ draft. map line_of draft.lines.items ≡ method_code tree.now.syntax) }
     {
         let mut draft = Draft {
             lines: Vec::new(alloc),
         };
-        let Ok(()) = draft.method(tree) else {
-            return Err(Refusal::NoMemory);
-        };
+        draft.method(tree)?;
         Ok(draft)
     }
 }

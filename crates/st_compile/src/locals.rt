@@ -1,11 +1,10 @@
-//! Arguments and temporaries.
-ghost use Rattle.std.specs.Prelude.{◌≡◌, ◌≤◌, ◌++◌, ◌∷◌, [], length, OnOk, IfOk, IfErr};
-ghost use Rattle.st_compile.specs.Naming.{named};
+//! The arguments and temporaries of a method, counted and in one list.
+ghost use Rattle.std.specs.Prelude.{◌≡◌, ◌≤◌, ◌++◌, ◌∷◌, [], length, OnOk, IfOk};
+ghost use Rattle.st_compile.specs.Scopes.{named};
 ghost use Rattle.st_reader.specs.Variables.{arguments_of, locals_of, temporaries_of};
 
-use st_classes::refusals::Refusal;
 use st_reader::trees::{MethodTree, Name, Pattern, Temporaries};
-use std::alloc::Global;
+use std::alloc::{AllocError, Global};
 
 /// The number of arguments of a pattern.
 pub fn argument_count(pattern: &Pattern) -> u8
@@ -30,19 +29,15 @@ pub fn temporary_count(temporaries: &Option<Temporaries>) -> u8
     }
 }
 
-fn add_name<'t>(names: &mut Vec<&'t Name>, name: &'t Name) -> Result<(), Refusal>
-    ensures ok { OnOk result (named names.new.items ≡ named names.old.items ++ name.now ∷ []) }
-    ensures err { IfErr result (λ e. e ≡ Refusal.NoMemory) }
+fn add_name<'t>(names: &mut Vec<&'t Name>, name: &'t Name) -> Result<(), AllocError>
+    ensures { OnOk result (named names.new.items ≡ named names.old.items ++ name.now ∷ []) }
 {
-    let Ok(()) = names.push(name) else {
-        return Err(Refusal::NoMemory);
-    };
+    names.push(name)?;
     Ok(())
 }
 
-fn add_arguments<'t>(names: &mut Vec<&'t Name>, pattern: &'t Pattern) -> Result<(), Refusal>
-    ensures ok { OnOk result (named names.new.items ≡ named names.old.items ++ arguments_of pattern.now) }
-    ensures err { IfErr result (λ e. e ≡ Refusal.NoMemory) }
+fn add_arguments<'t>(names: &mut Vec<&'t Name>, pattern: &'t Pattern) -> Result<(), AllocError>
+    ensures { OnOk result (named names.new.items ≡ named names.old.items ++ arguments_of pattern.now) }
 {
     match pattern {
         Pattern::Unary(_) => {}
@@ -59,9 +54,8 @@ fn add_arguments<'t>(names: &mut Vec<&'t Name>, pattern: &'t Pattern) -> Result<
 fn add_temporaries<'t>(
     names: &mut Vec<&'t Name>,
     temporaries: &'t Option<Temporaries>,
-) -> Result<(), Refusal>
-    ensures ok { OnOk result (named names.new.items ≡ named names.old.items ++ temporaries_of temporaries.now) }
-    ensures err { IfErr result (λ e. e ≡ Refusal.NoMemory) }
+) -> Result<(), AllocError>
+    ensures { OnOk result (named names.new.items ≡ named names.old.items ++ temporaries_of temporaries.now) }
 {
     let Some(temporaries) = temporaries else {
         return Ok(());
@@ -72,10 +66,9 @@ fn add_temporaries<'t>(
     Ok(())
 }
 
-/// The arguments of a method, then its temporaries. The only refusal is `NoMemory`.
-pub fn locals_of(alloc: Global, tree: &MethodTree) -> Result<Vec<&Name>, Refusal>
-    ensures ok { IfOk result (λ names. named names.items ≡ locals_of tree.now.syntax) }
-    ensures err { IfErr result (λ e. e ≡ Refusal.NoMemory) }
+/// The arguments of a method, then its temporaries.
+pub fn locals_of(alloc: Global, tree: &MethodTree) -> Result<Vec<&Name>, AllocError>
+    ensures { IfOk result (λ names. named names.items ≡ locals_of tree.now.syntax) }
 {
     let mut names = Vec::new(alloc);
     add_arguments(&mut names, tree.pattern())?;

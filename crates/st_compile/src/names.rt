@@ -4,8 +4,8 @@ ghost use Rattle.std.specs.List.{flat_map};
 ghost use Rattle.st_classes.specs.Names.{interned};
 ghost use Rattle.st_classes.specs.Refusals.{first_of, Answers};
 ghost use Rattle.st_classes.specs.Selectors.{is_selector, place_of};
-ghost use Rattle.st_compile.specs.Drafts.{sent_arguments, sent_text};
-ghost use Rattle.st_compile.specs.Interning.{IsFull, names_rule};
+ghost use Rattle.st_compile.specs.DraftViews.{sent_arguments, sent_text};
+ghost use Rattle.st_compile.specs.NeededNames.{IsFull, names_rule};
 ghost use Rattle.st_compile.specs.Scopes.{pattern_selector};
 
 use crate::words::Sent;
@@ -13,7 +13,7 @@ use st_classes::names::Names;
 use st_classes::refusals::Refusal;
 use st_classes::values::Selector;
 use st_reader::trees::{Chain, Name, Parameter, Pattern};
-use std::alloc::Global;
+use std::alloc::{AllocError, Global};
 
 /// The number of a text, which is interned.
 pub(crate) fn number_of(alloc: Global, text: &[u8], names: &mut Names) -> Result<Selector, Refusal>
@@ -28,21 +28,17 @@ pub(crate) fn number_of(alloc: Global, text: &[u8], names: &mut Names) -> Result
     number
 }
 
-// A keyword behind others.
-fn add_keyword(text: &mut Vec<u8>, keyword: &Name) -> Result<(), Refusal>
-    ensures ok { OnOk result (text.new.items ≡ text.old.items ++ keyword.now.text) }
-    ensures err { IfErr result (λ e. e ≡ Refusal.NoMemory) }
+/// Adds a keyword to a selector.
+fn add_keyword(text: &mut Vec<u8>, keyword: &Name) -> Result<(), AllocError>
+    ensures { OnOk result (text.new.items ≡ text.old.items ++ keyword.now.text) }
 {
-    let Ok(()) = text.extend_from_slice(keyword.text.as_slice()) else {
-        return Err(Refusal::NoMemory);
-    };
+    text.extend_from_slice(keyword.text.as_slice())?;
     Ok(())
 }
 
-/// The selector that the keywords of a message make. The only refusal is `NoMemory`.
-fn joined(alloc: Global, parts: &[(Name, Chain)]) -> Result<Vec<u8>, Refusal>
-    ensures ok { IfOk result (λ text. text.items ≡ flat_map (λ p. p.0.text) parts.now) }
-    ensures err { IfErr result (λ e. e ≡ Refusal.NoMemory) }
+/// The selector that the keywords of a message make.
+fn joined(alloc: Global, parts: &[(Name, Chain)]) -> Result<Vec<u8>, AllocError>
+    ensures { IfOk result (λ text. text.items ≡ flat_map (λ p. p.0.text) parts.now) }
 {
     let mut text = Vec::new(alloc);
     for part in parts {

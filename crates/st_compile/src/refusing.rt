@@ -1,11 +1,10 @@
-//! When a method has no code in a class.
+//! The refusals of a draft: unknown names, clashing names, size.
 ghost use Rattle.std.specs.Prelude.{◌≡◌, [], ◌∷◌, map, nat_le};
 ghost use Rattle.std.specs.List.{list_all};
 ghost use Rattle.st_classes.specs.Refusals.{first_of};
-ghost use Rattle.st_compile.specs.Drafts.{line_of, word_of};
-ghost use Rattle.st_compile.specs.Least.{least_of, lesser};
-ghost use Rattle.st_compile.specs.Naming.{HasFew, named, scope_seen};
-ghost use Rattle.st_compile.specs.Refusing.{clash_rule, clashing, is_small, scope_rules, size_rule, start_of, unknown, unknown_rule};
+ghost use Rattle.st_compile.specs.DraftViews.{line_of, word_of};
+ghost use Rattle.st_compile.specs.Scopes.{HasFew, named, scope_seen};
+ghost use Rattle.st_compile.specs.CompileRules.{clash_rule, clashing, is_small, least_of, lesser, scope_rules, size_rule, start_of, unknown, unknown_rule};
 
 use crate::scope::Scope;
 use crate::words::{Line, Word};
@@ -24,7 +23,7 @@ fn lesser(one: Option<u32>, other: Option<u32>) -> Option<u32>
     }
 }
 
-/// Where the name of a word stands in the source.
+/// The place of a word's name in the source.
 fn start_of(word: Word<'_>) -> u32
     ensures { result ≡ start_of (word_of word.entry) }
 {
@@ -34,7 +33,7 @@ fn start_of(word: Word<'_>) -> u32
     }
 }
 
-/// Where the name of a line stands that stands for nothing.
+/// The place of a line's name, if the name means nothing.
 fn unknown_at(scope: &Scope<'_>, line: Line<'_>) -> Option<u32>
     requires { HasFew (scope_seen scope.now) }
     ensures { result ≡ least_of (unknown (scope_seen scope.now) (line_of line.entry ∷ [])) }
@@ -45,7 +44,7 @@ fn unknown_at(scope: &Scope<'_>, line: Line<'_>) -> Option<u32>
     Some(start_of(line.word))
 }
 
-/// The first place in the source of a name that stands for nothing.
+/// The first place in the source of a name that means nothing.
 #[tactic(auto, using(crate::proofs::Least::unknown_more))]
 fn first_unknown(scope: &Scope<'_>, lines: &[Line<'_>]) -> Option<u32>
     requires { HasFew (scope_seen scope.now) }
@@ -58,7 +57,7 @@ fn first_unknown(scope: &Scope<'_>, lines: &[Line<'_>]) -> Option<u32>
     least
 }
 
-/// Where a name stands that is named as an instance variable.
+/// The place of a name, if it is also the name of an instance variable.
 fn clash_at(scope: &Scope<'_>, name: &Name) -> Option<u32>
     ensures { result ≡ least_of (clashing (scope_seen scope.now).slots (name.now ∷ [])) }
 {
@@ -80,7 +79,7 @@ fn first_clash(scope: &Scope<'_>) -> Option<u32>
     least
 }
 
-/// `BadSource` with `UnknownName` where a name stands for nothing, and the first place of one.
+/// `BadSource` with `UnknownName` if a name means nothing, and the first place of one.
 #[tactic(auto, using(crate::proofs::Least::place_rule))]
 fn unknown_name(scope: &Scope<'_>, lines: &[Line<'_>]) -> Option<Refusal>
     requires { HasFew (scope_seen scope.now) }

@@ -3,13 +3,12 @@ ghost use Rattle.std.specs.Prelude.{◌≡◌, ◌∷◌, [], ◌≤◌, map, tr
 ghost use Rattle.std.specs.List.{flat_map};
 ghost use Rattle.st_classes.specs.Refusals.{first_of, Answers};
 ghost use Rattle.st_classes.specs.Selectors.{is_selector, place_of};
-ghost use Rattle.st_compile.specs.Drafts.{line_of, word_of};
-ghost use Rattle.st_compile.specs.Naming.{HasFew, scope_seen};
-ghost use Rattle.st_compile.specs.Proper.{IsReady, is_near, word_fits};
-ghost use Rattle.st_compile.specs.Interning.{InternsFirst, IsFull, interned_all, names_rule};
-ghost use Rattle.st_compile.specs.Refusing.{is_known};
-ghost use Rattle.st_compile.specs.Resolving.{instruction_of, instructions_of, word_texts};
-ghost use Rattle.st_compile.specs.Scopes.{pattern_selector};
+ghost use Rattle.st_compile.specs.DraftViews.{line_of, word_of};
+ghost use Rattle.st_compile.specs.Encodable.{IsReady, is_near, word_fits};
+ghost use Rattle.st_compile.specs.NeededNames.{InternsFirst, IsFull, interned_all, names_rule};
+ghost use Rattle.st_compile.specs.CompileRules.{is_known};
+ghost use Rattle.st_compile.specs.NameResolution.{instruction_of, instructions_of, word_texts};
+ghost use Rattle.st_compile.specs.Scopes.{HasFew, pattern_selector, scope_seen};
 
 use crate::names::{number_of, pattern_number};
 use crate::scope::Scope;

@@ -1,27 +1,25 @@
-//! What the names of a method stand for.
-ghost use Rattle.std.specs.Prelude.{◌≡◌, ◌≤◌, true, length, position, IfOk, IfErr};
+//! What the names of a method mean in a class.
+ghost use Rattle.std.specs.Prelude.{◌≡◌, ◌≤◌, true, length, position, IfOk};
 ghost use Rattle.std.specs.List.{list_any};
 ghost use Rattle.std.specs.Str.{bytes_eq};
 ghost use Rattle.st_classes.specs.Classes.{is_class};
 ghost use Rattle.st_classes.specs.Selectors.{place_of};
 ghost use Rattle.st_reader.specs.Variables.{locals_of};
-ghost use Rattle.st_compile.specs.Drafts.{word_of};
-ghost use Rattle.st_compile.specs.Naming.{HasFew, named, scope_seen};
-ghost use Rattle.st_compile.specs.Refusing.{is_known};
-ghost use Rattle.st_compile.specs.Resolving.{pushed, reserved, stored};
-ghost use Rattle.st_compile.specs.Scopes.{scope_of};
+ghost use Rattle.st_compile.specs.DraftViews.{word_of};
+ghost use Rattle.st_compile.specs.CompileRules.{is_known};
+ghost use Rattle.st_compile.specs.NameResolution.{pushed, reserved, stored};
+ghost use Rattle.st_compile.specs.Scopes.{HasFew, named, scope_of, scope_seen};
 
 use crate::locals::locals_of;
 use crate::words::Word;
 use st_classes::instructions::Instruction;
-use st_classes::refusals::Refusal;
 use st_classes::seq::Seq;
 use st_classes::values::{ClassId, Value};
 use st_classes::version::Version;
 use st_reader::trees::{MethodTree, Name};
-use std::alloc::Global;
+use std::alloc::{AllocError, Global};
 
-/// The value of a reserved name. `super` stands for the receiver.
+/// The value of a reserved name. `super` means the receiver.
 fn reserved(text: &[u8]) -> Option<Instruction>
     ensures { result ≡ reserved text.now }
 {
@@ -59,18 +57,17 @@ pub struct Scope<'t> {
 }
 
 impl<'t> Scope<'t> {
-    /// What the names of a method can stand for in a class. The only refusal is `NoMemory`.
+    /// What the names of a method can stand for in a class.
     pub fn of_method(
         alloc: Global,
         tree: &'t MethodTree,
         class: ClassId,
         version: &'t Version,
-    ) -> Result<Scope<'t>, Refusal>
+    ) -> Result<Scope<'t>, AllocError>
         requires { is_class version.now class ≡ true }
         ensures scope { IfOk result (λ scope. scope_seen scope ≡ scope_of version.now class tree.now.syntax) }
         ensures locals { IfOk result (λ scope. named scope.locals.items ≡ locals_of tree.now.syntax) }
         ensures few { IfOk result (λ scope. HasFew (scope_seen scope)) }
-        ensures err { IfErr result (λ e. e ≡ Refusal.NoMemory) }
     {
         version.known();
         tree.known();
@@ -135,7 +132,7 @@ impl<'t> Scope<'t> {
         Some(Instruction::StoreSlot(place as u8))
     }
 
-    /// Whether a word's name, where it has one, stands for something.
+    /// Whether a word's name, if it has one, means something.
     pub fn is_known(&self, word: Word<'_>) -> bool
         requires { HasFew (scope_seen self.now) }
         ensures { result ≡ is_known (scope_seen self.now) (word_of word.entry) }

@@ -1,8 +1,8 @@
 //! Instructions before their names have numbers.
 ghost use Rattle.std.specs.Prelude.{◌≡◌};
 ghost use Rattle.st_compile.specs.Equations.{to};
-ghost use Rattle.st_compile.specs.Drafts.{word_of, sent_text, sent_arguments};
-ghost use Rattle.st_compile.specs.Emitting.{branch_word, goes_up};
+ghost use Rattle.st_compile.specs.DraftViews.{word_of, sent_text, sent_arguments};
+ghost use Rattle.st_compile.specs.DraftGrowth.{branch_word, goes_up};
 
 use st_classes::values::Value;
 use st_reader::rules::alone::Alone;

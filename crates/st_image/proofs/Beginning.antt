@@ -12,10 +12,10 @@ use Rattle.st_image.specs.declared.items.Item.{Item}
 use Rattle.st_image.specs.declared.settings.Settings.{Settings}
 use Rattle.st_image.specs.Images.{world_of, settings_rules}
 use Rattle.st_image.specs.Worlds.{start}
-use Rattle.st_image.specs.Kepts.{Kept}
-use Rattle.st_image.specs.Lasting.{AreConstants, AreSettings, IsSoundItem}
-use Rattle.st_image.specs.Acting.{constants_of}
-use Rattle.st_image.specs.Keeping.{IsImage}
+use Rattle.st_image.specs.ActorViews.{ActorView}
+use Rattle.st_image.specs.WorldInvariant.{AreConstants, AreSettings, IsSoundItem}
+use Rattle.st_image.specs.ActResults.{constants_of}
+use Rattle.st_image.specs.ImageInvariant.{IsImage}
 use Rattle.st_image.proofs.Lasting.{start_has_turns, start_is_world}
 use Rattle.st_image.proofs.Lists.{off}
 
@@ -51,10 +51,10 @@ new_is s f = record {
   counted = refl;
   numbers = f;
   few_items = omega arith;
-  few_accepted = All-nil (λ (k : Kept). k.accepted ≤ 0);
+  few_accepted = All-nil (λ (k : ActorView). k.accepted ≤ 0);
 }
 
-no_items : (names : List (List ℕ)) (edits : List Edit) (actors : List Kept) (made : ℕ) (s t : Settings) → IsImage start names edits actors [] made s → AreSettings t → IsImage start names edits actors [] made t
+no_items : (names : List (List ℕ)) (edits : List Edit) (actors : List ActorView) (made : ℕ) (s t : Settings) → IsImage start names edits actors [] made s → AreSettings t → IsImage start names edits actors [] made t
 unfolding world_of
 no_items names edits actors made s t k f =
     let c : AreConstants (constants_of names t.capacity) = record { kernel = k.base_is.constants.kernel; some_capacity = f.some_capacity; few_messages = f.few_messages } in
@@ -72,6 +72,6 @@ no_items names edits actors made s t k f =
     }
 
 -- an image with no history yet, with other numbers
-pub set_is : (names : List (List ℕ)) (edits : List Edit) (actors : List Kept) (h : List Item) (made : ℕ) (s t : Settings) → IsImage start names edits actors h made s → h ≡ [] → AreSettings t → IsImage start names edits actors h made t
+pub set_is : (names : List (List ℕ)) (edits : List Edit) (actors : List ActorView) (h : List Item) (made : ℕ) (s t : Settings) → IsImage start names edits actors h made s → h ≡ [] → AreSettings t → IsImage start names edits actors h made t
 set_is names edits actors h made s t k none f =
     subst (λ (x : List Item). IsImage start names edits actors x made t) (sym none) (no_items names edits actors made s t (subst (λ (x : List Item). IsImage start names edits actors x made s) none k) f)

@@ -20,29 +20,30 @@ use Rattle.st_classes.specs.Refusals.{Rule, first_of, Answers}
 use Rattle.st_classes.specs.Kernel.{selector, kernel_selectors, kernel_method, object_method, integer_method, boolean_method, actor_method, class_method}
 use Rattle.st_classes.specs.Selectors.{place_of}
 use Rattle.st_classes.specs.Classes.{is_class}
-use Rattle.st_classes.specs.Accepting.{edit_rules, too_many_edits}
+use Rattle.st_classes.specs.EditRules.{edit_rules, too_many_edits}
 use Rattle.st_classes.proofs.LawLists.{slice_get_old}
 use Rattle.st_classes.specs.declared.refusals.SourceFault.{SourceFault}
 use Rattle.st_classes.specs.declared.refusals.SourceFault.TheVariants.{UnknownName, DuplicateName, TooLarge}
 use Rattle.st_reader.specs.Spelling.{Spells}
 use Rattle.st_reader.specs.Syntax.{Method}
-use Rattle.st_compile.specs.Interning.{InternsFirst, IsFull, interned_all, names_rule, needed_texts}
-use Rattle.st_compile.specs.Refusing.{code_rules, method_rules, unknown, clashing, is_small, least}
+use Rattle.st_compile.specs.NeededNames.{InternsFirst, IsFull, interned_all, names_rule, needed_texts}
+use Rattle.st_compile.specs.CompileRules.{code_rules, method_rules, unknown, clashing, is_small, least}
 use Rattle.st_compile.specs.Equations.{method_code}
 use Rattle.st_reader.specs.Variables.{locals_of}
 use Rattle.st_compile.specs.Scopes.{pattern_selector, scope_of}
-use Rattle.st_compile.specs.Compiled.{IsCompiled}
+use Rattle.st_compile.specs.CompiledMethod.{IsCompiled}
 use Rattle.st_compile.proofs.Interning.{first-all}
 use Rattle.st_compile.proofs.Places.{first, position-first, place-append, at-place}
 use Rattle.st_image.proofs.Lists.{off_append, first_here, first_later}
 use Rattle.st_image.proofs.Editing.{edited_world}
-use Rattle.st_image.specs.Next.{replay}
-use Rattle.st_classes.specs.Suiting.{suits}
+use Rattle.st_image.specs.Replay.{replay}
+use Rattle.st_classes.specs.MethodSuits.{suits}
 use Rattle.st_image.specs.declared.items.Item.TheVariants.{Edited}
 use Rattle.st_image.specs.Worlds.{World}
 use Rattle.st_image.specs.Images.{ImageView, constants, world, appended, edits_in, run_rules}
-use Rattle.st_image.specs.Lasting.{BeginsWithKernel}
-use Rattle.st_image.specs.Installing.{has_kernel, is_kernel_text, source_rules, image_install_rules, AddsNames, AddsAllNames, LeavesNames, with_names_of, Installs, memory, first as first_refusal, AnswersInstall}
+use Rattle.st_image.specs.WorldInvariant.{BeginsWithKernel}
+use Rattle.st_image.specs.Calls.{AnswersExactly}
+use Rattle.st_image.specs.Installs.{has_kernel, is_kernel_text, source_rules, image_install_rules, InternsAll, AddsNames, LeavesNames, with_names_of, Installs, memory, first as first_refusal, AnswersInstall}
 
 -- ---- kernel methods by text
 
@@ -166,7 +167,19 @@ tree_installed i j k c tree text m r h f t e w lawful b p a =
     let suited : suits j.names (world j).edits c m ≡ true = subst (λ (v : World). suits j.names v.edits c m ≡ true) (sym w) p.fitting in
     let then_world : first_of (edit_rules (world j).edits (Install c m) ++ run_rules j) ≡ None → world (appended j (Edited (Install c m) ∷ [])) ≡ record (world i) { edits = (world i).edits ++ Install c m ∷ [] } =
     λ o. edited_world j (Install c m) lawful (off_append (edit_rules (world j).edits (Install c m)) (run_rules j) o).0 suited ∙ ap (λ (v : World). record v { edits = v.edits ++ Install c m ∷ [] }) w in
-    answers_same _ _ _ _ r (theirs ∙ sym mine) (λ n o q. (m, subst (λ (ns : List (List ℕ)). IsCompiled ns (world i).edits c tree text m) (sym (ap (λ (v : ImageView). v.names) q.0)) p, q.0 ∙ ap (λ (v : ImageView). appended v (Edited (Install c m) ∷ [])) e, ap (λ (v : ImageView). world v) q.0 ∙ then_world o, q.1)) a
+    answers_same _ _ _ _ r (theirs ∙ sym mine) (λ n o q. record {
+      parts = m;
+      compiled = subst (λ (ns : List (List ℕ)). IsCompiled ns (world i).edits c tree text m) (sym (ap (λ (v : ImageView). v.names) q.0)) p;
+      added = q.0 ∙ ap (λ (v : ImageView). appended v (Edited (Install c m) ∷ [])) e;
+      grown = ap (λ (v : ImageView). world v) q.0 ∙ then_world o;
+      answer = q.1;
+    }) a
+
+-- the answer of a call that asks its rules first
+pub exact_answers : {T : Type 0} (first : Option Refusal) (r : Result T Refusal) (P : T → Type 0) → AnswersExactly first r P → Answers first r P
+exact_answers first (Ok x) P a = a
+exact_answers first (Err e) P (inl f) = inr f
+exact_answers first (Err e) P (inr m) = inl m.1
 
 -- the answer of a tree that the text spells is the answer of its install
 pub install_answered : (i k : ImageView) (c : ClassId) (tree : Method) (text : List ℕ) (r : Result ℕ Refusal) → Spells tree text → Answers (first_of (image_install_rules i c tree)) r (λ n. Installs i c tree text k n) → AnswersInstall i c text k r
@@ -209,7 +222,7 @@ wrong_left : (i j : ImageView) (c : ClassId) (text : List ℕ) (e : Refusal) →
 wrong_left i j c text e w h = subst (λ (r : Refusal). LeavesNames i c text r j) (sym w.2) h
 
 -- where the names that the tree needs are too many, or it has no code
-tree_left_by : (i j : ImageView) (c : ClassId) (tree : Method) (text : List ℕ) (e : Refusal) (code : Option Refusal) (full : Bool) → first_of (code_rules (world i).edits c tree) ≡ code → nat_lt 8192 (length (interned_all i.names (needed_texts tree))) ≡ full → (code ≡ None → AddsNames i c text j) → ((d : Refusal) → code ≡ Some d → j ≡ i) → IsFull j.names e → first_of (method_rules i.names (world i).edits c tree) ≡ Some e → LeavesNames i c text e j
+tree_left_by : (i j : ImageView) (c : ClassId) (tree : Method) (text : List ℕ) (e : Refusal) (code : Option Refusal) (full : Bool) → first_of (code_rules (world i).edits c tree) ≡ code → nat_lt 8192 (length (interned_all i.names (needed_texts tree))) ≡ full → (code ≡ None → AddsNames InternsFirst i c text j) → ((d : Refusal) → code ≡ Some d → j ≡ i) → IsFull j.names e → first_of (method_rules i.names (world i).edits c tree) ≡ Some e → LeavesNames i c text e j
 tree_left_by i j c tree text e (Some d) full h f adds untouched is_full refused =
     let first : first_of (method_rules i.names (world i).edits c tree) ≡ Some d = first_here (code_rules (world i).edits c tree) (names_rule i.names (needed_texts tree) ∷ []) d h in
     let same : d ≡ e = some_refusal d e (sym first ∙ refused) in
@@ -224,21 +237,21 @@ tree_left_by i j c tree text e None false h f adds untouched is_full refused =
     let none : None ≡ Some e = rw f at now in
     cc
 
-no_memory_left : (i j : ImageView) (c : ClassId) (text : List ℕ) (e : Refusal) (code : Option Refusal) → (code ≡ None → AddsNames i c text j) → ((d : Refusal) → code ≡ Some d → j ≡ i) → e ≡ NoMemory → LeavesNames i c text e j
+no_memory_left : (i j : ImageView) (c : ClassId) (text : List ℕ) (e : Refusal) (code : Option Refusal) → (code ≡ None → AddsNames InternsFirst i c text j) → ((d : Refusal) → code ≡ Some d → j ≡ i) → e ≡ NoMemory → LeavesNames i c text e j
 no_memory_left i j c text e None adds untouched m = subst (λ (r : Refusal). LeavesNames i c text r j) (sym m) (inr (adds refl))
 no_memory_left i j c text e (Some d) adds untouched m = subst (λ (r : Refusal). LeavesNames i c text r j) (sym m) (inl (untouched d refl))
 
 -- what is left where the tree is refused
 pub tree_left : (i j : ImageView) (c : ClassId) (tree : Method) (text : List ℕ) (e : Refusal) → Spells tree text → is_class (world i).edits c ≡ true → is_kernel_text c (pattern_selector tree.pattern) ≡ false → InternsFirst i.names (needed_texts tree) j.names → j ≡ record i { names = j.names } → ((d : Refusal) → first_of (code_rules (world i).edits c tree) ≡ Some d → j ≡ i) → IsFull j.names e → (e ≡ NoMemory) ⊎ (first_of (method_rules i.names (world i).edits c tree) ≡ Some e) → LeavesNames i c text e j
 tree_left i j c tree text e s h k some only untouched full refused =
-    let adds : first_of (code_rules (world i).edits c tree) ≡ None → AddsNames i c text j = λ b. (tree, s, source_allowed i c tree h k b, some, only) in
+    let adds : first_of (code_rules (world i).edits c tree) ≡ None → AddsNames InternsFirst i c text j = λ b. record { method = tree; spelled = s; accepted = source_allowed i c tree h k b; interned = some; only = only } in
     elim refused [
       | inl m ↦ no_memory_left i j c text e (first_of (code_rules (world i).edits c tree)) adds untouched m
       | inr f ↦ tree_left_by i j c tree text e (first_of (code_rules (world i).edits c tree)) (nat_lt 8192 (length (interned_all i.names (needed_texts tree)))) refl refl adds untouched full f
     ]
 
 -- the refusals of an edit whose class is there and whose selector is no kernel method's
-edit_left_by : (i j : ImageView) (c : ClassId) (text : List ℕ) (e : Refusal) (t u v : Bool) → (es : List Edit) → nat_le 4096 (length es) ≡ t → nat_le 2048 (edits_in j.history) ≡ u → nat_lt j.most_items (length j.history + 1) ≡ v → AddsAllNames i c text j → first_of (too_many_edits es ∷ run_rules j) ≡ Some e → LeavesNames i c text e j
+edit_left_by : (i j : ImageView) (c : ClassId) (text : List ℕ) (e : Refusal) (t u v : Bool) → (es : List Edit) → nat_le 4096 (length es) ≡ t → nat_le 2048 (edits_in j.history) ≡ u → nat_lt j.most_items (length j.history + 1) ≡ v → AddsNames InternsAll i c text j → first_of (too_many_edits es ∷ run_rules j) ≡ Some e → LeavesNames i c text e j
 edit_left_by i j c text e true u v es a b d adds refused =
     let now : Some (TooMany Edits) ≡ Some e = rw a at refused in
     subst (λ (r : Refusal). LeavesNames i c text r j) (some_refusal (TooMany Edits) e now) adds
@@ -258,8 +271,10 @@ edit_left (Ok x) P i j k c tree text m s h f t e w b at same a = tt
 edit_left (Err x) P i j k c tree text m s h f t e w b at same a =
     let code : first_of (code_rules (world i).edits c tree) ≡ None = code_there (first_of (code_rules (world i).edits c tree)) refl in
     let allowed : first_of (source_rules i c tree) ≡ None = source_allowed i c tree h f code in
-    let adds : AddsAllNames i c text j = (tree, s, allowed, e) in
-    let some : AddsNames i c text j = (tree, s, allowed, first-all i.names (needed_texts tree) j.names (ap (λ (v : ImageView). v.names) e), e ∙ ap (λ (ns : List (List ℕ)). record i { names = ns }) (sym (ap (λ (v : ImageView). v.names) e))) in
+    let names : j.names ≡ interned_all i.names (needed_texts tree) = ap (λ (v : ImageView). v.names) e in
+    let only : j ≡ record i { names = j.names } = e ∙ ap (λ (ns : List (List ℕ)). record i { names = ns }) (sym names) in
+    let adds : AddsNames InternsAll i c text j = record { method = tree; spelled = s; accepted = allowed; interned = names; only = only } in
+    let some : AddsNames InternsFirst i c text j = record { method = tree; spelled = s; accepted = allowed; interned = first-all i.names (needed_texts tree) j.names names; only = only } in
     subst (λ (v : ImageView). LeavesNames i c text x v) (sym same) (elim a [
       | inl none ↦ subst (λ (r : Refusal). LeavesNames i c text r j) (sym none) (inr some)
       | inr first ↦

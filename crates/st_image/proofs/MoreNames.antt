@@ -1,24 +1,18 @@
 -- What fits some names fits more.
-use Rattle.std.proofs.Common.{arith, ◌≡◌, ℕ, ◌++◌, List, refl, length, true, length-append}
-use Rattle.std.specs.Prelude.{nat_lt}
+use Rattle.std.proofs.Common.{◌≡◌, ℕ, ◌++◌, List, refl, length, true, le_refl}
 use Rattle.std.proofs.lemmas.Bool.{and_parts, and_from}
-use Rattle.std.proofs.lemmas.Bool.Decides.{nat_tests}
 use Rattle.st_classes.specs.declared.values.Value.{Value}
-use Rattle.st_classes.specs.declared.values.Value.TheVariants.{Int, Bool as Boolean, Nil, Sym, Class, Actor, Local}
 use Rattle.st_classes.specs.declared.edits.Edit.{Edit}
 use Rattle.st_classes.specs.declared.edits.Edit.TheVariants.{Define, Install, Remove}
 use Rattle.st_classes.specs.Classes.{class_count}
-use Rattle.st_classes.specs.Suiting.{edit_suits}
+use Rattle.st_classes.specs.MethodSuits.{edit_suits}
 use Rattle.st_classes.proofs.LawLists.{list_all_weaker}
-use Rattle.st_classes.proofs.LawGrowing.{extends_more, number_grows, suits_more_names}
+use Rattle.st_classes.proofs.LawGrowing.{there_grows, extends_more, number_grows, suits_more_names}
 use Rattle.st_image.specs.declared.messages.Message.{Message}
 use Rattle.st_image.specs.Worlds.{World}
-use Rattle.st_image.specs.Posting.{argument_fits, message_fits, message_suits}
+use Rattle.st_image.specs.PostRules.{argument_fits, message_fits, message_suits}
 
 -- ---- tests
-
-less_more : (names more : List (List ℕ)) (n : ℕ) → nat_lt n (length names) ≡ true → nat_lt n (length (names ++ more)) ≡ true
-less_more names more n e = let h = length-append names more in grind (arith, nat_tests)
 
 -- ---- edits
 
@@ -30,13 +24,7 @@ edit_suits_more names more edits (Remove c s) h = refl
 -- ---- messages
 
 argument_more : (names more : List (List ℕ)) (classes actors : ℕ) (v : Value) → argument_fits names classes actors v ≡ true → argument_fits (names ++ more) classes actors v ≡ true
-argument_more names more classes actors (Int z) e = refl
-argument_more names more classes actors (Boolean b) e = refl
-argument_more names more classes actors Nil e = refl
-argument_more names more classes actors (Sym s) e = less_more names more s.0 e
-argument_more names more classes actors (Class c) e = e
-argument_more names more classes actors (Actor a) e = e
-argument_more names more classes actors (Local n) e = e
+argument_more names more classes actors v e = there_grows names (names ++ more) classes classes actors actors 0 0 (extends_more names more).long (le_refl classes) (le_refl actors) (le_refl 0) v e
 
 pub fits_more : (names more : List (List ℕ)) (classes actors : ℕ) (m : Message) → message_fits names classes actors m ≡ true → message_fits (names ++ more) classes actors m ≡ true
 fits_more names more classes actors m e = let t = and_parts _ _ e in and_from _ _ (number_grows names (names ++ more) (extends_more names more) m.selector (length m.args) t.0) (list_all_weaker _ _ (λ v h. argument_more names more classes actors v h) m.args t.1)

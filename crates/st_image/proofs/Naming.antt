@@ -6,19 +6,19 @@ use Rattle.st_image.specs.declared.settings.Settings.{Settings}
 use Rattle.st_image.specs.declared.items.Item.{Item}
 use Rattle.st_image.specs.Worlds.{Constants, World}
 use Rattle.st_image.specs.Images.{world_of}
-use Rattle.st_image.specs.Kepts.{Kept, Shows}
-use Rattle.st_image.specs.Lasting.{HaveTurns, IsWorld}
-use Rattle.st_image.specs.Acting.{constants_of}
-use Rattle.st_image.specs.Keeping.{IsImage}
+use Rattle.st_image.specs.ActorViews.{ActorView, Shows}
+use Rattle.st_image.specs.WorldInvariant.{HaveTurns, IsWorld}
+use Rattle.st_image.specs.ActResults.{constants_of}
+use Rattle.st_image.specs.ImageInvariant.{IsImage}
 use Rattle.st_image.proofs.GrowingNames.{world_more}
 use Rattle.st_image.proofs.Lasting.{names_keep}
 
 -- an image with other names, at the same world
-pub record IsRenamed (base : World) (names : List (List ℕ)) (names' : List (List ℕ)) (edits : List Edit) (actors : List Kept) (h : List Item) (made : ℕ) (s : Settings) : Type 0 where
+pub record IsRenamed (base : World) (names : List (List ℕ)) (names' : List (List ℕ)) (edits : List Edit) (actors : List ActorView) (h : List Item) (made : ℕ) (s : Settings) : Type 0 where
   pub image : IsImage base names' edits actors h made s
   pub world : world_of (constants_of names' s.capacity) base h ≡ world_of (constants_of names s.capacity) base h
 
-pub more_kept : (base : World) (names more : List (List ℕ)) (edits : List Edit) (actors : List Kept) (h : List Item) (made : ℕ) (s : Settings) → IsImage base names edits actors h made s → IsRenamed base names (names ++ more) edits actors h made s
+pub more_kept : (base : World) (names more : List (List ℕ)) (edits : List Edit) (actors : List ActorView) (h : List Item) (made : ℕ) (s : Settings) → IsImage base names edits actors h made s → IsRenamed base names (names ++ more) edits actors h made s
 more_kept base names more edits actors h made s k =
     let c : Constants = constants_of names s.capacity in
     let m = world_more c more base h k.base_is k.sound k.lawful in
@@ -38,17 +38,17 @@ more_kept base names more edits actors h made s k =
       world = m.1;
     }
 
-pub same_kept : (base : World) (names : List (List ℕ)) (edits : List Edit) (actors : List Kept) (h : List Item) (made : ℕ) (s : Settings) → IsImage base names edits actors h made s → IsRenamed base names names edits actors h made s
+pub same_kept : (base : World) (names : List (List ℕ)) (edits : List Edit) (actors : List ActorView) (h : List Item) (made : ℕ) (s : Settings) → IsImage base names edits actors h made s → IsRenamed base names names edits actors h made s
 same_kept base names edits actors h made s k = record { image = k; world = refl }
 
-by_test : (b : Bool) (base : World) (names : List (List ℕ)) (text : List ℕ) (edits : List Edit) (actors : List Kept) (h : List Item) (made : ℕ) (s : Settings) → IsImage base names edits actors h made s → IsRenamed base names (cond b names (names ++ text ∷ [])) edits actors h made s
+by_test : (b : Bool) (base : World) (names : List (List ℕ)) (text : List ℕ) (edits : List Edit) (actors : List ActorView) (h : List Item) (made : ℕ) (s : Settings) → IsImage base names edits actors h made s → IsRenamed base names (cond b names (names ++ text ∷ [])) edits actors h made s
 by_test true base names text edits actors h made s k = same_kept base names edits actors h made s k
 by_test false base names text edits actors h made s k = more_kept base names (text ∷ []) edits actors h made s k
 
-pub renamed : (base : World) (names names' other : List (List ℕ)) (edits : List Edit) (actors : List Kept) (h : List Item) (made : ℕ) (s : Settings) → names' ≡ other → IsRenamed base names other edits actors h made s → IsRenamed base names names' edits actors h made s
+pub renamed : (base : World) (names names' other : List (List ℕ)) (edits : List Edit) (actors : List ActorView) (h : List Item) (made : ℕ) (s : Settings) → names' ≡ other → IsRenamed base names other edits actors h made s → IsRenamed base names names' edits actors h made s
 renamed base names names' other edits actors h made s e r = subst (λ (ns : List (List ℕ)). IsRenamed base names ns edits actors h made s) (sym e) r
 
 -- after an intern, refused or not
-pub interned_kept : {T E : Type 0} (r : Result T E) (base : World) (names names' : List (List ℕ)) (text : List ℕ) (edits : List Edit) (actors : List Kept) (h : List Item) (made : ℕ) (s : Settings) → IsImage base names edits actors h made s → OnOk r (names' ≡ interned names text) → OnErr r (names' ≡ names) → IsRenamed base names names' edits actors h made s
+pub interned_kept : {T E : Type 0} (r : Result T E) (base : World) (names names' : List (List ℕ)) (text : List ℕ) (edits : List Edit) (actors : List ActorView) (h : List Item) (made : ℕ) (s : Settings) → IsImage base names edits actors h made s → OnOk r (names' ≡ interned names text) → OnErr r (names' ≡ names) → IsRenamed base names names' edits actors h made s
 interned_kept (Ok x) base names names' text edits actors h made s k a b = renamed base names names' (interned names text) edits actors h made s a (by_test (is_name names text) base names text edits actors h made s k)
 interned_kept (Err x) base names names' text edits actors h made s k a b = renamed base names names' names edits actors h made s b (same_kept base names edits actors h made s k)

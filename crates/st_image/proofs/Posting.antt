@@ -9,13 +9,13 @@ use Rattle.st_image.specs.declared.messages.Sender.TheVariants.{Client, Actor}
 use Rattle.st_image.specs.declared.settings.Settings.{Settings}
 use Rattle.st_image.specs.declared.items.Item.{Item}
 use Rattle.st_image.specs.declared.items.Item.TheVariants.{Posted}
-use Rattle.st_image.specs.Worlds.{World, Being, change, change_at}
-use Rattle.st_image.specs.Next.{accepting, with_last}
-use Rattle.st_image.specs.Posting.{IsClients, post_rules}
+use Rattle.st_image.specs.Worlds.{World, WorldActor, change, change_at}
+use Rattle.st_image.specs.Replay.{with_accepted, with_last}
+use Rattle.st_image.specs.PostRules.{IsClients, post_rules}
 use Rattle.st_image.specs.Images.{ImageView, world_of, image_post_rules, no_room, accepted_by}
-use Rattle.st_image.specs.Kepts.{Kept, kept_of, taken_in}
-use Rattle.st_image.specs.Acting.{constants_of}
-use Rattle.st_image.specs.Keeping.{IsImage}
+use Rattle.st_image.specs.ActorViews.{ActorView, actor_view, view_with_message}
+use Rattle.st_image.specs.ActResults.{constants_of}
+use Rattle.st_image.specs.ImageInvariant.{IsImage}
 use Rattle.st_image.proofs.Lists.{off_append}
 use Rattle.st_image.proofs.Changing.{get-change}
 use Rattle.st_image.proofs.Showing.{kept_at}
@@ -26,7 +26,7 @@ abbrev pub seen : World → List (List ℕ) → List Item → Settings → ℕ �
 seen base names h s from = record { base = base; names = names; history = h; capacity = s.capacity; most_items = s.history; next_from = from }
 
 -- a post that isn't refused
-pub record IsPosted (base : World) (names : List (List ℕ)) (edits : List Edit) (actors : List Kept) (h : List Item) (made : ℕ) (s : Settings) (a : ActorId) (n : ℕ) : Type 0 where
+pub record IsPosted (base : World) (names : List (List ℕ)) (edits : List Edit) (actors : List ActorView) (h : List Item) (made : ℕ) (s : Settings) (a : ActorId) (n : ℕ) : Type 0 where
   pub image : IsImage base names edits actors h made s
   pub place : n ≡ accepted_by (slice_get (world_of (constants_of names s.capacity) base h).actors a.0)
 
@@ -34,22 +34,22 @@ same_actors : (s : Sender) (n : ℕ) (w : World) → IsClients s → (with_last 
 same_actors (Client s) n w h = refl
 same_actors (Actor a) n w h = absurd h
 
-posted_option : (base : World) (names : List (List ℕ)) (edits : List Edit) (actors actors' : List Kept) (h : List Item) (made : ℕ) (s : Settings) (n : ℕ) (a : ActorId) (m : Message) (o : Option Being) → slice_get (world_of (constants_of names s.capacity) base h).actors a.0 ≡ o
+posted_option : (base : World) (names : List (List ℕ)) (edits : List Edit) (actors actors' : List ActorView) (h : List Item) (made : ℕ) (s : Settings) (n : ℕ) (a : ActorId) (m : Message) (o : Option WorldActor) → slice_get (world_of (constants_of names s.capacity) base h).actors a.0 ≡ o
     → IsImage base names edits actors h made s → first_of (post_rules names (world_of (constants_of names s.capacity) base h) o m) ≡ None → length h + 1 ≤ s.history → IsClients m.sender
-    → IsNext base names edits actors' (h ++ Posted a m ∷ []) made s (with_last m.sender m.seq (change (accepting m) a (world_of (constants_of names s.capacity) base h))) → ((k : Kept) → slice_get actors a.0 ≡ Some k → n ≡ k.accepted + 1)
+    → IsNext base names edits actors' (h ++ Posted a m ∷ []) made s (with_last m.sender m.seq (change (with_accepted m) a (world_of (constants_of names s.capacity) base h))) → ((k : ActorView) → slice_get actors a.0 ≡ Some k → n ≡ k.accepted + 1)
     → IsPosted base names edits actors' (h ++ Posted a m ∷ []) made s a n
 posted_option base names edits actors actors' h made s n a m None at k allowed room client after place = cc
 posted_option base names edits actors actors' h made s n a m (Some b) at k allowed room client after place =
     let w : World = world_of (constants_of names s.capacity) base h in
-    let there : slice_get actors a.0 ≡ Some (kept_of b) = kept_at edits actors w a.0 b k.shows at in
-    let count : n ≡ length (b.accepted ++ m ∷ []) = place (kept_of b) there ∙ sym (length-append b.accepted (m ∷ [])) in
-    let now : slice_get (world_of (constants_of names s.capacity) base (h ++ Posted a m ∷ [])).actors a.0 ≡ Some (accepting m b) =
-    ap (λ (x : World). slice_get x.actors a.0) after.world ∙ ap (λ (xs : List Being). slice_get xs a.0) (same_actors m.sender m.seq (change (accepting m) a w) client) ∙ get-change (accepting m) a.0 w.actors b at in
+    let there : slice_get actors a.0 ≡ Some (actor_view b) = kept_at edits actors w a.0 b k.shows at in
+    let count : n ≡ length (b.accepted ++ m ∷ []) = place (actor_view b) there ∙ sym (length-append b.accepted (m ∷ [])) in
+    let now : slice_get (world_of (constants_of names s.capacity) base (h ++ Posted a m ∷ [])).actors a.0 ≡ Some (with_accepted m b) =
+    ap (λ (x : World). slice_get x.actors a.0) after.world ∙ ap (λ (xs : List WorldActor). slice_get xs a.0) (same_actors m.sender m.seq (change (with_accepted m) a w) client) ∙ get-change (with_accepted m) a.0 w.actors b at in
     record { image = after.image; place = count ∙ ap accepted_by (sym now) }
 
-pub posted : (base : World) (names : List (List ℕ)) (edits : List Edit) (actors actors' : List Kept) (h : List Item) (made : ℕ) (s : Settings) (from n : ℕ) (a : ActorId) (m : Message)
+pub posted : (base : World) (names : List (List ℕ)) (edits : List Edit) (actors actors' : List ActorView) (h : List Item) (made : ℕ) (s : Settings) (from n : ℕ) (a : ActorId) (m : Message)
     → IsImage base names edits actors h made s → first_of (image_post_rules (seen base names h s from) a m) ≡ None → IsClients m.sender
-    → actors' ≡ change_at (taken_in m) a.0 actors → ((k : Kept) → slice_get actors a.0 ≡ Some k → n ≡ k.accepted + 1)
+    → actors' ≡ change_at (view_with_message m) a.0 actors → ((k : ActorView) → slice_get actors a.0 ≡ Some k → n ≡ k.accepted + 1)
     → IsPosted base names edits actors' (h ++ Posted a m ∷ []) made s a n
 posted base names edits actors actors' h made s from n a m k allowed client put place =
     let w : World = world_of (constants_of names s.capacity) base h in

@@ -2,7 +2,7 @@
 use Rattle.std.proofs.Common.{◌≡◌, ◌++◌, [], ◌∷◌, List, Option, Some, None, refl, ap, ◌∙◌, unwrap_or, option_and_then}
 use Rattle.st_image.specs.declared.items.Item.{Item}
 use Rattle.st_image.specs.Worlds.{Constants, World}
-use Rattle.st_image.specs.Next.{next, replay}
+use Rattle.st_image.specs.Replay.{next, replay}
 use Rattle.st_image.specs.Images.{world_of}
 
 then_some : (o : Option World) → option_and_then (λ (v : World). Some v) o ≡ o

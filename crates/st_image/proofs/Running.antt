@@ -3,16 +3,16 @@ use Rattle.std.proofs.Common.{List, ◌≡◌, ℕ, zero, suc, ◌+◌, Option, 
 use Rattle.st_classes.specs.declared.values.ActorId.{ActorId}
 use Rattle.st_classes.specs.declared.edits.Edit.{Edit}
 use Rattle.st_turn.specs.declared.body.Body.{Body}
-use Rattle.st_turn.specs.Leaving.{more, after}
+use Rattle.st_turn.specs.StepResults.{more, step_result}
 use Rattle.st_turn.specs.Steps.{Step, next, ended, outer, body_after, own_steps, step}
-use Rattle.st_turn.specs.Fitting.{FitsSome}
+use Rattle.st_turn.specs.BodyFits.{FitsSome}
 use Rattle.st_turn.proofs.Keeping.{FitsStep, step_fits}
-use Rattle.st_image.specs.Keeping.{CanRun}
+use Rattle.st_image.specs.ImageInvariant.{CanRun}
 
 more_body : (b c : Body) → more b ≡ more c → b ≡ c
 more_body b c e = cc
 
-led_to : (s : Step) (c : Body) → more c ≡ after s → s ≡ next c
+led_to : (s : Step) (c : Body) → more c ≡ step_result s → s ≡ next c
 led_to (next d) c e = ap next (sym (more_body c d e))
 led_to ended c e = cc
 led_to (outer act) c e = cc
@@ -22,7 +22,7 @@ pub record Went (edits : List Edit) (a : ActorId) (b c : Body) : Type 0 where
   pub body : body_after (step edits a b) ≡ Some c
   pub runs : CanRun edits a c
 
-pub went : (edits : List Edit) (a : ActorId) (b c : Body) → CanRun edits a b → more c ≡ after (step edits a b) → Went edits a b c
+pub went : (edits : List Edit) (a : ActorId) (b c : Body) → CanRun edits a b → more c ≡ step_result (step edits a b) → Went edits a b c
 went edits a b c r e =
     let t : step edits a b ≡ next c = led_to (step edits a b) c e in
     let f : FitsStep r.0 edits b (step edits a b) = step_fits r.0 edits a b r.1 r.2 r.3 r.4 r.5 r.6 in

@@ -5,8 +5,8 @@ use Rattle.std.specs.Prelude.{nat_lt, slice_get}
 use Rattle.st_classes.specs.declared.values.ActorId.{ActorId}
 use Rattle.st_turn.specs.Steps.{Asked}
 use Rattle.st_image.specs.Worlds.{Constants, World}
-use Rattle.st_image.specs.Next.{Trail, asked_at, ran, stepped, steps}
-use Rattle.st_image.specs.Acting.{world_after}
+use Rattle.st_image.specs.Replay.{Trail, asked_at, after_run, after_step, trail_after}
+use Rattle.st_image.specs.ActResults.{world_after}
 
 -- what a chain of two that leads somewhere goes through
 pub bound : {X Y : Type 0} (f : X → Option Y) (o : Option X) (y : Y) → option_and_then f o ≡ Some y → (x : X) × (o ≡ Some x) × (f x ≡ Some y)
@@ -22,16 +22,16 @@ pub cond_some : {X : Type 0} (b : Bool) (o : Option X) (x : X) → cond b o None
 cond_some true o x e = (refl, e)
 cond_some false o x e = cc
 
-after_by : (c : Constants) (a : ActorId) (n : ℕ) (asked : List Asked) → ((t : Trail) → option_map (λ (u : Trail). u.world) (steps c a n t) ≡ world_after c a n t.world) → (o : Option World) → option_map (λ (u : Trail). u.world) (option_and_then (steps c a n) (option_map (λ w. let t : Trail = record { world = w; asked = asked } in t) o)) ≡ option_and_then (world_after c a n) o
+after_by : (c : Constants) (a : ActorId) (n : ℕ) (asked : List Asked) → ((t : Trail) → option_map (λ (u : Trail). u.world) (trail_after c a n t) ≡ world_after c a n t.world) → (o : Option World) → option_map (λ (u : Trail). u.world) (option_and_then (trail_after c a n) (option_map (λ w. let t : Trail = record { world = w; asked = asked } in t) o)) ≡ option_and_then (world_after c a n) o
 after_by c a n asked h None = refl
 after_by c a n asked h (Some w) = h (record { world = w; asked = asked })
 
 -- the worlds of a trail
-pub steps_after : (c : Constants) (a : ActorId) (n : ℕ) (t : Trail) → option_map (λ (u : Trail). u.world) (steps c a n t) ≡ world_after c a n t.world
+pub steps_after : (c : Constants) (a : ActorId) (n : ℕ) (t : Trail) → option_map (λ (u : Trail). u.world) (trail_after c a n t) ≡ world_after c a n t.world
 steps_after c a zero t = refl
-steps_after c a (suc n) t = after_by c a n (t.asked ++ option_to_list (asked_at t.world.edits (slice_get t.world.actors a.0))) (steps_after c a n) (stepped c a t.world)
+steps_after c a (suc n) t = after_by c a n (t.asked ++ option_to_list (asked_at t.world.edits (slice_get t.world.actors a.0))) (steps_after c a n) (after_step c a t.world)
 
-pub ran_after : (c : Constants) (w : World) (a : ActorId) (n : ℕ) → ran c w a n ≡ cond (nat_lt 0 n) (world_after c a n w) None
+pub ran_after : (c : Constants) (w : World) (a : ActorId) (n : ℕ) → after_run c w a n ≡ cond (nat_lt 0 n) (world_after c a n w) None
 ran_after c w a n = ap (λ (o : Option World). cond (nat_lt 0 n) o None) (steps_after c a n (record { world = w; asked = [] }))
 
 then_after : (c : Constants) (a : ActorId) (n m : ℕ) (o : Option World) → ((v : World) → option_and_then (world_after c a m) (world_after c a n v) ≡ world_after c a (n + m) v) → option_and_then (world_after c a m) (option_and_then (world_after c a n) o) ≡ option_and_then (world_after c a (n + m)) o
@@ -40,4 +40,4 @@ then_after c a n m (Some v) h = h v
 
 pub after_then : (c : Constants) (a : ActorId) (n m : ℕ) (w : World) → option_and_then (world_after c a m) (world_after c a n w) ≡ world_after c a (n + m) w
 after_then c a zero m w = ap (λ (k : ℕ). world_after c a k w) (sym (zero-add m))
-after_then c a (suc n) m w = then_after c a n m (stepped c a w) (after_then c a n m) ∙ ap (λ (k : ℕ). world_after c a k w) (sym (suc-add n m))
+after_then c a (suc n) m w = then_after c a n m (after_step c a w) (after_then c a n m) ∙ ap (λ (k : ℕ). world_after c a k w) (sym (suc-add n m))

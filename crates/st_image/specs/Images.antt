@@ -8,16 +8,17 @@ use Rattle.st_classes.specs.declared.refusals.Limited.TheVariants.{Edits, Actors
 use Rattle.st_classes.specs.Refusals.{Rule}
 use Rattle.st_classes.specs.Kernel.{kernel_selectors}
 use Rattle.st_classes.specs.Classes.{is_class}
-use Rattle.st_classes.specs.Accepting.{is_closed, define_rules, remove_rules}
+use Rattle.st_classes.specs.EditRules.{is_value_class, define_rules, remove_rules}
 use Rattle.st_image.specs.declared.messages.Message.{Message}
 use Rattle.st_image.specs.declared.items.Item.{Item}
-use Rattle.st_image.specs.declared.items.Item.TheVariants.{Edited, Created, Posted, Closed, Begun, Ran}
+use Rattle.st_image.specs.declared.items.Item.TheVariants.{Edited}
 use Rattle.st_image.specs.declared.settings.Settings.{Settings}
-use Rattle.st_image.specs.Worlds.{Constants, World, Being, start, is_capacity}
-use Rattle.st_image.specs.Posting.{post_rules}
-use Rattle.st_image.specs.Next.{replay}
+use Rattle.st_image.specs.Worlds.{Constants, World, WorldActor, start, is_capacity}
+use Rattle.st_image.specs.PostRules.{post_rules}
+use Rattle.st_image.specs.Replay.{replay}
 
--- an image: the world that it began with, its names, its history, the capacity of new actors, the most items of the history, and the number from which the next ready actor is looked for
+-- an image: the world that it began with, its names, its history, the capacity of new actors, the most items of the
+-- history, and the number from which the next ready actor is looked for
 pub record ImageView : Type 0 where
   pub base : World
   pub names : List (List ℕ)
@@ -42,15 +43,18 @@ world i = world_of (constants i) i.base i.history
 abbrev pub edits_in : List Item → ℕ
 edits_in [] = 0
 edits_in (Edited e ∷ is) = edits_in is + 1
-edits_in (Created c ∷ is) = edits_in is
-edits_in (Posted a m ∷ is) = edits_in is
-edits_in (Closed a ∷ is) = edits_in is
-edits_in (Begun a ∷ is) = edits_in is
-edits_in (Ran a n ∷ is) = edits_in is
+edits_in (_ ∷ is) = edits_in is
 
 -- a new image: the kernel's names and no history
 abbrev pub new_image : Settings → ImageView
-new_image s = record { base = start; names = kernel_selectors; history = []; capacity = s.capacity; most_items = s.history; next_from = 0 }
+new_image s = record {
+  base = start;
+  names = kernel_selectors;
+  history = [];
+  capacity = s.capacity;
+  most_items = s.history;
+  next_from = 0;
+}
 
 -- the image with items behind its history
 abbrev pub appended : ImageView → List Item → ImageView
@@ -60,7 +64,9 @@ appended i items = record i { history = i.history ++ items }
 
 -- the capacity is from 1 to 1,024, and the history from 1 to 1,000,000
 abbrev pub settings_rules : Settings → List Rule
-settings_rules s = (not (is_capacity s.capacity) || not (nat_le 1 s.history && nat_le s.history 1000000), BadArguments) ∷ []
+settings_rules s =
+    (not (is_capacity s.capacity) || not (nat_le 1 s.history && nat_le s.history 1000000), BadArguments)
+    ∷ []
 
 -- no room for so many items more
 abbrev pub no_room : ImageView → ℕ → Rule
@@ -82,7 +88,7 @@ image_remove_rules i c s = remove_rules (world i).edits c s ++ run_rules i
 abbrev pub create_rules : ImageView → ClassId → List Rule
 create_rules i c =
     (not (is_class (world i).edits c), UnknownClass)
-    ∷ (is_closed c, KernelClass)
+    ∷ (is_value_class c, KernelClass)
     ∷ (nat_le 65536 (length (world i).actors), TooMany Actors)
     ∷ no_room i 1
     ∷ []
@@ -92,6 +98,6 @@ abbrev pub image_post_rules : ImageView → ActorId → Message → List Rule
 image_post_rules i a m = post_rules i.names (world i) (slice_get (world i).actors a.0) m ++ no_room i 1 ∷ []
 
 -- how many messages an actor accepted
-abbrev pub accepted_by : Option Being → ℕ
+abbrev pub accepted_by : Option WorldActor → ℕ
 accepted_by None = 0
 accepted_by (Some b) = length b.accepted

@@ -12,8 +12,9 @@ pub record Constants : Type 0 where
   pub names : List (List ℕ)
   pub capacity : ℕ
 
--- an actor (Agha 1986): its class, its mailbox, its body, its last number as a sender, every message that it accepted and every one that it began, and how its turns ended
-pub record Being : Type 0 where
+-- an actor (Agha 1986): its class, its mailbox, its body, its last number as a sender, every message that it accepted
+-- and every one that it began, and how its turns ended
+pub record WorldActor : Type 0 where
   pub class : ClassId
   pub capacity : ℕ
   pub is_open : Bool
@@ -23,10 +24,11 @@ pub record Being : Type 0 where
   pub begun : List Message
   pub results : List Outcome
 
--- the edits, the actors by their numbers, and the clients that sent a message, rising, each with the number of its last one
+-- the edits, the actors by their numbers, and the clients that sent a message, rising, each with the number of its last
+-- one
 pub record World : Type 0 where
   pub edits : List Edit
-  pub actors : List Being
+  pub actors : List WorldActor
   pub clients : List (ℕ × ℕ)
 
 -- the capacity of a mailbox: from 1 to 1,024 messages
@@ -34,7 +36,7 @@ abbrev pub is_capacity : ℕ → Bool
 is_capacity n = nat_le 1 n && nat_le n 1024
 
 -- the messages that an actor accepted and has not begun
-abbrev pub pending : Being → List Message
+abbrev pub pending : WorldActor → List Message
 pending b = drop (length b.begun) b.accepted
 
 -- the world of a new image
@@ -44,7 +46,10 @@ start = record { edits = []; actors = []; clients = [] }
 -- the number of a client put in
 abbrev pub put_number : ℕ → ℕ → List (ℕ × ℕ) → List (ℕ × ℕ)
 put_number s n [] = (s, n) ∷ []
-put_number s n (p ∷ ps) = if s == p.0 then (s, n) ∷ ps else (if nat_lt s p.0 then (s, n) ∷ p ∷ ps else p ∷ put_number s n ps)
+put_number s n (p ∷ ps) =
+    if s == p.0 then (s, n) ∷ ps
+    else (if nat_lt s p.0 then (s, n) ∷ p ∷ ps
+    else p ∷ put_number s n ps)
 
 -- a list whose item at a place is changed, where there is one
 abbrev pub changed : {X : Type 0} → (X → X) → ℕ → List X → Option X → List X
@@ -56,5 +61,5 @@ abbrev pub change_at : {X : Type 0} → (X → X) → ℕ → List X → List X
 change_at f place xs = changed f place xs (slice_get xs place)
 
 -- the world with the actor of a number changed
-abbrev pub change : (Being → Being) → ActorId → World → World
+abbrev pub change : (WorldActor → WorldActor) → ActorId → World → World
 change f a w = record w { actors = change_at f a.0 w.actors }

@@ -1,14 +1,14 @@
 //! What actors do on the whole image: their posts, new actors, and the quanta in which they do it.
 ghost use Rattle.std.specs.Prelude.{◌≡◌, ◌<◌, ◌≤◌, ◌^◌, ℕ, List, All, length, slice_get, [], ◌∷◌, Some, true, false, Ok, IsErr, IfOk, IfNone, OnOk, OnErr};
 ghost use Rattle.std.specs.List.{list_all, list_any};
-ghost use Rattle.st_turn.specs.Idling.{is_idle as idle};
+ghost use Rattle.st_turn.specs.Idle.{is_idle as idle};
 ghost use Rattle.st_classes.specs.Classes.{class_count};
 ghost use Rattle.st_classes.specs.Refusals.{first_of};
-ghost use Rattle.st_classes.specs.Suiting.{arity_at, is_number};
-ghost use Rattle.st_image.specs.Acting.{Does, FewAccepted, GrowsByOne, IsShown, NamesClasses, Quantum, StandsBefore, TakesOuter, Tries, constants_of};
-ghost use Rattle.st_image.specs.Kepts.{Kept, Shows};
-ghost use Rattle.st_image.specs.Next.{closed, create_done, done, is_local as is_local_value, post_done, posted_by, tried};
-ghost use Rattle.st_image.specs.Posting.{argument_fits as fits_argument, message_fits as fits_message, number_rule, post_rules};
+ghost use Rattle.st_classes.specs.MethodSuits.{arity_at, is_number};
+ghost use Rattle.st_image.specs.ActResults.{Does, FewAccepted, GrowsByOne, IsShown, NamesClasses, Quantum, StandsBefore, TakesOuter, Tries, constants_of};
+ghost use Rattle.st_image.specs.ActorViews.{ActorView, Shows};
+ghost use Rattle.st_image.specs.Replay.{after_close, create_result, act_result, is_local as is_local_value, post_result, after_post_by, attempted_act};
+ghost use Rattle.st_image.specs.PostRules.{argument_fits as fits_argument, message_fits as fits_message, number_rule, post_rules};
 ghost use Rattle.st_image.specs.Worlds.{World};
 
 use crate::actor::{Actor, Progress};
@@ -113,7 +113,7 @@ fn try_post(
 ) -> Result<bool, AllocError>
     requires there { actor.0 < length actors.old }
     requires few { FewAccepted actors.old }
-    ensures ok { IfOk result (λ answer. (capacity : ℕ) (w : World) → IsShown names.now capacity version.now actors.old w → Tries version.now actors.new w (posted_by (constants_of names.now capacity) to selector args.now actor w (slice_get w.actors actor.0)) answer) }
+    ensures ok { IfOk result (λ answer. (capacity : ℕ) (w : World) → IsShown names.now capacity version.now actors.old w → Tries version.now actors.new w (after_post_by (constants_of names.now capacity) to selector args.now actor w (slice_get w.actors actor.0)) answer) }
     ensures grown { OnOk result (GrowsByOne actors.old actors.new) }
     ensures err { OnErr result (actors.new ≡ actors.old) }
 {
@@ -163,7 +163,7 @@ fn post(
 ) -> Result<Result<Value, Fault>, AllocError>
     requires there { actor.0 < length actors.old }
     requires few { FewAccepted actors.old }
-    ensures ok { IfOk result (λ answer. (capacity : ℕ) (w : World) → IsShown names.now capacity version.now actors.old w → Does version.now actors.new (post_done (constants_of names.now capacity) to selector args.now actor w) answer) }
+    ensures ok { IfOk result (λ answer. (capacity : ℕ) (w : World) → IsShown names.now capacity version.now actors.old w → Does version.now actors.new (post_result (constants_of names.now capacity) to selector args.now actor w) answer) }
     ensures fault { IfOk result (λ answer. IsErr answer → actors.new ≡ actors.old) }
     ensures grown { OnOk result (GrowsByOne actors.old actors.new) }
     ensures err { OnErr result (actors.new ≡ actors.old) }
@@ -187,7 +187,7 @@ fn create(
     class: ClassId,
 ) -> Result<Result<Value, Fault>, AllocError>
     requires { class.0 < class_count version.now }
-    ensures ok { IfOk result (λ answer. (names : List (List ℕ)) (w : World) → IsShown names capacity version.now actors.old w → Does version.now actors.new (create_done (constants_of names capacity) class w) answer) }
+    ensures ok { IfOk result (λ answer. (names : List (List ℕ)) (w : World) → IsShown names capacity version.now actors.old w → Does version.now actors.new (create_result (constants_of names capacity) class w) answer) }
     ensures fault { IfOk result (λ answer. IsErr answer → actors.new ≡ actors.old) }
     ensures grown { OnOk result (GrowsByOne actors.old actors.new) }
     ensures err { OnErr result (actors.new ≡ actors.old) }
@@ -206,7 +206,7 @@ fn create(
 
 /// An actor asks that a mailbox be closed: the answer is whether it was open.
 fn close(version: &Version, actors: &mut Actors, to: ActorId) -> Value
-    ensures does { (names : List (List ℕ)) (capacity : ℕ) (w : World) → IsShown names capacity version.now actors.old w → Does version.now actors.new (tried w (closed w to)) (Ok result) }
+    ensures does { (names : List (List ℕ)) (capacity : ℕ) (w : World) → IsShown names capacity version.now actors.old w → Does version.now actors.new (attempted_act w (after_close w to)) (Ok result) }
     ensures grown { GrowsByOne actors.old actors.new }
 {
     match actors.get(to) {
@@ -231,7 +231,7 @@ fn perform(
     requires there { actor.0 < length actors.old }
     requires few { FewAccepted actors.old }
     requires class { NamesClasses version.now act }
-    ensures ok { IfOk result (λ answer. (w : World) → IsShown names.now capacity version.now actors.old w → Does version.now actors.new (done (constants_of names.now capacity) actor w act) answer) }
+    ensures ok { IfOk result (λ answer. (w : World) → IsShown names.now capacity version.now actors.old w → Does version.now actors.new (act_result (constants_of names.now capacity) actor w act) answer) }
     ensures fault { IfOk result (λ answer. IsErr answer → actors.new ≡ actors.old) }
     ensures grown { OnOk result (GrowsByOne actors.old actors.new) }
     ensures err { OnErr result (actors.new ≡ actors.old) }
@@ -294,7 +294,7 @@ pub(crate) fn take_quantum(
     requires there { actor.0 < length actors.old }
     requires few { FewAccepted actors.old }
     requires shown { (w : World) × IsShown names.now capacity version.now actors.old w }
-    requires busy { (k : Kept) → slice_get actors.old actor.0 ≡ Some k → idle k.body.phase ≡ false }
+    requires busy { (k : ActorView) → slice_get actors.old actor.0 ≡ Some k → idle k.body.phase ≡ false }
     requires limit { limit ≤ 1024 }
     ensures ok { IfOk result (λ p. (w : World) → IsShown names.now capacity version.now actors.old w → Quantum (constants_of names.now capacity) version.now actors.new actor limit w p.steps p.is_whole) }
     ensures grown { OnOk result (GrowsByOne actors.old actors.new) }

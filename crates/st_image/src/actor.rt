@@ -1,9 +1,9 @@
 //! One actor: its body, its mailbox and how its turns ended.
 ghost use Rattle.std.specs.Prelude.{◌≡◌, ◌⊎◌, ◌≤◌, ◌<◌, IsTrue, Some, true, false};
-ghost use Rattle.st_turn.specs.Idling.{is_idle as idle};
+ghost use Rattle.st_turn.specs.Idle.{is_idle as idle};
 ghost use Rattle.st_turn.specs.Steps.{own_steps, step};
-ghost use Rattle.st_image.specs.Advancing.{IsOver};
-ghost use Rattle.st_image.specs.Keeping.{CanRun};
+ghost use Rattle.st_image.specs.Quanta.{IsOver};
+ghost use Rattle.st_image.specs.ImageInvariant.{CanRun};
 
 use crate::messages::Message;
 use st_classes::faults::Fault;
@@ -92,9 +92,9 @@ pub(crate) struct Actor {
 }
 
 impl Model for Actor {
-    ghost use Rattle.st_image.specs.Kepts.{Kept};
+    ghost use Rattle.st_image.specs.ActorViews.{ActorView};
 
-    ghost Value = { Kept };
+    ghost Value = { ActorView };
 
     ghost view = { λ a. record { class = a.class; capacity = a.capacity; is_open = a.is_open; body = a.body; last = a.last; pending = a.pending.items; accepted = a.accepted; results = a.results.items } };
 }
@@ -103,15 +103,16 @@ impl Actor {
     ghost use Rattle.std.specs.Prelude.{◌≡◌, ◌+◌, ◌<◌, ◌≤◌, ◌^◌, ◌==◌, length, not, true, false, IfOk, OnOk, OnErr, Ok, Err};
     ghost use Rattle.st_classes.specs.Refusals.{first_of};
     ghost use Rattle.st_turn.specs.declared.acts.Act.{Act as ActOf};
-    ghost use Rattle.st_turn.specs.Fitting.{FitsSome};
-    ghost use Rattle.st_turn.specs.Leaving.{IsAct};
-    ghost use Rattle.st_turn.specs.Steps.{outer, replied};
-    ghost use Rattle.st_image.specs.Advancing.{outcome_in};
-    ghost use Rattle.st_image.specs.Kepts.{kept_rules, begun_first, is_ready_kept, new_kept, stepped_to, taken_in};
+    ghost use Rattle.st_turn.specs.BodyFits.{FitsSome};
+    ghost use Rattle.st_turn.specs.StepResults.{IsAct};
+    ghost use Rattle.st_turn.specs.Steps.{outer, reply_body};
+    ghost use Rattle.st_image.specs.PostRules.{box_rules};
+    ghost use Rattle.st_image.specs.Quanta.{outcome_in};
+    ghost use Rattle.st_image.specs.ActorViews.{view_after_begin, is_ready_view, new_actor_view, view_after_steps, view_with_message};
 
     /// A new actor with a body and an open mailbox.
     pub(crate) fn new(alloc: Global, class: ClassId, capacity: u32, body: Body) -> Actor
-        ensures { result ≡ new_kept class capacity body }
+        ensures { result ≡ new_actor_view class capacity body }
     {
         Actor {
             class,
@@ -177,7 +178,7 @@ impl Actor {
 
     /// Whether it is in a turn or has a message pending.
     pub(crate) fn is_ready(&self) -> bool
-        ensures { result ≡ is_ready_kept self.now }
+        ensures { result ≡ is_ready_view self.now }
     {
         !self.is_idle() || self.has_pending()
     }
@@ -197,7 +198,7 @@ impl Actor {
 
     /// Why the mailbox refuses a message, if it does.
     pub(crate) fn refusal(&self) -> Option<Refusal>
-        ensures { result ≡ first_of (kept_rules self.now) }
+        ensures { result ≡ first_of (box_rules self.now.is_open self.now.capacity (length self.now.pending)) }
     {
         if !self.is_open {
             return Some(Refusal::Closed);
@@ -212,7 +213,7 @@ impl Actor {
     pub(crate) fn take_in(&mut self, message: Message) -> Result<u64, AllocError>
         requires { self.old.accepted < 2 ^ 63 }
         ensures count { IfOk result (λ n. n ≡ self.old.accepted + 1) }
-        ensures ok { OnOk result (self.new ≡ taken_in message self.old) }
+        ensures ok { OnOk result (self.new ≡ view_with_message message self.old) }
         ensures err { OnErr result (self.new ≡ self.old) }
     {
         self.pending.push_back(message)?;
@@ -236,7 +237,7 @@ impl Actor {
 
     /// Begins the first pending message, where one is pending.
     pub(crate) fn begin(&mut self)
-        ensures { self.new ≡ begun_first self.old }
+        ensures { self.new ≡ view_after_begin self.old }
     {
         if let Some(message) = self.pending.pop_front() {
             self.body.begin(message.selector, message.args);
@@ -255,7 +256,7 @@ impl Actor {
         requires runs { CanRun version.now number self.old.body }
         requires busy { idle self.old.body.phase ≡ false }
         ensures steps { IfOk result (λ p. own_steps version.now number p.steps self.old.body ≡ Some self.new.body) }
-        ensures kept { OnOk result (self.new ≡ stepped_to self.new.body self.old) }
+        ensures kept { OnOk result (self.new ≡ view_after_steps self.new.body self.old) }
         ensures within { IfOk result (λ p. p.steps ≤ limit) }
         ensures whole { IfOk result (λ p. IsTrue p.is_whole → (p.steps ≡ limit) ⊎ IsOver (step version.now number self.new.body)) }
         ensures cut { IfOk result (λ p. p.is_whole ≡ false → (p.steps < limit) × (idle self.new.body.phase ≡ false)) }
@@ -273,7 +274,7 @@ impl Actor {
     pub(crate) fn give(&mut self, version: &Version, number: ActorId, value: Value)
         requires fits { FitsSome version.now number self.old.body }
         requires act { IsAct (step version.now number self.old.body) }
-        ensures { (act : ActOf) → step version.now number self.old.body ≡ outer act → self.new ≡ stepped_to (replied act (Ok value) self.old.body) self.old }
+        ensures { (act : ActOf) → step version.now number self.old.body ≡ outer act → self.new ≡ view_after_steps (reply_body act (Ok value) self.old.body) self.old }
     {
         reply(&mut self.body, number, version, Ok(value));
     }
@@ -287,7 +288,7 @@ impl Actor {
     ) -> Result<(), AllocError>
         requires fits { FitsSome version.now number self.old.body }
         requires act { IsAct (step version.now number self.old.body) }
-        ensures ok { OnOk result ((act : ActOf) → step version.now number self.old.body ≡ outer act → self.new ≡ stepped_to (replied act (Err fault) self.old.body) self.old) }
+        ensures ok { OnOk result ((act : ActOf) → step version.now number self.old.body ≡ outer act → self.new ≡ view_after_steps (reply_body act (Err fault) self.old.body) self.old) }
         ensures err { OnErr result (self.new ≡ self.old) }
     {
         self.results.reserve(1)?;

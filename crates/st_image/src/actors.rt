@@ -18,9 +18,9 @@ pub(crate) struct Actors {
 
 impl Model for Actors {
     ghost use Rattle.std.specs.Prelude.{List};
-    ghost use Rattle.st_image.specs.Kepts.{Kept, AreActors};
+    ghost use Rattle.st_image.specs.ActorViews.{ActorView, AreActors};
 
-    ghost Value = { List Kept };
+    ghost Value = { List ActorView };
 
     ghost view = { λ a. a.items.items };
 
@@ -32,13 +32,13 @@ impl Actors {
     ghost use Rattle.std.specs.Option.{option_copied};
     ghost use Rattle.st_turn.specs.declared.acts.Act.{Act as ActOf};
     ghost use Rattle.st_turn.specs.declared.body.Body.{Body as BodyOf};
-    ghost use Rattle.st_turn.specs.Idling.{is_idle as idle};
-    ghost use Rattle.st_turn.specs.Fitting.{FitsSome};
-    ghost use Rattle.st_turn.specs.Leaving.{IsAct, act_in};
-    ghost use Rattle.st_turn.specs.Steps.{outer, replied, step};
-    ghost use Rattle.st_image.specs.Keeping.{CanRun};
+    ghost use Rattle.st_turn.specs.Idle.{is_idle as idle};
+    ghost use Rattle.st_turn.specs.BodyFits.{FitsSome};
+    ghost use Rattle.st_turn.specs.StepResults.{IsAct, act_in};
+    ghost use Rattle.st_turn.specs.Steps.{outer, reply_body, step};
+    ghost use Rattle.st_image.specs.ImageInvariant.{CanRun};
     ghost use Rattle.st_image.specs.Worlds.{change_at};
-    ghost use Rattle.st_image.specs.Kepts.{Kept, RunsOwn, begun_first, is_ready_kept, is_ready_in, IsNextKept, stepped_to, taken_in};
+    ghost use Rattle.st_image.specs.ActorViews.{ActorView, RunsOwn, view_after_begin, is_ready_view, is_ready_in, IsNextReadyView, view_after_steps, view_with_message};
 
     pub(crate) fn new(alloc: Global) -> Actors
         ensures { result ≡ [] }
@@ -65,7 +65,7 @@ impl Actors {
 
     /// The first ready one in cyclic order of numbers from a number.
     pub(crate) fn next(&self, from: u32) -> Option<u32>
-        ensures some { IfSome result (λ a. IsNextKept self.now from a) }
+        ensures some { IfSome result (λ a. IsNextReadyView self.now from a) }
         ensures none { IfNone result ((a : ℕ) → is_ready_in self.now a ≡ false) }
     {
         let _items = &self.items;
@@ -75,7 +75,7 @@ impl Actors {
     /// Puts a new actor last, which is not ready.
     pub(crate) fn push(&mut self, actor: Actor) -> Result<(), AllocError>
         requires few { length self.old < 65536 }
-        requires idle { is_ready_kept actor ≡ false }
+        requires idle { is_ready_view actor ≡ false }
         ensures ok { OnOk result (self.new ≡ self.old ++ actor ∷ []) }
         ensures err { OnErr result (self.new ≡ self.old) }
     {
@@ -86,9 +86,9 @@ impl Actors {
     /// Puts a message last in the mailbox of an actor, which is then ready. The answer is how many messages it has accepted.
     pub(crate) fn deliver(&mut self, actor: ActorId, message: Message) -> Result<u64, AllocError>
         requires there { actor.0 < length self.old }
-        requires few { (k : Kept) → slice_get self.old actor.0 ≡ Some k → k.accepted < 2 ^ 63 }
-        ensures count { IfOk result (λ n. (k : Kept) → slice_get self.old actor.0 ≡ Some k → n ≡ k.accepted + 1) }
-        ensures ok { OnOk result (self.new ≡ change_at (taken_in message) actor.0 self.old) }
+        requires few { (k : ActorView) → slice_get self.old actor.0 ≡ Some k → k.accepted < 2 ^ 63 }
+        ensures count { IfOk result (λ n. (k : ActorView) → slice_get self.old actor.0 ≡ Some k → n ≡ k.accepted + 1) }
+        ensures ok { OnOk result (self.new ≡ change_at (view_with_message message) actor.0 self.old) }
         ensures err { OnErr result (self.new ≡ self.old) }
     {
         self.ready.insert(actor.0)?;
@@ -105,7 +105,7 @@ impl Actors {
     /// The last message that an actor sent has this number.
     pub(crate) fn set_last(&mut self, actor: ActorId, number: u64)
         requires { actor.0 < length self.old }
-        ensures { self.new ≡ change_at (λ (k : Kept). record k { last = number }) actor.0 self.old }
+        ensures { self.new ≡ change_at (λ (k : ActorView). record k { last = number }) actor.0 self.old }
     {
         let kept = &mut self.items[actor.0 as usize];
         kept.set_last(number);
@@ -114,7 +114,7 @@ impl Actors {
     /// The mailbox of an actor accepts no more.
     pub(crate) fn close(&mut self, actor: ActorId)
         requires { actor.0 < length self.old }
-        ensures { self.new ≡ change_at (λ (k : Kept). record k { is_open = false }) actor.0 self.old }
+        ensures { self.new ≡ change_at (λ (k : ActorView). record k { is_open = false }) actor.0 self.old }
     {
         let kept = &mut self.items[actor.0 as usize];
         kept.close();
@@ -123,7 +123,7 @@ impl Actors {
     /// An actor begins its first pending message, where one is pending.
     pub(crate) fn begin(&mut self, actor: ActorId)
         requires { actor.0 < length self.old }
-        ensures { self.new ≡ change_at begun_first actor.0 self.old }
+        ensures { self.new ≡ change_at view_after_begin actor.0 self.old }
     {
         let kept = &mut self.items[actor.0 as usize];
         kept.begin();
@@ -139,9 +139,9 @@ impl Actors {
         limit: u32,
     ) -> Result<Progress, AllocError>
         requires there { actor.0 < length self.old }
-        requires runs { (k : Kept) → slice_get self.old actor.0 ≡ Some k → CanRun version.now actor k.body }
-        requires busy { (k : Kept) → slice_get self.old actor.0 ≡ Some k → idle k.body.phase ≡ false }
-        ensures ok { IfOk result (λ p. (k : Kept) → slice_get self.old actor.0 ≡ Some k → (body : BodyOf) × RunsOwn version.now actor limit k.body p.steps p.is_whole body × (self.new ≡ change_at (stepped_to body) actor.0 self.old)) }
+        requires runs { (k : ActorView) → slice_get self.old actor.0 ≡ Some k → CanRun version.now actor k.body }
+        requires busy { (k : ActorView) → slice_get self.old actor.0 ≡ Some k → idle k.body.phase ≡ false }
+        ensures ok { IfOk result (λ p. (k : ActorView) → slice_get self.old actor.0 ≡ Some k → (body : BodyOf) × RunsOwn version.now actor limit k.body p.steps p.is_whole body × (self.new ≡ change_at (view_after_steps body) actor.0 self.old)) }
         ensures err { OnErr result (self.new ≡ self.old) }
     {
         let kept = &mut self.items[actor.0 as usize];
@@ -153,8 +153,8 @@ impl Actors {
     /// Whether the next step of an actor asks something of the image.
     pub(crate) fn is_act_next(&self, version: &Version, actor: ActorId) -> bool
         requires there { actor.0 < length self.now }
-        requires fits { (k : Kept) → slice_get self.now actor.0 ≡ Some k → FitsSome version.now actor k.body }
-        ensures { (k : Kept) → slice_get self.now actor.0 ≡ Some k → result ≡ is_some (act_in (step version.now actor k.body)) }
+        requires fits { (k : ActorView) → slice_get self.now actor.0 ≡ Some k → FitsSome version.now actor k.body }
+        ensures { (k : ActorView) → slice_get self.now actor.0 ≡ Some k → result ≡ is_some (act_in (step version.now actor k.body)) }
     {
         let kept = &self.items[actor.0 as usize];
         is_act_next(kept.body(), actor, version)
@@ -168,8 +168,8 @@ impl Actors {
         actor: ActorId,
     ) -> Result<Option<Act>, AllocError>
         requires there { actor.0 < length self.now }
-        requires fits { (k : Kept) → slice_get self.now actor.0 ≡ Some k → FitsSome version.now actor k.body }
-        ensures { IfOk result (λ act. (k : Kept) → slice_get self.now actor.0 ≡ Some k → act ≡ act_in (step version.now actor k.body)) }
+        requires fits { (k : ActorView) → slice_get self.now actor.0 ≡ Some k → FitsSome version.now actor k.body }
+        ensures { IfOk result (λ act. (k : ActorView) → slice_get self.now actor.0 ≡ Some k → act ≡ act_in (step version.now actor k.body)) }
     {
         let kept = &self.items[actor.0 as usize];
         next_act(alloc, kept.body(), actor, version)
@@ -178,10 +178,10 @@ impl Actors {
     /// The act of an actor was done, and its turn goes on with the answer.
     pub(crate) fn give(&mut self, version: &Version, actor: ActorId, value: Value)
         requires there { actor.0 < length self.old }
-        requires fits { (k : Kept) → slice_get self.old actor.0 ≡ Some k → FitsSome version.now actor k.body }
-        requires act { (k : Kept) → slice_get self.old actor.0 ≡ Some k → IsAct (step version.now actor k.body) }
-        requires busy { (k : Kept) → slice_get self.old actor.0 ≡ Some k → idle k.body.phase ≡ false }
-        ensures { (k : Kept) (act : ActOf) → slice_get self.old actor.0 ≡ Some k → step version.now actor k.body ≡ outer act → self.new ≡ change_at (stepped_to (replied act (Ok value) k.body)) actor.0 self.old }
+        requires fits { (k : ActorView) → slice_get self.old actor.0 ≡ Some k → FitsSome version.now actor k.body }
+        requires act { (k : ActorView) → slice_get self.old actor.0 ≡ Some k → IsAct (step version.now actor k.body) }
+        requires busy { (k : ActorView) → slice_get self.old actor.0 ≡ Some k → idle k.body.phase ≡ false }
+        ensures { (k : ActorView) (act : ActOf) → slice_get self.old actor.0 ≡ Some k → step version.now actor k.body ≡ outer act → self.new ≡ change_at (view_after_steps (reply_body act (Ok value) k.body)) actor.0 self.old }
     {
         let kept = &mut self.items[actor.0 as usize];
         kept.give(version, actor, value);
@@ -196,10 +196,10 @@ impl Actors {
         fault: Fault,
     ) -> Result<(), AllocError>
         requires there { actor.0 < length self.old }
-        requires fits { (k : Kept) → slice_get self.old actor.0 ≡ Some k → FitsSome version.now actor k.body }
-        requires act { (k : Kept) → slice_get self.old actor.0 ≡ Some k → IsAct (step version.now actor k.body) }
-        requires busy { (k : Kept) → slice_get self.old actor.0 ≡ Some k → idle k.body.phase ≡ false }
-        ensures ok { OnOk result ((k : Kept) (act : ActOf) → slice_get self.old actor.0 ≡ Some k → step version.now actor k.body ≡ outer act → self.new ≡ change_at (stepped_to (replied act (Err fault) k.body)) actor.0 self.old) }
+        requires fits { (k : ActorView) → slice_get self.old actor.0 ≡ Some k → FitsSome version.now actor k.body }
+        requires act { (k : ActorView) → slice_get self.old actor.0 ≡ Some k → IsAct (step version.now actor k.body) }
+        requires busy { (k : ActorView) → slice_get self.old actor.0 ≡ Some k → idle k.body.phase ≡ false }
+        ensures ok { OnOk result ((k : ActorView) (act : ActOf) → slice_get self.old actor.0 ≡ Some k → step version.now actor k.body ≡ outer act → self.new ≡ change_at (view_after_steps (reply_body act (Err fault) k.body)) actor.0 self.old) }
         ensures err { OnErr result (self.new ≡ self.old) }
     {
         let kept = &mut self.items[actor.0 as usize];

@@ -1,6 +1,6 @@
-//! Images.
+//! The image: construction, readers, interning and new actors. Edits, installs, posts and turns are in image/.
 ghost use Rattle.st_image.specs.Delivery.{Delivers};
-ghost use Rattle.st_image.specs.Lasting.{NamesMayGrow};
+ghost use Rattle.st_image.specs.WorldInvariant.{NamesMayGrow};
 
 mod advancing;
 mod defining;
@@ -57,7 +57,7 @@ impl Model for Image {
 
     ghost Value = { ImageView };
 
-    ghost use Rattle.st_image.specs.Keeping.{IsImage};
+    ghost use Rattle.st_image.specs.ImageInvariant.{IsImage};
     ghost use Rattle.st_image.specs.Worlds.{start};
 
     ghost view = { λ i. record { base = start; names = i.names; history = i.history.items; capacity = i.settings.capacity; most_items = i.settings.history; next_from = i.next_from } };
@@ -67,18 +67,18 @@ impl Model for Image {
 
 impl Image {
     ghost use Rattle.std.specs.Prelude.{◌≡◌, ◌+◌, ◌<◌, [], ◌∷◌, length, slice_get, OnOk, OnErr, MatchResult, IfSome, IfNone, IfOk, IfErr, None, Some, Err, ℕ, false, option_map};
-    ghost use Rattle.st_image.specs.Kepts.{kept_of};
+    ghost use Rattle.st_image.specs.ActorViews.{actor_view};
     ghost use Rattle.st_classes.specs.declared.refusals.Refusal.TheVariants.{NoMemory};
     ghost use Rattle.st_classes.specs.Names.{interned, intern_rules, is_name};
     ghost use Rattle.st_classes.specs.Refusals.{first_of, Answers};
-    ghost use Rattle.st_image.specs.declared.items.Item.TheVariants.{Created as CreatedItem};
-    ghost use Rattle.st_image.specs.Images.{appended, create_rules, new_image, no_room, settings_rules, world};
-    ghost use Rattle.st_image.specs.Advancing.{image_outcome};
+    ghost use Rattle.st_image.specs.Calls.{Creates};
+    ghost use Rattle.st_image.specs.Images.{create_rules, new_image, no_room, settings_rules, world};
+    ghost use Rattle.st_image.specs.Quanta.{image_outcome};
     ghost use Rattle.st_image.specs.Worlds.{pending};
     ghost use Rattle.std.specs.Option.{option_copied};
-    ghost use Rattle.st_image.specs.Ready.{IsNextReady, is_ready_at};
+    ghost use Rattle.st_image.specs.Scheduling.{IsNextReady, is_ready_at};
     ghost use Rattle.st_image.specs.Delivery.{HasDelivered};
-    ghost use Rattle.st_image.specs.Lasting.{IsLawful};
+    ghost use Rattle.st_image.specs.WorldInvariant.{IsLawful};
 
     /// An image with the kernel's names and classes, no actors and no history.
     ///
@@ -106,7 +106,9 @@ impl Image {
         })
     }
 
-    /// Sets both numbers and nothing else, on an image with no history. `BadArguments` says that one is out of its range, and changes nothing.
+    /// Replaces the capacity of new mailboxes and the limit of the history. The history has to be empty.
+    ///
+    /// `BadArguments` says that a number is out of its range. A refused call changes nothing.
     pub fn set(&mut self, settings: Settings) -> Result<(), Refusal>
         requires { self.old.history ≡ [] }
         ensures { MatchResult result
@@ -240,9 +242,9 @@ impl Image {
         Some(self.actor(actor)?.last())
     }
 
-    /// What is kept of an actor.
+    /// The actor of a number, if there is one.
     fn actor(&self, actor: ActorId) -> Option<&Actor>
-        ensures { option_copied result ≡ option_map kept_of (slice_get (world self.now).actors actor.0) }
+        ensures { option_copied result ≡ option_map actor_view (slice_get (world self.now).actors actor.0) }
     {
         self.actors.get(actor)
     }
@@ -280,10 +282,9 @@ impl Image {
     /// A new actor of a class, with the capacity that is set. Actors are numbered from 0.
     ///
     /// Refusals, in this order: `UnknownClass`; `KernelClass` for classes 1 to 7; `TooMany` where 65,536 actors are there;
-    /// `HistoryFull`. A refused call changes nothing.
+    /// `HistoryFull`. Memory can run out only where none of these applies. A refused call changes nothing.
     pub fn create(&mut self, alloc: Global, class: ClassId) -> Result<ActorId, Refusal>
-        ensures answers { Answers (first_of (create_rules self.old class)) result (λ a. (self.new ≡ appended self.old (CreatedItem class ∷ [])) × (a.0 ≡ length (world self.old).actors)) }
-        ensures unchanged { OnErr result (self.new ≡ self.old) }
+        ensures { Creates self.old class result self.new }
     {
         if let Some(refusal) = self.create_refusal(class) {
             return Err(refusal);

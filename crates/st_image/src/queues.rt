@@ -10,7 +10,7 @@ pub(crate) struct Queue {
 
 impl Queue {
     ghost use Rattle.std.specs.Prelude.{◌≡◌, ℕ, true, false, OnOk, OnErr, IfSome, IfNone};
-    ghost use Rattle.st_image.specs.Kepts.{has, HasAlso, IsNext};
+    ghost use Rattle.st_image.specs.ActorViews.{has, HasAlso, IsNext};
 
     pub(crate) fn new(alloc: Global) -> Queue
         ensures { (a : ℕ) → has result.numbers a ≡ false }
@@ -28,7 +28,7 @@ impl Queue {
         Ok(())
     }
 
-    /// Takes an actor out that is no longer ready.
+    /// Keeps an actor in the queue if it is ready, and takes it out if not.
     pub(crate) fn keep_if(&mut self, actor: u32, is_ready: bool)
         requires { has self.old.numbers actor ≡ true }
         ensures { HasAlso self.old.numbers self.new.numbers actor is_ready }

@@ -13,10 +13,10 @@ use Rattle.st_reader.specs.declared.trees.Target.{Target}
 use Rattle.st_reader.specs.declared.trees.Message.{Message as Sent}
 use Rattle.st_reader.specs.declared.rules.alone.Alone.{Alone as Sort}
 use Rattle.st_reader.specs.Syntax.{Expression, Message, Statements, send, cascade}
-use Rattle.st_reader.specs.Views.{sends, assigns, thens, last_of, further_of, cascaded, seen_cascade, seen_further, seen_sentences, operand_view, message_view, chain_view, expression_view, statements_view}
+use Rattle.st_reader.specs.TreeViews.{sends, assigns, thens, last_of, further_of, cascaded, seen_cascade, seen_further, seen_sentences, operand_view, message_view, chain_view, expression_view, statements_view}
 use Rattle.st_reader.specs.Inlining.{is_loose}
-use Rattle.st_reader.specs.Rules.{allowed, message_allowed, further_allowed, statements_allowed, stands, may_change}
-use Rattle.st_reader.specs.Alone.{alone, is_variable, assigns_well, value_of, may_assign}
+use Rattle.st_reader.specs.WellFormed.{allowed, message_allowed, further_allowed, statements_allowed, is_well_placed, may_change}
+use Rattle.st_reader.specs.ExpressionKinds.{expression_kind, is_variable, assigns_well, value_of, may_assign}
 use Rattle.st_reader.proofs.Seen.{chain_out}
 use Rattle.st_reader.proofs.Alone.{expression_out, statements_out}
 
@@ -25,7 +25,7 @@ use Rattle.st_reader.proofs.Alone.{expression_out, statements_out}
 module _ (fixed : List (List ℕ)) where
   fails : (e : Expression) (ms : List Message) → allowed fixed e ≡ false → allowed fixed (sends e ms) ≡ false
   fails e [] no_one = no_one
-  fails e (m ∷ ms) no_one = fails (send e m) ms (by_receiver (stands (send e m)) (allowed fixed e) (message_allowed fixed m) no_one)
+  fails e (m ∷ ms) no_one = fails (send e m) ms (by_receiver (is_well_placed (send e m)) (allowed fixed e) (message_allowed fixed m) no_one)
     where
       by_receiver : (s a b : Bool) → a ≡ false → ((s && true) && a && b) ≡ false
       by_receiver s a b q = grind arith
@@ -33,13 +33,13 @@ module _ (fixed : List (List ℕ)) where
   -- a receiver that is allowed, to which the rest of the messages go
   pub record Sending (receiver : Sort) (whole : Expression) (rest : List Sent) : Type 0 where
     pub to : Expression
-    pub is : alone to ≡ receiver
+    pub is : expression_kind to ≡ receiver
     pub passes : allowed fixed to ≡ true
     pub same : whole ≡ sends to (map message_view rest)
 
   -- what a message that goes to a receiver by itself is asked
   abbrev pub Tested : Sort → Sent → Bool → Type 0
-  Tested receiver m b = (e : Expression) → alone e ≡ receiver → b ≡ stands (send e (message_view m))
+  Tested receiver m b = (e : Expression) → expression_kind e ≡ receiver → b ≡ is_well_placed (send e (message_view m))
 
   one_more : (s a b v : Bool) → a ≡ true → (s && b) ≡ v → ((s && true) && a && b) ≡ v
   one_more s a b v q r = grind arith
@@ -47,8 +47,8 @@ module _ (fixed : List (List ℕ)) where
   pub sending_fails : (receiver : Sort) (whole : Expression) (ms : List Sent) (i : ℕ) (m : Sent) (s b : Bool) → i < length ms → m ≡ get_or ms i m → Tested receiver m s → b ≡ message_allowed fixed (message_view m) → (s && b) ≡ false → Sending receiver whole (drop i ms) → false ≡ allowed fixed whole
   sending_fails receiver whole ms i m s b below is tested passes none r =
       let shown = message_view m in
-      let one : (stands (send r.to shown) && message_allowed fixed shown) ≡ false = ap (λ (x : Bool). x && message_allowed fixed shown) (sym (tested r.to r.is)) ∙ ap (λ (x : Bool). s && x) (sym passes) ∙ none in
-      let now : allowed fixed (send r.to shown) ≡ false = one_more (stands (send r.to shown)) (allowed fixed r.to) (message_allowed fixed shown) false r.passes one in
+      let one : (is_well_placed (send r.to shown) && message_allowed fixed shown) ≡ false = ap (λ (x : Bool). x && message_allowed fixed shown) (sym (tested r.to r.is)) ∙ ap (λ (x : Bool). s && x) (sym passes) ∙ none in
+      let now : allowed fixed (send r.to shown) ≡ false = one_more (is_well_placed (send r.to shown)) (allowed fixed r.to) (message_allowed fixed shown) false r.passes one in
       sym (ap (allowed fixed) (r.same ∙ ap (λ (l : List Sent). sends r.to (map message_view l)) (drop_more ms i m below ∙ ap (λ (x : Sent). x ∷ drop (i + 1) ms) (sym is))) ∙ fails (send r.to shown) (map message_view (drop (i + 1) ms)) now)
 
   pub chain_fails : (c : Chain) → allowed fixed (operand_view (out-Chain c).operand) ≡ false → allowed fixed (chain_view c) ≡ false
@@ -80,7 +80,7 @@ module _ (fixed : List (List ℕ)) where
 
   no_value : (r : Expression) (k : Option (Message × List (Span × Message))) → allowed fixed r ≡ false → allowed fixed (cascaded r k) ≡ false
   no_value r None other = other
-  no_value r (Some k) other = second (stands (cascade r k.0 (further_of k.1)) && true) (allowed fixed r) (message_allowed fixed k.0) (further_allowed fixed (further_of k.1)) other
+  no_value r (Some k) other = second (is_well_placed (cascade r k.0 (further_of k.1)) && true) (allowed fixed r) (message_allowed fixed k.0) (further_allowed fixed (further_of k.1)) other
     where
       second : (s a m f : Bool) → a ≡ false → (s && a && m && f) ≡ false
       second s a m f q = grind arith
@@ -95,8 +95,8 @@ module _ (fixed : List (List ℕ)) where
   plain_allowed x well none = value x well ∙ ap (λ k. allowed fixed (cascaded (chain_view (out-Expression x).receiver) (seen_cascade k))) none
 
   -- behind a receiver that is allowed
-  pub cascade_allowed : (x : Written) (m : Sent) (fs : Vec (Span × Sent) Global) → may_assign fixed x ≡ true → (out-Expression x).cascade ≡ Some (m, fs) → allowed fixed (chain_view (out-Expression x).receiver) ≡ true → allowed fixed (expression_view x) ≡ (stands (cascade (chain_view (out-Expression x).receiver) (message_view m) (further_of (seen_further fs.items))) && message_allowed fixed (message_view m) && further_allowed fixed (further_of (seen_further fs.items)))
-  cascade_allowed x m fs well some passes = value x well ∙ ap (λ k. allowed fixed (cascaded (chain_view (out-Expression x).receiver) (seen_cascade k))) some ∙ without (stands (cascade (chain_view (out-Expression x).receiver) (message_view m) (further_of (seen_further fs.items)))) (allowed fixed (chain_view (out-Expression x).receiver)) (message_allowed fixed (message_view m)) (further_allowed fixed (further_of (seen_further fs.items))) passes
+  pub cascade_allowed : (x : Written) (m : Sent) (fs : Vec (Span × Sent) Global) → may_assign fixed x ≡ true → (out-Expression x).cascade ≡ Some (m, fs) → allowed fixed (chain_view (out-Expression x).receiver) ≡ true → allowed fixed (expression_view x) ≡ (is_well_placed (cascade (chain_view (out-Expression x).receiver) (message_view m) (further_of (seen_further fs.items))) && message_allowed fixed (message_view m) && further_allowed fixed (further_of (seen_further fs.items)))
+  cascade_allowed x m fs well some passes = value x well ∙ ap (λ k. allowed fixed (cascaded (chain_view (out-Expression x).receiver) (seen_cascade k))) some ∙ without (is_well_placed (cascade (chain_view (out-Expression x).receiver) (message_view m) (further_of (seen_further fs.items)))) (allowed fixed (chain_view (out-Expression x).receiver)) (message_allowed fixed (message_view m)) (further_allowed fixed (further_of (seen_further fs.items))) passes
     where
       without : (s a n f : Bool) → a ≡ true → ((s && true) && a && n && f) ≡ (s && n && f)
       without s a n f q = grind arith

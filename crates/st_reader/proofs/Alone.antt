@@ -14,10 +14,10 @@ use Rattle.st_reader.specs.declared.trees.Message.{Message as Sent}
 use Rattle.st_reader.specs.declared.rules.alone.Alone.{Alone as Sort}
 use Rattle.st_reader.specs.declared.rules.alone.Alone.TheVariants.{Block, Super, Other}
 use Rattle.st_reader.specs.Syntax.{Expression, Message, Statements, parenthesis, empty_block, block, send, cascade, name}
-use Rattle.st_reader.specs.Views.{sends, operand_view, message_view, chain_view, expression_view, statements_view, assigns, cascaded, thens, last_of, seen_cascade, seen_sentences}
+use Rattle.st_reader.specs.TreeViews.{sends, operand_view, message_view, chain_view, expression_view, statements_view, assigns, cascaded, thens, last_of, seen_cascade, seen_sentences}
 use Rattle.st_reader.specs.Inlining.{is_block, is_loose}
-use Rattle.st_reader.specs.Rules.{sentences}
-use Rattle.st_reader.specs.Alone.{alone, name_alone}
+use Rattle.st_reader.specs.WellFormed.{sentences}
+use Rattle.st_reader.specs.ExpressionKinds.{expression_kind, name_alone}
 use Rattle.st_reader.proofs.Seen.{chain_out, plain_is, cascade_is, statements_is}
 
 abbrev pub is_block_alone : Sort → Bool
@@ -30,21 +30,21 @@ is_loose_alone Block = true
 is_loose_alone Super = true
 is_loose_alone Other = false
 
-sends_alone : (e : Expression) (m : Message) (ms : List Message) → alone (sends e (m ∷ ms)) ≡ Other
+sends_alone : (e : Expression) (m : Message) (ms : List Message) → expression_kind (sends e (m ∷ ms)) ≡ Other
 sends_alone e m [] = refl
 sends_alone e m (n ∷ ms) = sends_alone (send e m) n ms
 
 pub chain_plain : (c : Chain) → (out-Chain c).messages.items ≡ [] → chain_view c ≡ operand_view (out-Chain c).operand
 chain_plain c e = chain_out c ∙ ap (λ (l : List Sent). sends (operand_view (out-Chain c).operand) (map message_view l)) e
 
-sent : (o : Expression) (ms : List Sent) → (ms ≢ []) → alone (sends o (map message_view ms)) ≡ Other
+sent : (o : Expression) (ms : List Sent) → (ms ≢ []) → expression_kind (sends o (map message_view ms)) ≡ Other
 sent o [] some = absurd (some refl)
 sent o (m ∷ ms) some = sends_alone o (message_view m) (map message_view ms)
 
-pub chain_sent : (c : Chain) → ((out-Chain c).messages.items ≢ []) → alone (chain_view c) ≡ Other
-chain_sent c some = ap alone (chain_out c) ∙ sent (operand_view (out-Chain c).operand) (out-Chain c).messages.items some
+pub chain_sent : (c : Chain) → ((out-Chain c).messages.items ≢ []) → expression_kind (chain_view c) ≡ Other
+chain_sent c some = ap expression_kind (chain_out c) ∙ sent (operand_view (out-Chain c).operand) (out-Chain c).messages.items some
 
-pub block_alone : (e : Expression) → is_block e ≡ is_block_alone (alone e)
+pub block_alone : (e : Expression) → is_block e ≡ is_block_alone (expression_kind e)
 block_alone (Expression.number value place minus) = refl
 block_alone (Expression.symbol n) = refl
 block_alone (name n) = named (bytes_eq n.text (codes "super"))
@@ -59,7 +59,7 @@ block_alone (send e m) = refl
 block_alone (cascade e m ms) = refl
 block_alone (Expression.assign n place e) = refl
 
-pub loose_alone : (e : Expression) → is_loose e ≡ is_loose_alone (alone e)
+pub loose_alone : (e : Expression) → is_loose e ≡ is_loose_alone (expression_kind e)
 loose_alone (Expression.number value place minus) = refl
 loose_alone (Expression.symbol n) = refl
 loose_alone (name n) = named (bytes_eq n.text (codes "super"))
@@ -83,15 +83,15 @@ shown t c (Some k) = cascade_is t c k.0 k.1
 pub expression_out : (e : Written) → expression_view e ≡ assigns (out-Expression e).targets (cascaded (chain_view (out-Expression e).receiver) (seen_cascade (out-Expression e).cascade))
 expression_out e = ap expression_view (sym (roll-out-Expression e)) ∙ shown (out-Expression e).targets (out-Expression e).receiver (out-Expression e).cascade
 
-assigned : (ts : List Target) (e : Expression) → (ts ≢ []) → alone (assigns ts e) ≡ Other
+assigned : (ts : List Target) (e : Expression) → (ts ≢ []) → expression_kind (assigns ts e) ≡ Other
 assigned [] e some = absurd (some refl)
 assigned (t ∷ ts) e some = refl
 
 pub expression_value : (e : Written) → (out-Expression e).targets ≡ [] → expression_view e ≡ cascaded (chain_view (out-Expression e).receiver) (seen_cascade (out-Expression e).cascade)
 expression_value e none = expression_out e ∙ ap (λ (t : List Target). assigns t (cascaded (chain_view (out-Expression e).receiver) (seen_cascade (out-Expression e).cascade))) none
 
-pub expression_assigns : (e : Written) → ((out-Expression e).targets ≢ []) → alone (expression_view e) ≡ Other
-expression_assigns e some = ap alone (expression_out e) ∙ assigned (out-Expression e).targets (cascaded (chain_view (out-Expression e).receiver) (seen_cascade (out-Expression e).cascade)) some
+pub expression_assigns : (e : Written) → ((out-Expression e).targets ≢ []) → expression_kind (expression_view e) ≡ Other
+expression_assigns e some = ap expression_kind (expression_out e) ∙ assigned (out-Expression e).targets (cascaded (chain_view (out-Expression e).receiver) (seen_cascade (out-Expression e).cascade)) some
 
 -- ---- statements
 

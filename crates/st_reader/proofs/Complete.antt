@@ -8,9 +8,9 @@ use Rattle.st_reader.specs.declared.trees.Target.{Target}
 use Rattle.st_reader.specs.declared.tokens.Mark.TheVariants.{OpenParenthesis, CloseParenthesis, OpenBlock, CloseBlock, Caret, Period, Semicolon, Bar}
 use Rattle.st_reader.specs.Tokens.{Token}
 use Rattle.st_reader.specs.Syntax.{Method, Expression, Message, Parts, Further, Statements, parenthesis, empty_block, block, send, cascade, name, unary, keywords, no_parts, part, no_further, further, last, answer, statement}
-use Rattle.st_reader.specs.Views.{parts_of, further_of, assigns}
+use Rattle.st_reader.specs.TreeViews.{parts_of, further_of, assigns}
 use Rattle.st_reader.specs.Grammar.{period_toks, toks, message_toks, parts_toks, further_toks, statements_toks, level, NumberFits, goes_to, count, IsSome, IsExpression, IsMessage, AreParts, AreFurther, AreStatements, nesting, message_nesting, parts_nesting, further_nesting, statements_nesting, method_toks, IsMethod, parameter_toks, pattern_toks, name_toks, temporaries_toks, body_toks, IsPattern, IsBody}
-use Rattle.st_reader.specs.Reading.{Read, Parse, in_front, literal_of, negative_of, unaries_of, targets_of, operand_of, term_of, operations_of, binary_of, with_parts, keyword_parts_of, chain_of, message_of, further_messages_of, with_further, value_of, expression_with, parenthesis_end, block_end, is_end, answered, statement_of, statements_with, group_with, filled_block_with, block_with, expression_of, group_of, block_of, method_of, parameters_of, pattern_of, names_of, temporaries_end, temporaries_of, whole, body_of}
+use Rattle.st_reader.specs.Parser.{Read, Parse, in_front, literal_of, negative_of, unaries_of, targets_of, operand_of, term_of, operations_of, binary_of, with_parts, keyword_parts_of, chain_of, message_of, further_messages_of, with_further, value_of, expression_with, parenthesis_end, block_end, is_end, answered, statement_of, statements_with, group_with, filled_block_with, block_with, expression_of, group_of, block_of, method_of, parameters_of, pattern_of, names_of, temporaries_end, temporaries_of, whole, body_of}
 use Rattle.st_reader.proofs.Shorter.{Keeps, found, with_tokens, term-shortens, group_of-keeps, block_of-keeps}
 use Rattle.std.proofs.Math.Nat.{le-max_left, le-max_right}
 use Rattle.std.proofs.lemmas.List.{append-nil}

@@ -7,7 +7,7 @@ use Rattle.st_reader.specs.declared.tokens.Piece.{Piece}
 use Rattle.st_reader.specs.declared.tokens.Piece.TheVariants.{White, Comment, Token as Whole}
 use Rattle.st_reader.specs.declared.tokens.Lexeme.{Lexeme}
 use Rattle.st_reader.specs.Tokens.{Token, token, span, piece_tokens}
-use Rattle.st_reader.specs.Cutting.{front, tokens_behind, tokens}
+use Rattle.st_reader.specs.Lexer.{front, tokens_behind, tokens}
 use Rattle.st_reader.specs.Lexemes.{token_of, text_at, piece_lexemes}
 
 -- the bytes of the piece before are skipped

@@ -11,7 +11,7 @@ use Rattle.st_reader.specs.declared.tokens.Piece.{Piece}
 use Rattle.st_reader.specs.declared.tokens.Piece.TheVariants.{White, Comment, Token as Whole}
 use Rattle.st_reader.specs.Pieces.{is_piece, may_stop, sign}
 use Rattle.st_reader.specs.Tokens.{Token, span, piece_tokens, tokens_from, bytes_of, AreWhole, IsCut, CutsOneWay}
-use Rattle.st_reader.specs.Cutting.{front, tokens_behind, tokens}
+use Rattle.st_reader.specs.Lexer.{front, tokens_behind, tokens}
 use Rattle.st_reader.proofs.Found.{front_found}
 use Rattle.st_reader.proofs.Fronts.{front_is}
 use Rattle.st_reader.proofs.Cutting.{tokens_behind-piece}

@@ -6,8 +6,8 @@ use Rattle.st_reader.specs.declared.trees.Name.{Name}
 use Rattle.st_reader.specs.declared.trees.Target.{Target}
 use Rattle.st_reader.specs.Tokens.{Token}
 use Rattle.st_reader.specs.Syntax.{Expression, Message}
-use Rattle.st_reader.specs.Views.{assigns}
-use Rattle.st_reader.specs.Reading.{Read, Parse, with_parts, with_further, targets_of, binary_of, keyword_parts_of, chain_of, further_messages_of, value_of, expression_with, expression_of, group_of, block_of}
+use Rattle.st_reader.specs.TreeViews.{assigns}
+use Rattle.st_reader.specs.Parser.{Read, Parse, with_parts, with_further, targets_of, binary_of, keyword_parts_of, chain_of, further_messages_of, value_of, expression_with, expression_of, group_of, block_of}
 use Rattle.st_reader.proofs.Shorter.{with_tokens}
 
 -- an expression in which brackets nest so deep

@@ -12,7 +12,7 @@ use Rattle.st_reader.specs.declared.tokens.Kind.TheVariants.{Identifier, Keyword
 use Rattle.st_reader.specs.declared.tokens.Piece.{Piece}
 use Rattle.st_reader.specs.declared.tokens.Piece.TheVariants.{White, Comment, Token as Whole}
 use Rattle.st_reader.specs.Pieces.{begins, begins_equals, begins_colon, begins_fraction, is_white, is_no_quote, are_closed_by, is_word, are_keywords, sign, is_piece, word_stops, keyword_stops, binary_stops, number_stops, symbol_stops, may_stop}
-use Rattle.st_reader.specs.Cutting.{comment, keyword_more, word_front, number_front, binary_more, keywords_length, word_symbol, symbol_length, front}
+use Rattle.st_reader.specs.Lexer.{comment, keyword_more, word_front, number_front, binary_more, keywords_length, word_symbol, symbol_length, front}
 use Rattle.st_reader.proofs.Sorts.{binary_other, letter_white, letter_quote, digit_white, digit_quote, digit_letter, no_letter, no_digit}
 use Rattle.st_reader.proofs.Lists.{prefix_len-run, closed_parts, prefix_len-closed}
 use Rattle.st_reader.proofs.Keywords.{inside, keywords_cons, keywords_found, keyword_none, Stops}

@@ -11,7 +11,7 @@ use Rattle.st_reader.specs.declared.tokens.Kind.TheVariants.{Identifier, Keyword
 use Rattle.st_reader.specs.declared.tokens.Piece.{Piece}
 use Rattle.st_reader.specs.declared.tokens.Piece.TheVariants.{White, Comment, Token as Whole}
 use Rattle.st_reader.specs.Pieces.{begins, begins_equals, begins_colon, begins_fraction, is_white, is_no_quote, is_word, are_keywords, sign, is_piece, binary_stops, symbol_stops, may_stop}
-use Rattle.st_reader.specs.Cutting.{comment, keyword_more, word_front, number_front, binary_more, keywords_length, word_symbol, symbol_length, mark_of, mark_front, front}
+use Rattle.st_reader.specs.Lexer.{comment, keyword_more, word_front, number_front, binary_more, keywords_length, word_symbol, symbol_length, mark_of, mark_front, front}
 use Rattle.st_reader.proofs.Sorts.{binary_other, letter_equals, no_more}
 use Rattle.st_reader.proofs.Lists.{run_passes, run_stops, closed_take}
 use Rattle.st_reader.proofs.Keywords.{AreKeywords, keywords_are, keywords_other, letter_next}

@@ -10,7 +10,7 @@ use Rattle.st_reader.specs.declared.tokens.Lexeme.{Lexeme}
 use Rattle.st_reader.specs.Tokens.{Token}
 use Rattle.st_reader.specs.Syntax.{Expression, Message}
 use Rattle.st_reader.specs.Lexemes.{token_at, token_of, tokens_of, Lacks}
-use Rattle.st_reader.specs.Reading.{Read, Parse, in_front, message_of, further_messages_of}
+use Rattle.st_reader.specs.Parser.{Read, Parse, in_front, message_of, further_messages_of}
 use Rattle.st_reader.proofs.Loops.{token_is}
 use Rattle.st_reader.proofs.Rows.{in_front_more, in_front_none}
 use Rattle.st_reader.proofs.Shorter.{Keeps, message-keeps}

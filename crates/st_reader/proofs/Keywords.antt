@@ -5,7 +5,7 @@ use Rattle.std.specs.List.{list_all, prefix_len}
 use Rattle.std.proofs.lemmas.Bool.{and_parts, and_from, eqb-true, not-true, false_from_ne_true, and_left, and_right}
 use Rattle.st_classes.specs.Selectors.{is_letter, is_letter_or_digit, before_first_part, parts}
 use Rattle.st_reader.specs.Pieces.{begins, begins_equals, begins_colon, is_word, are_closed_words, are_keywords}
-use Rattle.st_reader.specs.Cutting.{keyword_more, keywords_length}
+use Rattle.st_reader.specs.Lexer.{keyword_more, keywords_length}
 use Rattle.st_reader.proofs.Sorts.{letter_equals}
 
 -- words, each closed, of which the first has lost its first letter

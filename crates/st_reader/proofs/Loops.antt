@@ -10,9 +10,9 @@ use Rattle.st_reader.specs.declared.tokens.Kind.TheVariants.{Identifier, Keyword
 use Rattle.st_reader.specs.declared.tokens.Lexeme.{Lexeme}
 use Rattle.st_reader.specs.Tokens.{Token}
 use Rattle.st_reader.specs.Syntax.{Expression, Message, send, unary}
-use Rattle.st_reader.specs.Views.{sends, message_view}
+use Rattle.st_reader.specs.TreeViews.{sends, message_view}
 use Rattle.st_reader.specs.Lexemes.{token_at, token_of, tokens_of, name_at, Lacks, LacksTarget}
-use Rattle.st_reader.specs.Reading.{unaries_of, targets_of}
+use Rattle.st_reader.specs.Parser.{unaries_of, targets_of}
 use Rattle.st_reader.proofs.Rows.{ahead, ahead_more, ahead_none}
 use Rattle.st_reader.proofs.Seen.{sends-append}
 

@@ -13,10 +13,10 @@ use Rattle.st_reader.specs.declared.trees.Message.TheVariants.{rolls-Keyword}
 use Rattle.st_reader.specs.declared.inlining.Inlining.{Inlining}
 use Rattle.st_reader.specs.declared.rules.alone.Alone.{Alone as Sort}
 use Rattle.st_reader.specs.Syntax.{Expression, Message, Statements, keywords}
-use Rattle.st_reader.specs.Views.{chain_view, message_view, parts_of, seen_parts, further_of, seen_further, message_step, operand_step, chain_step, expression_step, statements_step}
+use Rattle.st_reader.specs.TreeViews.{chain_view, message_view, parts_of, seen_parts, further_of, seen_further, message_step, operand_step, chain_step, expression_step, statements_step}
 use Rattle.st_reader.specs.Inlining.{is_block, is_loose, is_loop, suits_receiver, part_texts, part_arguments, inlining}
-use Rattle.st_reader.specs.Rules.{arguments, further_arguments}
-use Rattle.st_reader.specs.Alone.{alone}
+use Rattle.st_reader.specs.WellFormed.{arguments, further_arguments}
+use Rattle.st_reader.specs.ExpressionKinds.{expression_kind}
 use Rattle.st_reader.proofs.Alone.{is_block_alone, is_loose_alone, block_alone, loose_alone}
 pub use Rattle.st_reader.proofs.Seen.{unary_is, binary_is}
 
@@ -49,11 +49,11 @@ suits_alone (Some i) s = by_loop (is_loop i)
     by_loop true = is_block_alone s
     by_loop false = not (is_loose_alone s)
 
-pub suits : (i : Option Inlining) (e : Expression) → suits_receiver i e ≡ suits_alone i (alone e)
+pub suits : (i : Option Inlining) (e : Expression) → suits_receiver i e ≡ suits_alone i (expression_kind e)
 suits None e = refl
 suits (Some i) e = by (is_loop i) refl
   where
-    by : (b : Bool) → is_loop i ≡ b → suits_receiver (Some i) e ≡ suits_alone (Some i) (alone e)
+    by : (b : Bool) → is_loop i ≡ b → suits_receiver (Some i) e ≡ suits_alone (Some i) (expression_kind e)
     by true q = rw q (block_alone e)
     by false q = rw q (ap not (loose_alone e))
 

@@ -9,7 +9,7 @@ use Rattle.st_reader.specs.declared.tokens.Kind.TheVariants.{Identifier, Keyword
 use Rattle.st_reader.specs.declared.tokens.Lexeme.{Lexeme}
 use Rattle.st_reader.specs.Tokens.{Token}
 use Rattle.st_reader.specs.Lexemes.{token_at, tokens_of, name_at, Lacks}
-use Rattle.st_reader.specs.Reading.{Read, in_front, names_of, parameter_of, parameters_of}
+use Rattle.st_reader.specs.Parser.{Read, in_front, names_of, parameter_of, parameters_of}
 use Rattle.st_reader.proofs.Loops.{token_is}
 use Rattle.st_reader.proofs.Rows.{ahead, ahead_more, ahead_none, in_front_more, in_front_none}
 

@@ -2,7 +2,7 @@
 use Rattle.std.proofs.Common.{◌≡◌, Option, None, Result, Ok, Err, IsErrAnd, sym, subst}
 use Rattle.st_reader.specs.declared.parser.Wrong.{Wrong}
 use Rattle.st_reader.specs.declared.parser.Wrong.TheVariants.{NoTree, NoMemory}
-use Rattle.st_reader.specs.Reading.{Gives}
+use Rattle.st_reader.specs.Parser.{Gives}
 
 passed : {X Y Z W : Type 0} (view : X → Y) (inner : Z → W) (e : Wrong) (part : Option W) (read : Option Y) → (part ≡ None → read ≡ None) → Gives inner (Err e) part → Gives view (Err e) read
 passed view inner NoMemory part read h g = tt

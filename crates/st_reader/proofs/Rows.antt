@@ -2,7 +2,7 @@
 use Rattle.std.proofs.Common.{◌≡◌, List, [], ◌∷◌, ◌++◌, Some, None, refl, sym, ap, append_assoc}
 use Rattle.std.proofs.lemmas.List.{append-nil}
 use Rattle.st_reader.specs.Tokens.{Token}
-use Rattle.st_reader.specs.Reading.{Read, in_front}
+use Rattle.st_reader.specs.Parser.{Read, in_front}
 
 -- more in front of a row that is always read
 abbrev pub ahead : {X : Type 0} → List X → List X × List Token → List X × List Token

@@ -1,7 +1,7 @@
 -- What a text spells by the grammar and the rules.
 use Rattle.std.proofs.Common.{◌≡◌, true, false, ℕ, List, sym, ap, ◌∙◌}
 use Rattle.st_reader.specs.Syntax.{Method}
-use Rattle.st_reader.specs.Rules.{keeps_rules}
+use Rattle.st_reader.specs.WellFormed.{keeps_rules}
 use Rattle.st_reader.specs.Spelling.{Spells, SpellsGrammar}
 
 -- a text spells no method where the one that it spells by the grammar breaks a rule

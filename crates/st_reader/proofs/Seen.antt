@@ -16,8 +16,8 @@ use Rattle.st_reader.specs.declared.trees.Message.TheVariants.{rolls-Unary, roll
 use Rattle.st_reader.specs.declared.trees.Operand.TheVariants.{rolls-Block}
 use Rattle.std.specs.declared.boxed.Box.{Box}
 use Rattle.st_reader.specs.Syntax.{Expression, Message, Statements, send, cascade, unary, binary, block}
-use Rattle.st_reader.specs.Views.{sends, assigns, further_of, thens, last_of, operand_view, message_view, chain_view, expression_view, statements_view, message_step, operand_step, chain_step, expression_step, statements_step, seen_further}
-use Rattle.st_reader.specs.Reading.{with_further}
+use Rattle.st_reader.specs.TreeViews.{sends, assigns, further_of, thens, last_of, operand_view, message_view, chain_view, expression_view, statements_view, message_step, operand_step, chain_step, expression_step, statements_step, seen_further}
+use Rattle.st_reader.specs.Parser.{with_further}
 
 pub sends-append : (e : Expression) (ms : List Message) (m : Message) → sends e (ms ++ m ∷ []) ≡ send (sends e ms) m
 sends-append e [] m = refl

@@ -9,9 +9,9 @@ use Rattle.st_reader.specs.declared.tokens.Mark.TheVariants.{OpenParenthesis, Cl
 use Rattle.st_reader.specs.declared.tokens.Lexeme.{Lexeme}
 use Rattle.st_reader.specs.Tokens.{Token}
 use Rattle.st_reader.specs.Syntax.{Expression, Statements, last, statement}
-use Rattle.st_reader.specs.Views.{thens, behind_sentences}
+use Rattle.st_reader.specs.TreeViews.{thens, behind_sentences}
 use Rattle.st_reader.specs.Lexemes.{token_at, token_of, tokens_of, Lacks}
-use Rattle.st_reader.specs.Reading.{Read, Parse, is_end, answered, statement_of, statements_with}
+use Rattle.st_reader.specs.Parser.{Read, Parse, is_end, answered, statement_of, statements_with}
 use Rattle.st_reader.proofs.Loops.{token_is}
 use Rattle.st_reader.proofs.Shorter.{Shortens, sentence}
 

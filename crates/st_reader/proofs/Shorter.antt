@@ -6,8 +6,8 @@ use Rattle.st_reader.specs.declared.trees.Span.{Span}
 use Rattle.st_reader.specs.declared.tokens.Mark.TheVariants.{OpenParenthesis, CloseParenthesis, OpenBlock, CloseBlock, Caret, Period, Semicolon, Bar}
 use Rattle.st_reader.specs.Tokens.{Token}
 use Rattle.st_reader.specs.Syntax.{Expression, Message, Statements, send, unary, parenthesis, empty_block, block, last, statement}
-use Rattle.st_reader.specs.Views.{assigns}
-use Rattle.st_reader.specs.Reading.{Read, Parse, in_front, literal_of, negative_of, parenthesis_end, block_end, unaries_of, targets_of, operand_of, term_of, operations_of, binary_of, with_parts, keyword_parts_of, chain_of, message_of, further_messages_of, with_further, value_of, expression_with, is_end, answered, statement_of, statements_with, group_with, filled_block_with, block_with, nothing, expression_of, group_of, block_of}
+use Rattle.st_reader.specs.TreeViews.{assigns}
+use Rattle.st_reader.specs.Parser.{Read, Parse, in_front, literal_of, negative_of, parenthesis_end, block_end, unaries_of, targets_of, operand_of, term_of, operations_of, binary_of, with_parts, keyword_parts_of, chain_of, message_of, further_messages_of, with_further, value_of, expression_with, is_end, answered, statement_of, statements_with, group_with, filled_block_with, block_with, nothing, expression_of, group_of, block_of}
 use Rattle.st_reader.proofs.Binds.{some_is, bind_some, map_some, tested, either}
 
 -- what is read leaves fewer tokens

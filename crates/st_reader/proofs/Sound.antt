@@ -18,9 +18,9 @@ use Rattle.st_reader.specs.declared.tokens.Mark.{Mark}
 use Rattle.st_reader.specs.declared.tokens.Mark.TheVariants.{OpenParenthesis, CloseParenthesis, OpenBlock, CloseBlock, Caret, Period, Semicolon, Bar}
 use Rattle.st_reader.specs.Tokens.{Token}
 use Rattle.st_reader.specs.Syntax.{Method, Expression, Message, Statements, parenthesis, empty_block, block, send, cascade, name, unary, keywords, last}
-use Rattle.st_reader.specs.Views.{parts_of, further_of, assigns}
+use Rattle.st_reader.specs.TreeViews.{parts_of, further_of, assigns}
 use Rattle.st_reader.specs.Grammar.{minus_toks, toks, message_toks, parts_toks, further_toks, statements_toks, level, count, IsExpression, IsMessage, AreParts, AreFurther, AreStatements, nesting, message_nesting, parts_nesting, further_nesting, statements_nesting, method_toks, IsMethod, parameter_toks, pattern_toks, name_toks, temporaries_toks, body_toks, IsPattern, IsBody}
-use Rattle.st_reader.specs.Reading.{Read, Parse, literal_of, negative_of, parenthesis_end, block_end, unaries_of, targets_of, operand_of, term_of, operations_of, binary_of, with_parts, keyword_parts_of, chain_of, message_of, further_messages_of, with_further, value_of, expression_with, is_end, answered, statement_of, statements_with, group_with, filled_block_with, block_with, nothing, expression_of, method_of, parameter_of, parameters_of, pattern_of, names_of, temporaries_end, temporaries_of, whole, body_of}
+use Rattle.st_reader.specs.Parser.{Read, Parse, literal_of, negative_of, parenthesis_end, block_end, unaries_of, targets_of, operand_of, term_of, operations_of, binary_of, with_parts, keyword_parts_of, chain_of, message_of, further_messages_of, with_further, value_of, expression_with, is_end, answered, statement_of, statements_with, group_with, filled_block_with, block_with, nothing, expression_of, method_of, parameter_of, parameters_of, pattern_of, names_of, temporaries_end, temporaries_of, whole, body_of}
 use Rattle.st_reader.proofs.Binds.{some_is, bind_some, map_some, tested, either}
 use Rattle.st_reader.proofs.Shorter.{found, with_tokens, sentence}
 

@@ -7,7 +7,7 @@ use Rattle.st_reader.specs.Faults.{IsBadSource, RefusesSource}
 use Rattle.st_reader.specs.Tokens.{Token, IsCut, CutsOneWay, is_character, token_fits}
 use Rattle.st_reader.specs.Syntax.{Method}
 use Rattle.st_reader.specs.Grammar.{method_toks}
-use Rattle.st_reader.specs.Reading.{method_of}
+use Rattle.st_reader.specs.Parser.{method_of}
 use Rattle.st_reader.specs.Spelling.{OneReading, SpellsGrammar}
 use Rattle.st_reader.proofs.Sound.{method_sound}
 use Rattle.st_reader.proofs.Complete.{method_complete}

@@ -8,7 +8,7 @@ use Rattle.st_reader.specs.declared.tokens.Lexeme.{Lexeme}
 use Rattle.st_reader.specs.Pieces.{is_piece, may_stop}
 use Rattle.st_reader.specs.Tokens.{Token, span, token, piece_tokens, tokens_from, bytes_of, AreWhole, IsCutBefore, BeginsNone, StopsAt}
 use Rattle.st_reader.specs.Lexemes.{text_at, token_of, tokens_of, piece_lexemes}
-use Rattle.st_reader.specs.Cutting.{front}
+use Rattle.st_reader.specs.Lexer.{front}
 use Rattle.st_reader.proofs.Found.{front_found}
 use Rattle.st_reader.proofs.Fronts.{front_is}
 use Rattle.st_reader.proofs.Cutting.{text_of}

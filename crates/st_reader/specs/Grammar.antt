@@ -27,9 +27,13 @@ abbrev mutual
   toks (Expression.number value place minus) = minus_toks minus ++ Token.number (unsigned_abs value) place ∷ []
   toks (Expression.symbol n) = Token.symbol n ∷ []
   toks (name n) = Token.identifier n ∷ []
-  toks (parenthesis opening e closing) = Token.mark OpenParenthesis opening ∷ (toks e ++ Token.mark CloseParenthesis closing ∷ [])
+  toks (parenthesis opening e closing) =
+      Token.mark OpenParenthesis opening
+      ∷ (toks e ++ Token.mark CloseParenthesis closing ∷ [])
   toks (empty_block opening closing) = Token.mark OpenBlock opening ∷ Token.mark CloseBlock closing ∷ []
-  toks (block opening ss closing) = Token.mark OpenBlock opening ∷ (statements_toks ss ++ Token.mark CloseBlock closing ∷ [])
+  toks (block opening ss closing) =
+      Token.mark OpenBlock opening
+      ∷ (statements_toks ss ++ Token.mark CloseBlock closing ∷ [])
   toks (send e m) = toks e ++ message_toks m
   toks (cascade e m ms) = toks e ++ (message_toks m ++ further_toks ms)
   toks (Expression.assign n place e) = Token.identifier n ∷ Token.assign place ∷ toks e
@@ -52,8 +56,8 @@ abbrev mutual
   statements_toks (answer caret e period) = Token.mark Caret caret ∷ (toks e ++ period_toks period)
   statements_toks (statement e period ss) = toks e ++ Token.mark Period period ∷ statements_toks ss
 
--- How tightly an expression binds: an operand 0, behind unary messages 1, behind binary ones 2, behind a keyword message 3,
--- a cascade 4, an assignment 5.
+-- How tightly an expression binds: an operand 0, after unary messages 1, after binary ones 2, after a keyword
+-- message 3, a cascade 4, an assignment 5.
 abbrev mutual
   pub level : Expression → ℕ
   level (send e m) = message_level m
@@ -66,7 +70,7 @@ abbrev mutual
   message_level (Message.binary n e) = 2
   message_level (keywords ps) = 3
 
--- from 0 to 2^63 - 1; with a minus, which stands directly before the digits, from -2^63 to 0
+-- from 0 to 2^63 - 1; with a minus, which is directly before the digits, from -2^63 to 0
 abbrev pub NumberFits : ℤ → Span → Option Span → Type 0
 NumberFits (pos n) place None = n < 2 ^ 63
 NumberFits (negsuc n) place None = ⊥
@@ -89,8 +93,8 @@ abbrev pub IsSome : Further → Type 0
 IsSome no_further = ⊥
 IsSome (further place m ms) = Unit {0}
 
--- An expression of the grammar: binary messages bind more tightly than keyword messages and unary ones more tightly than
--- both, from the left; a keyword message has from 1 to 8 keywords.
+-- An expression of the grammar: binary messages bind more tightly than keyword messages and unary ones more tightly
+-- than both, from the left; a keyword message has from 1 to 8 keywords.
 abbrev mutual
   pub IsExpression : Expression → Type 0
   IsExpression (Expression.number value place minus) = NumberFits value place minus

@@ -1,4 +1,5 @@
--- Which messages are inlined: those of certain keywords whose arguments are blocks, where the receiver is as it has to be.
+-- Which messages are inlined: those of certain keywords whose arguments are blocks, where the receiver is as it has to
+-- be.
 use Rattle.std.specs.Prelude.{ℕ, ◌&&◌, ◌||◌, List, [], ◌∷◌, Bool, true, false, not, Option, Some, None, codes}
 use Rattle.std.specs.List.{list_all}
 use Rattle.std.specs.Str.{bytes_eq}
@@ -18,11 +19,16 @@ if_text text other inlining rest = if_so (bytes_eq text other)
 abbrev pub inlining_of_one : List ℕ → Option Inlining
 inlining_of_one text =
     if_text text (codes "ifTrue:") IfTrue (if_text text (codes "ifFalse:") IfFalse (if_text text (codes "and:") And
-    (if_text text (codes "or:") Or (if_text text (codes "whileTrue:") WhileTrue (if_text text (codes "whileFalse:") WhileFalse None)))))
+    (if_text text (codes "or:") Or
+    (if_text text (codes "whileTrue:") WhileTrue
+    (if_text text (codes "whileFalse:") WhileFalse None)))))
 
 -- the inlined messages of two keywords
 abbrev pub inlining_of_two : List ℕ → List ℕ → Option Inlining
-inlining_of_two text next = both (bytes_eq text (codes "ifTrue:") && bytes_eq next (codes "ifFalse:")) (bytes_eq text (codes "ifFalse:") && bytes_eq next (codes "ifTrue:"))
+inlining_of_two text next =
+    both
+    (bytes_eq text (codes "ifTrue:") && bytes_eq next (codes "ifFalse:"))
+    (bytes_eq text (codes "ifFalse:") && bytes_eq next (codes "ifTrue:"))
   where
     both : Bool → Bool → Option Inlining
     both true other = Some IfTrueIfFalse

@@ -19,7 +19,7 @@ text_at text place = slice_range text place.start place.end
 abbrev pub token_at : List ℕ → Kind → Span → Token
 token_at text kind place = token kind (text_at text place) place
 
--- the token that a text has where a lexeme stands
+-- the token that a text has at the place of a lexeme
 abbrev pub token_of : List ℕ → Lexeme → Token
 token_of text l = token_at text l.kind l.span
 
@@ -35,7 +35,10 @@ piece_lexemes (Whole kind) place = record { kind = kind; span = place } ∷ []
 
 -- where nothing stops it, a text is cut into the tokens; where something does, it is cut into none
 abbrev pub Cuts : List ℕ → Tokens → Type 0
-Cuts text c = MatchOption c.stop (IsCut text (tokens_of text c.lexemes.items)) (λ at. (ts : List Token) → IsCut text ts → ⊥)
+Cuts text c =
+    MatchOption c.stop
+    (IsCut text (tokens_of text c.lexemes.items))
+    (λ at. (ts : List Token) → IsCut text ts → ⊥)
 
 -- the token of a lexeme is within its limits
 unfoldable pub lexeme_fits : List ℕ → Lexeme → Bool
@@ -45,7 +48,7 @@ lexeme_fits text l = token_fits (token_of text l)
 abbrev pub name_at : List ℕ → Span → Name
 name_at text place = record { text = text_at text place; span = place }
 
--- a symbol's name stands behind its `#`
+-- a symbol's name comes after its `#`
 abbrev pub symbol_at : List ℕ → Span → Name
 symbol_at text place = record { text = drop 1 (text_at text place); span = place }
 
@@ -64,6 +67,11 @@ LacksTarget [] = Unit {0}
 LacksTarget (l ∷ []) = Unit {0}
 LacksTarget (l ∷ a ∷ ls) = (l.kind ≡ Identifier) → (a.kind ≡ Assign) → ⊥
 
--- a target of an assignment is at the front: a variable, `:=`, and what is behind
+-- a target of an assignment is at the front: a variable, `:=`, and what is after
 abbrev pub IsTarget : List Lexeme → Lexeme → Span → List Lexeme → Type 0
-IsTarget ls l place behind = (a : Lexeme) × (ls ≡ l ∷ a ∷ behind) × (l.kind ≡ Identifier) × (a.kind ≡ Assign) × (a.span ≡ place)
+IsTarget ls l place behind =
+    (a : Lexeme)
+    × (ls ≡ l ∷ a ∷ behind)
+    × (l.kind ≡ Identifier)
+    × (a.kind ≡ Assign)
+    × (a.span ≡ place)

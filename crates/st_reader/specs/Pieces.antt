@@ -38,7 +38,7 @@ abbrev pub is_keyword : List ℕ → Bool
 is_keyword [] = false
 is_keyword (b ∷ bs) = is_letter b && are_closed_by 58 is_letter_or_digit bs
 
--- words, each with a colon behind it: nothing is behind the last colon
+-- words, each with a colon after it: nothing is after the last colon
 abbrev pub are_closed_words : List (List ℕ) → Bool
 are_closed_words [] = false
 are_closed_words (word ∷ [] ∷ []) = is_word word
@@ -124,9 +124,12 @@ number_stops behind = not (begins is_letter_or_digit behind) && not (begins_frac
 
 -- a symbol stops where its word, its binary selector or its last keyword does, and the keyword not before a letter
 abbrev pub symbol_stops : List ℕ → List ℕ → Bool
-symbol_stops text behind = if is_word text then word_stops behind else (if is_binary text then binary_stops text behind else (keyword_stops behind && not (begins is_letter behind)))
+symbol_stops text behind =
+    if is_word text then word_stops behind
+    else if is_binary text then binary_stops text behind
+    else keyword_stops behind && not (begins is_letter behind)
 
--- a piece may stop before the bytes behind it: they begin with nothing that belongs to it or forbids it
+-- a piece may stop before the bytes after it: they begin with nothing that belongs to it or forbids it
 abbrev pub may_stop : Piece → List ℕ → List ℕ → Bool
 may_stop White text behind = true
 may_stop Comment text behind = true

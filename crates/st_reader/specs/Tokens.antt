@@ -11,7 +11,8 @@ use Rattle.st_reader.specs.declared.tokens.Piece.{Piece}
 use Rattle.st_reader.specs.declared.tokens.Piece.TheVariants.{White, Comment, Token as Whole}
 use Rattle.st_reader.specs.Pieces.{is_white, is_piece, may_stop}
 
--- a token with its place; a keyword's text has its colon; a number is the value of its digits, and its minus is a token `-` of its own; a symbol's text has no `#`, and its place has it
+-- a token with its place; a keyword's text has its colon; a number is the value of its digits, and its minus is a token
+-- `-` of its own; a symbol's text has no `#`, and its place has it
 pub data Token : Type 0 where
   identifier : Name → Token
   keyword : Name → Token
@@ -52,19 +53,24 @@ piece_tokens (Whole kind) text place = token kind text place ∷ []
 -- the tokens of pieces with their bytes that stand from a place on
 abbrev pub tokens_from : ℕ → List (Piece × List ℕ) → List Token
 tokens_from place [] = []
-tokens_from place (p ∷ ps) = piece_tokens p.0 p.1 (span place (place + length p.1)) ++ tokens_from (place + length p.1) ps
+tokens_from place (p ∷ ps) =
+    piece_tokens p.0 p.1 (span place (place + length p.1))
+    ++ tokens_from (place + length p.1) ps
 
--- the bytes of pieces, and those behind them
+-- the bytes of pieces, and those after them
 abbrev pub bytes_of : List (Piece × List ℕ) → List ℕ → List ℕ
 bytes_of [] behind = behind
 bytes_of (p ∷ ps) behind = p.1 ++ bytes_of ps behind
 
--- each piece is one of its kind, and may stop before what is behind it
+-- each piece is one of its kind, and may stop before what is after it
 abbrev pub AreWhole : List (Piece × List ℕ) → List ℕ → Type 0
 AreWhole [] behind = Unit {0}
-AreWhole (p ∷ ps) behind = (is_piece p.0 p.1 ≡ true) × (may_stop p.0 p.1 (bytes_of ps behind) ≡ true) × AreWhole ps behind
+AreWhole (p ∷ ps) behind =
+    (is_piece p.0 p.1 ≡ true)
+    × (may_stop p.0 p.1 (bytes_of ps behind) ≡ true)
+    × AreWhole ps behind
 
--- a text is a row of pieces, whose tokens these are, and bytes behind them
+-- a text is a row of pieces, whose tokens these are, and bytes after them
 pub record IsCutBefore (text : List ℕ) (ts : List Token) (behind : List ℕ) : Type 0 where
   pub pieces : List (Piece × List ℕ)
   pub joined : bytes_of pieces behind ≡ text
@@ -77,7 +83,12 @@ IsCut text ts = IsCutBefore text ts []
 
 -- no piece that may stop begins a text
 abbrev pub BeginsNone : List ℕ → Type 0
-BeginsNone text = (p : Piece) (bytes behind : List ℕ) → bytes ++ behind ≡ text → is_piece p bytes ≡ true → may_stop p bytes behind ≡ true → ⊥
+BeginsNone text =
+    (p : Piece) (bytes behind : List ℕ)
+    → bytes ++ behind ≡ text
+    → is_piece p bytes ≡ true
+    → may_stop p bytes behind ≡ true
+    → ⊥
 
 -- a text is a row of pieces up to a place in it where none begins
 pub record StopsAt (text : List ℕ) (ts : List Token) (place : ℕ) : Type 0 where

@@ -2,7 +2,7 @@
 use Rattle.std.specs.Prelude.{ℕ, ◌&&◌, List, [], ◌∷◌, ◌++◌, length, map, Bool, not, Option, Some, None, nat_le}
 use Rattle.std.specs.List.{list_all}
 use Rattle.st_classes.specs.Selectors.{is_slot_name}
-use Rattle.st_classes.specs.Accepting.{has_twice}
+use Rattle.st_classes.specs.EditRules.{has_twice}
 use Rattle.st_reader.specs.declared.trees.Name.{Name}
 use Rattle.st_reader.specs.declared.trees.Pattern.{Pattern}
 use Rattle.st_reader.specs.declared.trees.Pattern.TheVariants.{Unary, Binary, Keyword}
@@ -32,6 +32,7 @@ texts names = map (λ n. n.text) names
 abbrev pub argument_texts : Pattern → List (List ℕ)
 argument_texts p = texts (arguments_of p)
 
--- each is an identifier that begins with a lower-case letter and is not reserved, no two are alike, and there are 64 at most
+-- each is an identifier that begins with a lower-case letter and is not reserved, no two are alike, and there are 64 at
+-- most
 abbrev pub are_variables : List Name → Bool
 are_variables names = list_all is_slot_name (texts names) && not (has_twice (texts names)) && nat_le (length names) 64

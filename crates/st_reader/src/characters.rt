@@ -57,7 +57,7 @@ pub fn unquoted_length(text: &[u8]) -> usize
     text.iter().take_while(|b| **b != b'"').count()
 }
 
-// A value with one digit more.
+/// A value with one digit more.
 fn with_digit(value: u64, digit: u8) -> Option<u64>
     ensures { SomeIff result (value * 10 + (digit - 48) < 2 ^ 64) (value * 10 + (digit - 48)) }
 {

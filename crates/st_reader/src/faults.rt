@@ -3,7 +3,8 @@
 //! The checks have an order, and of one check the least offset counts. The first two read the bytes. All others are made in
 //! one pass over the tokens, which keeps the open brackets in a list and so needs no more stack for a deep source than for a
 //! flat one.
-ghost use Rattle.st_reader.specs.Faults.{RefusesSource};
+ghost use Rattle.std.specs.Prelude.{length};
+ghost use Rattle.st_reader.specs.Faults.{IsWithin, RefusesSource};
 
 mod bytes;
 mod checks;
@@ -26,12 +27,14 @@ use std::alloc::Global;
 /// The refusal of a source that has no method: `BadSource` with the first check that fails and the least place where it does,
 /// or `NoMemory`.
 ///
-/// That kind and offset are the right ones is tested and not proved. For a source that has a method the answer means nothing.
+/// The offset is at most the length of the source. That kind and offset are the right ones is tested and not proved. For a
+/// source that has a method the answer means nothing.
 pub fn source_fault(alloc: Global, source: &[u8]) -> Refusal
-    ensures { RefusesSource result }
+    ensures source { RefusesSource result }
+    ensures offset { IsWithin (length source.now) result }
 {
     match first_fault(alloc, source) {
-        Ok(Some(fault)) => fault.refusal(),
+        Ok(Some(fault)) => fault.refusal_within(source.len()),
         Ok(None) => Refusal::BadSource {
             kind: SourceFault::BadToken,
             offset: 0,
@@ -40,7 +43,7 @@ pub fn source_fault(alloc: Global, source: &[u8]) -> Refusal
     }
 }
 
-// The first fault of a source; none where it has a method.
+/// The first fault of a source; none where it has a method.
 fn first_fault(alloc: Global, source: &[u8]) -> Result<Option<Fault>, Stop> {
     if source.len() > limits::SOURCE {
         return Ok(Some(Fault::new(Check::Length, limits::SOURCE as u16)));

@@ -1,8 +1,8 @@
 //! Trees of tokens: a descent by one function for each form of the grammar.
 ghost use Rattle.std.specs.Prelude.{◌≡◌, option_map};
 ghost use Rattle.st_reader.specs.Lexemes.{tokens_of};
-ghost use Rattle.st_reader.specs.Views.{statements_view, method_view};
-ghost use Rattle.st_reader.specs.Reading.{Gives, body_of, method_of};
+ghost use Rattle.st_reader.specs.TreeViews.{statements_view, method_view};
+ghost use Rattle.st_reader.specs.Parser.{Gives, body_of, method_of};
 
 mod building;
 mod expressions;
@@ -32,11 +32,11 @@ impl From<AllocError> for Wrong {
     }
 }
 
-/// What was read, and the tokens behind it.
+/// What was read, and the tokens after it.
 type Parsed<'t, T> = Result<(T, &'t [Lexeme]), Wrong>;
 
-// The statements of a method, up to the end.
-#[tactic(auto, unfolding(crate::specs::Reading::body_of))]
+/// The statements of a method, up to the end.
+#[tactic(auto, unfolding(crate::specs::Parser::body_of))]
 fn body(alloc: Global, source: &[u8], lexemes: &[Lexeme]) -> Result<Option<Statements>, Wrong>
     ensures { Gives (λ b. option_map statements_view b) result (body_of (tokens_of source.now lexemes.now)) }
 {
@@ -52,7 +52,7 @@ fn body(alloc: Global, source: &[u8], lexemes: &[Lexeme]) -> Result<Option<State
 }
 
 /// The method of the tokens of a whole source.
-#[tactic(auto, unfolding(crate::specs::Reading::method_of))]
+#[tactic(auto, unfolding(crate::specs::Parser::method_of))]
 pub(crate) fn method(
     alloc: Global,
     source: &[u8],

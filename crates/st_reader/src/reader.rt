@@ -1,10 +1,10 @@
-//! Reading: from a text to its tree.
-ghost use Rattle.std.specs.Prelude.{◌≡◌, ◌⊎◌, IfOk, IfErr};
+//! The entry: from the source of a method to its tree.
+ghost use Rattle.std.specs.Prelude.{◌≡◌, ◌⊎◌, length, IfOk, IfErr};
 ghost use Rattle.st_classes.specs.declared.refusals.Refusal.TheVariants.{NoMemory};
 ghost use Rattle.st_reader.specs.Syntax.{Method};
-ghost use Rattle.st_reader.specs.Views.{method_view};
+ghost use Rattle.st_reader.specs.TreeViews.{method_view};
 ghost use Rattle.st_reader.specs.Spelling.{OneReading, Spells, SpellsGrammar};
-ghost use Rattle.st_reader.specs.Faults.{IsBadSource};
+ghost use Rattle.st_reader.specs.Faults.{IsBadSource, IsWithin};
 
 use crate::characters;
 use crate::faults::source_fault;
@@ -17,11 +17,12 @@ use st_classes::refusals::Refusal;
 use st_classes::seq::Seq;
 use std::alloc::Global;
 
-// The method that a source spells by the grammar, whether or not it keeps the rules.
+/// The method that a source spells by the grammar, whether or not it keeps the rules.
 fn read_syntax(alloc: Global, source: &[u8]) -> Result<MethodSyntax, Refusal>
     ensures ok { IfOk result (λ m. SpellsGrammar (method_view m) source.now) }
     ensures only { IfOk result (λ m. (other : Method) → SpellsGrammar other source.now → other ≡ method_view m) }
     ensures refused { IfErr result (λ e. (e ≡ NoMemory) ⊎ (IsBadSource e × ((other : Method) → SpellsGrammar other source.now → ⊥))) }
+    ensures offset { IfErr result (λ e. IsWithin (length source.now) e) }
 {
     if source.len() > limits::SOURCE || !characters::are_characters(source) {
         return Err(source_fault(alloc, source));
@@ -51,14 +52,15 @@ pub fn one_reading()
 ///
 /// `BadSource` says that the source spells none: it is over 4,096 bytes, has a byte that no source may have, can't be cut into
 /// tokens within their limits, or is no method of the grammar, in which parentheses and blocks nest at most 64 deep; or the
-/// method breaks a rule: a block or `super` stands where it may not, an argument or what is no variable is assigned to, or
-/// arguments and temporaries have names that they may not have, two have one, or they are over 64. Its kind and offset are
-/// tested, not proved. Else the only refusal is `NoMemory`.
+/// method breaks a rule: a block or `super` is where it may not be, an argument or what is no variable is assigned to, or
+/// arguments and temporaries have names that they may not have, two have one, or they are over 64. Its offset is at most the
+/// length of the source; that kind and offset are the right ones is tested, not proved. Else the only refusal is `NoMemory`.
 pub fn read_method(alloc: Global, source: &[u8]) -> Result<MethodTree, Refusal>
     ensures ok { IfOk result (λ t. t.source ≡ source.now) }
     ensures spelled { IfOk result (λ t. Spells t.syntax source.now) }
     ensures only { IfOk result (λ t. (other : Method) → Spells other source.now → other ≡ t.syntax) }
     ensures refused { IfErr result (λ e. (e ≡ NoMemory) ⊎ (IsBadSource e × ((other : Method) → Spells other source.now → ⊥))) }
+    ensures offset { IfErr result (λ e. IsWithin (length source.now) e) }
 {
     let syntax = read_syntax(alloc, source)?;
     if !keeps_rules(&syntax) {

@@ -2,11 +2,11 @@
 //! called.
 ghost use Rattle.std.specs.Prelude.{◌≡◌, true, map, option_map};
 ghost use Rattle.std.specs.List.{list_all};
-ghost use Rattle.st_reader.specs.Views.{operand_view, chain_view, message_view, expression_view, statements_view, method_view, sends, parts_of, further_of, seen_parts, seen_further};
+ghost use Rattle.st_reader.specs.TreeViews.{operand_view, chain_view, message_view, expression_view, statements_view, method_view, sends, parts_of, further_of, seen_parts, seen_further};
 ghost use Rattle.st_reader.specs.Syntax.{Expression as Shown};
-ghost use Rattle.st_reader.specs.Alone.{alone};
+ghost use Rattle.st_reader.specs.ExpressionKinds.{expression_kind};
 ghost use Rattle.st_reader.specs.Variables.{argument_texts};
-ghost use Rattle.st_reader.specs.Rules.{allowed, message_allowed as message_passes, parts_allowed as parts_pass, further_allowed as further_pass, statements_allowed as statements_pass, body_allowed as body_passes, keeps_rules as keeps};
+ghost use Rattle.st_reader.specs.WellFormed.{allowed, message_allowed as message_passes, parts_allowed as parts_pass, further_allowed as further_pass, statements_allowed as statements_pass, body_allowed as body_passes, keeps_rules as keeps};
 
 pub mod alone;
 mod assignments;
@@ -21,7 +21,7 @@ use crate::trees::{
     Chain, Expression, Message, MethodSyntax, Name, Operand, Pattern, Span, Statements,
 };
 
-// Whether each expression in an operand is allowed.
+/// Whether each expression in an operand is allowed.
 #[cycle(rules)]
 fn operand_allowed(pattern: &Pattern, operand: &Operand) -> bool
     ensures { result ≡ allowed (argument_texts pattern.now) (operand_view operand.now) }
@@ -30,7 +30,7 @@ fn operand_allowed(pattern: &Pattern, operand: &Operand) -> bool
         Operand::Number { .. } | Operand::Symbol(_) | Operand::Name(_) => true,
         Operand::Parenthesis { inside, .. } => {
             expression_alone(inside) == Alone::Other && expression_allowed(pattern, inside)
-        },
+        }
         Operand::Block { inside: None, .. } => true,
         Operand::Block {
             inside: Some(inside),
@@ -39,7 +39,7 @@ fn operand_allowed(pattern: &Pattern, operand: &Operand) -> bool
     }
 }
 
-// Whether each expression in the arguments of keywords is allowed.
+/// Whether each expression in the arguments of keywords is allowed.
 #[cycle(rules)]
 fn parts_allowed(pattern: &Pattern, parts: &[(Name, Chain)]) -> bool
     ensures { result ≡ parts_pass (argument_texts pattern.now) (parts_of (seen_parts parts.now)) }
@@ -52,7 +52,7 @@ fn parts_allowed(pattern: &Pattern, parts: &[(Name, Chain)]) -> bool
     true
 }
 
-// Whether each expression in a message is allowed.
+/// Whether each expression in a message is allowed.
 #[tactic(auto, using(crate::proofs::Messages::keyword_is, crate::proofs::Messages::unary_is, crate::proofs::Messages::binary_is))]
 #[cycle(rules)]
 fn message_allowed(pattern: &Pattern, message: &Message) -> bool
@@ -65,10 +65,10 @@ fn message_allowed(pattern: &Pattern, message: &Message) -> bool
     }
 }
 
-// Whether each expression is allowed where messages go to a receiver that is.
+/// Whether each expression is allowed where messages go to a receiver that is.
 #[cycle(rules)]
 fn messages_allowed(pattern: &Pattern, receiver: Alone, messages: &[Message]) -> bool
-    ensures { (e : Shown) → alone e ≡ receiver → allowed (argument_texts pattern.now) e ≡ true → result ≡ allowed (argument_texts pattern.now) (sends e (map message_view messages.now)) }
+    ensures { (e : Shown) → expression_kind e ≡ receiver → allowed (argument_texts pattern.now) e ≡ true → result ≡ allowed (argument_texts pattern.now) (sends e (map message_view messages.now)) }
 {
     let mut receiver = receiver;
     for message in messages {
@@ -80,7 +80,7 @@ fn messages_allowed(pattern: &Pattern, receiver: Alone, messages: &[Message]) ->
     true
 }
 
-// Whether each expression in an operand with its messages is allowed.
+/// Whether each expression in an operand with its messages is allowed.
 #[tactic(auto, using(crate::proofs::Allowed::chain_fails))]
 #[cycle(rules)]
 fn chain_allowed(pattern: &Pattern, chain: &Chain) -> bool
@@ -90,7 +90,7 @@ fn chain_allowed(pattern: &Pattern, chain: &Chain) -> bool
         && messages_allowed(pattern, operand_alone(&chain.operand), &chain.messages)
 }
 
-// Whether each expression in the messages behind semicolons is allowed.
+/// Whether each expression in the messages after semicolons is allowed.
 #[cycle(rules)]
 fn further_allowed(pattern: &Pattern, further: &[(Span, Message)]) -> bool
     ensures { result ≡ further_pass (argument_texts pattern.now) (further_of (seen_further further.now)) }
@@ -103,7 +103,7 @@ fn further_allowed(pattern: &Pattern, further: &[(Span, Message)]) -> bool
     true
 }
 
-// Whether each expression in an expression is allowed.
+/// Whether each expression in an expression is allowed.
 #[tactic(auto, using(crate::proofs::Allowed::expression_fails, crate::proofs::Allowed::receiver_fails, crate::proofs::Allowed::plain_allowed))]
 #[cycle(rules)]
 fn expression_allowed(pattern: &Pattern, expression: &Expression) -> bool
@@ -121,7 +121,7 @@ fn expression_allowed(pattern: &Pattern, expression: &Expression) -> bool
     message_allowed(pattern, first) && further_allowed(pattern, further)
 }
 
-// Whether each expression in statements that others follow is allowed.
+/// Whether each expression in statements that others follow is allowed.
 #[cycle(rules)]
 fn sentences_allowed(pattern: &Pattern, before: &[(Expression, Span)]) -> bool
     ensures { result ≡ list_all (λ s. allowed (argument_texts pattern.now) (expression_view s.0)) before.now }
@@ -134,7 +134,7 @@ fn sentences_allowed(pattern: &Pattern, before: &[(Expression, Span)]) -> bool
     true
 }
 
-// Whether each expression in statements is allowed.
+/// Whether each expression in statements is allowed.
 #[tactic(auto, using(crate::proofs::Allowed::statements_rows))]
 #[cycle(rules)]
 fn statements_allowed(pattern: &Pattern, statements: &Statements) -> bool
@@ -143,7 +143,7 @@ fn statements_allowed(pattern: &Pattern, statements: &Statements) -> bool
     sentences_allowed(pattern, &statements.before) && expression_allowed(pattern, &statements.last)
 }
 
-// Whether each expression in a method is allowed.
+/// Whether each expression in a method is allowed.
 fn body_allowed(pattern: &Pattern, body: &Option<Statements>) -> bool
     ensures { result ≡ body_passes (argument_texts pattern.now) (option_map statements_view body.now) }
 {
@@ -151,7 +151,7 @@ fn body_allowed(pattern: &Pattern, body: &Option<Statements>) -> bool
         None => true,
         Some(statements) => {
             !has_loose_sentence(statements) && statements_allowed(pattern, statements)
-        },
+        }
     }
 }
 

@@ -1,11 +1,11 @@
-//! The tokens of a text.
+//! The lexer: it cuts a text into tokens.
 ghost use Rattle.std.specs.Prelude.{◌≡◌, ◌++◌, ◌<◌, ◌≤◌, length, drop, false, IfSome, IfOk, IfErr, OnOk, MatchOption};
 ghost use Rattle.std.specs.List.{list_all};
 ghost use Rattle.st_classes.specs.declared.refusals.Refusal.TheVariants.{NoMemory};
 ghost use Rattle.st_classes.specs.Selectors.{is_letter, is_digit};
 ghost use Rattle.st_reader.specs.Pieces.{begins, begins_equals, begins_colon, begins_fraction};
 ghost use Rattle.st_reader.specs.Tokens.{StopsAt, CutsOneWay, Token, token_fits};
-ghost use Rattle.st_reader.specs.Cutting.{comment, keyword_more, word_front, number_front, binary_more, keywords_length, symbol_length, mark_of, mark_front, front};
+ghost use Rattle.st_reader.specs.Lexer.{comment, keyword_more, word_front, number_front, binary_more, keywords_length, symbol_length, mark_of, mark_front, front};
 ghost use Rattle.st_reader.specs.Lexemes.{tokens_of, text_at, piece_lexemes, lexeme_fits, Cuts};
 
 use crate::characters;
@@ -31,7 +31,7 @@ pub enum Mark {
 #[derive(Clone, Copy, PartialEq, Eq, Debug)]
 pub enum Kind {
     Identifier,
-    /// An identifier with a colon directly behind it.
+    /// An identifier with a colon directly after it.
     Keyword,
     /// `:=`
     Assign,
@@ -42,7 +42,7 @@ pub enum Kind {
     Mark(Mark),
 }
 
-/// What stands at the front of a text: a byte of white space, a comment, or a token.
+/// What is at the front of a text: a byte of white space, a comment, or a token.
 #[derive(Clone, Copy, PartialEq, Eq, Debug)]
 pub enum Piece {
     White,
@@ -79,7 +79,7 @@ pub fn text(source: &[u8], place: Span) -> &[u8]
     &after[..long.min(after.len())]
 }
 
-/// The bytes of a symbol behind its `#`.
+/// The bytes of a symbol after its `#`.
 pub fn symbol_text(source: &[u8], place: Span) -> &[u8]
     ensures { result.now ≡ drop 1 (text_at source.now place) }
 {
@@ -89,7 +89,7 @@ pub fn symbol_text(source: &[u8], place: Span) -> &[u8]
     }
 }
 
-// A comment, behind its opening quote.
+/// A comment, after its opening quote.
 fn comment(rest: &[u8]) -> Option<(Piece, usize)>
     ensures { result ≡ comment rest.now }
 {
@@ -124,7 +124,7 @@ fn begins_equals(text: &[u8]) -> bool
     }
 }
 
-// Whether a period and a digit are at the front.
+/// Whether a period and a digit are at the front.
 fn begins_fraction(text: &[u8]) -> bool
     ensures { result ≡ begins_fraction text.now }
 {
@@ -134,7 +134,7 @@ fn begins_fraction(text: &[u8]) -> bool
     }
 }
 
-// Whether a colon is at the front that belongs to no `:=`.
+/// Whether a colon is at the front that belongs to no `:=`.
 fn begins_colon(text: &[u8]) -> bool
     ensures { result ≡ begins_colon text.now }
 {
@@ -144,7 +144,7 @@ fn begins_colon(text: &[u8]) -> bool
     }
 }
 
-// How many bytes a keyword has behind its first letter. `None` where an identifier has no colon.
+/// How many bytes a keyword has after its first letter. `None` where an identifier has no colon.
 fn keyword_more(rest: &[u8]) -> Option<usize>
     ensures value { result ≡ keyword_more rest.now }
     ensures within { IfSome result (λ n. n ≤ length rest.now) }
@@ -153,7 +153,7 @@ fn keyword_more(rest: &[u8]) -> Option<usize>
     begins_colon(&rest[length..]).then_some(length + 1)
 }
 
-// An identifier or a keyword, behind its first letter.
+/// An identifier or a keyword, after its first letter.
 fn word_front(rest: &[u8]) -> (Kind, usize)
     ensures value { result ≡ word_front rest.now }
     ensures within { result.1 ≤ length rest.now }
@@ -164,7 +164,7 @@ fn word_front(rest: &[u8]) -> (Kind, usize)
     }
 }
 
-// A number, behind its first digit.
+/// A number, after its first digit.
 fn number_front(rest: &[u8]) -> Option<(Piece, usize)>
     ensures value { result ≡ number_front rest.now }
     ensures within { IfSome result (λ x. x.1 ≤ length rest.now) }
@@ -177,7 +177,7 @@ fn number_front(rest: &[u8]) -> Option<(Piece, usize)>
     Some((Piece::Token(Kind::Number), length))
 }
 
-// A binary selector, behind its first character.
+/// A binary selector, after its first character.
 fn binary_more(rest: &[u8]) -> usize
     ensures value { result ≡ binary_more rest.now }
     ensures within { result ≤ length rest.now }
@@ -188,7 +188,7 @@ fn binary_more(rest: &[u8]) -> usize
     }
 }
 
-// How many bytes the keywords at the front have. `None` where an identifier without a colon ends them.
+/// How many bytes the keywords at the front have. `None` where an identifier without a colon ends them.
 fn keywords_length(text: &[u8]) -> Option<usize>
     ensures value { result ≡ keywords_length false text.now }
     ensures within { IfSome result (λ n. n ≤ length text.now) }
@@ -201,7 +201,7 @@ fn keywords_length(text: &[u8]) -> Option<usize>
     Some(length)
 }
 
-// How many bytes a symbol has behind its `#`.
+/// How many bytes a symbol has after its `#`.
 fn symbol_length(rest: &[u8]) -> Option<usize>
     ensures value { result ≡ symbol_length rest.now }
     ensures within { IfSome result (λ n. n ≤ length rest.now) }
@@ -221,7 +221,6 @@ fn symbol_length(rest: &[u8]) -> Option<usize>
     }
 }
 
-// The mark that a byte is.
 fn mark_of(b: u8) -> Option<Mark>
     ensures { result ≡ mark_of b }
 {
@@ -238,7 +237,7 @@ fn mark_of(b: u8) -> Option<Mark>
     }
 }
 
-// A `:=` or a mark, by its first byte and what is behind it.
+/// A `:=` or a mark, by its first byte and what is after it.
 fn mark_front(first: u8, rest: &[u8]) -> Option<(Piece, usize)>
     ensures value { result ≡ mark_front first rest.now }
     ensures within { IfSome result (λ x. x.1 ≤ length rest.now) }
@@ -250,7 +249,7 @@ fn mark_front(first: u8, rest: &[u8]) -> Option<(Piece, usize)>
     Some((Piece::Token(Kind::Mark(mark)), 0))
 }
 
-// The piece at the front of a text, and how many bytes it has behind the first. `None` where no piece begins.
+/// The piece at the front of a text, and how many bytes it has after the first. `None` where no piece begins.
 fn front(text: &[u8]) -> Option<(Piece, usize)>
     ensures value { result ≡ front text.now }
     ensures within { IfSome result (λ x. x.1 < length text.now) }
@@ -277,7 +276,7 @@ fn front(text: &[u8]) -> Option<(Piece, usize)>
     }
 }
 
-// Adds a piece's token, where it has one.
+/// Adds a piece's token, where it has one.
 fn put(lexemes: &mut Vec<Lexeme>, piece: Piece, span: Span) -> Result<(), Refusal>
     ensures ok { OnOk result (lexemes.new.items ≡ lexemes.old.items ++ piece_lexemes piece span) }
     ensures err { IfErr result (λ e. e ≡ NoMemory) }

@@ -1,7 +1,7 @@
 //! Trees of methods. Each leaf keeps the place of its token in the source, so a tree has the tokens of its source and no others.
 //! The tree of a method keeps its source too.
 //!
-//! A receiver and the messages that go to it, one after another, are one `Chain`: what nests is what stands in brackets, and no
+//! A receiver and the messages that go to it, one after another, are one `Chain`: what nests is what is in brackets, and no
 //! long row of messages makes a tree deep.
 use st_classes::seq::Seq;
 use std::marker::Model;
@@ -20,7 +20,7 @@ pub struct Name {
     pub span: Span,
 }
 
-/// A keyword of a pattern and the argument behind it.
+/// A keyword of a pattern and the argument after it.
 #[derive(Drop)]
 pub struct Parameter {
     pub keyword: Name,
@@ -54,7 +54,7 @@ pub struct Target {
 #[cycle(tree)]
 #[derive(Drop)]
 pub enum Operand {
-    /// A number and the place of its digits. A minus stands directly before them.
+    /// A number and the place of its digits. A minus is directly before them.
     Number {
         value: i64,
         span: Span,
@@ -94,7 +94,7 @@ pub struct Chain {
 }
 
 /// An expression: the variables that it is assigned to, and its value. In a cascade the receiver gets several messages, each
-/// but the first behind a semicolon.
+/// but the first after a semicolon.
 #[cycle(tree)]
 #[derive(Drop)]
 pub struct Expression {
@@ -103,7 +103,7 @@ pub struct Expression {
     pub cascade: Option<(Message, Vec<(Span, Message)>)>,
 }
 
-/// Statements: those with a period behind them that another follows, and the last one, which may be answered and may have a
+/// Statements: those with a period after them that another follows, and the last one, which may be answered and may have a
 /// period too.
 #[cycle(tree)]
 #[derive(Drop)]
@@ -132,8 +132,8 @@ pub struct MethodTree {
 impl Model for MethodTree {
     ghost use Rattle.std.specs.Coded.{codes};
     ghost use Rattle.st_reader.specs.Spelling.{Spells};
-    ghost use Rattle.st_reader.specs.Stored.{statements_code};
-    ghost use Rattle.st_reader.specs.Views.{TreeView, method_view};
+    ghost use Rattle.st_reader.specs.StoredTrees.{statements_code};
+    ghost use Rattle.st_reader.specs.TreeViews.{TreeView, method_view};
 
     ghost Value = { TreeView };
 
@@ -147,7 +147,7 @@ impl Model for MethodTree {
 impl MethodTree {
     ghost use Rattle.std.specs.Prelude.{◌≡◌, option_map};
     ghost use Rattle.st_reader.specs.Spelling.{Spells};
-    ghost use Rattle.st_reader.specs.Views.{method_view, statements_view};
+    ghost use Rattle.st_reader.specs.TreeViews.{method_view, statements_view};
 
     /// The tree of a method and of the source that spells it.
     pub(crate) fn new(syntax: MethodSyntax, source: Seq<u8>) -> MethodTree

@@ -5,7 +5,7 @@ use Rattle.st_classes.specs.declared.refusals.Refusal.{Refusal}
 use Rattle.st_classes.specs.declared.refusals.Refusal.TheVariants.{NoMemory, ReadFault}
 use Rattle.st_image.specs.Images.{ImageView}
 use Rattle.st_wire.specs.Streams.{InputView, one_more}
-use Rattle.st_server.specs.Reading.{IsWhole, WhyStopped}
+use Rattle.st_server.specs.InputBytes.{IsWhole, WhyStopped}
 use Rattle.st_server.specs.Scripts.{AnswersLines, Scripted}
 
 whole_text : (a b : Option (List ℕ)) (bytes text : List ℕ) → a ≡ Some bytes → IsWhole a b text → text ≡ bytes

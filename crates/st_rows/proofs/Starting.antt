@@ -6,14 +6,14 @@ use Rattle.st_classes.specs.declared.values.Selector.{Selector}
 use Rattle.st_classes.specs.declared.edits.Edit.{Edit}
 use Rattle.st_classes.specs.Classes.{slots}
 use Rattle.st_classes.specs.Kernel.{does_not_understand}
-use Rattle.st_classes.specs.Lawful.{AllSuit}
-use Rattle.st_classes.specs.Suiting.{arity_at}
+use Rattle.st_classes.specs.EditLists.{AllSuit}
+use Rattle.st_classes.specs.MethodSuits.{arity_at}
 use Rattle.st_turn.specs.declared.body.Object.{Object}
 use Rattle.st_turn.specs.declared.body.Body.{Body}
 use Rattle.st_turn.specs.declared.body.Phase.TheVariants.{Start}
-use Rattle.st_turn.specs.Fitting.{FitsSome, Given, IsObject, IsThere, has_instances}
+use Rattle.st_turn.specs.BodyFits.{FitsSome, Referents, IsObject, IsThere, has_instances}
 use Rattle.st_image.specs.Images.{ImageView, world}
-use Rattle.st_image.specs.Lasting.{BeginsWithKernel, IsLawful}
+use Rattle.st_image.specs.WorldInvariant.{BeginsWithKernel, IsLawful}
 
 -- the body of an actor without instance variables, to which a message without arguments was sent
 abbrev asked_body : ClassId → Selector → Body
@@ -25,7 +25,7 @@ missing_one names (more, is) = rw is refl
 fits_table : (names : List (List ℕ)) (edits : List Edit) (c : ClassId) (s : Selector) → BeginsWithKernel names → AllSuit names edits
     → has_instances edits c ≡ true → length (slots edits c) ≡ 0 → arity_at names s ≡ Some 0 → FitsSome edits (record { 0 = 0 }) (asked_body c s)
 fits_table names edits c s kernel suited instances none unary =
-    let given : Given = record { names = names; actors = 1 } in
+    let given : Referents = record { names = names; actors = 1 } in
     let itself : Object = record { class = c; slots = [] } in
     let object : IsObject given edits 1 itself = record { class = instances; slots = sym none; values = All-nil (IsThere given edits 1) } in (
       given,

@@ -1,8 +1,8 @@
 //! The calls of an image by hand.
+use crate::calls::*;
 use st_classes::kernel::{OBJECT, SYMBOL};
 use st_classes::refusals::Refusal;
-use st_classes::seq::Seq;
-use st_classes::values::{ActorId, ClassId, Selector, Value};
+use st_classes::values::{ClassId, Selector, Value};
 use st_image::image::Image;
 use st_image::messages::Sender;
 use st_image::settings::Settings;
@@ -10,18 +10,8 @@ use st_turn::body::Outcome;
 use std::alloc::Global;
 use std::test::*;
 
-const IS_NIL: Selector = Selector(3);
-
-const FIRST: ActorId = ActorId(0);
-
 /// The first name of the user's.
-const TELL: Selector = Selector(22);
-
-/// Posts a unary message of the kernel to the first actor.
-fn ask(alloc: Global, image: &mut Image, seq: u64) -> Result<u64, Refusal> {
-    let none = Seq::from_vec(Vec::new(alloc));
-    image.post(alloc, 1, seq, FIRST, IS_NIL, none)
-}
+const OWN: Selector = Selector(22);
 
 #[test]
 fn refuses_settings(rt: HostRuntime) -> Result<(), Fail> {
@@ -29,24 +19,23 @@ fn refuses_settings(rt: HostRuntime) -> Result<(), Fail> {
         capacity: 0,
         history: 1,
     };
-    let refused = Image::new(rt.alloc(), none);
+    let refused = image_with(rt.alloc(), none);
     assert!(rt; matches!(refused, Err(Refusal::BadArguments)));
     Ok(())
 }
 
 #[test]
 fn sets_numbers(rt: HostRuntime) -> Result<(), Fail> {
-    let mut image = Image::new(rt.alloc(), Settings::DEFAULT)?;
     let two = Settings {
         capacity: 2,
         history: 3,
     };
-    image.set(two)?;
-    image.create(rt.alloc(), OBJECT)?;
+    let mut image = image_set_to(rt.alloc(), two)?;
+    create_object(rt.alloc(), &mut image)?;
     for (seq, wanted) in [(1, Ok(1)), (2, Ok(2)), (3, Err(Refusal::Full))] {
         assert!(rt; ask(rt.alloc(), &mut image, seq) == wanted);
     }
-    assert!(rt; image.history().len() == 3);
+    assert!(rt; items(&image) == 3);
     Ok(())
 }
 
@@ -58,164 +47,130 @@ fn defines_and_creates(rt: HostRuntime) -> Result<(), Fail> {
         (SYMBOL, Err(Refusal::KernelClass)),
         (ClassId(9), Err(Refusal::UnknownClass)),
     ] {
-        assert!(rt; image.create(rt.alloc(), class) == wanted);
+        assert!(rt; create(rt.alloc(), &mut image, class) == wanted);
     }
-    assert!(rt; image.version().edits() == 1 && image.actors() == 1);
+    assert!(rt; edits(&image) == 1 && actors(&image) == 1);
     Ok(())
 }
 
 /// Whether an image with an idle actor has nothing to do.
 fn is_at_rest(alloc: Global, image: &mut Image) -> bool {
-    image.next_ready().is_none() && image.advance(alloc, FIRST, 10) == Err(Refusal::NothingToDo)
-}
-
-/// Whether an image with a message for its first actor runs that in one step.
-fn runs_one_step(alloc: Global, image: &mut Image) -> bool {
-    image.next_ready() == Some(FIRST)
-        && image.outcome(FIRST, 1) == Err(Refusal::Pending)
-        && image.advance(alloc, FIRST, 10) == Ok(1)
-        && image.outcome(FIRST, 1) == Ok(Outcome::Answer(Value::Bool(false)))
-        && image.outcome(FIRST, 0) == Err(Refusal::Expired)
+    next_ready(image).is_none() && advance(alloc, image, 10) == Err(Refusal::NothingToDo)
 }
 
 #[test]
 fn runs_a_turn(rt: HostRuntime) -> Result<(), Fail> {
-    let mut image = Image::new(rt.alloc(), Settings::DEFAULT)?;
-    image.create(rt.alloc(), OBJECT)?;
+    let mut image = new_image(rt.alloc())?;
+    create_object(rt.alloc(), &mut image)?;
     assert!(rt; is_at_rest(rt.alloc(), &mut image));
     ask(rt.alloc(), &mut image, 1)?;
-    assert!(rt; runs_one_step(rt.alloc(), &mut image));
+    assert!(rt; next_ready(&image) == Some(FIRST));
+    assert!(rt; outcome(&image, 1) == Err(Refusal::Pending));
+    assert!(rt; advance(rt.alloc(), &mut image, 10) == Ok(1));
+    assert!(rt; outcome(&image, 1) == Ok(Outcome::Answer(Value::Bool(false))));
+    assert!(rt; outcome(&image, 0) == Err(Refusal::Expired));
     assert!(rt; is_at_rest(rt.alloc(), &mut image));
     Ok(())
 }
 
 #[test]
 fn interns(rt: HostRuntime) -> Result<(), Fail> {
-    let mut image = Image::new(rt.alloc(), Settings::DEFAULT)?;
-    assert!(rt; image.intern(rt.alloc(), b"foo") == Ok(Selector(22)));
-    assert!(rt; image.intern(rt.alloc(), b"3") == Err(Refusal::BadName));
-    assert!(rt; image.names().len() == 23);
+    let mut image = new_image(rt.alloc())?;
+    assert!(rt; intern(rt.alloc(), &mut image, b"foo") == Ok(Selector(22)));
+    assert!(rt; intern(rt.alloc(), &mut image, b"3") == Err(Refusal::BadName));
+    assert!(rt; names(&image) == 23);
     Ok(())
 }
 
 /// An image with a class of no instance variables.
 fn with_class(alloc: Global) -> Result<Image, Refusal> {
-    let mut image = Image::new(alloc, Settings::DEFAULT)?;
-    let none = Seq::from_vec(Vec::new(alloc));
-    image.define(alloc, b"M", OBJECT, none)?;
+    let mut image = new_image(alloc)?;
+    define(alloc, &mut image, b"M", OBJECT)?;
     Ok(image)
-}
-
-/// Whether an image has so many names and items.
-fn has(image: &Image, names: u32, items: usize) -> bool {
-    image.names().len() == names && image.history().len() == items
 }
 
 #[test]
 fn installs(rt: HostRuntime) -> Result<(), Fail> {
     let mut image = with_class(rt.alloc())?;
-    assert!(rt; image.install(rt.alloc(), ClassId(8), b"a ^3 + 4 * 2") == Ok(2));
-    assert!(rt; has(&image, 23, 2) && image.names().find(b"a") == Some(Selector(22)));
+    assert!(rt; install(rt.alloc(), &mut image, ClassId(8), "a ^3 + 4 * 2") == Ok(2));
+    assert!(rt; names(&image) == 23 && items(&image) == 2);
+    assert!(rt; number_of(&image, b"a") == Some(Selector(22)));
     Ok(())
 }
 
 #[test]
 fn refuses_an_install(rt: HostRuntime) -> Result<(), Fail> {
     let mut image = with_class(rt.alloc())?;
-    let unknown = image.install(rt.alloc(), ClassId(8), b"a ^x");
+    let unknown = install(rt.alloc(), &mut image, ClassId(8), "a ^x");
     assert!(rt; matches!(unknown, Err(Refusal::BadSource { .. })));
-    assert!(rt; image.install(rt.alloc(), OBJECT, b"isNil ^3") == Err(Refusal::KernelMethod));
-    assert!(rt; has(&image, 22, 1));
+    let kernel = install(rt.alloc(), &mut image, OBJECT, "isNil ^3");
+    assert!(rt; kernel == Err(Refusal::KernelMethod));
+    assert!(rt; names(&image) == 22 && items(&image) == 1);
     Ok(())
 }
 
-/// Only a class's own method of the user's is taken away.
+/// Only a class's own method of the user's is taken away: classes, selectors and what their removal answers.
+const REMOVALS: &[(ClassId, Selector, Result<u32, Refusal>)] = &[
+    (ClassId(9), OWN, Err(Refusal::UnknownClass)),
+    (OBJECT, IS_NIL, Err(Refusal::KernelMethod)),
+    (OBJECT, OWN, Err(Refusal::NoSuchMethod)),
+    (ClassId(8), IS_NIL, Err(Refusal::NoSuchMethod)),
+    (ClassId(8), OWN, Ok(3)),
+    (ClassId(8), OWN, Err(Refusal::NoSuchMethod)),
+];
+
+/// The table behind a function without a contract, so that the proof of a test carries none of it.
+fn removals() -> &'static [(ClassId, Selector, Result<u32, Refusal>)] {
+    REMOVALS
+}
+
 #[test]
 fn removes(rt: HostRuntime) -> Result<(), Fail> {
-    let alloc = rt.alloc();
-    let mut image = with_class(alloc)?;
-    let (holder, own) = (ClassId(8), Selector(22));
-    image.install(alloc, holder, b"a ^3 + 4 * 2")?;
-    for (class, selector, wanted) in [
-        (ClassId(9), own, Err(Refusal::UnknownClass)),
-        (OBJECT, IS_NIL, Err(Refusal::KernelMethod)),
-        (OBJECT, own, Err(Refusal::NoSuchMethod)),
-        (holder, IS_NIL, Err(Refusal::NoSuchMethod)),
-        (holder, own, Ok(3)),
-        (holder, own, Err(Refusal::NoSuchMethod)),
-    ] {
-        assert!(rt; image.remove(alloc, class, selector) == wanted);
+    let mut image = with_class(rt.alloc())?;
+    install(rt.alloc(), &mut image, ClassId(8), "a ^3 + 4 * 2")?;
+    for (class, selector, wanted) in removals() {
+        assert!(rt; remove(rt.alloc(), &mut image, *class, *selector) == *wanted);
     }
-    assert!(rt; has(&image, 23, 3));
+    assert!(rt; names(&image) == 23 && items(&image) == 3);
     Ok(())
 }
 
 /// An image with an actor that has a message, for which it posts one to itself.
 fn with_talker(alloc: Global) -> Result<Image, Refusal> {
-    let mut image = Image::new(alloc, Settings::DEFAULT)?;
-    image.create(alloc, OBJECT)?;
-    image.install(alloc, OBJECT, b"tell ^thisActor post: #isNil")?;
-    let none = Seq::from_vec(Vec::new(alloc));
-    image.post(alloc, 3, 7, FIRST, TELL, none)?;
+    let mut image = new_image(alloc)?;
+    create_object(alloc, &mut image)?;
+    install(alloc, &mut image, OBJECT, "tell ^thisActor post: #isNil")?;
+    post(alloc, &mut image, 3, 7, OWN)?;
     Ok(image)
 }
 
-/// Whether the first actor has sent so many messages, has just this one pending, and is idle or not.
-fn is_seen(
-    image: &Image,
-    sent: u64,
-    sender: Sender,
-    seq: u64,
-    selector: Selector,
-    is_idle: bool,
-) -> bool {
-    image.last_sent(FIRST) == Some(sent)
-        && is_first(image, sender, seq, selector)
-        && image.body(FIRST).map(|body| body.is_idle()) == Some(is_idle)
+/// Whether the first actor has just this one message pending.
+fn has_just(image: &Image, sender: Sender, seq: u64, selector: Selector) -> bool {
+    pending(image) == Some(1) && front_without_arguments(image) == Some((sender, seq, selector))
 }
 
 /// What is seen of an actor that has a message, posts one to itself and has that one.
 #[test]
 fn reads_actors(rt: HostRuntime) -> Result<(), Fail> {
     let mut image = with_talker(rt.alloc())?;
-    assert!(rt; image.class(FIRST) == Some(OBJECT));
-    assert!(rt; image.capacity(FIRST) == Some(64) && image.is_open(FIRST) == Some(true));
-    assert!(rt; is_seen(&image, 0, Sender::Client(3), 7, TELL, true));
-    assert!(rt; image.advance(rt.alloc(), FIRST, 256) == Ok(4));
-    assert!(rt; is_seen(&image, 1, Sender::Actor(FIRST), 1, IS_NIL, false));
+    assert!(rt; class(&image) == Some(OBJECT));
+    assert!(rt; capacity(&image) == Some(64) && is_open(&image) == Some(true));
+    assert!(rt; last_sent(&image) == Some(0) && is_idle(&image) == Some(true));
+    assert!(rt; has_just(&image, Sender::Client(3), 7, OWN));
+    assert!(rt; advance(rt.alloc(), &mut image, 256) == Ok(4));
+    assert!(rt; last_sent(&image) == Some(1) && is_idle(&image) == Some(false));
+    assert!(rt; has_just(&image, Sender::Actor(FIRST), 1, IS_NIL));
     Ok(())
-}
-
-/// Whether the first actor has just one message pending, and that is this one.
-fn is_first(image: &Image, sender: Sender, seq: u64, selector: Selector) -> bool {
-    let Some(pending) = image.pending(FIRST) else {
-        return false;
-    };
-    match pending.front() {
-        Some(message) => {
-            pending.len() == 1
-                && message.sender == sender
-                && message.seq == seq
-                && message.selector == selector
-                && message.args.as_slice().is_empty()
-        }
-        None => false,
-    }
-}
-
-/// Whether nothing is seen of the first actor.
-fn sees_none(image: &Image) -> bool {
-    image.class(FIRST).is_none()
-        && image.body(FIRST).is_none()
-        && image.pending(FIRST).is_none()
-        && image.capacity(FIRST).is_none()
-        && image.is_open(FIRST).is_none()
-        && image.last_sent(FIRST).is_none()
 }
 
 #[test]
 fn reads_no_actor(rt: HostRuntime) -> Result<(), Fail> {
-    let image = Image::new(rt.alloc(), Settings::DEFAULT)?;
-    assert!(rt; sees_none(&image));
+    let image = new_image(rt.alloc())?;
+    assert!(rt; class(&image).is_none());
+    assert!(rt; is_idle(&image).is_none());
+    assert!(rt; pending(&image).is_none());
+    assert!(rt; capacity(&image).is_none());
+    assert!(rt; is_open(&image).is_none());
+    assert!(rt; last_sent(&image).is_none());
     Ok(())
 }

@@ -4,8 +4,8 @@ mod dialogues;
 mod lookups;
 
 use crate::scripts::acts::{
-    BAD_ARGUMENTS, FULL_MAILBOX, HEAP_FULL, NEW_ACTOR_BY_STEPS, NEW_OBJECTS, POSTS_AND_NEW_ACTORS,
-    POSTS_WITH_ARGUMENTS,
+    BAD_ARGUMENTS, FULL_MAILBOX, HEAP_FULL, HISTORY_FULL, NEW_ACTOR_BY_STEPS, NEW_OBJECTS,
+    POSTS_AND_NEW_ACTORS, POSTS_WITH_ARGUMENTS, RUNS_A_MESSAGE,
 };
 use crate::scripts::dialogues::{
     CASCADES, COUNTER, DIVISION, ESCAPE, LIMITS, MISSION, OVERFLOW, RECURSION, REFUSALS, TURNS,
@@ -16,9 +16,57 @@ use crate::scripts::lookups::{
     UNRELATED,
 };
 use crate::sessions_in_memory::says_within;
+use st_image::settings::Settings;
 use st_server::settings::ScriptSettings;
-use std::alloc::Global;
-use std::test::Fail;
+use std::alloc::{AllocError, Global};
+use std::test::*;
+
+/// Scripts with the numbers that stand where none are given.
+const DIALOGUES: &[&str] = &[
+    "",
+    MISSION,
+    DIVISION,
+    OVERFLOW,
+    RECURSION,
+    COUNTER,
+    CASCADES,
+    LIMITS,
+    ESCAPE,
+    REFUSALS,
+    SUPER_CHAIN,
+    SUPER_AND_THE_KERNEL,
+    REMOVED_AND_MISSING,
+    DOES_NOT_UNDERSTAND,
+    CLASSES_OF_VALUES,
+    CLASSES_OF_REFERENCES,
+    REPLACED,
+    UNRELATED,
+    OWN_SELECTORS_OF_THE_KERNEL,
+    NEW_OBJECTS,
+    HEAP_FULL,
+    POSTS_AND_NEW_ACTORS,
+    POSTS_WITH_ARGUMENTS,
+    BAD_ARGUMENTS,
+    RUNS_A_MESSAGE,
+];
+
+/// Scripts in quanta of so many steps, with mailboxes of so many messages, and so many items of history at most.
+const SET_DIALOGUES: &[(u32, u32, u32, &str)] = &[
+    (16, 64, 1_000_000, TURNS),
+    (1, 64, 1_000_000, REPLACED_WHILE_IT_RUNS),
+    (1, 64, 1_000_000, NEW_ACTOR_BY_STEPS),
+    (256, 1, 1_000_000, FULL_MAILBOX),
+    (256, 2, 6, HISTORY_FULL),
+];
+
+// The tables stand behind functions without contracts, so that the proofs of tests carry nothing of them.
+fn usual_dialogues() -> &'static [&'static str] {
+    DIALOGUES
+}
+
+fn set_dialogues() -> &'static [(u32, u32, u32, &'static str)] {
+    SET_DIALOGUES
+}
 
 /// The lines of a script, and the replies to them.
 #[derive(Drop)]
@@ -28,20 +76,24 @@ struct Parts {
     lines: u64,
 }
 
+fn push_line(text: &mut Vec<u8>, line: &str) -> Result<(), AllocError> {
+    text.extend_from_slice(line.as_bytes())?;
+    text.push(b'\n')?;
+    Ok(())
+}
+
 /// What stands in turn in a dialogue.
-fn parted(alloc: Global, dialogue: &str) -> Result<Parts, Fail> {
+fn parted(alloc: Global, dialogue: &str) -> Result<Parts, AllocError> {
     let mut script = Vec::new(alloc);
     let mut replies = Vec::new(alloc);
     let mut lines = 0u64;
     for (place, line) in dialogue.lines().enumerate() {
-        let part = if place % 2 == 0 {
+        if place % 2 == 0 {
             lines = lines.wrapping_add(1);
-            &mut script
+            push_line(&mut script, line)?;
         } else {
-            &mut replies
-        };
-        part.extend_from_slice(line.as_bytes())?;
-        part.push(b'\n')?;
+            push_line(&mut replies, line)?;
+        }
     }
     Ok(Parts {
         script,
@@ -53,62 +105,31 @@ fn parted(alloc: Global, dialogue: &str) -> Result<Parts, Fail> {
 /// Whether each line of a dialogue is answered by the next.
 fn is_answered(alloc: Global, settings: ScriptSettings, dialogue: &str) -> Result<bool, Fail> {
     let parts = parted(alloc, dialogue)?;
-    let (script, replies) = ([parts.script.as_slice()], [parts.replies.as_slice()]);
-    says_within(alloc, settings, &script, &replies, Ok(parts.lines))
-}
-
-#[test]
-fn no_input(rt: HostRuntime) -> Result<(), Fail> {
-    assert!(rt; is_answered(rt.alloc(), ScriptSettings::DEFAULT, "")?);
-    Ok(())
+    says_within(
+        alloc,
+        settings,
+        &parts.script,
+        &parts.replies,
+        Ok(parts.lines),
+    )
 }
 
 #[test]
 fn worked_scripts(rt: HostRuntime) -> Result<(), Fail> {
-    for dialogue in [
-        MISSION,
-        DIVISION,
-        OVERFLOW,
-        RECURSION,
-        COUNTER,
-        CASCADES,
-        LIMITS,
-        ESCAPE,
-        REFUSALS,
-        SUPER_CHAIN,
-        SUPER_AND_THE_KERNEL,
-        REMOVED_AND_MISSING,
-        DOES_NOT_UNDERSTAND,
-        CLASSES_OF_VALUES,
-        CLASSES_OF_REFERENCES,
-        REPLACED,
-        UNRELATED,
-        OWN_SELECTORS_OF_THE_KERNEL,
-        NEW_OBJECTS,
-        HEAP_FULL,
-        POSTS_AND_NEW_ACTORS,
-        POSTS_WITH_ARGUMENTS,
-        BAD_ARGUMENTS,
-    ] {
+    for dialogue in usual_dialogues() {
         let said = is_answered(rt.alloc(), ScriptSettings::DEFAULT, dialogue)?;
         assert!(rt; said, "{dialogue}");
     }
     Ok(())
 }
 
-/// Scripts in quanta of so many steps, with mailboxes of so many messages.
 #[test]
 fn scripts_with_settings(rt: HostRuntime) -> Result<(), Fail> {
-    for (quantum, capacity, dialogue) in [
-        (16, 64, TURNS),
-        (1, 64, REPLACED_WHILE_IT_RUNS),
-        (1, 64, NEW_ACTOR_BY_STEPS),
-        (256, 1, FULL_MAILBOX),
-    ] {
+    for (quantum, capacity, history, dialogue) in set_dialogues() {
         let settings = ScriptSettings {
-            quantum,
-            capacity,
-            ..ScriptSettings::DEFAULT
+            quantum: *quantum,
+            capacity: *capacity,
+            history: *history,
         };
         let said = is_answered(rt.alloc(), settings, dialogue)?;
         assert!(rt; said, "{dialogue}");
@@ -116,24 +137,51 @@ fn scripts_with_settings(rt: HostRuntime) -> Result<(), Fail> {
     Ok(())
 }
 
+#[test]
+fn numbers_by_default(rt: HostRuntime) -> Result<(), Fail> {
+    let wanted = Settings {
+        capacity: 64,
+        history: 1_000_000,
+    };
+    assert!(rt; Settings::DEFAULT == wanted);
+    let wanted = ScriptSettings {
+        quantum: 256,
+        capacity: 64,
+        history: 1_000_000,
+    };
+    assert!(rt; ScriptSettings::DEFAULT == wanted);
+    Ok(())
+}
+
+/// The name of a class of a chain. The first is Object.
+fn class_name(alloc: Global, number: u32) -> Result<String, AllocError> {
+    match number {
+        0 => String::from_str(alloc, "Object"),
+        _ => format!(in alloc; "C{number}"),
+    }
+}
+
+/// The definition of a class below the one before it.
+fn definition(alloc: Global, number: u32) -> Result<String, AllocError> {
+    let class = class_name(alloc, number)?;
+    let parent = class_name(alloc, number.saturating_sub(1))?;
+    format!(in alloc;
+        "{{\"cmd\":\"define\",\"name\":\"{class}\",\"slots\":[],\"super\":\"{parent}\"}}\n"
+    )
+}
+
 /// A chain of 64 classes, Object and C63 among them, is accepted, and one of 65 is too deep.
 #[test]
 fn deepest_chain(rt: HostRuntime) -> Result<(), Fail> {
     let mut dialogue = String::new(rt.alloc());
-    let mut parent = format!(in rt.alloc(); "Object")?;
     for number in 1..65 {
-        let class = format!(in rt.alloc(); "C{number}")?;
-        let line = format!(in rt.alloc();
-            "{{\"cmd\":\"define\",\"name\":\"{class}\",\"slots\":[],\"super\":\"{parent}\"}}\n"
-        )?;
+        dialogue.push_str(&definition(rt.alloc(), number)?)?;
         let reply = if number < 64 {
             format!(in rt.alloc(); "{{\"ok\":{{\"version\":{number}}}}}\n")?
         } else {
             format!(in rt.alloc(); "{{\"error\":\"TooDeep\"}}\n")?
         };
-        dialogue.push_str(&line)?;
         dialogue.push_str(&reply)?;
-        parent = class;
     }
     assert!(rt; is_answered(rt.alloc(), ScriptSettings::DEFAULT, &dialogue)?);
     Ok(())

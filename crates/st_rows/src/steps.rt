@@ -2,26 +2,24 @@
 ghost use Rattle.std.specs.Prelude.{◌≡◌, length, true, Some, IfOk, IfSome};
 ghost use Rattle.std.specs.Bool.{OnTrue};
 ghost use Rattle.st_classes.specs.Classes.{slots};
-ghost use Rattle.st_classes.specs.Suiting.{arity_at};
-ghost use Rattle.st_turn.specs.Fitting.{FitsSome, has_instances};
+ghost use Rattle.st_classes.specs.MethodSuits.{arity_at};
+ghost use Rattle.st_turn.specs.BodyFits.{FitsSome, has_instances};
 ghost use Rattle.st_image.specs.Images.{world};
 
+use crate::calls::{FIRST, define, install, new_image, number_of};
 use st_classes::faults::Fault;
 use st_classes::kernel::{KERNEL_CLASSES, Kernel, OBJECT};
 use st_classes::names::Names;
 use st_classes::refusals::Refusal;
 use st_classes::seq::Seq;
-use st_classes::values::{ActorId, ClassId, Selector, Value};
+use st_classes::values::{ClassId, Selector, Value};
 use st_classes::version::Version;
 use st_image::image::Image;
-use st_image::settings::Settings;
 use st_turn::body::{Body, Outcome, Phase, Stop};
 use st_turn::kernel_methods::kernel_answer;
 use st_turn::plain::step_plain;
 use std::alloc::{AllocError, Global};
 use std::test::Fail;
-
-const FIRST: ActorId = ActorId(0);
 
 const A: ClassId = ClassId(8);
 
@@ -78,34 +76,50 @@ fn run_plainly(alloc: Global, body: &mut Body, version: &Version) -> Result<(u32
     Ok((1000, Stop::More))
 }
 
-/// The turn of a new actor by plain steps: how many there were, what stopped them, and how the turn ended.
+/// How a turn ended, if it has.
+fn outcome_of(body: &Body) -> Option<Outcome> {
+    match &body.phase {
+        Phase::Done(outcome) => Some(*outcome),
+        _ => None,
+    }
+}
+
+/// A turn by plain steps: how many there were, what stopped them, and how it ended.
+type PlainTurn = (u32, Stop, Option<Outcome>);
+
+/// The turn of a new actor by plain steps.
 fn plain_turn(
     alloc: Global,
     image: &Image,
     class: ClassId,
-    selector: &[u8],
-) -> Result<Option<(u32, Stop, Option<Outcome>)>, AllocError> {
-    let Some(selector) = image.names().find(selector) else {
-        return Ok(None);
-    };
+    selector: Selector,
+) -> Result<Option<PlainTurn>, AllocError> {
     let Some(mut body) = asked(alloc, image, class, selector)? else {
         return Ok(None);
     };
     let (steps, stop) = run_plainly(alloc, &mut body, image.version())?;
-    let outcome = match &body.phase {
-        Phase::Done(outcome) => Some(*outcome),
-        _ => None,
-    };
-    Ok(Some((steps, stop, outcome)))
+    Ok(Some((steps, stop, outcome_of(&body))))
+}
+
+/// The turn of a new actor to which a message of this name is sent.
+fn named_turn(
+    alloc: Global,
+    image: &Image,
+    class: ClassId,
+    name: &str,
+) -> Result<Option<PlainTurn>, AllocError> {
+    match number_of(image, name.as_bytes()) {
+        Some(selector) => plain_turn(alloc, image, class, selector),
+        None => Ok(None),
+    }
 }
 
 /// Classes A, B under A and C under B, with methods.
 fn three_classes(alloc: Global) -> Result<Image, Refusal> {
-    let mut image = Image::new(alloc, Settings::DEFAULT)?;
-    let classes: [(&[u8], ClassId); 3] = [(b"A", OBJECT), (b"B", A), (b"C", B)];
-    for (name, parent) in classes {
-        image.define(alloc, name, parent, Seq::from_vec(Vec::new(alloc)))?;
-    }
+    let mut image = new_image(alloc)?;
+    define(alloc, &mut image, b"A", OBJECT)?;
+    define(alloc, &mut image, b"B", A)?;
+    define(alloc, &mut image, b"C", B)?;
     for (class, source) in [
         (A, "who ^1"),
         (B, "who ^super who + 10"),
@@ -115,59 +129,86 @@ fn three_classes(alloc: Global) -> Result<Image, Refusal> {
         (A, "e ^3 ifTrue: [1]"),
         (A, "make ^A newActor"),
     ] {
-        image.install(alloc, class, source.as_bytes())?;
+        install(alloc, &mut image, class, source)?;
     }
     Ok(image)
 }
 
-/// Turns by the plain step alone. A step of the image's is none of them.
+/// Classes, selectors, and the turns of these by the plain step alone. A step of the image's is none of them.
+const TURNS: &[(ClassId, &str, PlainTurn)] = &[
+    (
+        OBJECT,
+        "isNil",
+        (1, Stop::Ended, Some(Outcome::Answer(Value::Bool(false)))),
+    ),
+    (
+        C,
+        "who",
+        (13, Stop::Ended, Some(Outcome::Answer(Value::Int(111)))),
+    ),
+    (
+        A,
+        "c",
+        (13, Stop::Ended, Some(Outcome::Answer(Value::Int(4)))),
+    ),
+    (A, "d", (5, Stop::Ended, Some(Outcome::Answer(Value::Nil)))),
+    (
+        A,
+        "e",
+        (3, Stop::Ended, Some(Outcome::Fault(Fault::MustBeBoolean))),
+    ),
+    (A, "make", (2, Stop::Outer, None)),
+];
+
+/// Methods of the kernel, numbers that are asked, those that they are asked of, and the answers.
+const ARITHMETIC: &[(Kernel, i64, i64, Result<Value, Fault>)] = &[
+    (Kernel::Quotient, -7, 2, Ok(Value::Int(-4))),
+    (Kernel::Remainder, -7, 2, Ok(Value::Int(1))),
+    (Kernel::Quotient, 7, -2, Ok(Value::Int(-4))),
+    (Kernel::Remainder, 7, -2, Ok(Value::Int(-1))),
+    (Kernel::Quotient, -7, -2, Ok(Value::Int(3))),
+    (Kernel::Remainder, -7, -2, Ok(Value::Int(-1))),
+    (Kernel::Quotient, i64::MIN, -1, Err(Fault::Overflow)),
+    (Kernel::Remainder, i64::MIN, -1, Ok(Value::Int(0))),
+    (Kernel::Quotient, 1, 0, Err(Fault::ZeroDivide)),
+    (Kernel::Add, i64::MAX, 1, Err(Fault::Overflow)),
+];
+
+// The tables stand behind functions without contracts, so that the proofs of tests carry nothing of them.
+fn turns() -> &'static [(ClassId, &'static str, PlainTurn)] {
+    TURNS
+}
+
+fn arithmetic() -> &'static [(Kernel, i64, i64, Result<Value, Fault>)] {
+    ARITHMETIC
+}
+
 #[test]
 fn plain_steps(rt: HostRuntime) -> Result<(), Fail> {
     let image = three_classes(rt.alloc())?;
-    let number = |n| Some(Outcome::Answer(Value::Int(n)));
-    for (class, selector, steps, stop, outcome) in [
-        (
-            OBJECT,
-            "isNil",
-            1,
-            Stop::Ended,
-            Some(Outcome::Answer(Value::Bool(false))),
-        ),
-        (C, "who", 13, Stop::Ended, number(111)),
-        (A, "c", 13, Stop::Ended, number(4)),
-        (A, "d", 5, Stop::Ended, Some(Outcome::Answer(Value::Nil))),
-        (
-            A,
-            "e",
-            3,
-            Stop::Ended,
-            Some(Outcome::Fault(Fault::MustBeBoolean)),
-        ),
-        (A, "make", 2, Stop::Outer, None),
-    ] {
-        let turn = plain_turn(rt.alloc(), &image, class, selector.as_bytes())?;
-        assert!(rt; turn == Some((steps, stop, outcome)), "{selector}");
+    for (class, selector, wanted) in turns() {
+        let turn = named_turn(rt.alloc(), &image, *class, selector)?;
+        assert!(rt; turn == Some(*wanted), "{selector}");
     }
     Ok(())
 }
 
+/// What a method of the kernel answers to a number, asked of a number.
+fn kernel_number(
+    alloc: Global,
+    kernel: Kernel,
+    x: i64,
+    y: i64,
+) -> Result<Result<Value, Fault>, AllocError> {
+    let body = Body::fresh(alloc, OBJECT, 0)?;
+    Ok(kernel_answer(kernel, &body.objects, Value::Int(x), &[Value::Int(y)]))
+}
+
 #[test]
 fn divides_towards_negative_infinity(rt: HostRuntime) -> Result<(), Fail> {
-    let body = Body::fresh(rt.alloc(), OBJECT, 0)?;
-    for (kernel, x, y, want) in [
-        (Kernel::Quotient, -7, 2, Ok(Value::Int(-4))),
-        (Kernel::Remainder, -7, 2, Ok(Value::Int(1))),
-        (Kernel::Quotient, 7, -2, Ok(Value::Int(-4))),
-        (Kernel::Remainder, 7, -2, Ok(Value::Int(-1))),
-        (Kernel::Quotient, -7, -2, Ok(Value::Int(3))),
-        (Kernel::Remainder, -7, -2, Ok(Value::Int(-1))),
-        (Kernel::Quotient, i64::MIN, -1, Err(Fault::Overflow)),
-        (Kernel::Remainder, i64::MIN, -1, Ok(Value::Int(0))),
-        (Kernel::Quotient, 1, 0, Err(Fault::ZeroDivide)),
-        (Kernel::Add, i64::MAX, 1, Err(Fault::Overflow)),
-    ] {
-        let answer = kernel_answer(kernel, &body.objects, Value::Int(x), &[Value::Int(y)]);
-        assert!(rt; answer == want, "{x} and {y}");
+    for (kernel, x, y, wanted) in arithmetic() {
+        let answer = kernel_number(rt.alloc(), *kernel, *x, *y)?;
+        assert!(rt; answer == *wanted, "{x} and {y}");
     }
     Ok(())
 }

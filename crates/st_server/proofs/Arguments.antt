@@ -5,7 +5,7 @@ use Rattle.st_classes.specs.declared.values.Value.{Value}
 use Rattle.st_classes.specs.declared.refusals.Refusal.{Refusal}
 use Rattle.st_image.specs.Images.{ImageView}
 use Rattle.st_wire.specs.declared.commands.Argument.{Argument}
-use Rattle.st_server.specs.Resolving.{Resolves, AllResolve, with_first}
+use Rattle.st_server.specs.ArgumentValues.{Resolves, AllResolve, with_first}
 
 abbrev pub with_all : List Value → Result (List Value) Refusal → Result (List Value) Refusal
 with_all vs (Ok more) = Ok (vs ++ more)

@@ -7,7 +7,7 @@ use Rattle.st_image.specs.Images.{ImageView}
 use Rattle.st_wire.specs.declared.commands.Command.{Command}
 use Rattle.st_wire.specs.declared.replies.Reply.TheVariants as reply
 use Rattle.st_wire.specs.Commands.{command_of, command_rules}
-use Rattle.st_server.specs.Serving.{Serves, Replies}
+use Rattle.st_server.specs.CommandReplies.{Serves, Replies}
 
 no_command : (o : Option Command) (quantum : ℕ) (i : ImageView) (e : Refusal) → (e ≡ NoMemory) ⊎ ((if not (is_some o) then Some BadCommand else None) ≡ Some e) → ((reply.Refused e ≡ reply.Refused NoMemory) × (i ≡ i)) ⊎ MatchOption o ((reply.Refused e ≡ reply.Refused BadCommand) × (i ≡ i)) (λ c. Serves quantum i c (reply.Refused e) i)
 no_command o quantum i e (inl f) = inl (ap reply.Refused f, refl)

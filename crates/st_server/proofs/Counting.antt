@@ -1,7 +1,7 @@
 -- Counts of reads.
 use Rattle.std.proofs.Common.{arith, ◌≡◌, ℕ, zero, suc, ◌+◌, ◌^◌, ◌<◌, ◌≤◌, List, ◌++◌, length, length-append, ap, refl}
 use Rattle.st_wire.specs.Streams.{InputView, one_more, so_many_more}
-use Rattle.st_server.specs.Reading.{ReadsFew}
+use Rattle.st_server.specs.InputBytes.{ReadsFew}
 
 next_read : (n now before after : ℕ) → (n ≡ 0 → now ≡ before) → (0 < n → now ≡ so_many_more n before) → after ≡ one_more now → after ≡ so_many_more (n + 1) before
 next_read zero now before after none some next = omega (arith, next, none refl)

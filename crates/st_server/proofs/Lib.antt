@@ -1,6 +1,7 @@
 pub mod Counting
 pub mod FirstLine
 pub mod Parts
+pub mod Names
 pub mod Going
 pub mod Ending
 pub mod Quanta

@@ -12,7 +12,7 @@ use Rattle.st_server.specs.declared.serving.ImageHandler.{ImageHandler}
 use Rattle.st_server.specs.declared.settings.ScriptSettings.{ScriptSettings}
 use Rattle.st_server.specs.Lines.{ends_with}
 use Rattle.st_server.specs.Sessions.{Breaks, Session}
-use Rattle.st_server.specs.Serving.{Replies}
+use Rattle.st_server.specs.CommandReplies.{Replies}
 use Rattle.st_server.specs.Scripts.{is_quantum, Script}
 
 -- what a handler of an image answers

@@ -1,14 +1,14 @@
 -- What runs took.
-use Rattle.std.proofs.Common.{arith, ◌≡◌, ℕ, zero, suc, ◌+◌, ◌≤◌, ◌<◌, Bool, true, false, List, [], ◌∷◌, ◌++◌, All, length, sum, if◌then◌else◌, refl, sym, ap, subst, ◌∙◌, inl, inr, slice_get, append_assoc, append-nil}
+use Rattle.std.proofs.Common.{arith, ◌≡◌, ℕ, zero, suc, ◌+◌, ◌≤◌, ◌<◌, Bool, true, false, List, [], ◌∷◌, ◌++◌, All, Ok, Err, length, sum, if◌then◌else◌, refl, sym, ap, subst, ◌∙◌, inl, inr, slice_get, append_assoc, append-nil}
 use Rattle.std.proofs.lemmas.List.Elements.{All-nil, All-cons}
 use Rattle.std.proofs.lemmas.List.Sums.{sum_by-cons}
 use Rattle.st_classes.specs.declared.values.ActorId.{ActorId}
 use Rattle.st_image.specs.declared.items.Item.{Item}
 use Rattle.st_image.specs.declared.items.Item.TheVariants.{Begun, Ran}
 use Rattle.st_image.specs.Images.{ImageView, world}
-use Rattle.st_image.specs.Advancing.{HasAdvanced, idle_at, ran_image}
+use Rattle.st_image.specs.Quanta.{HasAdvanced, idle_at, image_after_run}
 use Rattle.st_wire.specs.declared.replies.Reply.TheVariants as reply
-use Rattle.st_server.specs.Serving.{NoneReady, Runs}
+use Rattle.st_server.specs.CommandReplies.{NoneReady, Runs}
 use Rattle.st_server.specs.Totals.{quanta_in, RunsSayWhatTheyTook}
 use Rattle.st_server.proofs.Quanta.{few_steps}
 
@@ -30,7 +30,7 @@ abbrev AddsQuantum : ImageView → ℕ → ImageView → Type 0
 AddsQuantum i n j = (added : List Item) × (j.history ≡ i.history ++ added) × ((items : List Item) → quanta_in (added ++ items) ≡ n ∷ quanta_in items)
 
 -- with the beginning of a message before it, where the actor was idle
-ran_adds : (is_idle : Bool) (i : ImageView) (a : ActorId) (n : ℕ) → AddsQuantum i n (ran_image (if is_idle then record i { history = i.history ++ Begun a ∷ []; next_from = a.0 + 1 } else i) a n)
+ran_adds : (is_idle : Bool) (i : ImageView) (a : ActorId) (n : ℕ) → AddsQuantum i n (image_after_run (if is_idle then record i { history = i.history ++ Begun a ∷ []; next_from = a.0 + 1 } else i) a n)
 ran_adds true i a n = (Begun a ∷ Ran a n ∷ [], append_assoc i.history (Begun a ∷ []) (Ran a n ∷ []), λ items. refl)
 ran_adds false i a n = (Ran a n ∷ [], refl, λ items. refl)
 
@@ -40,10 +40,10 @@ advance_adds i j a limit n h = subst (AddsQuantum i n) (sym h.image) (ran_adds (
 runs_from : (quantum left before taken q s : ℕ) (i j : ImageView) → Runs quantum left i before taken (reply.Ran q s) j → RunsFrom quantum left i before taken q s j
 runs_from quantum zero before taken q s i j (said, same) = stands quantum 0 before taken q s i j said same (λ fewer. let both = same_quanta q s before taken said in absurd (omega (arith, fewer, both.0)))
 runs_from quantum (suc left) before taken q s i j (inl (none, said, same)) = stands quantum (suc left) before taken q s i j said same (λ _. none)
-runs_from quantum (suc left) before taken q s i j (inr (inl (e, said, stops))) = cc
-runs_from quantum (suc left) before taken q s i j (inr (inr (n, k, takes, rest))) =
+runs_from quantum (suc left) before taken q s i j (inr (Err e, k, stops, (said, same))) = cc
+runs_from quantum (suc left) before taken q s i j (inr (Ok n, k, takes, rest)) =
     let more = runs_from quantum left (before + 1) (taken + n) q s k j rest in
-    let advanced = takes.3 in
+    let advanced : HasAdvanced i takes.0 quantum n k = takes.2.0.1 in
     let first = advance_adds i k takes.0 quantum n advanced in
     let one = first.2 more.0 in
     let grown : j.history ≡ i.history ++ (first.0 ++ more.0) = more.1 ∙ ap (λ h. h ++ more.0) first.1 ∙ append_assoc i.history first.0 more.0 in

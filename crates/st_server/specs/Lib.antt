@@ -1,7 +1,7 @@
 pub mod Lines
 pub mod Sessions
-pub mod Reading
-pub mod Resolving
-pub mod Serving
+pub mod InputBytes
+pub mod ArgumentValues
+pub mod CommandReplies
 pub mod Totals
 pub mod Scripts

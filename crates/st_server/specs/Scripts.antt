@@ -7,9 +7,9 @@ use Rattle.st_image.specs.Images.{ImageView, settings_rules}
 use Rattle.st_wire.specs.Streams.{InputView}
 use Rattle.st_server.specs.declared.settings.ScriptSettings.{ScriptSettings}
 use Rattle.st_server.specs.Lines.{lines}
-use Rattle.st_server.specs.Reading.{ReadsAll, StopsReading}
+use Rattle.st_server.specs.InputBytes.{ReadsAll, StopsReading}
 use Rattle.st_server.specs.Sessions.{Session, end_of}
-use Rattle.st_server.specs.Serving.{Replies}
+use Rattle.st_server.specs.CommandReplies.{Replies}
 
 -- a quantum is from 1 to 1,024 steps
 abbrev pub is_quantum : ℕ → Bool
@@ -17,7 +17,9 @@ is_quantum quantum = nat_le 1 quantum && nat_le quantum 1024
 
 -- the refusals of a script's settings, in their order
 abbrev pub script_rules : ScriptSettings → List Rule
-script_rules s = (not (is_quantum s.quantum), BadArguments) ∷ settings_rules (record { capacity = s.capacity; history = s.history })
+script_rules s =
+    (not (is_quantum s.quantum), BadArguments)
+    ∷ settings_rules (record { capacity = s.capacity; history = s.history })
 
 -- the image with the numbers of a script
 abbrev pub with_settings : ImageView → ScriptSettings → ImageView
@@ -25,12 +27,20 @@ with_settings i s = record i { capacity = s.capacity; most_items = s.history }
 
 -- the lines of a text are answered, and all of them counted unless the session ended before
 abbrev pub AnswersLines : ℕ → ImageView → List ℕ → List ℕ → ImageView → Result ℕ Refusal → Type 0
-AnswersLines quantum i text written j result = Session (Replies quantum) i (lines text) written j (end_of result) × IfOk result (λ n. n ≡ length (lines text))
+AnswersLines quantum i text written j result =
+    Session (Replies quantum) i (lines text) written j (end_of result)
+    × IfOk result (λ n. n ≡ length (lines text))
 
 -- the text that was read is answered, or its reading stopped and nothing is written
 abbrev pub Scripted : ℕ → ImageView → InputView → InputView → List ℕ → ImageView → Result ℕ Refusal → Type 0
-Scripted quantum i before after written j result = ((text : List ℕ) × ReadsAll before after text × AnswersLines quantum i text written j result) ⊎ ((e : Refusal) × (taken : List ℕ) × (result ≡ Err e) × StopsReading before after taken e × (written ≡ []) × (j ≡ i))
+Scripted quantum i before after written j result =
+    ((text : List ℕ) × ReadsAll before after text × AnswersLines quantum i text written j result)
+    ⊎ ((e : Refusal) × (taken : List ℕ) × (result ≡ Err e) × StopsReading before after taken e
+    × (written ≡ [])
+    × (j ≡ i))
 
 -- settings out of their ranges are refused, and then nothing is read or written
 abbrev pub Script : ScriptSettings → ImageView → InputView → InputView → List ℕ → ImageView → Result ℕ Refusal → Type 0
-Script s i before after written j result = MatchOption (first_of (script_rules s)) (Scripted s.quantum (with_settings i s) before after written j result) (λ e. (result ≡ Err e) × (after ≡ before) × (written ≡ []) × (j ≡ i))
+Script s i before after written j result = MatchOption (first_of (script_rules s))
+    (Scripted s.quantum (with_settings i s) before after written j result)
+    (λ e. (result ≡ Err e) × (after ≡ before) × (written ≡ []) × (j ≡ i))

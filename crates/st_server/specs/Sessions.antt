@@ -10,11 +10,14 @@ use Rattle.st_server.specs.Lines.{ends_with}
 
 -- a reply that was not written whole: its text found no memory, or the device failed before its last byte
 abbrev pub Breaks : List ℕ → List ℕ → Refusal → Type 0
-Breaks text written e = ((written ≡ []) × (e ≡ NoMemory)) ⊎ (((b : ℕ) × (rest : List ℕ) × (text ≡ written ++ b ∷ rest)) × (e ≡ WriteFault))
+Breaks text written e = ((written ≡ []) × (e ≡ NoMemory))
+    ⊎ (((b : ℕ) × (rest : List ℕ) × (text ≡ written ++ b ∷ rest)) × (e ≡ WriteFault))
 
--- a line that ends no session gets its reply, which is written whole; `answers i line r k` says that the handler i may give the reply r and be left as k
+-- a line that ends no session gets its reply, which is written whole; `answers i line r k` says that the handler i may
+-- give the reply r and be left as k
 abbrev pub IsAnswered : {S : Type 0} → (S → List ℕ → Reply → S → Type 0) → S → List ℕ → List ℕ → S → Type 0
-IsAnswered answers i line written k = (ends_with line ≡ None) × ((r : Reply) × answers i line r k × (written ≡ line_of r))
+IsAnswered answers i line written k = (ends_with line ≡ None)
+    × ((r : Reply) × answers i line r k × (written ≡ line_of r))
 
 -- a session ends at a line: its reply breaks, or the line is one that ends it, after a reply that says so
 abbrev pub EndsAt : {S : Type 0} → (S → List ℕ → Reply → S → Type 0) → S → List ℕ → List ℕ → S → Refusal → Type 0
@@ -23,9 +26,14 @@ EndsAt answers i line written j e = MatchOption (ends_with line)
     (λ last. (j ≡ i) × (Breaks (line_of (Refused last)) written e ⊎ ((written ≡ line_of (Refused last)) × (e ≡ last))))
 
 -- it ends at its first line, or that line is answered and it goes on over the others
-abbrev pub Session : {S : Type 0} → (S → List ℕ → Reply → S → Type 0) → S → List (List ℕ) → List ℕ → S → Option Refusal → Type 0
+abbrev pub Session : {S : Type 0} → (S → List ℕ → Reply → S → Type 0)
+    → S → List (List ℕ) → List ℕ → S → Option Refusal → Type 0
 Session answers i [] written j end = (written ≡ []) × (j ≡ i) × (end ≡ None)
-Session {S} answers i (line ∷ lines) written j end = ((e : Refusal) × (end ≡ Some e) × EndsAt answers i line written j e) ⊎ ((first : List ℕ) × (rest : List ℕ) × (k : S) × (written ≡ first ++ rest) × IsAnswered answers i line first k × Session answers k lines rest j end)
+Session {S} answers i (line ∷ lines) written j end =
+    ((e : Refusal) × (end ≡ Some e) × EndsAt answers i line written j e)
+    ⊎ ((first : List ℕ) × (rest : List ℕ) × (k : S) × (written ≡ first ++ rest)
+    × IsAnswered answers i line first k
+    × Session answers k lines rest j end)
 
 -- why it ended, if not behind its last line
 abbrev pub end_of : {T : Type 0} → Result T Refusal → Option Refusal

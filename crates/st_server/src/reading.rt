@@ -3,7 +3,7 @@ ghost use Rattle.std.specs.Prelude.{◌≡◌, ◌<◌, ◌++◌, ◌⊎◌, ℕ
 ghost use Rattle.std.specs.Io.KnownBytes.{Consumes, IsAtEnd};
 ghost use Rattle.st_classes.specs.declared.refusals.Refusal.TheVariants.{NoMemory, ReadFault};
 ghost use Rattle.st_wire.specs.Streams.{input_view, one_more};
-ghost use Rattle.st_server.specs.Reading.{ReadsAll, StopsReading};
+ghost use Rattle.st_server.specs.InputBytes.{ReadsAll, StopsReading};
 
 use st_classes::refusals::Refusal;
 use st_wire::streams::Input;

@@ -1,9 +1,10 @@
 //! The values that the texts of a command stand for, and the texts of values.
-ghost use Rattle.std.specs.Prelude.{◌≡◌, ◌⊎◌, [], Err, IfOk, slice_get, unwrap_or};
+ghost use Rattle.std.specs.Prelude.{◌≡◌, ◌⊎◌, [], Err, IfOk, OnErr, slice_get, true, unwrap_or};
+ghost use Rattle.std.specs.Str.{IsAscii};
 ghost use Rattle.st_classes.specs.declared.refusals.Refusal.TheVariants.{NoMemory};
 ghost use Rattle.st_classes.specs.Classes.{class_name};
 ghost use Rattle.st_image.specs.Images.{world};
-ghost use Rattle.st_server.specs.Resolving.{Resolves, AllResolve, found_selector, shown as shown_as};
+ghost use Rattle.st_server.specs.ArgumentValues.{Resolves, AllResolve, found_selector, is_told_by_text, value_text as shown_as};
 
 use st_classes::names::Names;
 use st_classes::refusals::Refusal;
@@ -13,6 +14,7 @@ use st_classes::values::{ClassId, Selector, Value, Values};
 use st_image::image::Image;
 use st_wire::commands::Argument;
 use st_wire::replies::Answered;
+use st_wire::text::Text;
 use std::alloc::{AllocError, Global};
 
 /// The value of an argument. A symbol is interned.
@@ -67,15 +69,23 @@ pub fn find_selector(names: &Names, text: &[u8]) -> Result<Selector, Refusal>
     names.find(text).ok_or(Refusal::NoSuchMethod)
 }
 
-fn text_of(alloc: Global, text: &[u8]) -> Result<Seq<u8>, AllocError>
-    ensures { IfOk result (λ copy. copy ≡ text.now) }
+/// A name as a text.
+#[tactic(auto, using(crate::proofs::Names::utf8_from_ascii))]
+fn text_of(alloc: Global, name: &[u8]) -> Result<Text, AllocError>
+    requires { IsAscii name.now }
+    ensures { IfOk result (λ text. text ≡ name.now) }
 {
-    Ok(Seq::from_vec(text.to_vec(alloc)?))
+    match str::from_utf8(name) {
+        Ok(name) => Text::new(alloc, name),
+        Err(_) => unreachable!(),
+    }
 }
 
 /// The text of a selector, which is empty where the selector isn't there.
+#[tactic(auto, using(crate::proofs::Names::selector_ascii))]
 fn selector_text(image: &Image, selector: Selector) -> &[u8]
-    ensures { result.now ≡ unwrap_or (slice_get image.now.names selector.0) [] }
+    ensures ascii { IsAscii result.now }
+    ensures text { result.now ≡ unwrap_or (slice_get image.now.names selector.0) [] }
 {
     let names = image.names();
     if u32::from(selector.0) < names.len() {
@@ -87,17 +97,21 @@ fn selector_text(image: &Image, selector: Selector) -> &[u8]
 
 /// The name of a class, which is empty where the class isn't there.
 fn class_text(image: &Image, class: ClassId) -> &[u8]
-    ensures { result.now ≡ unwrap_or (class_name (world image.now).edits class) [] }
+    ensures ascii { IsAscii result.now }
+    ensures text { result.now ≡ unwrap_or (class_name (world image.now).edits class) [] }
 {
-    match image.version().class_name(class) {
+    let version = image.version();
+    version.known();
+    match version.class_name(class) {
         Some(name) => name,
         None => b"",
     }
 }
 
-/// A value as texts.
+/// A value as texts. Memory can run out only for the text of a symbol or a class.
 pub fn shown(alloc: Global, image: &Image, value: Value) -> Result<Answered, AllocError>
-    ensures { IfOk result (λ texts. texts ≡ shown_as image.now value) }
+    ensures told { IfOk result (λ texts. texts ≡ shown_as image.now value) }
+    ensures memory { OnErr result (is_told_by_text value ≡ true) }
 {
     Ok(match value {
         Value::Int(n) => Answered::Int(n),

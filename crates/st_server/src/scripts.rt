@@ -1,4 +1,4 @@
-//! Scripts.
+//! A script: an input is read to its end, and each of its lines is answered.
 ghost use Rattle.std.specs.Prelude.{◌≡◌, ℕ, List, []};
 ghost use Rattle.std.specs.Io.KnownBytes.{Appends};
 ghost use Rattle.st_wire.specs.Streams.{input_view};

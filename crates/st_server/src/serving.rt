@@ -1,9 +1,10 @@
 //! Commands, asked of an image.
-ghost use Rattle.std.specs.Prelude.{◌≡◌, ◌≤◌, ◌⊎◌, MatchOption, MatchResult};
-ghost use Rattle.st_classes.specs.Classes.{class_named};
-ghost use Rattle.st_image.specs.Posting.{from_client};
-ghost use Rattle.st_image.specs.Images.{world};
-ghost use Rattle.st_server.specs.Serving.{NoClass, InstallsMethod, RemovesMethod, Removes, Defines, Creates, PostsMessage, PostsArguments, Posts, NoneReady, TakesQuantum, StopsAt, Runs, Tells, Serves, Replies};
+ghost use Rattle.std.specs.Prelude.{◌≡◌, Ok, Err, MatchOption, MatchResult};
+ghost use Rattle.st_image.specs.Calls.{Creates, Defines, InstallsIn, Posts};
+ghost use Rattle.st_image.specs.PostRules.{from_client};
+ghost use Rattle.st_image.specs.Quanta.{image_outcome};
+ghost use Rattle.st_wire.specs.declared.replies.Reply.TheVariants as replies;
+ghost use Rattle.st_server.specs.CommandReplies.{RepliesTo, RepliesFor, RemovesNamed, PostsArguments, PostsNamed, NoneReady, NextAdvances, Runs, Tells, Serves, Replies};
 
 use crate::quantum::Quantum;
 use crate::resolving::{argument_values, find_selector, shown};
@@ -24,7 +25,7 @@ fn define(
     parent: &[u8],
     slots: Seq<Seq<u8>>,
 ) -> Reply
-    ensures { MatchOption (class_named (world image.old).edits parent.now) (NoClass image.old result image.new) (Defines image.old name.now slots result image.new) }
+    ensures { RepliesFor image.old parent.now replies.Version (λ c. Defines image.old name.now c slots) result image.new }
 {
     let Some(parent) = image.version().class_named(parent) else {
         return Reply::Refused(Refusal::UnknownClass);
@@ -36,7 +37,7 @@ fn define(
 }
 
 fn install(alloc: Global, image: &mut Image, class: &[u8], source: &[u8]) -> Reply
-    ensures { MatchOption (class_named (world image.old).edits class.now) (NoClass image.old result image.new) (InstallsMethod image.old source.now result image.new) }
+    ensures { RepliesFor image.old class.now replies.Version (λ c. InstallsIn image.old c source.now) result image.new }
 {
     let Some(class) = image.version().class_named(class) else {
         return Reply::Refused(Refusal::UnknownClass);
@@ -47,30 +48,34 @@ fn install(alloc: Global, image: &mut Image, class: &[u8], source: &[u8]) -> Rep
     }
 }
 
-/// Takes away a class's own method for a selector.
-fn remove_method(alloc: Global, image: &mut Image, class: ClassId, selector: Selector) -> Reply
-    ensures { RemovesMethod image.old class selector result image.new }
+fn remove_named(
+    alloc: Global,
+    image: &mut Image,
+    class: ClassId,
+    selector: &[u8],
+) -> Result<u32, Refusal>
+    ensures { RemovesNamed image.old selector.now class result image.new }
 {
-    match image.remove(alloc, class, selector) {
+    match find_selector(image.names(), selector) {
+        Ok(selector) => image.remove(alloc, class, selector),
+        Err(refusal) => Err(refusal),
+    }
+}
+
+fn remove(alloc: Global, image: &mut Image, class: &[u8], selector: &[u8]) -> Reply
+    ensures { RepliesFor image.old class.now replies.Version (RemovesNamed image.old selector.now) result image.new }
+{
+    let Some(class) = image.version().class_named(class) else {
+        return Reply::Refused(Refusal::UnknownClass);
+    };
+    match remove_named(alloc, image, class, selector) {
         Ok(version) => Reply::Version(version),
         Err(refusal) => Reply::Refused(refusal),
     }
 }
 
-fn remove(alloc: Global, image: &mut Image, class: &[u8], selector: &[u8]) -> Reply
-    ensures { MatchOption (class_named (world image.old).edits class.now) (NoClass image.old result image.new) (Removes image.old selector.now result image.new) }
-{
-    let Some(class) = image.version().class_named(class) else {
-        return Reply::Refused(Refusal::UnknownClass);
-    };
-    match find_selector(image.names(), selector) {
-        Ok(selector) => remove_method(alloc, image, class, selector),
-        Err(refusal) => Reply::Refused(refusal),
-    }
-}
-
 fn create(alloc: Global, image: &mut Image, class: &[u8]) -> Reply
-    ensures { MatchOption (class_named (world image.old).edits class.now) (NoClass image.old result image.new) (Creates image.old result image.new) }
+    ensures { RepliesFor image.old class.now replies.Actor (Creates image.old) result image.new }
 {
     let Some(class) = image.version().class_named(class) else {
         return Reply::Refused(Refusal::UnknownClass);
@@ -90,7 +95,7 @@ fn post_values(
     sender: u16,
     seq: u64,
 ) -> Reply
-    ensures { PostsMessage image.old actor (from_client sender seq selector args) result image.new }
+    ensures { RepliesTo replies.Turn (Posts image.old actor (from_client sender seq selector args)) result image.new }
 {
     match image.post(alloc, sender, seq, actor, selector, args) {
         Ok(turn) => Reply::Turn(turn),
@@ -124,7 +129,7 @@ fn post(
     sender: u16,
     seq: u64,
 ) -> Reply
-    ensures { Posts image.old actor arguments.now selector.now sender seq result image.new }
+    ensures { PostsNamed image.old actor arguments.now selector.now sender seq result image.new }
 {
     match image.intern(alloc, selector) {
         Ok(selector) => post_arguments(alloc, image, actor, arguments, selector, sender, seq),
@@ -136,8 +141,10 @@ fn post(
 /// behind a quantum's own ones is one that the image takes, there is one more.
 fn take_quantum(alloc: Global, image: &mut Image, quantum: Quantum) -> Result<Option<u32>, Refusal>
     ensures { MatchResult result
-        (λ taken. MatchOption taken (NoneReady image.old × (image.new ≡ image.old)) (λ n. TakesQuantum quantum image.old n image.new))
-        (λ e. StopsAt quantum image.old e image.new) }
+        (λ taken. MatchOption taken
+        (NoneReady image.old × (image.new ≡ image.old))
+        (λ n. NextAdvances quantum image.old (Ok n) image.new))
+        (λ e. NextAdvances quantum image.old (Err e) image.new) }
 {
     let Some(actor) = image.next_ready() else {
         return Ok(None);
@@ -169,7 +176,7 @@ fn run(alloc: Global, image: &mut Image, quantum: Quantum, quanta: u32) -> Reply
 }
 
 fn outcome(alloc: Global, image: &Image, actor: ActorId, turn: u64) -> Reply
-    ensures { Tells image.now actor turn result }
+    ensures { Tells image.now (image_outcome image.now actor turn) result }
 {
     match image.outcome(actor, turn) {
         Ok(Outcome::Answer(value)) => match shown(alloc, image, value) {
@@ -181,7 +188,6 @@ fn outcome(alloc: Global, image: &Image, actor: ActorId, turn: u64) -> Reply
     }
 }
 
-/// The reply to a command.
 fn serve(alloc: Global, image: &mut Image, quantum: Quantum, command: Command) -> Reply
     ensures { Serves quantum image.old command result image.new }
 {

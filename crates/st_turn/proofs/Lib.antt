@@ -5,6 +5,7 @@ pub mod KeepingMoves
 pub mod KeepingGrowth
 pub mod KeepingArrivals
 pub mod Meets
+pub mod Targets
 pub mod Acting
 pub mod KeepingActs
 pub mod Keeping

@@ -1,11 +1,10 @@
-pub mod Views
+pub mod FrameViews
 pub mod Arithmetic
 pub mod Objects
 pub mod KernelMethods
-pub mod Answering
-pub mod Frames
+pub mod Effects
 pub mod Steps
-pub mod Fitting
-pub mod Meeting
-pub mod Idling
-pub mod Leaving
+pub mod BodyFits
+pub mod Needs
+pub mod Idle
+pub mod StepResults

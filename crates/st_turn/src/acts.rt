@@ -2,9 +2,9 @@
 ghost use Rattle.std.specs.Prelude.{◌≡◌, List, length, is_some, slice_get, Some, IfOk};
 ghost use Rattle.st_classes.specs.declared.values.Value.{Value as ValueOf};
 ghost use Rattle.st_turn.specs.declared.acts.Act.{Act as ActOf};
-ghost use Rattle.st_turn.specs.Fitting.{FitsSome};
-ghost use Rattle.st_turn.specs.Leaving.{IsAct, act_in};
-ghost use Rattle.st_turn.specs.Steps.{act_of as act_for, outer, replied, step};
+ghost use Rattle.st_turn.specs.BodyFits.{FitsSome};
+ghost use Rattle.st_turn.specs.StepResults.{IsAct};
+ghost use Rattle.st_turn.specs.Steps.{act_in, act_of as act_for, outer, reply_body, step};
 
 use crate::body::{Body, Outcome, Phase};
 use crate::plain::fetch;
@@ -105,7 +105,7 @@ pub fn next_act(
 pub fn reply(body: &mut Body, actor: ActorId, version: &Version, answer: Result<Value, Fault>)
     requires fits { FitsSome version.now actor body.old }
     requires act { IsAct (step version.now actor body.old) }
-    ensures { (act : ActOf) → step version.now actor body.old ≡ outer act → body.new ≡ replied act answer body.old }
+    ensures { (act : ActOf) → step version.now actor body.old ≡ outer act → body.new ≡ reply_body act answer body.old }
 {
     version.known();
     let Phase::Frames(frames) = &mut body.phase else {

@@ -53,7 +53,7 @@ fn floored_quotient(x: i64, y: i64) -> Option<i64>
     }
 }
 
-/// What that quotient leaves.
+/// What x less that quotient times y is.
 #[inline]
 fn floored_remainder(x: i64, y: i64) -> i64
     requires { y ≢ pos 0 }
@@ -68,7 +68,7 @@ fn floored_remainder(x: i64, y: i64) -> i64
     }
 }
 
-/// The quotient rounded towards negative infinity.
+/// The quotient rounded towards negative infinity, or the fault of a divisor 0 or of a quotient over 64 bits.
 #[inline]
 pub(crate) fn quotient(x: i64, y: i64) -> Result<Value, Fault>
     ensures { result ≡ quotient_of x y }
@@ -82,7 +82,7 @@ pub(crate) fn quotient(x: i64, y: i64) -> Result<Value, Fault>
     }
 }
 
-/// What that quotient leaves, which has the sign of y.
+/// The remainder of that quotient, which has the sign of y, or the fault of a divisor 0.
 #[inline]
 pub(crate) fn remainder(x: i64, y: i64) -> Result<Value, Fault>
     ensures { result ≡ remainder_of x y }
@@ -93,7 +93,8 @@ pub(crate) fn remainder(x: i64, y: i64) -> Result<Value, Fault>
     Ok(Value::Int(floored_remainder(x, y)))
 }
 
-/// The law of these two: the quotient goes into x and leaves what is 0 or has the sign of y, and is smaller than it.
+/// The law of quotient and remainder: x is y times the quotient and the remainder, which is 0 or has the sign of y, and is
+/// smaller than y.
 pub fn floored(x: i64, y: i64)
     requires { y ≢ pos 0 }
     ensures { IsFloored x y (floor_quotient x y) (floor_remainder x y) }

@@ -1,12 +1,12 @@
-//! Bodies.
+//! What an actor is while it runs: its objects, and where its turn stands.
 ghost use Rattle.std.specs.Prelude.{◌≡◌, [], ◌∷◌, ◌++◌, length, replicate, slice_get, Bool, IfOk, OnOk, OnErr};
 ghost use Rattle.std.specs.Option.{option_copied};
 ghost use Rattle.st_classes.specs.declared.values.Value.TheVariants.{Nil};
 ghost use Rattle.st_turn.specs.declared.body.Phase.TheVariants as phase;
-ghost use Rattle.st_turn.specs.Frames.{slot_of, stored};
+ghost use Rattle.st_turn.specs.Effects.{slot_of, objects_after_store};
 ghost use Rattle.st_turn.specs.Objects.{class_in};
-ghost use Rattle.st_turn.specs.Meeting.{HasSlot, IsAmong};
-ghost use Rattle.st_turn.specs.Idling.{is_idle};
+ghost use Rattle.st_turn.specs.Needs.{HasSlot, IsAmong};
+ghost use Rattle.st_turn.specs.Idle.{is_idle};
 
 use crate::frame::Frames;
 use st_classes::faults::Fault;
@@ -144,7 +144,7 @@ impl Objects {
     #[inline]
     pub(crate) fn store(&mut self, receiver: Value, place: u8, value: Value)
         requires { HasSlot self.old receiver place }
-        ensures { self.new ≡ stored self.old receiver place value }
+        ensures { self.new ≡ objects_after_store self.old receiver place value }
     {
         if let Value::Local(n) = receiver {
             self.items[n as usize].slots.set(place as usize, value);
@@ -166,13 +166,13 @@ pub enum Phase {
     Fresh,
     /// A message was taken, and is not yet dispatched.
     Start { selector: Selector, args: Values },
-    /// Methods run.
+    /// The message was dispatched, and these are the frames of its turn.
     Frames(Frames),
     /// The last turn has ended.
     Done(Outcome),
 }
 
-/// What an actor is while it runs: plain data.
+/// An actor's objects and phase: plain data, whose steps a class table and the actor's number decide.
 #[derive(Drop)]
 pub struct Body {
     pub objects: Objects,

@@ -1,10 +1,9 @@
 //! What the kernel's methods answer.
 ghost use Rattle.std.specs.Prelude.{◌≡◌};
-ghost use Rattle.st_turn.specs.Answering.{binary_answer, integer_answer};
-ghost use Rattle.st_turn.specs.KernelMethods.{conjunction, is_nil, is_same, kernel_answer, negated};
-ghost use Rattle.st_turn.specs.Meeting.{IsAmong};
+ghost use Rattle.st_turn.specs.KernelMethods.{and_answer, binary_answer, integer_answer, is_nil, is_same, kernel_answer, not_answer};
+ghost use Rattle.st_turn.specs.Needs.{IsAmong};
 ghost use Rattle.st_turn.specs.Steps.{is_new as makes_object};
-ghost use Rattle.st_classes.specs.Accepting.{is_closed as closed};
+ghost use Rattle.st_classes.specs.EditRules.{is_value_class as closed};
 
 use crate::arithmetic::{difference, product, quotient, remainder, sum};
 use crate::body::Objects;
@@ -53,7 +52,7 @@ fn is_nil(value: Value) -> bool
 
 #[inline]
 fn negated(receiver: Value) -> Result<Value, Fault>
-    ensures { result ≡ negated receiver }
+    ensures { result ≡ not_answer receiver }
 {
     match receiver {
         Value::Bool(b) => Ok(Value::Bool(!b)),
@@ -63,7 +62,7 @@ fn negated(receiver: Value) -> Result<Value, Fault>
 
 #[inline]
 fn conjunction(receiver: Value, argument: Value) -> Result<Value, Fault>
-    ensures { result ≡ conjunction receiver argument }
+    ensures { result ≡ and_answer receiver argument }
 {
     match receiver {
         Value::Bool(true) => Ok(argument),

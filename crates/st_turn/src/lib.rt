@@ -1,7 +1,7 @@
 //! Bodies of actors, and their steps.
 //!
 //! A [`body::Body`] is what one actor is while it runs: its objects, and its phase. [`plain::step_plain`] takes one step
-//! by the plain walk of a class table: it is the step of the definitions, and a body that fits a table still fits it.
+//! by the plain walk of a class table, the one that `specs/Steps.antt` defines, and a body that fits a table still fits it.
 #![tactic(auto)]
 
 pub mod acts;

@@ -1,6 +1,6 @@
 pub mod Lists
 pub mod Objects
 pub mod Lines
-pub mod Written
+pub mod Writing
 pub mod Parts
 pub mod KeyOrder

@@ -8,7 +8,7 @@ use Rattle.st_classes.specs.declared.refusals.Refusal.{Refusal}
 use Rattle.st_classes.specs.declared.refusals.Refusal.TheVariants.{BadCommand}
 use Rattle.st_classes.specs.Refusals.{Answers, first_of}
 use Rattle.st_wire.specs.declared.commands.Command.{Command}
-use Rattle.st_wire.specs.Reading.{Reads}
+use Rattle.st_wire.specs.PartResults.{Reads}
 use Rattle.st_wire.specs.Commands.{command_of, command_in, command_rules, value_of}
 
 none_first : {T : Type 0} (there : Option T) (refusal : Refusal) → refusal ≡ BadCommand → there ≡ None → first_of ((not (is_some there), BadCommand) ∷ []) ≡ Some refusal

@@ -30,21 +30,27 @@ define_from (Some name) (Some parent) (Some slots) = Some (Define name parent sl
 define_from _ _ _ = None
 
 abbrev pub define_in : Data → Option Command
-define_in d = of_keys (codes "cmd" ∷ codes "name" ∷ codes "slots" ∷ codes "super" ∷ []) d (define_from (text_at (codes "name") d) (text_at (codes "super") d) (texts_at (codes "slots") d))
+define_in d =
+    of_keys (codes "cmd" ∷ codes "name" ∷ codes "slots" ∷ codes "super" ∷ []) d
+    (define_from (text_at (codes "name") d) (text_at (codes "super") d) (texts_at (codes "slots") d))
 
 abbrev pub method_from : Option (List ℕ) → Option (List ℕ) → Option Command
 method_from (Some class) (Some source) = Some (Method class source)
 method_from _ _ = None
 
 abbrev pub method_in : Data → Option Command
-method_in d = of_keys (codes "class" ∷ codes "cmd" ∷ codes "source" ∷ []) d (method_from (text_at (codes "class") d) (text_at (codes "source") d))
+method_in d =
+    of_keys (codes "class" ∷ codes "cmd" ∷ codes "source" ∷ []) d
+    (method_from (text_at (codes "class") d) (text_at (codes "source") d))
 
 abbrev pub remove_from : Option (List ℕ) → Option (List ℕ) → Option Command
 remove_from (Some class) (Some selector) = Some (Remove class selector)
 remove_from _ _ = None
 
 abbrev pub remove_in : Data → Option Command
-remove_in d = of_keys (codes "class" ∷ codes "cmd" ∷ codes "selector" ∷ []) d (remove_from (text_at (codes "class") d) (text_at (codes "selector") d))
+remove_in d =
+    of_keys (codes "class" ∷ codes "cmd" ∷ codes "selector" ∷ []) d
+    (remove_from (text_at (codes "class") d) (text_at (codes "selector") d))
 
 abbrev pub new_actor_in : Data → Option Command
 new_actor_in d = of_keys (codes "class" ∷ codes "cmd" ∷ []) d (option_map Actor (text_at (codes "class") d))
@@ -54,32 +60,55 @@ post_from (Some actor) (Some args) (Some selector) (Some sender) (Some seq) = So
 post_from _ _ _ _ _ = None
 
 abbrev pub post_in : Data → Option Command
-post_in d = of_keys (codes "actor" ∷ codes "args" ∷ codes "cmd" ∷ codes "selector" ∷ codes "sender" ∷ codes "seq" ∷ []) d (post_from (actor_at (codes "actor") d) (arguments_at (codes "args") d) (text_at (codes "selector") d) (sender_at (codes "sender") d) (number_at (codes "seq") d))
+post_in d =
+    of_keys (codes "actor" ∷ codes "args" ∷ codes "cmd" ∷ codes "selector" ∷ codes "sender" ∷ codes "seq" ∷ []) d
+    (post_from
+    (actor_at (codes "actor") d)
+    (arguments_at (codes "args") d)
+    (text_at (codes "selector") d)
+    (sender_at (codes "sender") d)
+    (number_at (codes "seq") d))
 
 abbrev pub close_in : Data → Option Command
 close_in d = of_keys (codes "actor" ∷ codes "cmd" ∷ []) d (option_map Close (actor_at (codes "actor") d))
 
 -- 1,000 quanta where none are given
 abbrev pub run_in : Data → Option Command
-run_in d = if has_just (codes "cmd" ∷ []) d then Some (Run 1000) else of_keys (codes "cmd" ∷ codes "quanta" ∷ []) d (option_map Run (quanta_at (codes "quanta") d))
+run_in d =
+    if has_just (codes "cmd" ∷ []) d then Some (Run 1000)
+    else of_keys (codes "cmd" ∷ codes "quanta" ∷ []) d (option_map Run (quanta_at (codes "quanta") d))
 
 abbrev pub outcome_from : Option ActorId → Option ℕ → Option Command
 outcome_from (Some actor) (Some turn) = Some (Outcome actor turn)
 outcome_from _ _ = None
 
 abbrev pub outcome_in : Data → Option Command
-outcome_in d = of_keys (codes "actor" ∷ codes "cmd" ∷ codes "turn" ∷ []) d (outcome_from (actor_at (codes "actor") d) (number_at (codes "turn") d))
+outcome_in d =
+    of_keys (codes "actor" ∷ codes "cmd" ∷ codes "turn" ∷ []) d
+    (outcome_from (actor_at (codes "actor") d) (number_at (codes "turn") d))
 
 abbrev pub stats_from : Option (List ℕ) → Option (List ℕ) → Option Command
 stats_from (Some class) (Some selector) = Some (Stats class selector)
 stats_from _ _ = None
 
 abbrev pub stats_in : Data → Option Command
-stats_in d = of_keys (codes "class" ∷ codes "cmd" ∷ codes "selector" ∷ []) d (stats_from (text_at (codes "class") d) (text_at (codes "selector") d))
+stats_in d =
+    of_keys (codes "class" ∷ codes "cmd" ∷ codes "selector" ∷ []) d
+    (stats_from (text_at (codes "class") d) (text_at (codes "selector") d))
 
 -- the command of the form that `cmd` names
 abbrev pub form_in : Data → List ℕ → Option Command
-form_in d cmd = if bytes_eq cmd (codes "define") then define_in d else (if bytes_eq cmd (codes "method") then method_in d else (if bytes_eq cmd (codes "remove") then remove_in d else (if bytes_eq cmd (codes "actor") then new_actor_in d else (if bytes_eq cmd (codes "post") then post_in d else (if bytes_eq cmd (codes "close") then close_in d else (if bytes_eq cmd (codes "run") then run_in d else (if bytes_eq cmd (codes "outcome") then outcome_in d else (if bytes_eq cmd (codes "stats") then stats_in d else None))))))))
+form_in d cmd =
+    if bytes_eq cmd (codes "define") then define_in d
+    else (if bytes_eq cmd (codes "method") then method_in d
+    else (if bytes_eq cmd (codes "remove") then remove_in d
+    else (if bytes_eq cmd (codes "actor") then new_actor_in d
+    else (if bytes_eq cmd (codes "post") then post_in d
+    else (if bytes_eq cmd (codes "close") then close_in d
+    else (if bytes_eq cmd (codes "run") then run_in d
+    else (if bytes_eq cmd (codes "outcome") then outcome_in d
+    else (if bytes_eq cmd (codes "stats") then stats_in d
+    else None))))))))
 
 -- the command of an object, by its `cmd`
 abbrev pub command_in : Data → Option Command

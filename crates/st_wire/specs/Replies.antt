@@ -43,7 +43,15 @@ state_name Mega = codes "mega"
 
 -- the report of a site
 abbrev pub site_data : SiteReport → Data
-site_data s = object (member (codes "global") (whole s.global) (member (codes "selector") (string s.selector) (member (codes "sends") (whole s.sends) (member (codes "site") (whole s.site) (member (codes "state") (string (state_name s.state)) (member (codes "super") (boolean s.is_super) (member (codes "walk") (whole s.walk) no_members)))))))
+site_data s = object
+    (member (codes "global") (whole s.global)
+    (member (codes "selector") (string s.selector)
+    (member (codes "sends") (whole s.sends)
+    (member (codes "site") (whole s.site)
+    (member (codes "state") (string (state_name s.state))
+    (member (codes "super") (boolean s.is_super)
+    (member (codes "walk") (whole s.walk)
+    no_members)))))))
 
 -- the reports of sites, one after the other
 abbrev pub site_items : List SiteReport → Items
@@ -52,7 +60,8 @@ site_items (s ∷ sites) = item (site_data s) (site_items sites)
 
 -- the fields of a refusal
 abbrev pub refusal_fields : Refusal → Members
-refusal_fields (BadSource kind offset) = member (codes "kind") (string (kind_name kind)) (member (codes "offset") (whole offset) no_members)
+refusal_fields (BadSource kind offset) =
+    member (codes "kind") (string (kind_name kind)) (member (codes "offset") (whole offset) no_members)
 refusal_fields (Old last) = member (codes "last") (whole last) no_members
 refusal_fields (Stale version) = member (codes "version") (whole version) no_members
 refusal_fields (TooMany what) = member (codes "what") (string (limited_name what)) no_members
@@ -69,11 +78,13 @@ reply_data (reply.Version n) = ok (only (codes "version") (whole n))
 reply_data (reply.Actor a) = ok (only (codes "actor") (whole a.0))
 reply_data (reply.Turn n) = ok (only (codes "turn") (whole n))
 reply_data reply.Closed = ok (object no_members)
-reply_data (reply.Ran quanta steps) = ok (object (member (codes "quanta") (whole quanta) (member (codes "steps") (whole steps) no_members)))
+reply_data (reply.Ran quanta steps) =
+    ok (object (member (codes "quanta") (whole quanta) (member (codes "steps") (whole steps) no_members)))
 reply_data (reply.Answer value) = ok (only (codes "answer") (answered_data value))
 reply_data (reply.Fault fault) = ok (only (codes "fault") (string (fault_name fault)))
 reply_data (reply.Sites sites) = ok (only (codes "sites") (array (site_items sites)))
-reply_data (reply.Refused refusal) = object (member (codes "error") (string (refusal_name refusal)) (refusal_fields refusal))
+reply_data (reply.Refused refusal) =
+    object (member (codes "error") (string (refusal_name refusal)) (refusal_fields refusal))
 
 -- the line of a reply: the compact text of its value, and a newline
 abbrev pub line_of : Reply → List ℕ

@@ -3,7 +3,7 @@ ghost use Rattle.std.specs.Prelude.{◌≡◌, Some, Ok, Err, map, if◌then◌e
 ghost use Rattle.serde_json.specs.View.{view};
 ghost use Rattle.st_classes.specs.Refusals.{Answers, first_of};
 ghost use Rattle.st_classes.specs.declared.refusals.Refusal.TheVariants.{BadCommand};
-ghost use Rattle.st_wire.specs.Reading.{Reads};
+ghost use Rattle.st_wire.specs.PartResults.{Reads};
 ghost use Rattle.st_wire.specs.Commands.{command_of, command_rules, has_just as has_just_keys, has_all as has_all_keys, command_in, define_in, method_in, remove_in, new_actor_in, post_in, close_in, run_in, outcome_in, stats_in};
 
 use crate::fields::{
@@ -64,7 +64,7 @@ pub enum Command {
     Close {
         actor: ActorId,
     },
-    /// Run until there is nothing to do, for 1 to 1,000,000 quanta at most.
+    /// Take quanta until no actor is ready, but no more than this number, which is from 1 to 1,000,000.
     Run {
         quanta: u32,
     },
@@ -112,14 +112,14 @@ fn read_object(alloc: Global, object: &Value) -> Result<Command, Refusal>
     }
 }
 
-// Whether a value is an object of just these keys.
+/// Whether a value is an object of just these keys.
 fn has_just(object: &Value, keys: &[&str]) -> bool
     ensures { result ≡ has_just_keys (map (λ key. key.now) keys.now) (view object.now) }
 {
     size(object) == keys.len() && has_all(object, keys)
 }
 
-// Whether all of some keys are there.
+/// Whether all of some keys are there.
 fn has_all(object: &Value, keys: &[&str]) -> bool
     ensures { result ≡ has_all_keys (map (λ key. key.now) keys.now) (view object.now) }
 {
@@ -131,7 +131,7 @@ fn has_all(object: &Value, keys: &[&str]) -> bool
     true
 }
 
-// Refuses an object of other keys than these.
+/// Refuses an object of other keys than these.
 fn just_keys(object: &Value, keys: &[&str]) -> Result<(), Refusal>
     ensures { result ≡ (if has_just_keys (map (λ key. key.now) keys.now) (view object.now) then Ok tt else Err BadCommand) }
 {

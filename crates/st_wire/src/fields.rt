@@ -2,7 +2,7 @@
 ghost use Rattle.std.specs.Prelude.{◌≡◌, ◌≤◌, IfOk, IfSome, OnOk, OnErr, Option, Some, None, is_some, option_map, nat_eq, if◌then◌else◌};
 ghost use Rattle.serde_json.specs.View.{view, items_view};
 ghost use Rattle.st_classes.specs.declared.refusals.Refusal.TheVariants.{BadCommand};
-ghost use Rattle.st_wire.specs.Reading.{Reads};
+ghost use Rattle.st_wire.specs.PartResults.{Reads};
 ghost use Rattle.st_wire.specs.Fields as spec;
 
 use crate::commands::Argument;
@@ -144,7 +144,7 @@ fn argument(alloc: Global, value: &Value) -> Result<Argument, Refusal>
     }
 }
 
-// An actor, a symbol or a class, as an object of one key.
+/// An actor, a symbol or a class, as an object of one key.
 fn named(alloc: Global, object: &Value) -> Result<Argument, Refusal>
     ensures { Reads (spec.named (view object.now)) result }
 {

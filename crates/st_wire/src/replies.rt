@@ -1,14 +1,13 @@
 //! Replies, and how they are written.
-#![tactic(auto, unfolding(json::specs::Print::escape_byte))]
+ghost use Rattle.std.specs.Prelude.{◌≡◌, [], ◌∷◌, IfOk, codes, decimal};
+ghost use Rattle.json.specs.Token.{key, string, number, begin_object, end_object};
+ghost use Rattle.st_wire.specs.declared.replies.Reply.TheVariants.{Closed as ClosedReply, Ran, Answer, Fault as FaultReply, Sites, Refused};
+ghost use Rattle.st_wire.specs.Replies.{line_of, reply_data, answered_data, state_name as name_of, site_data, site_items, refusal_fields, ok, only, whole, RepliesHaveKeysInOrder};
+ghost use Rattle.st_wire.specs.Writing.{Adds, data_tokens, items_tokens, members_tokens};
 
-ghost use Rattle.std.specs.Prelude.{◌≡◌, ◌++◌, false, true, IfOk, OnOk, codes, decimal};
-ghost use Rattle.json.specs.Print.{quoted};
-ghost use Rattle.st_wire.specs.declared.replies.Reply.TheVariants.{Ran, Answer, Fault as FaultReply, Sites, Refused};
-ghost use Rattle.serde_json.specs.Written.{compact_text, items_text, members_text};
-ghost use Rattle.st_wire.specs.Replies.{line_of, reply_data, answered_data, state_name as name_of, site_data, site_items, refusal_fields, RepliesHaveKeysInOrder};
-
-use crate::line::Line;
 use crate::names::{fault_name, kind_name, limited_name, place_name, refusal_name};
+use crate::text::Text;
+use json::Writer;
 use st_classes::faults::Fault;
 use st_classes::refusals::Refusal;
 use st_classes::seq::Seq;
@@ -21,8 +20,8 @@ pub enum Answered {
     Int(i64),
     Bool(bool),
     Nil,
-    Symbol(Seq<u8>),
-    Class(Seq<u8>),
+    Symbol(Text),
+    Class(Text),
     Actor(ActorId),
     /// An object of the actor's own, by its place in the actor's list.
     Local(u32),
@@ -42,7 +41,7 @@ pub enum SiteState {
 #[derive(Drop)]
 pub struct SiteReport {
     pub global: u64,
-    pub selector: Seq<u8>,
+    pub selector: Text,
     pub sends: u64,
     pub site: u64,
     pub state: SiteState,
@@ -63,9 +62,9 @@ pub enum Reply {
     Closed,
     /// What a run took.
     Ran { quanta: u32, steps: u64 },
-    /// How a turn ended: with an answer ..
+    /// The turn ended with this answer.
     Answer(Answered),
-    /// .. or with a fault.
+    /// The turn ended with this fault.
     Fault(Fault),
     /// The send sites of a method.
     Sites(Seq<SiteReport>),
@@ -77,10 +76,11 @@ pub enum Reply {
 pub fn reply_text(alloc: Global, reply: &Reply) -> Result<Vec<u8>, AllocError>
     ensures { IfOk result (λ v. v.items ≡ line_of reply.now) }
 {
-    let mut line = Line::new(alloc);
-    reply.write(&mut line)?;
-    line.put("\n")?;
-    Ok(line.into_bytes())
+    let mut writer = Writer::new(Vec::with_capacity(alloc, 128)?);
+    reply.write(&mut writer)?;
+    let mut line = writer.into_inner();
+    line.push(b'\n')?;
+    Ok(line)
 }
 
 /// In each object that a reply writes, the keys stand in byte order.
@@ -89,56 +89,53 @@ pub fn key_order()
 {}
 
 impl Reply {
-    fn write(&self, line: &mut Line) -> Result<(), AllocError>
-        ensures { OnOk result (line.new ≡ line.old ++ compact_text (reply_data self.now)) }
+    fn write(&self, writer: &mut Writer) -> Result<(), AllocError>
+        ensures { Adds result writer.old writer.new (data_tokens (reply_data self.now)) }
     {
         match self {
-            Reply::Version(version) => write_number(
-                line,
-                r#"{"ok":{"version":"#,
-                (*version).into(),
-            ),
-            Reply::Actor(actor) => write_number(line, r#"{"ok":{"actor":"#, actor.0.into()),
-            Reply::Turn(turn) => write_number(line, r#"{"ok":{"turn":"#, *turn),
-            Reply::Closed => line.put(r#"{"ok":{}}"#),
-            Reply::Ran { quanta, steps } => write_ran(line, (*quanta).into(), *steps),
-            Reply::Answer(value) => write_answer(line, value),
-            Reply::Fault(fault) => write_fault(line, *fault),
-            Reply::Sites(sites) => write_sites(line, sites.as_slice()),
-            Reply::Refused(refusal) => write_refusal(line, *refusal),
+            Reply::Version(version) => write_number(writer, "version", (*version).into()),
+            Reply::Actor(actor) => write_number(writer, "actor", actor.0.into()),
+            Reply::Turn(turn) => write_number(writer, "turn", *turn),
+            Reply::Closed => write_closed(writer),
+            Reply::Ran { quanta, steps } => write_ran(writer, (*quanta).into(), *steps),
+            Reply::Answer(value) => write_answer(writer, value),
+            Reply::Fault(fault) => write_fault(writer, *fault),
+            Reply::Sites(sites) => write_sites(writer, sites.as_slice()),
+            Reply::Refused(refusal) => write_refusal(writer, *refusal),
         }
     }
 }
 
 impl Answered {
-    fn write(&self, line: &mut Line) -> Result<(), AllocError>
-        ensures { OnOk result (line.new ≡ line.old ++ compact_text (answered_data self.now)) }
+    fn write(&self, writer: &mut Writer) -> Result<(), AllocError>
+        ensures { Adds result writer.old writer.new (data_tokens (answered_data self.now)) }
     {
         match self {
-            Answered::Int(n) => line.integer(*n),
-            Answered::Bool(truth) => line.boolean(*truth),
-            Answered::Nil => line.put("null"),
-            Answered::Symbol(text) => write_text(line, r#"{"sym":"#, text.as_slice()),
-            Answered::Class(text) => write_text(line, r#"{"class":"#, text.as_slice()),
-            Answered::Actor(actor) => write_last(line, r#"{"ref":"#, actor.0.into()),
-            Answered::Local(place) => write_last(line, r#"{"local":"#, (*place).into()),
+            Answered::Int(n) => writer.i64(*n),
+            Answered::Bool(truth) => writer.boolean(*truth),
+            Answered::Nil => writer.null(),
+            Answered::Symbol(text) => write_text(writer, "sym", text.as_str()),
+            Answered::Class(text) => write_text(writer, "class", text.as_str()),
+            Answered::Actor(actor) => write_whole(writer, "ref", actor.0.into()),
+            Answered::Local(place) => write_whole(writer, "local", (*place).into()),
         }
     }
 }
 
 impl SiteReport {
-    fn write(&self, line: &mut Line) -> Result<(), AllocError>
-        ensures { OnOk result (line.new ≡ line.old ++ compact_text (site_data self.now)) }
+    fn write(&self, writer: &mut Writer) -> Result<(), AllocError>
+        ensures { Adds result writer.old writer.new (data_tokens (site_data self.now)) }
     {
-        line.number_at(r#"{"global":"#, self.global)?;
-        line.text_at(r#","selector":"#, self.selector.as_slice())?;
-        line.number_at(r#","sends":"#, self.sends)?;
-        line.number_at(r#","site":"#, self.site)?;
-        line.name_at(r#","state":"#, self.state.name())?;
-        line.put(r#","super":"#)?;
-        line.boolean(self.is_super)?;
-        line.number_at(r#","walk":"#, self.walk)?;
-        line.put("}")
+        writer.begin_object()?;
+        number_at(writer, "global", self.global)?;
+        text_at(writer, "selector", self.selector.as_str())?;
+        number_at(writer, "sends", self.sends)?;
+        number_at(writer, "site", self.site)?;
+        text_at(writer, "state", self.state.name())?;
+        writer.key("super")?;
+        writer.boolean(self.is_super)?;
+        number_at(writer, "walk", self.walk)?;
+        writer.end_object()
     }
 }
 
@@ -155,96 +152,141 @@ impl SiteState {
     }
 }
 
-// A reply that is one number.
-fn write_number(line: &mut Line, opening: &str, n: u64) -> Result<(), AllocError>
-    ensures { OnOk result (line.new ≡ line.old ++ (opening.now ++ (decimal n ++ codes "}}"))) }
+/// A key, and a number as its value.
+fn number_at(writer: &mut Writer, name: &str, n: u64) -> Result<(), AllocError>
+    ensures { Adds result writer.old writer.new (key name.now ∷ number (decimal n) ∷ []) }
 {
-    line.number_at(opening, n)?;
-    line.put("}}")
+    writer.key(name)?;
+    writer.u64(n)
 }
 
-fn write_ran(line: &mut Line, quanta: u64, steps: u64) -> Result<(), AllocError>
-    ensures { OnOk result (line.new ≡ line.old ++ compact_text (reply_data (Ran quanta steps))) }
+/// A key, and a text as its value.
+fn text_at(writer: &mut Writer, name: &str, text: &str) -> Result<(), AllocError>
+    ensures { Adds result writer.old writer.new (key name.now ∷ string text.now ∷ []) }
 {
-    line.number_at(r#"{"ok":{"quanta":"#, quanta)?;
-    line.number_at(r#","steps":"#, steps)?;
-    line.put("}}")
+    writer.key(name)?;
+    writer.string(text)
 }
 
-fn write_answer(line: &mut Line, value: &Answered) -> Result<(), AllocError>
-    ensures { OnOk result (line.new ≡ line.old ++ compact_text (reply_data (Answer value.now))) }
+/// An object of one number.
+fn write_whole(writer: &mut Writer, name: &str, n: u64) -> Result<(), AllocError>
+    ensures { Adds result writer.old writer.new (begin_object ∷ key name.now ∷ number (decimal n) ∷ end_object ∷ []) }
 {
-    line.put(r#"{"ok":{"answer":"#)?;
-    value.write(line)?;
-    line.put("}}")
+    writer.begin_object()?;
+    number_at(writer, name, n)?;
+    writer.end_object()
 }
 
-fn write_fault(line: &mut Line, fault: Fault) -> Result<(), AllocError>
-    ensures { OnOk result (line.new ≡ line.old ++ compact_text (reply_data (FaultReply fault))) }
+/// An object of one text.
+fn write_text(writer: &mut Writer, name: &str, text: &str) -> Result<(), AllocError>
+    ensures { Adds result writer.old writer.new (begin_object ∷ key name.now ∷ string text.now ∷ end_object ∷ []) }
 {
-    line.name_at(r#"{"ok":{"fault":"#, fault_name(fault))?;
-    line.put("}}")
+    writer.begin_object()?;
+    text_at(writer, name, text)?;
+    writer.end_object()
 }
 
-fn write_sites(line: &mut Line, sites: &[SiteReport]) -> Result<(), AllocError>
-    ensures { OnOk result (line.new ≡ line.old ++ compact_text (reply_data (Sites sites.now))) }
+/// The start of a reply that is no refusal, up to the brackets in which it says what was done.
+fn begin_ok(writer: &mut Writer) -> Result<(), AllocError>
+    ensures { Adds result writer.old writer.new (begin_object ∷ key (codes "ok") ∷ begin_object ∷ []) }
 {
-    line.put(r#"{"ok":{"sites":["#)?;
-    write_reports(line, sites)?;
-    line.put("}}")
+    writer.begin_object()?;
+    writer.key("ok")?;
+    writer.begin_object()
 }
 
-// The items of the list, and its closing bracket.
-fn write_reports(line: &mut Line, sites: &[SiteReport]) -> Result<(), AllocError>
-    ensures { OnOk result (line.new ≡ line.old ++ items_text false (site_items sites.now)) }
+/// The end of such a reply.
+fn end_ok(writer: &mut Writer) -> Result<(), AllocError>
+    ensures { Adds result writer.old writer.new (end_object ∷ end_object ∷ []) }
 {
-    for (place, site) in sites.iter().enumerate() {
-        line.comma(place > 0)?;
-        site.write(line)?;
+    writer.end_object()?;
+    writer.end_object()
+}
+
+/// A reply of one number.
+fn write_number(writer: &mut Writer, name: &str, n: u64) -> Result<(), AllocError>
+    ensures { Adds result writer.old writer.new (data_tokens (ok (only name.now (whole n)))) }
+{
+    begin_ok(writer)?;
+    number_at(writer, name, n)?;
+    end_ok(writer)
+}
+
+fn write_closed(writer: &mut Writer) -> Result<(), AllocError>
+    ensures { Adds result writer.old writer.new (data_tokens (reply_data ClosedReply)) }
+{
+    begin_ok(writer)?;
+    end_ok(writer)
+}
+
+fn write_ran(writer: &mut Writer, quanta: u64, steps: u64) -> Result<(), AllocError>
+    ensures { Adds result writer.old writer.new (data_tokens (reply_data (Ran quanta steps))) }
+{
+    begin_ok(writer)?;
+    number_at(writer, "quanta", quanta)?;
+    number_at(writer, "steps", steps)?;
+    end_ok(writer)
+}
+
+fn write_answer(writer: &mut Writer, value: &Answered) -> Result<(), AllocError>
+    ensures { Adds result writer.old writer.new (data_tokens (reply_data (Answer value.now))) }
+{
+    begin_ok(writer)?;
+    writer.key("answer")?;
+    value.write(writer)?;
+    end_ok(writer)
+}
+
+fn write_fault(writer: &mut Writer, fault: Fault) -> Result<(), AllocError>
+    ensures { Adds result writer.old writer.new (data_tokens (reply_data (FaultReply fault))) }
+{
+    begin_ok(writer)?;
+    text_at(writer, "fault", fault_name(fault))?;
+    end_ok(writer)
+}
+
+fn write_sites(writer: &mut Writer, sites: &[SiteReport]) -> Result<(), AllocError>
+    ensures { Adds result writer.old writer.new (data_tokens (reply_data (Sites sites.now))) }
+{
+    begin_ok(writer)?;
+    writer.key("sites")?;
+    writer.begin_array()?;
+    write_reports(writer, sites)?;
+    end_ok(writer)
+}
+
+/// The items of the list, and its closing bracket.
+fn write_reports(writer: &mut Writer, sites: &[SiteReport]) -> Result<(), AllocError>
+    ensures { Adds result writer.old writer.new (items_tokens (site_items sites.now)) }
+{
+    for site in sites {
+        site.write(writer)?;
     }
-    line.put("]")
+    writer.end_array()
 }
 
-// A text, and the closing bracket of its object.
-fn write_text(line: &mut Line, opening: &str, text: &[u8]) -> Result<(), AllocError>
-    ensures { OnOk result (line.new ≡ line.old ++ (opening.now ++ (quoted text.now ++ codes "}"))) }
+fn write_refusal(writer: &mut Writer, refusal: Refusal) -> Result<(), AllocError>
+    ensures { Adds result writer.old writer.new (data_tokens (reply_data (Refused refusal))) }
 {
-    line.text_at(opening, text)?;
-    line.put("}")
+    writer.begin_object()?;
+    text_at(writer, "error", refusal_name(refusal))?;
+    write_fields(writer, refusal)
 }
 
-// A number, and the closing bracket of its object.
-fn write_last(line: &mut Line, opening: &str, n: u64) -> Result<(), AllocError>
-    ensures { OnOk result (line.new ≡ line.old ++ (opening.now ++ (decimal n ++ codes "}"))) }
-{
-    line.number_at(opening, n)?;
-    line.put("}")
-}
-
-fn write_refusal(line: &mut Line, refusal: Refusal) -> Result<(), AllocError>
-    ensures { OnOk result (line.new ≡ line.old ++ compact_text (reply_data (Refused refusal))) }
-{
-    line.name_at(r#"{"error":"#, refusal_name(refusal))?;
-    write_fields(line, refusal)
-}
-
-// The fields of a refusal behind its name, and the closing bracket.
-fn write_fields(line: &mut Line, refusal: Refusal) -> Result<(), AllocError>
-    ensures { OnOk result (line.new ≡ line.old ++ members_text true (refusal_fields refusal)) }
+/// The fields of a refusal behind its name, and the closing bracket.
+fn write_fields(writer: &mut Writer, refusal: Refusal) -> Result<(), AllocError>
+    ensures { Adds result writer.old writer.new (members_tokens (refusal_fields refusal)) }
 {
     match refusal {
         Refusal::BadSource { kind, offset } => {
-            line.name_at(r#","kind":"#, kind_name(kind))?;
-            write_last(line, r#","offset":"#, offset.into())
+            text_at(writer, "kind", kind_name(kind))?;
+            number_at(writer, "offset", offset.into())?;
         }
-        Refusal::Old { last } => write_last(line, r#","last":"#, last),
-        Refusal::Stale { version } => write_last(line, r#","version":"#, version.into()),
-        Refusal::TooMany { what } => write_text(line, r#","what":"#, limited_name(what).as_bytes()),
-        Refusal::BadImage { place } => write_text(
-            line,
-            r#","place":"#,
-            place_name(place).as_bytes(),
-        ),
-        _ => line.put("}"),
+        Refusal::Old { last } => number_at(writer, "last", last)?,
+        Refusal::Stale { version } => number_at(writer, "version", version.into())?,
+        Refusal::TooMany { what } => text_at(writer, "what", limited_name(what))?,
+        Refusal::BadImage { place } => text_at(writer, "place", place_name(place))?,
+        _ => {}
     }
+    writer.end_object()
 }

@@ -1,4 +1,4 @@
-//! Turns.
+//! Image::advance: one quantum of one actor.
 use crate::acting::take_quantum;
 use crate::image::Image;
 use crate::items::Item;
@@ -7,12 +7,12 @@ use st_classes::values::ActorId;
 use std::alloc::{AllocError, Global};
 
 impl Image {
-    ghost use Rattle.std.specs.Prelude.{◌≡◌, ◌⊎◌, ◌≤◌, ◌<◌, [], ◌∷◌, ℕ, length, slice_get, true, false, Some, None, IfNone, IfOk, IfErr, OnOk, OnErr, if◌then◌else◌};
-    ghost use Rattle.st_classes.specs.Refusals.{first_of, Answers};
+    ghost use Rattle.std.specs.Prelude.{◌≡◌, ◌≤◌, ◌<◌, [], ◌∷◌, ℕ, length, slice_get, false, None, IfNone, IfOk, IfErr, OnOk, OnErr};
+    ghost use Rattle.st_classes.specs.Refusals.{first_of};
     ghost use Rattle.st_classes.specs.declared.refusals.Refusal.TheVariants as refusals;
-    ghost use Rattle.st_image.specs.Worlds.{Being};
+    ghost use Rattle.st_image.specs.Calls.{Advances};
     ghost use Rattle.st_image.specs.Images.{no_room, world};
-    ghost use Rattle.st_image.specs.Advancing.{CutsQuantum, HasAdvanced, HasStopped, TakesQuantum, advance_rules, begun_image, idle_at, ran_image, ran_or_same};
+    ghost use Rattle.st_image.specs.Quanta.{CutsQuantum, TakesQuantum, advance_rules, image_after_begin, idle_at, image_after_run, image_after_steps};
 
     /// Why an advance is refused, if it is.
     fn advance_refusal(&self, actor: ActorId) -> Option<Refusal>
@@ -31,7 +31,7 @@ impl Image {
     /// Begins the next pending message of an actor, where no turn of it is going on. An error says that nothing changed.
     fn begin(&mut self, actor: ActorId) -> Result<(), AllocError>
         requires { first_of (advance_rules self.old (slice_get (world self.old).actors actor.0)) ≡ None }
-        ensures ok { OnOk result (self.new ≡ begun_image self.old actor) }
+        ensures ok { OnOk result (self.new ≡ image_after_begin self.old actor) }
         ensures busy { OnOk result (idle_at (slice_get (world self.new).actors actor.0) ≡ false) }
         ensures room { OnOk result (first_of (no_room self.new 1 ∷ []) ≡ None) }
         ensures err { OnErr result (self.new ≡ self.old) }
@@ -56,8 +56,8 @@ impl Image {
         requires room { first_of (no_room self.old 1 ∷ []) ≡ None }
         requires some { 1 ≤ limit }
         requires few { limit ≤ 1024 }
-        ensures ok { IfOk result (λ n. (1 ≤ n) × TakesQuantum self.old actor limit n × (self.new ≡ ran_image self.old actor n)) }
-        ensures err { IfErr result (λ e. (e ≡ refusals.NoMemory) × ((n : ℕ) × CutsQuantum self.old actor limit n × (self.new ≡ ran_or_same self.old actor n))) }
+        ensures ok { IfOk result (λ n. (1 ≤ n) × TakesQuantum self.old actor limit n × (self.new ≡ image_after_run self.old actor n)) }
+        ensures err { IfErr result (λ e. (e ≡ refusals.NoMemory) × ((n : ℕ) × CutsQuantum self.old actor limit n × (self.new ≡ image_after_steps self.old actor n))) }
     {
         if self.history.reserve(1).is_err() {
             return Err(Refusal::NoMemory);
@@ -90,13 +90,12 @@ impl Image {
     /// how many steps were taken, at least one.
     ///
     /// Refusals, in this order: `UnknownActor`; `NothingToDo` where no turn is going on and no message is pending;
-    /// `HistoryFull`. A refused call changes nothing, but where memory ran out in the middle: then the message stays begun, and the
-    /// steps that were taken stand; the next call goes on behind them.
+    /// `HistoryFull`. Memory can run out only where none of these applies. A refused call changes nothing, but where memory ran
+    /// out in the middle: then the message stays begun, and the steps that were taken stand; the next call goes on behind them.
     pub fn advance(&mut self, alloc: Global, actor: ActorId, limit: u32) -> Result<u32, Refusal>
         requires some { 1 ≤ limit }
         requires few { limit ≤ 1024 }
-        ensures answers { Answers (first_of (advance_rules self.old (slice_get (world self.old).actors actor.0))) result (λ n. HasAdvanced self.old actor limit n self.new) }
-        ensures stands { IfErr result (λ e. (self.new ≡ self.old) ⊎ ((e ≡ refusals.NoMemory) × HasStopped self.old actor limit self.new)) }
+        ensures { Advances self.old actor limit result self.new }
     {
         if let Some(refusal) = self.advance_refusal(actor) {
             return Err(refusal);

@@ -1,6 +1,4 @@
-//! Edits of the class table.
-ghost use Rattle.std.specs.Prelude.{◌≡◌, ◌<◌, ◌-◌, length, slice_get, Some, IfOk};
-
+//! Image::define, and how an edit of any kind is made.
 use crate::image::Image;
 use crate::items::Item;
 use st_classes::edits::{Edit, SharedEdit};
@@ -8,29 +6,15 @@ use st_classes::limits::RUN_EDITS;
 use st_classes::refusals::{Limited, Refusal};
 use st_classes::seq::Seq;
 use st_classes::values::ClassId;
-use st_classes::version::Version;
-use std::alloc::{AllocError, Global};
-
-/// The last edit of a class table, to be shared.
-fn last_edit(version: &Version) -> Result<SharedEdit, AllocError>
-    requires { 0 < length version.now }
-    ensures { IfOk result (λ e. Some e ≡ slice_get version.now (length version.now - 1)) }
-{
-    match version.shared(version.edits() - 1) {
-        Some(edit) => edit.again(),
-        None => unreachable!(),
-    }
-}
+use std::alloc::Global;
 
 impl Image {
-    ghost use Rattle.std.specs.Prelude.{◌≡◌, ◌++◌, [], ◌∷◌, length, true, OnErr};
-    ghost use Rattle.st_classes.specs.declared.edits.Edit.TheVariants.{Define as DefineEdit};
-    ghost use Rattle.st_classes.specs.declared.edits.Edit.{Edit as EditOf};
-    ghost use Rattle.st_classes.specs.Accepting.{edit_rules};
-    ghost use Rattle.st_classes.specs.Suiting.{edit_suits};
-    ghost use Rattle.st_classes.specs.Refusals.{first_of, Answers};
-    ghost use Rattle.st_image.specs.declared.items.Item.TheVariants.{Edited as EditedItem};
-    ghost use Rattle.st_image.specs.Images.{appended, image_define_rules, run_rules, world};
+    ghost use Rattle.std.specs.Prelude.{◌≡◌, ◌++◌, true};
+    ghost use Rattle.st_classes.specs.EditRules.{edit_rules};
+    ghost use Rattle.st_classes.specs.MethodSuits.{edit_suits};
+    ghost use Rattle.st_classes.specs.Refusals.{first_of};
+    ghost use Rattle.st_image.specs.Calls.{Defines, Edits};
+    ghost use Rattle.st_image.specs.Images.{run_rules, world};
 
     /// Why an edit more is refused, if it is.
     fn run_refusal(&self) -> Option<Refusal>
@@ -44,32 +28,32 @@ impl Image {
         self.room_refusal(1)
     }
 
-    /// The class table with an edit more.
-    fn next_version(&self, alloc: Global, edit: Edit) -> Result<Version, Refusal>
-        requires { edit_suits self.now.names (world self.now).edits edit ≡ true }
-        ensures { Answers (first_of (edit_rules (world self.now).edits edit ++ run_rules self.now)) result (λ v. v ≡ (world self.now).edits ++ edit ∷ []) }
+    /// Why an edit is refused, if it is.
+    fn edit_refusal(&self, edit: &Edit) -> Option<Refusal>
+        ensures { result ≡ first_of (edit_rules (world self.now).edits edit.now ++ run_rules self.now) }
     {
-        match self.version().with_edit(alloc, edit) {
-            Ok(version) => match self.run_refusal() {
-                Some(refusal) => Err(refusal),
-                None => Ok(version),
-            },
-            Err(refusal) => Err(refusal),
+        match self.version().refusal(edit) {
+            Some(refusal) => Some(refusal),
+            None => self.run_refusal(),
         }
     }
 
-    /// Makes an edit. The answer is the number of edits.
+    /// Makes an edit. The answer is the number of edits. Memory can run out only where no rule refuses it.
     pub(super) fn edit(&mut self, alloc: Global, edit: Edit) -> Result<u32, Refusal>
         requires { edit_suits self.old.names (world self.old).edits edit ≡ true }
-        ensures answers { Answers (first_of (edit_rules (world self.old).edits edit ++ run_rules self.old)) result (λ n. (self.new ≡ appended self.old (EditedItem edit ∷ [])) × (n ≡ length (world self.new).edits)) }
-        ensures unchanged { OnErr result (self.new ≡ self.old) }
+        ensures { Edits (edit_rules (world self.old).edits edit ++ run_rules self.old) edit self.old result self.new }
     {
         edit.known();
-        let version = match self.next_version(alloc, edit) {
-            Ok(version) => version,
-            Err(refusal) => return Err(refusal),
+        if let Some(refusal) = self.edit_refusal(&edit) {
+            return Err(refusal);
+        }
+        let Ok(shared) = SharedEdit::new(alloc, edit) else {
+            return Err(Refusal::NoMemory);
         };
-        let Ok(last) = last_edit(&version) else {
+        let Ok(item) = shared.again() else {
+            return Err(Refusal::NoMemory);
+        };
+        let Ok(version) = self.version().with_accepted(alloc, shared) else {
             return Err(Refusal::NoMemory);
         };
         if self.history.reserve(1).is_err() {
@@ -77,7 +61,7 @@ impl Image {
         }
         self.version = version;
         self.edits_made += 1;
-        self.history.push(Item::Edited(last)).unwrap();
+        self.history.push(Item::Edited(item)).unwrap();
         Ok(self.version.edits())
     }
 
@@ -94,8 +78,7 @@ impl Image {
         parent: ClassId,
         slots: Seq<Seq<u8>>,
     ) -> Result<u32, Refusal>
-        ensures answers { Answers (first_of (image_define_rules self.old name.now parent slots)) result (λ n. (self.new ≡ appended self.old (EditedItem (DefineEdit name.now parent slots) ∷ [])) × (n ≡ length (world self.new).edits)) }
-        ensures unchanged { OnErr result (self.new ≡ self.old) }
+        ensures { Defines self.old name.now parent slots result self.new }
     {
         let Ok(name) = name.to_vec(alloc) else {
             return Err(Refusal::NoMemory);

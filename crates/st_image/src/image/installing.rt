@@ -1,4 +1,4 @@
-//! Installs.
+//! Image::install: read, compile and install a method.
 use crate::image::Image;
 use st_classes::edits::Edit;
 use st_classes::kernel::kernel_at;
@@ -18,12 +18,12 @@ impl Image {
     ghost use Rattle.st_classes.specs.Refusals.{first_of, Answers};
     ghost use Rattle.st_classes.specs.Classes.{is_class};
     ghost use Rattle.st_reader.specs.Syntax.{Method as MethodOf};
-    ghost use Rattle.st_compile.specs.Compiled.{IsCompiled};
-    ghost use Rattle.st_compile.specs.Interning.{InternsFirst, IsFull, interned_all, needed_texts};
-    ghost use Rattle.st_compile.specs.Refusing.{code_rules, method_rules};
+    ghost use Rattle.st_compile.specs.CompiledMethod.{IsCompiled};
+    ghost use Rattle.st_compile.specs.NeededNames.{InternsFirst, IsFull, interned_all, needed_texts};
+    ghost use Rattle.st_compile.specs.CompileRules.{code_rules, method_rules};
     ghost use Rattle.st_compile.specs.Scopes.{pattern_selector};
     ghost use Rattle.st_image.specs.Images.{world};
-    ghost use Rattle.st_image.specs.Installing.{AnswersInstall, Installs, LeavesNames, image_install_rules, is_kernel_text};
+    ghost use Rattle.st_image.specs.Installs.{AnswersInstall, Installs, LeavesNames, image_install_rules, is_kernel_text};
 
     /// Whether the kernel has a method in the class for the selector.
     fn has_kernel_method(&self, class: ClassId, selector: &[u8]) -> bool

@@ -1,4 +1,4 @@
-//! Messages to actors.
+//! Image::post: a message of a client.
 use crate::acting::post_refusal;
 use crate::image::Image;
 use crate::items::Item;
@@ -8,11 +8,11 @@ use st_classes::values::{ActorId, Selector, Values};
 use std::alloc::Global;
 
 impl Image {
-    ghost use Rattle.std.specs.Prelude.{◌≡◌, ◌<◌, [], ◌∷◌, length, slice_get, IfNone, OnErr};
-    ghost use Rattle.st_classes.specs.Refusals.{first_of, Answers};
-    ghost use Rattle.st_image.specs.declared.items.Item.TheVariants.{Posted as PostedItem};
-    ghost use Rattle.st_image.specs.Images.{accepted_by, appended, image_post_rules, world};
-    ghost use Rattle.st_image.specs.Posting.{IsClients, from_client};
+    ghost use Rattle.std.specs.Prelude.{◌≡◌, ◌<◌, length, IfNone};
+    ghost use Rattle.st_classes.specs.Refusals.{first_of};
+    ghost use Rattle.st_image.specs.Calls.{Posts};
+    ghost use Rattle.st_image.specs.Images.{image_post_rules, world};
+    ghost use Rattle.st_image.specs.PostRules.{IsClients, from_client};
 
     /// Why a message is refused, if it is.
     fn post_refusal(&self, actor: ActorId, message: &Message) -> Option<Refusal>
@@ -29,8 +29,7 @@ impl Image {
     /// accepted, from 1.
     fn accept(&mut self, alloc: Global, actor: ActorId, message: Message) -> Result<u64, Refusal>
         requires { IsClients message.sender }
-        ensures answers { Answers (first_of (image_post_rules self.old actor message)) result (λ n. (self.new ≡ appended self.old (PostedItem actor message ∷ [])) × (n ≡ accepted_by (slice_get (world self.new).actors actor.0))) }
-        ensures unchanged { OnErr result (self.new ≡ self.old) }
+        ensures { Posts self.old actor message result self.new }
     {
         if let Some(refusal) = self.post_refusal(actor, &message) {
             return Err(refusal);
@@ -57,7 +56,8 @@ impl Image {
     /// among the messages that the actor accepted, from 1, which is also the number of its turn.
     ///
     /// Refusals, in this order: `UnknownActor`; `BadArguments` where the selector isn't there or takes another number of
-    /// arguments, or an argument is a local or names nothing; `Closed`; `Full`; `HistoryFull`. A refused call changes nothing.
+    /// arguments, or an argument is a local or names nothing; `Closed`; `Full`; `HistoryFull`. Memory can run out only where none
+    /// of these applies. A refused call changes nothing.
     pub fn post(
         &mut self,
         alloc: Global,
@@ -67,8 +67,7 @@ impl Image {
         selector: Selector,
         args: Values,
     ) -> Result<u64, Refusal>
-        ensures answers { Answers (first_of (image_post_rules self.old actor (from_client sender seq selector args))) result (λ n. (self.new ≡ appended self.old (PostedItem actor (from_client sender seq selector args) ∷ [])) × (n ≡ accepted_by (slice_get (world self.new).actors actor.0))) }
-        ensures unchanged { OnErr result (self.new ≡ self.old) }
+        ensures { Posts self.old actor (from_client sender seq selector args) result self.new }
     {
         let message = Message {
             sender: Sender::Client(sender),

@@ -2,15 +2,15 @@
 use crate::characters;
 use st_classes::selectors;
 
-// Where a byte stands.
+/// Where a byte is: in the code or in a comment.
 #[derive(Clone, Copy)]
 enum Region {
     Code,
-    /// Behind a quote that opens a comment, which may never be closed.
+    /// After a quote that opens a comment, which may never be closed.
     Comment,
 }
 
-// Whether white space, a comment or a token begins with a byte.
+/// Whether white space, a comment or a token begins with a byte.
 fn begins_piece(b: u8) -> bool {
     match b {
         b'"' | b'#' | b':' | b'(' | b')' | b'[' | b']' | b'^' | b'.' | b';' | b'|' => true,
@@ -19,7 +19,7 @@ fn begins_piece(b: u8) -> bool {
                 || selectors::is_letter(b)
                 || selectors::is_digit(b)
                 || selectors::is_binary_character(b)
-        },
+        }
     }
 }
 
@@ -31,7 +31,7 @@ impl Region {
         }
     }
 
-    // Where the byte behind a quote stands.
+    /// Where the byte after a quote is.
     fn behind_quote(self) -> Self {
         match self {
             Region::Code => Region::Comment,

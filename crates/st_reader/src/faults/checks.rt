@@ -1,5 +1,5 @@
 //! The checks of a source, and the first that fails.
-ghost use Rattle.st_reader.specs.Faults.{IsBadSource};
+ghost use Rattle.st_reader.specs.Faults.{IsBadSource, IsWithin};
 
 use st_classes::refusals::{Refusal, SourceFault};
 
@@ -10,7 +10,7 @@ pub enum Check {
     Length,
     /// No byte is one that a source may not have at its place.
     Characters,
-    /// A token begins wherever one must, and those behind the pattern go on as the grammar says.
+    /// A token begins wherever one must, and those after the pattern go on as the grammar says.
     Tokens,
     /// The tokens begin with a pattern.
     Pattern,
@@ -53,12 +53,15 @@ impl Fault {
         Fault { check, offset }
     }
 
-    pub fn refusal(self) -> Refusal
-        ensures { IsBadSource result }
+    /// The refusal of a source of this length. All offsets lie within it; taking the lesser of the two proves that here, without
+    /// a clause on each step of the pass.
+    pub fn refusal_within(self, length: usize) -> Refusal
+        ensures source { IsBadSource result }
+        ensures offset { IsWithin length result }
     {
         Refusal::BadSource {
             kind: self.check.kind(),
-            offset: u32::from(self.offset),
+            offset: usize::from(self.offset).min(length) as u32,
         }
     }
 }

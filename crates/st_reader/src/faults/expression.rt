@@ -1,4 +1,6 @@
 //! An expression, token by token.
+ghost use Rattle.std.specs.Prelude.{◌≡◌, IfErr};
+
 use crate::faults::checks::Faults;
 use crate::faults::keywords::{Keywords, Selector};
 use crate::faults::stop::Stop;
@@ -9,11 +11,11 @@ use crate::faults::term::Term;
 enum Role {
     /// The first operand, which all messages go to.
     Receiver,
-    /// Behind a binary selector.
+    /// After a binary selector.
     BinaryArgument,
-    /// Behind a keyword.
+    /// After a keyword.
     KeywordArgument,
-    /// Behind a binary selector that a semicolon stands before. No binary selector or keyword can follow.
+    /// After a binary selector that follows a semicolon. No binary selector or keyword can follow.
     CascadeArgument,
 }
 
@@ -26,13 +28,13 @@ enum Sent {
     Cascade,
 }
 
-/// An expression behind its assignments, up to the last token that was read.
+/// An expression after its assignments, up to the last token that was read.
 #[derive(Clone, Copy)]
 pub struct Expression {
     sent: Sent,
     keywords: Option<Keywords>,
     role: Role,
-    // The last operand with its unary messages.
+    /// The last operand with its unary messages.
     operand: Term,
 }
 
@@ -61,19 +63,21 @@ impl Expression {
         self.operand = Term::Other;
     }
 
-    // The binary expression that ends here, as a receiver or an argument of keywords, or as a whole expression.
+    /// The binary expression that ends here, as a receiver or an argument of keywords, or as a whole expression.
     fn binary_expression(&self, faults: &mut Faults) -> Term {
         match self.role {
             Role::Receiver | Role::KeywordArgument => self.operand,
             Role::BinaryArgument | Role::CascadeArgument => {
                 self.operand.stand_alone(faults);
                 Term::Other
-            },
+            }
         }
     }
 
     /// Reads a binary selector.
-    pub fn binary(&mut self, faults: &mut Faults) -> Result<(), Stop> {
+    pub fn binary(&mut self, faults: &mut Faults) -> Result<(), Stop>
+        ensures { IfErr result (λ e. e ≡ Stop.Stuck) }
+    {
         if self.role == Role::CascadeArgument {
             return Err(Stop::Stuck);
         }
@@ -87,12 +91,9 @@ impl Expression {
     }
 
     /// Reads a keyword, and its offset.
-    pub fn keyword(
-        &mut self,
-        keyword: &[u8],
-        offset: u16,
-        faults: &mut Faults,
-    ) -> Result<(), Stop> {
+    pub fn keyword(&mut self, keyword: &[u8], offset: u16, faults: &mut Faults) -> Result<(), Stop>
+        ensures { IfErr result (λ e. e ≡ Stop.Stuck) }
+    {
         if self.role == Role::CascadeArgument {
             return Err(Stop::Stuck);
         }
@@ -101,19 +102,21 @@ impl Expression {
             None => {
                 self.sent = Sent::To(before);
                 Keywords::new(before, Selector::new(keyword))
-            },
+            }
             Some(mut keywords) => {
                 keywords.add_argument(before, faults);
                 keywords.add_keyword(keyword, offset, faults);
                 keywords
-            },
+            }
         });
         self.role = Role::KeywordArgument;
         Ok(())
     }
 
     /// Reads a semicolon.
-    pub fn semicolon(&mut self, faults: &mut Faults) -> Result<(), Stop> {
+    pub fn semicolon(&mut self, faults: &mut Faults) -> Result<(), Stop>
+        ensures { IfErr result (λ e. e ≡ Stop.Stuck) }
+    {
         if let Some(mut keywords) = self.keywords {
             keywords.cascade();
             self.keywords = Some(keywords);
@@ -131,18 +134,18 @@ impl Expression {
         Ok(())
     }
 
-    /// Reads a binary selector behind a semicolon.
+    /// Reads a binary selector after a semicolon.
     pub fn cascade_binary(&mut self) {
         self.role = Role::CascadeArgument;
     }
 
-    /// Reads a keyword behind a semicolon.
+    /// Reads a keyword after a semicolon.
     pub fn cascade_keyword(&mut self) {
         self.keywords = Some(Keywords::new(Term::Other, Selector::Sent));
         self.role = Role::KeywordArgument;
     }
 
-    /// Ends here.
+    /// Ends the expression after its last operand.
     pub fn end(&self, faults: &mut Faults) {
         let last = self.binary_expression(faults);
         match self.keywords {
@@ -150,11 +153,11 @@ impl Expression {
             Some(mut keywords) => {
                 keywords.add_argument(last, faults);
                 keywords.end(faults);
-            },
+            }
         }
     }
 
-    /// Breaks off behind an operand.
+    /// Breaks off after an operand.
     pub fn break_off(&self, faults: &mut Faults) {
         self.operand.go_without_message(faults);
     }

@@ -36,17 +36,16 @@ impl Selector {
         }
     }
 
-    // With a further keyword.
     fn followed_by(self, keyword: &[u8]) -> Self {
         match (self, Selector::new(keyword)) {
             (Selector::IfTrue, Selector::IfFalse) | (Selector::IfFalse, Selector::IfTrue) => {
                 Selector::Either
-            },
+            }
             _ => Selector::Sent,
         }
     }
 
-    // Whether a message whose arguments are blocks is compiled in place.
+    /// Whether a message whose arguments are blocks is compiled in place.
     fn is_inlined(self, receiver: Term) -> bool {
         match (self, receiver) {
             (Selector::Sent, _) => false,
@@ -72,7 +71,7 @@ pub struct Keywords {
     selector: Selector,
     count: usize,
     arguments: Arguments,
-    // The offset of the first block among receiver and arguments.
+    /// The offset of the first block among receiver and arguments.
     block: Option<u16>,
 }
 

@@ -1,8 +1,5 @@
-//! What stands between a pair of brackets.
+//! A level: what was read between a pair of brackets.
 use crate::faults::expression::Expression;
-
-/// Parentheses and blocks that may be open at once.
-pub const NESTING: usize = 64;
 
 /// The brackets round a level.
 #[derive(Clone, Copy, PartialEq, Eq, Debug)]
@@ -30,7 +27,7 @@ pub struct Level {
 }
 
 impl Level {
-    /// Behind the opening bracket.
+    /// After the opening bracket.
     pub fn new(bracket: Bracket) -> Self {
         Level {
             bracket,

@@ -1,4 +1,4 @@
-//! The arguments and temporaries of a method.
+//! The arguments and temporaries that were read, and what is wrong with their names.
 use crate::faults::checks::{Check, Faults};
 use crate::faults::stop::Stop;
 use crate::tokens::text;
@@ -42,7 +42,6 @@ impl Names {
             || is_among(source, name, &self.temporaries)
     }
 
-    // Notes what is wrong with one more name.
     fn check(&self, source: &[u8], name: Span, faults: &mut Faults) {
         if self.is_full() {
             faults.note(Check::Sizes, name.start);

@@ -1,4 +1,4 @@
-//! The range of numbers.
+//! Numbers that have more than 64 bits.
 use crate::characters;
 use crate::tokens::text;
 use crate::trees::Span;
@@ -10,7 +10,7 @@ pub enum Sign {
     Minus,
 }
 
-/// Whether a number has no 64 bits.
+/// Whether a number has more than 64 bits.
 pub fn is_out_of_range(source: &[u8], digits: Span, sign: Sign) -> bool {
     let Some(magnitude) = characters::digits_value(text(source, digits)) else {
         return true;

@@ -1,15 +1,15 @@
 //! The pass over the tokens: an automaton with a list of the open brackets.
-ghost use Rattle.std.specs.Prelude.{◌≤◌, length};
+ghost use Rattle.std.specs.Prelude.{◌≡◌, ◌≤◌, length, IfErr};
 
 use crate::faults::checks::{Check, Fault, Faults};
-use crate::faults::level::{Bracket, Level, NESTING, Statement};
+use crate::faults::level::{Bracket, Level, Statement};
 use crate::faults::names::Names;
 use crate::faults::numbers::{self, Sign};
 use crate::faults::stop::Stop;
 use crate::faults::term::Term;
 use crate::tokens::{self, Kind, Lexeme, Mark, Tokens, text};
 use crate::trees::Span;
-use st_classes::selectors;
+use st_classes::{limits, selectors};
 use std::alloc::Global;
 
 /// What may come next, by what was read last.
@@ -31,26 +31,26 @@ enum State {
     Statement,
     /// An expression.
     Expression,
-    /// `:=` behind this name, or what follows it as an operand.
+    /// `:=` after this name, or what follows it as an operand.
     Name(Span),
     /// An operand.
     Operand,
-    /// Digits, behind their minus.
+    /// Digits, after their minus.
     Digits,
     /// A message, or what follows an expression.
     Message,
-    /// A message behind a semicolon.
+    /// A message after a semicolon.
     Cascade,
     /// A semicolon, or what follows an expression.
     Semicolon,
-    /// The end of the level, behind the period of an answer.
+    /// The end of the level, after the period of an answer.
     End,
     /// Nothing: the grammar could not go on.
     Stuck,
 }
 
 impl State {
-    // The check that fails where nothing of this comes.
+    /// The check that fails where nothing of this comes.
     fn check(self) -> Check {
         match self {
             State::Pattern | State::BinaryArgument | State::KeywordArgument => Check::Pattern,
@@ -65,7 +65,7 @@ struct Reader<'s> {
     source: &'s [u8],
     state: State,
     level: Level,
-    // The levels around this one, the outermost first.
+    /// The levels around this one, the outermost first.
     outer: Vec<Level>,
     names: Names,
     faults: Faults,
@@ -80,12 +80,14 @@ impl Reader<'_> {
         self.faults.note(check, at.span.start);
     }
 
-    // Whether an identifier can name an argument or a temporary.
+    /// Whether an identifier can name an argument or a temporary.
     fn is_variable(&self, lexeme: Lexeme) -> bool {
         lexeme.kind == Kind::Identifier && !selectors::begins_upper(self.text(lexeme))
     }
 
-    fn pattern(&self, lexeme: Lexeme) -> Result<State, Stop> {
+    fn pattern(&self, lexeme: Lexeme) -> Result<State, Stop>
+        ensures { IfErr result (λ e. e ≡ Stop.Stuck) }
+    {
         match lexeme.kind {
             Kind::Identifier => Ok(State::Body),
             Kind::Binary => Ok(State::BinaryArgument),
@@ -137,7 +139,7 @@ impl Reader<'_> {
             Kind::Mark(Mark::Caret) => {
                 self.level.statement = Statement::Answered;
                 Ok(State::Expression)
-            },
+            }
             Kind::Mark(Mark::CloseBlock) => self.close(Bracket::Block),
             _ => self.expression(lexeme),
         }
@@ -153,7 +155,9 @@ impl Reader<'_> {
         }
     }
 
-    fn name(&mut self, name: Span, lexeme: Lexeme) -> Result<State, Stop> {
+    fn name(&mut self, name: Span, lexeme: Lexeme) -> Result<State, Stop>
+        ensures { IfErr result (λ e. e ≡ Stop.Stuck) }
+    {
         if lexeme.kind != Kind::Assign {
             return self.message(lexeme);
         }
@@ -163,28 +167,28 @@ impl Reader<'_> {
 
     fn operand(&mut self, lexeme: Lexeme) -> Result<State, Stop> {
         match lexeme.kind {
-            Kind::Identifier => self.variable(lexeme),
-            Kind::Number => self.number(lexeme, Sign::Plain),
-            Kind::Symbol => self.value(Term::Other),
+            Kind::Identifier => Ok(self.variable(lexeme)),
+            Kind::Number => Ok(self.number(lexeme, Sign::Plain)),
+            Kind::Symbol => Ok(self.value(Term::Other)),
             Kind::Binary if self.is_minus_of_digits(lexeme) => Ok(State::Digits),
             Kind::Mark(Mark::OpenParenthesis) => {
                 self.open(Bracket::Parenthesis, lexeme, Term::Other)?;
                 Ok(State::Expression)
-            },
+            }
             Kind::Mark(Mark::OpenBlock) => {
                 self.open(Bracket::Block, lexeme, Term::Block(lexeme.span.start))?;
                 Ok(State::Statement)
-            },
+            }
             _ => Err(Stop::Stuck),
         }
     }
 
-    fn value(&mut self, operand: Term) -> Result<State, Stop> {
+    fn value(&mut self, operand: Term) -> State {
         self.level.expression.operand(operand);
-        Ok(State::Message)
+        State::Message
     }
 
-    fn variable(&mut self, name: Lexeme) -> Result<State, Stop> {
+    fn variable(&mut self, name: Lexeme) -> State {
         if self.text(name) == b"super".as_slice() {
             self.value(Term::Super(name.span.start))
         } else {
@@ -192,48 +196,54 @@ impl Reader<'_> {
         }
     }
 
-    fn number(&mut self, digits: Lexeme, sign: Sign) -> Result<State, Stop> {
+    fn number(&mut self, digits: Lexeme, sign: Sign) -> State {
         if numbers::is_out_of_range(self.source, digits.span, sign) {
             self.note(Check::Sizes, digits);
         }
         self.value(Term::Other)
     }
 
-    // Whether a binary selector is a minus with a digit directly behind it.
+    /// Whether a binary selector is a minus with a digit directly after it.
     fn is_minus_of_digits(&self, lexeme: Lexeme) -> bool {
         let behind = self.source.get(usize::from(lexeme.span.end));
         self.text(lexeme) == b"-".as_slice() && behind.is_some_and(|b| selectors::is_digit(*b))
     }
 
-    fn digits(&mut self, lexeme: Lexeme) -> Result<State, Stop> {
+    fn digits(&mut self, lexeme: Lexeme) -> Result<State, Stop>
+        ensures { IfErr result (λ e. e ≡ Stop.Stuck) }
+    {
         if lexeme.kind != Kind::Number {
             return Err(Stop::Stuck);
         }
-        self.number(lexeme, Sign::Minus)
+        Ok(self.number(lexeme, Sign::Minus))
     }
 
-    fn message(&mut self, lexeme: Lexeme) -> Result<State, Stop> {
+    fn message(&mut self, lexeme: Lexeme) -> Result<State, Stop>
+        ensures { IfErr result (λ e. e ≡ Stop.Stuck) }
+    {
         match lexeme.kind {
             Kind::Identifier => {
                 self.level.expression.unary(&mut self.faults);
                 Ok(State::Message)
-            },
+            }
             Kind::Binary => {
                 self.level.expression.binary(&mut self.faults)?;
                 Ok(State::Operand)
-            },
+            }
             Kind::Keyword => {
                 let keyword = text(self.source, lexeme.span);
                 self.level
                     .expression
                     .keyword(keyword, lexeme.span.start, &mut self.faults)?;
                 Ok(State::Operand)
-            },
+            }
             _ => self.semicolon(lexeme),
         }
     }
 
-    fn semicolon(&mut self, lexeme: Lexeme) -> Result<State, Stop> {
+    fn semicolon(&mut self, lexeme: Lexeme) -> Result<State, Stop>
+        ensures { IfErr result (λ e. e ≡ Stop.Stuck) }
+    {
         if lexeme.kind != Kind::Mark(Mark::Semicolon) {
             return self.expression_end(lexeme);
         }
@@ -241,22 +251,26 @@ impl Reader<'_> {
         Ok(State::Cascade)
     }
 
-    fn cascade(&mut self, lexeme: Lexeme) -> Result<State, Stop> {
+    fn cascade(&mut self, lexeme: Lexeme) -> Result<State, Stop>
+        ensures { IfErr result (λ e. e ≡ Stop.Stuck) }
+    {
         match lexeme.kind {
             Kind::Identifier => Ok(State::Semicolon),
             Kind::Binary => {
                 self.level.expression.cascade_binary();
                 Ok(State::Operand)
-            },
+            }
             Kind::Keyword => {
                 self.level.expression.cascade_keyword();
                 Ok(State::Operand)
-            },
+            }
             _ => Err(Stop::Stuck),
         }
     }
 
-    fn expression_end(&mut self, lexeme: Lexeme) -> Result<State, Stop> {
+    fn expression_end(&mut self, lexeme: Lexeme) -> Result<State, Stop>
+        ensures { IfErr result (λ e. e ≡ Stop.Stuck) }
+    {
         self.level.expression.end(&mut self.faults);
         match lexeme.kind {
             Kind::Mark(Mark::Period) => self.period(),
@@ -266,7 +280,9 @@ impl Reader<'_> {
         }
     }
 
-    fn period(&self) -> Result<State, Stop> {
+    fn period(&self) -> Result<State, Stop>
+        ensures { IfErr result (λ e. e ≡ Stop.Stuck) }
+    {
         match (self.level.bracket, self.level.statement) {
             (Bracket::Parenthesis, _) => Err(Stop::Stuck),
             (_, Statement::Kept) => Ok(State::Statement),
@@ -274,25 +290,29 @@ impl Reader<'_> {
         }
     }
 
-    fn end(&mut self, lexeme: Lexeme) -> Result<State, Stop> {
+    fn end(&mut self, lexeme: Lexeme) -> Result<State, Stop>
+        ensures { IfErr result (λ e. e ≡ Stop.Stuck) }
+    {
         match lexeme.kind {
             Kind::Mark(Mark::CloseBlock) => self.close(Bracket::Block),
             _ => Err(Stop::Stuck),
         }
     }
 
-    // Opens a bracket. What stands in the pair is an operand of the level around it.
+    /// Opens a bracket. The pair is an operand of the level around it.
     fn open(&mut self, bracket: Bracket, opening: Lexeme, operand: Term) -> Result<(), Stop> {
         self.level.expression.operand(operand);
         self.outer.push(self.level)?;
-        if self.outer.len() > NESTING {
+        if self.outer.len() > usize::from(limits::NESTING) {
             self.note(Check::Nesting, opening);
         }
         self.level = Level::new(bracket);
         Ok(())
     }
 
-    fn close(&mut self, bracket: Bracket) -> Result<State, Stop> {
+    fn close(&mut self, bracket: Bracket) -> Result<State, Stop>
+        ensures { IfErr result (λ e. e ≡ Stop.Stuck) }
+    {
         if self.level.bracket != bracket {
             return Err(Stop::Stuck);
         }
@@ -324,7 +344,7 @@ impl Reader<'_> {
         }
     }
 
-    // Where the grammar can't go on, or no token begins.
+    /// Where the grammar can't go on, or no token begins.
     fn stick(&mut self, offset: u16) {
         self.faults.note(self.state.check(), offset);
         if let State::Name(_) | State::Message = self.state {
@@ -345,12 +365,12 @@ impl Reader<'_> {
         Ok(())
     }
 
-    // Where there are no more tokens.
+    /// Where there are no more tokens.
     fn finish(&mut self, offset: u16) {
         match self.state {
             State::Name(_) | State::Message | State::Semicolon => {
                 self.level.expression.end(&mut self.faults);
-            },
+            }
             State::Keywords | State::Body | State::Statement | State::End | State::Stuck => {},
             _ => self.faults.note(self.state.check(), offset),
         }

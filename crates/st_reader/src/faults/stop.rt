@@ -1,7 +1,7 @@
-//! Why the reading of tokens goes no further.
+//! Why the pass over the tokens goes no further.
 use std::alloc::AllocFailed;
 
-/// Why the reading of tokens goes no further.
+/// Why no next state follows a token.
 #[derive(Clone, Copy)]
 pub enum Stop {
     /// No method has this token at this place.

@@ -1,9 +1,9 @@
-//! Trees from their parts.
-ghost use Rattle.std.specs.Prelude.{◌≡◌, MatchResult, ℕ, List, option_map};
+//! Makes trees from their parts, each part as the parser returned it.
+ghost use Rattle.std.specs.Prelude.{◌≡◌, IfErr, MatchResult, ℕ, List, option_map};
 ghost use Rattle.st_reader.specs.Lexemes.{tokens_of, seen};
 ghost use Rattle.st_reader.specs.Syntax.{send, parenthesis, block};
-ghost use Rattle.st_reader.specs.Views.{operand_view, chain_view, message_view, expression_view, statements_view, assigns, thens, last_of, seen_parts, seen_further, seen_sentences, behind_sentences};
-ghost use Rattle.st_reader.specs.Reading.{Gives, with_parts, with_further, answered};
+ghost use Rattle.st_reader.specs.TreeViews.{operand_view, chain_view, message_view, expression_view, statements_view, assigns, thens, last_of, seen_parts, seen_further, seen_sentences, behind_sentences};
+ghost use Rattle.st_reader.specs.Parser.{Gives, with_parts, with_further, answered};
 
 use crate::parser::Wrong;
 use crate::parser::fronts::next;
@@ -44,7 +44,8 @@ pub fn with_further(
     receiver: Chain,
     further: Vec<(Span, Message)>,
 ) -> Result<Expression, Wrong>
-    ensures { Gives expression_view result (option_map (assigns targets) (with_further (chain_view receiver) (seen_further further.items))) }
+    ensures gives { Gives expression_view result (option_map (assigns targets) (with_further (chain_view receiver) (seen_further further.items))) }
+    ensures err { IfErr result (λ e. e ≡ Wrong.NoTree) }
 {
     if further.is_empty() {
         return Ok(Expression {

@@ -1,8 +1,8 @@
-//! Operands, messages, expressions and statements.
+//! Reads operands, messages, expressions and statements, one function for each form of the grammar.
 ghost use Rattle.std.specs.Prelude.{◌≡◌, length, map, MatchResult};
 ghost use Rattle.st_reader.specs.Lexemes.{tokens_of, seen};
-ghost use Rattle.st_reader.specs.Views.{operand_view, chain_view, message_view, expression_view, statements_view, sends, seen_parts, seen_further};
-ghost use Rattle.st_reader.specs.Reading.{Gives, unaries_of, targets_of, operand_of, term_of, binary_of, keyword_parts_of, message_of, further_messages_of, expression_of, group_of, block_of, statements_with};
+ghost use Rattle.st_reader.specs.TreeViews.{operand_view, chain_view, message_view, expression_view, statements_view, sends, seen_parts, seen_further};
+ghost use Rattle.st_reader.specs.Parser.{Gives, unaries_of, targets_of, operand_of, term_of, binary_of, keyword_parts_of, message_of, further_messages_of, expression_of, group_of, block_of, statements_with};
 
 use crate::parser::building::{
     answered, bracketed, parenthesized, push, unanswered, with_further, with_parts,
@@ -16,7 +16,7 @@ use st_classes::limits;
 use st_classes::seq::Seq;
 use std::alloc::Global;
 
-// The unary messages at the front.
+/// The unary messages at the front.
 fn unaries<'t>(alloc: Global, source: &[u8], lexemes: &'t [Lexeme]) -> Parsed<'t, Vec<Message>>
     ensures { MatchResult result (λ x. (e : _) → unaries_of e (tokens_of source.now lexemes.now) ≡ (sends e (map message_view x.0.items), tokens_of source.now x.1.now)) (λ e. e ≡ Wrong.NoMemory) }
 {
@@ -32,7 +32,7 @@ fn unaries<'t>(alloc: Global, source: &[u8], lexemes: &'t [Lexeme]) -> Parsed<'t
     Ok((messages, rest))
 }
 
-// The variables at the front that are assigned to.
+/// The variables at the front that are assigned to.
 fn targets<'t>(alloc: Global, source: &[u8], lexemes: &'t [Lexeme]) -> Parsed<'t, Seq<Target>>
     ensures { MatchResult result (λ x. targets_of (tokens_of source.now lexemes.now) ≡ (x.0, tokens_of source.now x.1.now)) (λ e. e ≡ Wrong.NoMemory) }
 {
@@ -48,7 +48,7 @@ fn targets<'t>(alloc: Global, source: &[u8], lexemes: &'t [Lexeme]) -> Parsed<'t
     Ok((Seq::from_vec(targets), rest))
 }
 
-// An operand. Brackets may nest so deep behind it.
+/// An operand. Brackets may nest so deep after it.
 #[cycle(read)]
 fn operand<'t>(
     alloc: Global,
@@ -74,8 +74,8 @@ fn operand<'t>(
     }
 }
 
-// An expression in parentheses, behind the opening one.
-#[tactic(auto, unfolding(crate::specs::Reading::group_with))]
+/// An expression in parentheses, after the opening one.
+#[tactic(auto, unfolding(crate::specs::Parser::group_with))]
 #[cycle(read)]
 fn group<'t>(
     alloc: Global,
@@ -94,8 +94,8 @@ fn group<'t>(
     Ok((parenthesized(alloc, opening, inside, closing)?, rest))
 }
 
-// A block, behind the opening bracket.
-#[tactic(auto, unfolding(crate::specs::Reading::block_with, crate::specs::Reading::filled_block_with))]
+/// A block, after the opening bracket.
+#[tactic(auto, unfolding(crate::specs::Parser::block_with, crate::specs::Parser::filled_block_with))]
 #[cycle(read)]
 fn block<'t>(
     alloc: Global,
@@ -124,8 +124,8 @@ fn block<'t>(
     Ok((bracketed(alloc, opening, inside, closing)?, rest))
 }
 
-// An operand and its unary messages.
-#[tactic(auto, unfolding(crate::specs::Reading::term_of))]
+/// An operand and its unary messages.
+#[tactic(auto, unfolding(crate::specs::Parser::term_of))]
 #[cycle(read)]
 fn term<'t>(alloc: Global, source: &[u8], nesting: u8, lexemes: &'t [Lexeme]) -> Parsed<'t, Chain>
     ensures { Gives (seen chain_view source.now) result (term_of (group_of nesting) (block_of nesting) (tokens_of source.now lexemes.now)) }
@@ -135,7 +135,7 @@ fn term<'t>(alloc: Global, source: &[u8], nesting: u8, lexemes: &'t [Lexeme]) ->
     Ok((Chain { operand, messages }, rest))
 }
 
-// A term and its binary messages.
+/// A term and its binary messages.
 #[cycle(read)]
 fn binary<'t>(alloc: Global, source: &[u8], nesting: u8, lexemes: &'t [Lexeme]) -> Parsed<'t, Chain>
     ensures { Gives (seen chain_view source.now) result (binary_of (group_of nesting) (block_of nesting) (tokens_of source.now lexemes.now)) }
@@ -150,7 +150,7 @@ fn binary<'t>(alloc: Global, source: &[u8], nesting: u8, lexemes: &'t [Lexeme]) 
     Ok((chain, rest))
 }
 
-// Keywords with their arguments, at most eight.
+/// Keywords with their arguments, at most eight.
 #[cycle(read)]
 fn parts<'t>(
     alloc: Global,
@@ -176,8 +176,8 @@ fn parts<'t>(
     Ok((parts, rest))
 }
 
-// A message by itself.
-#[tactic(auto, unfolding(crate::specs::Reading::message_of))]
+/// A message by itself.
+#[tactic(auto, unfolding(crate::specs::Parser::message_of))]
 #[cycle(read)]
 fn message<'t>(
     alloc: Global,
@@ -196,16 +196,16 @@ fn message<'t>(
             let (argument, rest) = term(alloc, source, nesting, rest)?;
             let selector = name(alloc, source, first.span)?;
             Ok((Message::Binary(selector, argument), rest))
-        },
+        }
         Kind::Keyword => {
             let (parts, rest) = parts(alloc, source, nesting, lexemes)?;
             Ok((Message::Keyword(parts), rest))
-        },
+        }
         _ => Err(Wrong::NoTree),
     }
 }
 
-// The messages behind semicolons.
+/// The messages after semicolons.
 #[cycle(read)]
 fn further<'t>(
     alloc: Global,
@@ -227,7 +227,7 @@ fn further<'t>(
     Ok((further, rest))
 }
 
-// An expression, in which brackets may nest so deep.
+/// An expression, in which brackets may nest so deep.
 #[cycle(read)]
 fn expression<'t>(
     alloc: Global,

@@ -1,9 +1,9 @@
-//! Names, symbols and numbers.
-ghost use Rattle.std.specs.Prelude.{◌≡◌, MatchResult};
+//! Reads the leaves of trees: names, symbols and numbers.
+ghost use Rattle.std.specs.Prelude.{◌≡◌, IfErr, MatchResult};
 ghost use Rattle.st_reader.specs.Lexemes.{tokens_of, seen, text_at, name_at, symbol_at};
 ghost use Rattle.st_reader.specs.Tokens.{digits_value};
-ghost use Rattle.st_reader.specs.Views.{operand_view};
-ghost use Rattle.st_reader.specs.Reading.{Gives, literal_of, negative_of};
+ghost use Rattle.st_reader.specs.TreeViews.{operand_view};
+ghost use Rattle.st_reader.specs.Parser.{Gives, literal_of, negative_of};
 
 use crate::characters;
 use crate::parser::{Parsed, Wrong};
@@ -41,7 +41,8 @@ pub fn symbol(alloc: Global, source: &[u8], span: Span) -> Result<Name, Wrong>
 
 /// Digits, with the minus before them.
 pub fn number(source: &[u8], minus: Option<Span>, digits: Span) -> Result<Operand, Wrong>
-    ensures { Gives operand_view result (literal_of minus (digits_value (text_at source.now digits)) digits) }
+    ensures gives { Gives operand_view result (literal_of minus (digits_value (text_at source.now digits)) digits) }
+    ensures err { IfErr result (λ e. e ≡ Wrong.NoTree) }
 {
     let Some(magnitude) = characters::digits_value(text(source, digits)) else {
         return Err(Wrong::NoTree);
@@ -60,14 +61,15 @@ pub fn number(source: &[u8], minus: Option<Span>, digits: Span) -> Result<Operan
     }
 }
 
-/// Digits directly behind a minus.
+/// Digits directly after a minus.
 pub fn negative<'t>(source: &[u8], minus: Span, lexemes: &'t [Lexeme]) -> Parsed<'t, Operand>
-    ensures { Gives (seen operand_view source.now) result (negative_of minus (tokens_of source.now lexemes.now)) }
+    ensures gives { Gives (seen operand_view source.now) result (negative_of minus (tokens_of source.now lexemes.now)) }
+    ensures err { IfErr result (λ e. e ≡ Wrong.NoTree) }
 {
     match lexemes {
         [digits, rest @ ..] if digits.kind == Kind::Number && digits.span.start == minus.end => {
             Ok((number(source, Some(minus), digits.span)?, rest))
-        },
+        }
         _ => Err(Wrong::NoTree),
     }
 }

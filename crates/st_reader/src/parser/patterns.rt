@@ -1,7 +1,7 @@
-//! Patterns and temporaries.
+//! Reads the pattern of a method and its temporaries.
 ghost use Rattle.std.specs.Prelude.{◌≡◌, MatchResult};
 ghost use Rattle.st_reader.specs.Lexemes.{tokens_of, seen};
-ghost use Rattle.st_reader.specs.Reading.{Gives, parameter_of, parameters_of, pattern_of, names_of, temporaries_of};
+ghost use Rattle.st_reader.specs.Parser.{Gives, parameter_of, parameters_of, pattern_of, names_of, temporaries_of};
 
 use crate::parser::fronts::next;
 use crate::parser::leaves::name;
@@ -12,7 +12,7 @@ use st_classes::limits;
 use st_classes::seq::Seq;
 use std::alloc::Global;
 
-// A name behind a selector or a keyword of a pattern.
+/// A name after a selector or a keyword of a pattern.
 fn parameter<'t>(alloc: Global, source: &[u8], lexemes: &'t [Lexeme]) -> Parsed<'t, Name>
     ensures { Gives (seen (λ n. n) source.now) result (parameter_of (tokens_of source.now lexemes.now)) }
 {
@@ -22,7 +22,7 @@ fn parameter<'t>(alloc: Global, source: &[u8], lexemes: &'t [Lexeme]) -> Parsed<
     Ok((name(alloc, source, argument.span)?, rest))
 }
 
-// The keywords of a pattern with their arguments, at most eight.
+/// The keywords of a pattern with their arguments, at most eight.
 fn parameters<'t>(alloc: Global, source: &[u8], lexemes: &'t [Lexeme]) -> Parsed<'t, Seq<Parameter>>
     ensures { Gives (seen (λ ps. ps) source.now) result (parameters_of 8 (tokens_of source.now lexemes.now)) }
 {
@@ -43,7 +43,7 @@ fn parameters<'t>(alloc: Global, source: &[u8], lexemes: &'t [Lexeme]) -> Parsed
 }
 
 /// The pattern of a method.
-#[tactic(auto, unfolding(crate::specs::Reading::pattern_of))]
+#[tactic(auto, unfolding(crate::specs::Parser::pattern_of))]
 pub fn pattern<'t>(alloc: Global, source: &[u8], lexemes: &'t [Lexeme]) -> Parsed<'t, Pattern>
     ensures { Gives (seen (λ p. p) source.now) result (pattern_of (tokens_of source.now lexemes.now)) }
 {
@@ -56,16 +56,15 @@ pub fn pattern<'t>(alloc: Global, source: &[u8], lexemes: &'t [Lexeme]) -> Parse
             let (argument, rest) = parameter(alloc, source, rest)?;
             let selector = name(alloc, source, first.span)?;
             Ok((Pattern::Binary { selector, argument }, rest))
-        },
+        }
         Kind::Keyword => {
             let (parameters, rest) = parameters(alloc, source, lexemes)?;
             Ok((Pattern::Keyword(parameters), rest))
-        },
+        }
         _ => Err(Wrong::NoTree),
     }
 }
 
-// The names at the front.
 fn names<'t>(alloc: Global, source: &[u8], lexemes: &'t [Lexeme]) -> Parsed<'t, Seq<Name>>
     ensures { MatchResult result (λ x. names_of (tokens_of source.now lexemes.now) ≡ (x.0, tokens_of source.now x.1.now)) (λ e. e ≡ Wrong.NoMemory) }
 {
@@ -82,7 +81,7 @@ fn names<'t>(alloc: Global, source: &[u8], lexemes: &'t [Lexeme]) -> Parsed<'t, 
 }
 
 /// The temporaries, where there are bars.
-#[tactic(auto, unfolding(crate::specs::Reading::temporaries_of))]
+#[tactic(auto, unfolding(crate::specs::Parser::temporaries_of))]
 pub fn temporaries<'t>(
     alloc: Global,
     source: &[u8],

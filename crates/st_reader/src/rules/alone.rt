@@ -1,11 +1,11 @@
-//! What an expression is by itself.
+//! Whether an expression is a block or `super` by itself, or a value.
 ghost use Rattle.std.specs.Prelude.{◌≡◌, codes};
 ghost use Rattle.std.specs.List.{list_any};
 ghost use Rattle.std.specs.Str.{bytes_eq};
-ghost use Rattle.st_reader.specs.Views.{operand_view, chain_view, expression_view, statements_view, cascaded, seen_cascade};
+ghost use Rattle.st_reader.specs.TreeViews.{operand_view, chain_view, expression_view, statements_view, cascaded, seen_cascade};
 ghost use Rattle.st_reader.specs.Inlining.{is_block as block, is_loose as loose};
-ghost use Rattle.st_reader.specs.Rules.{sentences};
-ghost use Rattle.st_reader.specs.Alone.{alone, name_alone as named};
+ghost use Rattle.st_reader.specs.WellFormed.{sentences};
+ghost use Rattle.st_reader.specs.ExpressionKinds.{expression_kind, name_alone as named};
 
 use crate::trees::{Chain, Expression, Message, Name, Operand, Span, Statements};
 
@@ -17,7 +17,6 @@ pub enum Alone {
     Other,
 }
 
-// What a name is.
 fn name_alone(name: &Name) -> Alone
     ensures { result ≡ named (bytes_eq name.now.text (codes "super")) }
 {
@@ -30,7 +29,7 @@ fn name_alone(name: &Name) -> Alone
 
 /// What an operand is.
 pub fn operand_alone(operand: &Operand) -> Alone
-    ensures { result ≡ alone (operand_view operand.now) }
+    ensures { result ≡ expression_kind (operand_view operand.now) }
 {
     match operand {
         Operand::Block { .. } => Alone::Block,
@@ -39,10 +38,10 @@ pub fn operand_alone(operand: &Operand) -> Alone
     }
 }
 
-// What an operand with its messages is: what got a message is neither a block nor `super`.
+/// What an operand with its messages is: what got a message is neither a block nor `super`.
 #[tactic(auto, using(crate::proofs::Alone::chain_plain, crate::proofs::Alone::chain_sent))]
 fn chain_alone(chain: &Chain) -> Alone
-    ensures { result ≡ alone (chain_view chain.now) }
+    ensures { result ≡ expression_kind (chain_view chain.now) }
 {
     if chain.messages.is_empty() {
         operand_alone(&chain.operand)
@@ -51,7 +50,7 @@ fn chain_alone(chain: &Chain) -> Alone
     }
 }
 
-/// Whether a block stands by itself.
+/// Whether a chain is a block by itself.
 #[tactic(auto, using(crate::proofs::Alone::block_alone))]
 pub(crate) fn is_block(chain: &Chain) -> bool
     ensures { result ≡ block (chain_view chain.now) }
@@ -59,7 +58,7 @@ pub(crate) fn is_block(chain: &Chain) -> bool
     chain_alone(chain) == Alone::Block
 }
 
-/// Whether a block or `super` stands by itself.
+/// Whether a chain is a block or `super` by itself.
 #[tactic(auto, using(crate::proofs::Alone::loose_alone))]
 pub(crate) fn is_loose(chain: &Chain) -> bool
     ensures { result ≡ loose (chain_view chain.now) }
@@ -72,7 +71,7 @@ pub(crate) fn value_alone(
     receiver: &Chain,
     cascade: &Option<(Message, Vec<(Span, Message)>)>,
 ) -> Alone
-    ensures { result ≡ alone (cascaded (chain_view receiver.now) (seen_cascade cascade.now)) }
+    ensures { result ≡ expression_kind (cascaded (chain_view receiver.now) (seen_cascade cascade.now)) }
 {
     match cascade {
         None => chain_alone(receiver),
@@ -83,7 +82,7 @@ pub(crate) fn value_alone(
 /// What an expression is: an assignment is neither a block nor `super`.
 #[tactic(auto, using(crate::proofs::Alone::expression_value, crate::proofs::Alone::expression_assigns))]
 pub(crate) fn expression_alone(expression: &Expression) -> Alone
-    ensures { result ≡ alone (expression_view expression.now) }
+    ensures { result ≡ expression_kind (expression_view expression.now) }
 {
     if expression.targets.is_empty() {
         value_alone(&expression.receiver, &expression.cascade)
@@ -92,7 +91,7 @@ pub(crate) fn expression_alone(expression: &Expression) -> Alone
     }
 }
 
-// Whether an expression is a block or `super` by itself.
+/// Whether an expression is a block or `super` by itself.
 #[tactic(auto, using(crate::proofs::Alone::loose_alone))]
 fn is_loose_expression(expression: &Expression) -> bool
     ensures { result ≡ loose (expression_view expression.now) }
@@ -100,7 +99,7 @@ fn is_loose_expression(expression: &Expression) -> bool
     expression_alone(expression) != Alone::Other
 }
 
-// Whether a statement that another follows is a block or `super` by itself.
+/// Whether a statement that another follows is a block or `super` by itself.
 fn is_any_loose(before: &[(Expression, Span)]) -> bool
     ensures { result ≡ list_any (λ s. loose (expression_view s.0)) before.now }
 {

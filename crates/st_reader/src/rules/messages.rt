@@ -1,17 +1,16 @@
-//! Where blocks and `super` stand in a message.
+//! A rule: where a message may have a block or `super`.
 ghost use Rattle.std.specs.Prelude.{◌≡◌, ◌&&◌, ◌||◌, not};
 ghost use Rattle.std.specs.List.{list_all, list_any};
 ghost use Rattle.st_reader.specs.Syntax.{Expression, Message as Shown, keywords, send, cascade};
-ghost use Rattle.st_reader.specs.Views.{chain_view, message_view, parts_of, further_of, seen_parts, seen_further};
+ghost use Rattle.st_reader.specs.TreeViews.{chain_view, message_view, parts_of, further_of, seen_parts, seen_further};
 ghost use Rattle.st_reader.specs.Inlining.{is_block as block, is_loose as loose, inlining, suits_receiver, part_texts, part_arguments, is_inlined as inlined};
-ghost use Rattle.st_reader.specs.Rules.{arguments, further_arguments, stands};
-ghost use Rattle.st_reader.specs.Alone.{alone};
+ghost use Rattle.st_reader.specs.WellFormed.{arguments, further_arguments, is_well_placed};
+ghost use Rattle.st_reader.specs.ExpressionKinds.{expression_kind};
 
 use crate::inlining::Inlining;
 use crate::rules::alone::{Alone, is_block, is_loose};
 use crate::trees::{Chain, Message, Name, Span};
 
-// Whether each argument is a block.
 #[tactic(auto, using(crate::proofs::Messages::all_blocks))]
 fn are_blocks(parts: &[(Name, Chain)]) -> bool
     ensures { result ≡ list_all (λ p. block (chain_view p.1)) parts.now }
@@ -19,14 +18,14 @@ fn are_blocks(parts: &[(Name, Chain)]) -> bool
     parts.iter().all(|part| is_block(&part.1))
 }
 
-// Whether an argument is a block or `super`.
+/// Whether an argument is a block or `super`.
 fn is_any_loose(parts: &[(Name, Chain)]) -> bool
     ensures { result ≡ list_any (λ p. loose (chain_view p.1)) parts.now }
 {
     parts.iter().any(|part| is_loose(&part.1))
 }
 
-// How a message of these keywords is inlined, where it is.
+/// How a message of these keywords is inlined, where it is.
 #[tactic(auto, using(crate::proofs::Messages::inlining_many))]
 fn inlining_of(parts: &[(Name, Chain)]) -> Option<Inlining>
     ensures { result ≡ inlining (part_texts (parts_of (seen_parts parts.now))) }
@@ -38,10 +37,10 @@ fn inlining_of(parts: &[(Name, Chain)]) -> Option<Inlining>
     }
 }
 
-// Whether the receiver of an inlined message is as it has to be.
+/// Whether the receiver of an inlined message is as it has to be.
 #[tactic(auto, using(crate::proofs::Messages::suits))]
 fn suits(receiver: Alone, inlining: Option<Inlining>) -> bool
-    ensures { (e : Expression) → alone e ≡ receiver → result ≡ suits_receiver inlining e }
+    ensures { (e : Expression) → expression_kind e ≡ receiver → result ≡ suits_receiver inlining e }
 {
     match inlining {
         None => false,
@@ -53,20 +52,20 @@ fn suits(receiver: Alone, inlining: Option<Inlining>) -> bool
 /// Whether a message of keywords is inlined.
 #[tactic(auto, using(crate::proofs::Messages::all_blocks))]
 pub fn is_inlined(receiver: Alone, parts: &[(Name, Chain)]) -> bool
-    ensures { (e : Expression) → alone e ≡ receiver → result ≡ inlined e (keywords (parts_of (seen_parts parts.now))) }
+    ensures { (e : Expression) → expression_kind e ≡ receiver → result ≡ inlined e (keywords (parts_of (seen_parts parts.now))) }
 {
     suits(receiver, inlining_of(parts)) && are_blocks(parts)
 }
 
-// Whether a message of keywords may go to a receiver.
+/// Whether a message of keywords may go to a receiver.
 #[tactic(auto, using(crate::proofs::Messages::any_loose, crate::proofs::Alone::block_alone))]
 fn may_send(receiver: Alone, parts: &[(Name, Chain)]) -> bool
-    ensures { (e : Expression) → alone e ≡ receiver → result ≡ stands (send e (keywords (parts_of (seen_parts parts.now)))) }
+    ensures { (e : Expression) → expression_kind e ≡ receiver → result ≡ is_well_placed (send e (keywords (parts_of (seen_parts parts.now)))) }
 {
     is_inlined(receiver, parts) || receiver != Alone::Block && !is_any_loose(parts)
 }
 
-// Whether an argument of a message is a block or `super`.
+/// Whether an argument of a message is a block or `super`.
 #[tactic(auto, using(crate::proofs::Messages::keyword_is, crate::proofs::Messages::unary_is, crate::proofs::Messages::binary_is, crate::proofs::Messages::any_loose))]
 fn has_loose(message: &Message) -> bool
     ensures { result ≡ list_any loose (arguments (message_view message.now)) }
@@ -81,7 +80,7 @@ fn has_loose(message: &Message) -> bool
 /// Whether a message may go to a receiver.
 #[tactic(auto, using(crate::proofs::Messages::keyword_is, crate::proofs::Messages::unary_is, crate::proofs::Messages::binary_is, crate::proofs::Alone::block_alone))]
 pub(crate) fn stands(receiver: Alone, message: &Message) -> bool
-    ensures { (e : Expression) → alone e ≡ receiver → result ≡ stands (send e (message_view message.now)) }
+    ensures { (e : Expression) → expression_kind e ≡ receiver → result ≡ is_well_placed (send e (message_view message.now)) }
 {
     match message {
         Message::Unary(_) => receiver != Alone::Block,
@@ -90,7 +89,7 @@ pub(crate) fn stands(receiver: Alone, message: &Message) -> bool
     }
 }
 
-// Whether an argument of a message behind a semicolon is a block or `super`.
+/// Whether an argument of a message after a semicolon is a block or `super`.
 fn is_any_further_loose(further: &[(Span, Message)]) -> bool
     ensures { result ≡ list_any (λ f. list_any loose (arguments (message_view f.1))) further.now }
 {
@@ -100,7 +99,7 @@ fn is_any_further_loose(further: &[(Span, Message)]) -> bool
 /// Whether a cascade may go to a receiver.
 #[tactic(auto, using(crate::proofs::Messages::further_loose))]
 pub(crate) fn cascade_stands(receiver: &Chain, first: &Message, further: &[(Span, Message)]) -> bool
-    ensures { result ≡ stands (cascade (chain_view receiver.now) (message_view first.now) (further_of (seen_further further.now))) }
+    ensures { result ≡ is_well_placed (cascade (chain_view receiver.now) (message_view first.now) (further_of (seen_further further.now))) }
 {
     !is_loose(receiver) && !has_loose(first) && !is_any_further_loose(further)
 }

@@ -1,16 +1,15 @@
-//! What arguments and temporaries are called.
+//! A rule: the names that arguments and temporaries may have.
 ghost use Rattle.std.specs.Prelude.{◌≡◌, ◌++◌, length, map, nat_le};
 ghost use Rattle.std.specs.List.{list_all, list_any};
 ghost use Rattle.std.specs.Str.{bytes_eq};
 ghost use Rattle.st_classes.specs.Selectors.{is_slot_name as slot_name};
-ghost use Rattle.st_classes.specs.Accepting.{has_twice as twice};
+ghost use Rattle.st_classes.specs.EditRules.{has_twice as twice};
 ghost use Rattle.st_reader.specs.Variables.{arguments_of, temporaries_of, texts, argument_texts, are_variables as variables};
 
 use crate::trees::{Name, Parameter, Pattern, Temporaries};
 use st_classes::limits;
 use st_classes::selectors::is_slot_name;
 
-// Whether a text is the name of a parameter's argument.
 fn is_parameter(parameters: &[Parameter], text: &[u8]) -> bool
     ensures { result ≡ list_any (λ p. bytes_eq text.now p.argument.text) parameters.now }
 {
@@ -31,14 +30,13 @@ pub fn is_argument(pattern: &Pattern, text: &[u8]) -> bool
     }
 }
 
-// Whether a text is one of the names.
 fn is_among(text: &[u8], names: &[Name]) -> bool
     ensures { result ≡ list_any (λ n. bytes_eq text.now n.text) names.now }
 {
     names.iter().any(|name| text == name.text.as_slice())
 }
 
-// Whether two of the names are alike.
+/// Whether two of the names are alike.
 #[tactic(auto, using(crate::proofs::Variables::any_name))]
 fn has_twice(names: &[Name]) -> bool
     ensures { result ≡ twice (texts names.now) }
@@ -53,7 +51,7 @@ fn has_twice(names: &[Name]) -> bool
     false
 }
 
-// Whether two of the arguments and names are alike.
+/// Whether two of the arguments and names are alike.
 #[tactic(auto, using(crate::proofs::Variables::any_either))]
 fn have_twice(parameters: &[Parameter], names: &[Name]) -> bool
     ensures { result ≡ twice (texts (map (λ p. p.argument) parameters.now ++ names.now)) }
@@ -69,7 +67,7 @@ fn have_twice(parameters: &[Parameter], names: &[Name]) -> bool
     has_twice(names)
 }
 
-// Whether two of a method's arguments and temporaries are alike.
+/// Whether two of a method's arguments and temporaries are alike.
 #[tactic(auto, using(crate::proofs::Variables::any_name))]
 fn clash(pattern: &Pattern, temporaries: &[Name]) -> bool
     ensures { result ≡ twice (texts (arguments_of pattern.now ++ temporaries.now)) }
@@ -78,26 +76,26 @@ fn clash(pattern: &Pattern, temporaries: &[Name]) -> bool
         Pattern::Unary(_) => has_twice(temporaries),
         Pattern::Binary { argument, .. } => {
             is_among(argument.text.as_slice(), temporaries) || has_twice(temporaries)
-        },
+        }
         Pattern::Keyword(parameters) => have_twice(parameters.as_slice(), temporaries),
     }
 }
 
-// Whether each can be the name of a variable.
+/// Whether each can be the name of a variable.
 fn are_names(names: &[Name]) -> bool
     ensures { result ≡ list_all (λ n. slot_name n.text) names.now }
 {
     names.iter().all(|name| is_slot_name(name.text.as_slice()))
 }
 
-// Whether each argument can be the name of a variable.
+/// Whether each argument can be the name of a variable.
 fn are_arguments(parameters: &[Parameter]) -> bool
     ensures { result ≡ list_all (λ p. slot_name p.argument.text) parameters.now }
 {
     parameters.iter().all(|parameter| is_slot_name(parameter.argument.text.as_slice()))
 }
 
-// Whether each argument of a method can be the name of a variable.
+/// Whether each argument of a method can be the name of a variable.
 #[tactic(auto, using(crate::proofs::Variables::all_arguments))]
 fn arguments_are_names(pattern: &Pattern) -> bool
     ensures { result ≡ list_all slot_name (argument_texts pattern.now) }
@@ -109,7 +107,6 @@ fn arguments_are_names(pattern: &Pattern) -> bool
     }
 }
 
-// How many arguments a method has.
 fn argument_count(pattern: &Pattern) -> usize
     ensures { result ≡ length (arguments_of pattern.now) }
 {
@@ -120,7 +117,7 @@ fn argument_count(pattern: &Pattern) -> usize
     }
 }
 
-// Whether arguments and temporaries are no more than a method may have.
+/// Whether arguments and temporaries are no more than a method may have.
 #[tactic(auto, using(crate::proofs::Variables::long))]
 fn are_few(pattern: &Pattern, temporaries: &[Name]) -> bool
     ensures { result ≡ nat_le (length (arguments_of pattern.now ++ temporaries.now)) 64 }
@@ -128,7 +125,7 @@ fn are_few(pattern: &Pattern, temporaries: &[Name]) -> bool
     argument_count(pattern).saturating_add(temporaries.len()) <= limits::TEMPORARIES
 }
 
-// The temporaries of a method, none where it has no bars.
+/// The temporaries of a method, none where it has no bars.
 fn names_of(temporaries: &Option<Temporaries>) -> &[Name]
     ensures { result.now ≡ temporaries_of temporaries.now }
 {

@@ -229,3 +229,46 @@ pub(crate) const NEW_ACTOR_BY_STEPS: &str =
 {"ok":{"quanta":0,"steps":0}}
 {"actor":0,"cmd":"outcome","turn":1}
 {"ok":{"answer":{"ref":1}}}"#;
+
+/// A message to an actor, its outcome before and after it ran, and posts that are refused.
+pub(crate) const RUNS_A_MESSAGE: &str =
+    r#"{"cmd":"define","name":"M","slots":["a"],"super":"Object"}
+{"ok":{"version":1}}
+{"class":"M","cmd":"actor"}
+{"ok":{"actor":0}}
+{"actor":0,"args":[],"cmd":"post","selector":"isNil","sender":1,"seq":1}
+{"ok":{"turn":1}}
+{"actor":0,"cmd":"outcome","turn":1}
+{"error":"Pending"}
+{"cmd":"run"}
+{"ok":{"quanta":1,"steps":1}}
+{"actor":0,"cmd":"outcome","turn":1}
+{"ok":{"answer":false}}
+{"class":"N","cmd":"actor"}
+{"error":"UnknownClass"}
+{"actor":0,"args":[{"sym":"foo:"},{"class":"N"}],"cmd":"post","selector":"a:b:","sender":1,"seq":2}
+{"error":"UnknownClass"}
+{"actor":0,"args":[{"sym":"foo:"},{"class":"M"}],"cmd":"post","selector":"=","sender":1,"seq":2}
+{"error":"BadArguments"}
+{"actor":9,"args":[],"cmd":"post","selector":"isNil","sender":1,"seq":2}
+{"error":"UnknownActor"}"#;
+
+/// A `run` that finds the history full says so and nothing else. What ran before stands, and what did not is pending.
+pub(crate) const HISTORY_FULL: &str = r#"{"class":"Object","cmd":"actor"}
+{"ok":{"actor":0}}
+{"actor":0,"args":[],"cmd":"post","selector":"isNil","sender":1,"seq":1}
+{"ok":{"turn":1}}
+{"actor":0,"args":[],"cmd":"post","selector":"class","sender":1,"seq":2}
+{"ok":{"turn":2}}
+{"class":"Object","cmd":"actor"}
+{"ok":{"actor":1}}
+{"cmd":"run"}
+{"error":"HistoryFull"}
+{"actor":0,"cmd":"outcome","turn":1}
+{"ok":{"answer":false}}
+{"actor":0,"cmd":"outcome","turn":2}
+{"error":"Pending"}
+{"class":"Object","cmd":"actor"}
+{"error":"HistoryFull"}
+{"cmd":"run"}
+{"error":"HistoryFull"}"#;

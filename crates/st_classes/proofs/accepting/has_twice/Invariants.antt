@@ -1,5 +1,5 @@
 use Rattle.std.proofs.Common.{◌≡◌, length}
-use Rattle.st_classes.specs.Accepting.{has_twice as twice}
+use Rattle.st_classes.specs.EditRules.{has_twice as twice}
 use Rattle.st_classes.proofs.accepting.has_twice.Given as goal
 
 abbrev pub invariant-loop-rest : goal.invariant-loop-rest

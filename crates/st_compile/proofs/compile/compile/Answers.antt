@@ -35,7 +35,7 @@ pub parts_of-requires-clause-short : goal.parts_of-requires-clause-short
 parts_of-requires-clause-short c = (made (goal.at.parts_of-requires-clause-short c).In_ok-selector).sound.short
 
 pub new-requires : goal.new-requires
-new-requires c = rw c.in_ok-parts.ensures.ok ((made (goal.at.new-requires c).In_ok-selector).sound)
+new-requires c = rw c.in_ok-parts.ensures ((made (goal.at.new-requires c).In_ok-selector).sound)
 
 pub returns-clause-answers : goal.returns-clause-answers
-returns-clause-answers c = (search rules, rw (c.new.ensures, c.in_ok-parts.ensures.ok) ((made (goal.at.returns-clause-answers c).In_ok-selector).compiled))
+returns-clause-answers c = (search rules, rw (c.new.ensures, c.in_ok-parts.ensures) ((made (goal.at.returns-clause-answers c).In_ok-selector).compiled))

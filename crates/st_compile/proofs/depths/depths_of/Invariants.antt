@@ -1,5 +1,5 @@
 use Rattle.std.proofs.Common.{◌≡◌, map, take}
-use Rattle.st_compile.specs.Drafts.{line_of}
+use Rattle.st_compile.specs.DraftViews.{line_of}
 use Rattle.st_compile.proofs.depths.depths_of.Given as goal
 
 abbrev pub invariant-loop-line : goal.invariant-loop-line

@@ -1,5 +1,5 @@
 use Rattle.std.proofs.Common.{◌≡◌, ◌++◌, map, take}
-use Rattle.st_compile.specs.Naming.{named}
+use Rattle.st_compile.specs.Scopes.{named}
 use Rattle.st_compile.proofs.locals.add_arguments.Given as goal
 
 abbrev pub invariant-loop-parameter : goal.invariant-loop-parameter

@@ -1,5 +1,5 @@
 use Rattle.std.proofs.Common.{◌≡◌, ◌++◌, take}
-use Rattle.st_compile.specs.Naming.{named}
+use Rattle.st_compile.specs.Scopes.{named}
 use Rattle.st_compile.proofs.locals.add_temporaries.Given as goal
 
 abbrev pub invariant-loop-name : goal.invariant-loop-name

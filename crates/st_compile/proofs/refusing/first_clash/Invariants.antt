@@ -1,7 +1,6 @@
 use Rattle.std.proofs.Common.{◌≡◌, take}
-use Rattle.st_compile.specs.Least.{least_of}
-use Rattle.st_compile.specs.Naming.{named, scope_seen}
-use Rattle.st_compile.specs.Refusing.{clashing}
+use Rattle.st_compile.specs.CompileRules.{least_of, clashing}
+use Rattle.st_compile.specs.Scopes.{named, scope_seen}
 use Rattle.st_compile.proofs.refusing.first_clash.Given as goal
 
 abbrev pub invariant-loop-name : goal.invariant-loop-name

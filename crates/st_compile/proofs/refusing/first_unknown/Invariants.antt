@@ -1,8 +1,7 @@
 use Rattle.std.proofs.Common.{◌≡◌, map, take}
-use Rattle.st_compile.specs.Drafts.{line_of}
-use Rattle.st_compile.specs.Least.{least_of}
-use Rattle.st_compile.specs.Naming.{scope_seen}
-use Rattle.st_compile.specs.Refusing.{unknown}
+use Rattle.st_compile.specs.DraftViews.{line_of}
+use Rattle.st_compile.specs.CompileRules.{least_of, unknown}
+use Rattle.st_compile.specs.Scopes.{scope_seen}
 use Rattle.st_compile.proofs.refusing.first_unknown.Given as goal
 
 abbrev pub invariant-loop-line : goal.invariant-loop-line

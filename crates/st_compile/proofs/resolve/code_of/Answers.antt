@@ -1,10 +1,10 @@
 use Rattle.std.proofs.Common.{◌≡◌, ◌∙◌, ◌+◌, true, [], ◌∷◌, ◌++◌, take, sym, subst, arith}
 use Rattle.std.proofs.lemmas.Result.{err_from_is_err_and}
 use Rattle.st_compile.specs.declared.words.Line.{Line as DraftedLine}
-use Rattle.st_compile.specs.Drafts.{line_of, word_of}
-use Rattle.st_compile.specs.Naming.{scope_seen}
-use Rattle.st_compile.specs.Proper.{is_near, word_fits}
-use Rattle.st_compile.specs.Refusing.{is_known}
+use Rattle.st_compile.specs.DraftViews.{line_of, word_of}
+use Rattle.st_compile.specs.Scopes.{scope_seen}
+use Rattle.st_compile.specs.Encodable.{is_near, word_fits}
+use Rattle.st_compile.specs.CompileRules.{is_known}
 use Rattle.st_compile.proofs.Mapped.{all-at, refused_at, names_step, code_more, first-taken, taken_more}
 use Rattle.st_compile.proofs.resolve.code_of.Goals as goal
 

@@ -1,8 +1,8 @@
 use Rattle.std.proofs.Common.{◌≡◌, ◌≤◌, length, map, take, Some}
-use Rattle.st_compile.specs.Drafts.{line_of}
-use Rattle.st_compile.specs.Naming.{scope_seen}
-use Rattle.st_compile.specs.Interning.{interned_all}
-use Rattle.st_compile.specs.Resolving.{instructions_of}
+use Rattle.st_compile.specs.DraftViews.{line_of}
+use Rattle.st_compile.specs.Scopes.{scope_seen}
+use Rattle.st_compile.specs.NeededNames.{interned_all}
+use Rattle.st_compile.specs.NameResolution.{instructions_of}
 use Rattle.st_compile.proofs.Mapped.{texts}
 use Rattle.st_compile.proofs.resolve.code_of.Given as goal
 

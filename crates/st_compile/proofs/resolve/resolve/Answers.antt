@@ -1,8 +1,8 @@
 use Rattle.std.proofs.Common.{ℕ, List, [], ◌∷◌, sym, ap, ◌∙◌}
 use Rattle.std.proofs.lemmas.Result.{err_from_is_err_and}
 use Rattle.st_classes.specs.Refusals.{first_of}
-use Rattle.st_compile.specs.Drafts.{line_of}
-use Rattle.st_compile.specs.Interning.{names_rule}
+use Rattle.st_compile.specs.DraftViews.{line_of}
+use Rattle.st_compile.specs.NeededNames.{names_rule}
 use Rattle.st_compile.specs.Scopes.{pattern_selector}
 use Rattle.st_compile.proofs.Interning.{first-more, first-grows, refused_first}
 use Rattle.st_compile.proofs.Mapped.{texts}

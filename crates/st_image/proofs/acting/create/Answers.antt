@@ -1,9 +1,9 @@
 use Rattle.std.proofs.Common.{◌≡◌, ◌<◌, ◌++◌, ◌∷◌, [], arith, length, false, ap, ◌∙◌, subst}
 use Rattle.std.proofs.lemmas.Grind.{common_steps}
 use Rattle.std.proofs.lemmas.Bool.Decides.{nat_tests}
-use Rattle.st_classes.specs.Accepting.{is_closed}
+use Rattle.st_classes.specs.EditRules.{is_value_class}
 use Rattle.st_turn.specs.declared.body.Body.{Body}
-use Rattle.st_image.specs.Kepts.{Kept, new_kept}
+use Rattle.st_image.specs.ActorViews.{ActorView, new_actor_view}
 use Rattle.st_image.proofs.Keeping.{fresh_body}
 use Rattle.st_image.proofs.Creating.{fresh_with}
 use Rattle.st_image.proofs.Acts.{create_does, create_grows}
@@ -12,11 +12,11 @@ use Rattle.st_image.proofs.acting.create.Goals as goal
 pub returns-clause-ok : goal.returns-clause-ok
 returns-clause-ok c = λ names w i.
     let body : c.in_ok-body.body ≡ fresh_body c.args.version.now c.args.class = c.in_ok-body.ensures ∙ ap (fresh_with c.args.class) c.slots.ensures in
-    let pushed : c.push.new.self ≡ c.args.actors.now ++ new_kept c.args.class c.args.capacity c.in_ok-body.body ∷ [] = c.in_ok-push.ensures.ok ∙ ap (λ (k : Kept). c.args.actors.now ++ k ∷ []) c.new.ensures in
-    let actors : c.push.new.self ≡ c.args.actors.now ++ new_kept c.args.class c.args.capacity (fresh_body c.args.version.now c.args.class) ∷ [] = subst (λ (b : Body). c.push.new.self ≡ c.args.actors.now ++ new_kept c.args.class c.args.capacity b ∷ []) body pushed in
-    let open' : is_closed c.args.class ≡ false = grind (arith, common_steps, nat_tests) in
+    let pushed : c.push.new.self ≡ c.args.actors.now ++ new_actor_view c.args.class c.args.capacity c.in_ok-body.body ∷ [] = c.in_ok-push.ensures.ok ∙ ap (λ (k : ActorView). c.args.actors.now ++ k ∷ []) c.new.ensures in
+    let actors : c.push.new.self ≡ c.args.actors.now ++ new_actor_view c.args.class c.args.capacity (fresh_body c.args.version.now c.args.class) ∷ [] = subst (λ (b : Body). c.push.new.self ≡ c.args.actors.now ++ new_actor_view c.args.class c.args.capacity b ∷ []) body pushed in
+    let open' : is_value_class c.args.class ≡ false = grind (arith, common_steps, nat_tests) in
     let few : length c.args.actors.now < 65536 = grind (arith, common_steps) in
     create_does names c.args.capacity c.args.version.now c.args.actors.now c.push.new.self w c.args.class c.len-number.result i open' few c.len-number.ensures.value actors
 
 pub returns-clause-grown : goal.returns-clause-grown
-returns-clause-grown c = create_grows c.args.actors.now c.push.new.self c.args.class c.args.capacity c.in_ok-body.body (c.in_ok-push.ensures.ok ∙ ap (λ (k : Kept). c.args.actors.now ++ k ∷ []) c.new.ensures)
+returns-clause-grown c = create_grows c.args.actors.now c.push.new.self c.args.class c.args.capacity c.in_ok-body.body (c.in_ok-push.ensures.ok ∙ ap (λ (k : ActorView). c.args.actors.now ++ k ∷ []) c.new.ensures)

@@ -3,29 +3,28 @@ use Rattle.std.specs.Prelude.{not}
 use Rattle.std.proofs.lemmas.Option.{slice_get_within}
 use Rattle.st_classes.specs.declared.refusals.Refusal.TheVariants.{BadArguments}
 use Rattle.st_classes.specs.Refusals.{first_of}
-use Rattle.st_image.specs.Posting.{number_rule}
-use Rattle.st_image.specs.Kepts.{kept_rules}
+use Rattle.st_image.specs.PostRules.{number_rule}
 use Rattle.st_image.proofs.Lists.{first_here, first_later}
-use Rattle.st_image.proofs.Acts.{if_none, rules_kept}
+use Rattle.st_image.proofs.Acts.{if_none, kept_box_rules, rules_kept}
 use Rattle.st_image.proofs.acting.post_refusal.Goals as goal
 
 pub returns-then-not-message_fits-clause-value : goal.returns-then-not-message_fits-clause-value
 returns-then-not-message_fits-clause-value c = λ w s.
     let m = c.args.message.now in
     let k = c.in-Some.kept.now in
-    sym (rules_kept c.args.names.now c.args.version.now c.args.actors.now w c.args.actor k m s (sym c.in-Some.ensures) ∙ ap (λ (t : Bool). first_of ((not t, BadArguments) ∷ number_rule w m.sender m.seq ∷ kept_rules k)) (sym c.if-not-message_fits.ensures))
+    sym (rules_kept c.args.names.now c.args.version.now c.args.actors.now w c.args.actor k m s (sym c.in-Some.ensures) ∙ ap (λ (t : Bool). first_of ((not t, BadArguments) ∷ number_rule w m.sender m.seq ∷ kept_box_rules k)) (sym c.if-not-message_fits.ensures))
 
 pub returns-in-Some-number_refusal-clause-value : goal.returns-in-Some-number_refusal-clause-value
 returns-in-Some-number_refusal-clause-value c = λ w s.
     let m = c.args.message.now in
     let k = c.in-Some.kept.now in
-    sym (rules_kept c.args.names.now c.args.version.now c.args.actors.now w c.args.actor k m s (sym c.in-Some.ensures) ∙ ap (λ (t : Bool). first_of ((not t, BadArguments) ∷ number_rule w m.sender m.seq ∷ kept_rules k)) (sym c.if-not-message_fits.ensures) ∙ first_here (number_rule w m.sender m.seq ∷ []) (kept_rules k) c.in-Some-number_refusal.refusal (sym (c.in-Some-number_refusal.ensures w s)))
+    sym (rules_kept c.args.names.now c.args.version.now c.args.actors.now w c.args.actor k m s (sym c.in-Some.ensures) ∙ ap (λ (t : Bool). first_of ((not t, BadArguments) ∷ number_rule w m.sender m.seq ∷ kept_box_rules k)) (sym c.if-not-message_fits.ensures) ∙ first_here (number_rule w m.sender m.seq ∷ []) (kept_box_rules k) c.in-Some-number_refusal.refusal (sym (c.in-Some-number_refusal.ensures w s)))
 
 pub returns-in-None-clause-value : goal.returns-in-None-clause-value
 returns-in-None-clause-value c = λ w s.
     let m = c.args.message.now in
     let k = c.in-Some.kept.now in
-    c.refusal.ensures ∙ sym (rules_kept c.args.names.now c.args.version.now c.args.actors.now w c.args.actor k m s (sym c.in-Some.ensures) ∙ ap (λ (t : Bool). first_of ((not t, BadArguments) ∷ number_rule w m.sender m.seq ∷ kept_rules k)) (sym c.if-not-message_fits.ensures) ∙ first_later (number_rule w m.sender m.seq ∷ []) (kept_rules k) (sym (c.in-None.ensures w s)))
+    c.refusal.ensures ∙ sym (rules_kept c.args.names.now c.args.version.now c.args.actors.now w c.args.actor k m s (sym c.in-Some.ensures) ∙ ap (λ (t : Bool). first_of ((not t, BadArguments) ∷ number_rule w m.sender m.seq ∷ kept_box_rules k)) (sym c.if-not-message_fits.ensures) ∙ first_later (number_rule w m.sender m.seq ∷ []) (kept_box_rules k) (sym (c.in-None.ensures w s)))
 
 pub returns-in-None-clause-there : goal.returns-in-None-clause-there
 returns-in-None-clause-there c = if_none c.refusal.result _ (slice_get_within c.args.actors.now c.args.actor.0 c.in-Some.kept.now (sym c.in-Some.ensures))

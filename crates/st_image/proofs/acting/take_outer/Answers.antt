@@ -1,8 +1,8 @@
 use Rattle.std.proofs.Common.{Ok, Err, true, false, refl, sym, ap, ◌∙◌, subst, is_some}
 use Rattle.std.proofs.lemmas.Option.{slice_get_within}
 use Rattle.st_image.specs.Worlds.{World}
-use Rattle.st_image.specs.Next.{done}
-use Rattle.st_image.specs.Acting.{Does, IsShown, StandsBefore, constants_of}
+use Rattle.st_image.specs.Replay.{act_result}
+use Rattle.st_image.specs.ActResults.{Does, IsShown, StandsBefore, constants_of}
 use Rattle.st_image.proofs.Running.{fits_some}
 use Rattle.st_image.proofs.Outer.{Performed, kept_there, next_names, on_err, performed, performed_busy, performed_fits, performed_given, performed_grows, performed_next, shown_runs, stands_by}
 use Rattle.st_image.proofs.acting.take_outer.Goals as goal
@@ -47,76 +47,76 @@ pub give-requires-clause-there : goal.give-requires-clause-there
 give-requires-clause-there c =
     let k = kept_there c.args.actors.now c.args.actor.0 c.requires.there in
     let w : World = c.requires.shown.0 in
-    let does : Does c.args.version.now c.perform.new.actors (done (constants_of c.args.names.now c.args.capacity) c.args.actor w c.in-Some.act) c.in_ok-value.field-0 = c.in_ok-value.ensures.ok w c.requires.shown.1 in
+    let does : Does c.args.version.now c.perform.new.actors (act_result (constants_of c.args.names.now c.args.capacity) c.args.actor w c.in-Some.act) c.in_ok-value.field-0 = c.in_ok-value.ensures.ok w c.requires.shown.1 in
     let p : Performed c.args.names.now c.args.capacity c.args.version.now c.perform.new.actors c.args.actor w c.in-Some.act c.in_ok-value.field-0 = performed c.args.names.now c.args.capacity c.args.version.now c.args.actors.now c.perform.new.actors w c.args.actor k.0 c.in-Some.act c.in_ok-value.field-0 c.requires.shown.1 k.1 (sym (c.in_ok-act.ensures k.0 k.1) ∙ c.in-Some.is) does in
     slice_get_within c.perform.new.actors c.args.actor.0 p.kept p.there
 
 pub give-requires-clause-fits : goal.give-requires-clause-fits
 give-requires-clause-fits c =
     let k = kept_there c.args.actors.now c.args.actor.0 c.requires.there in
-    let does : Does c.args.version.now c.perform.new.actors (done (constants_of c.args.names.now c.args.capacity) c.args.actor c.requires.shown.0 c.in-Some.act) (Ok c.in-Ok.value) = subst (Does c.args.version.now c.perform.new.actors (done (constants_of c.args.names.now c.args.capacity) c.args.actor c.requires.shown.0 c.in-Some.act)) c.in-Ok.is (c.in_ok-value.ensures.ok c.requires.shown.0 c.requires.shown.1) in
+    let does : Does c.args.version.now c.perform.new.actors (act_result (constants_of c.args.names.now c.args.capacity) c.args.actor c.requires.shown.0 c.in-Some.act) (Ok c.in-Ok.value) = subst (Does c.args.version.now c.perform.new.actors (act_result (constants_of c.args.names.now c.args.capacity) c.args.actor c.requires.shown.0 c.in-Some.act)) c.in-Ok.is (c.in_ok-value.ensures.ok c.requires.shown.0 c.requires.shown.1) in
     let p : Performed c.args.names.now c.args.capacity c.args.version.now c.perform.new.actors c.args.actor c.requires.shown.0 c.in-Some.act (Ok c.in-Ok.value) = performed c.args.names.now c.args.capacity c.args.version.now c.args.actors.now c.perform.new.actors c.requires.shown.0 c.args.actor k.0 c.in-Some.act (Ok c.in-Ok.value) c.requires.shown.1 k.1 (sym (c.in_ok-act.ensures k.0 k.1) ∙ c.in-Some.is) does in
     performed_fits c.args.names.now c.args.capacity c.args.version.now c.perform.new.actors c.args.actor c.requires.shown.0 c.in-Some.act (Ok c.in-Ok.value) p
 
 pub give-requires-clause-act : goal.give-requires-clause-act
 give-requires-clause-act c =
     let k = kept_there c.args.actors.now c.args.actor.0 c.requires.there in
-    let does : Does c.args.version.now c.perform.new.actors (done (constants_of c.args.names.now c.args.capacity) c.args.actor c.requires.shown.0 c.in-Some.act) (Ok c.in-Ok.value) = subst (Does c.args.version.now c.perform.new.actors (done (constants_of c.args.names.now c.args.capacity) c.args.actor c.requires.shown.0 c.in-Some.act)) c.in-Ok.is (c.in_ok-value.ensures.ok c.requires.shown.0 c.requires.shown.1) in
+    let does : Does c.args.version.now c.perform.new.actors (act_result (constants_of c.args.names.now c.args.capacity) c.args.actor c.requires.shown.0 c.in-Some.act) (Ok c.in-Ok.value) = subst (Does c.args.version.now c.perform.new.actors (act_result (constants_of c.args.names.now c.args.capacity) c.args.actor c.requires.shown.0 c.in-Some.act)) c.in-Ok.is (c.in_ok-value.ensures.ok c.requires.shown.0 c.requires.shown.1) in
     let p : Performed c.args.names.now c.args.capacity c.args.version.now c.perform.new.actors c.args.actor c.requires.shown.0 c.in-Some.act (Ok c.in-Ok.value) = performed c.args.names.now c.args.capacity c.args.version.now c.args.actors.now c.perform.new.actors c.requires.shown.0 c.args.actor k.0 c.in-Some.act (Ok c.in-Ok.value) c.requires.shown.1 k.1 (sym (c.in_ok-act.ensures k.0 k.1) ∙ c.in-Some.is) does in
     performed_next c.args.names.now c.args.capacity c.args.version.now c.perform.new.actors c.args.actor c.requires.shown.0 c.in-Some.act (Ok c.in-Ok.value) p
 
 pub give-requires-clause-busy : goal.give-requires-clause-busy
 give-requires-clause-busy c =
     let k = kept_there c.args.actors.now c.args.actor.0 c.requires.there in
-    let does : Does c.args.version.now c.perform.new.actors (done (constants_of c.args.names.now c.args.capacity) c.args.actor c.requires.shown.0 c.in-Some.act) (Ok c.in-Ok.value) = subst (Does c.args.version.now c.perform.new.actors (done (constants_of c.args.names.now c.args.capacity) c.args.actor c.requires.shown.0 c.in-Some.act)) c.in-Ok.is (c.in_ok-value.ensures.ok c.requires.shown.0 c.requires.shown.1) in
+    let does : Does c.args.version.now c.perform.new.actors (act_result (constants_of c.args.names.now c.args.capacity) c.args.actor c.requires.shown.0 c.in-Some.act) (Ok c.in-Ok.value) = subst (Does c.args.version.now c.perform.new.actors (act_result (constants_of c.args.names.now c.args.capacity) c.args.actor c.requires.shown.0 c.in-Some.act)) c.in-Ok.is (c.in_ok-value.ensures.ok c.requires.shown.0 c.requires.shown.1) in
     let p : Performed c.args.names.now c.args.capacity c.args.version.now c.perform.new.actors c.args.actor c.requires.shown.0 c.in-Some.act (Ok c.in-Ok.value) = performed c.args.names.now c.args.capacity c.args.version.now c.args.actors.now c.perform.new.actors c.requires.shown.0 c.args.actor k.0 c.in-Some.act (Ok c.in-Ok.value) c.requires.shown.1 k.1 (sym (c.in_ok-act.ensures k.0 k.1) ∙ c.in-Some.is) does in
     performed_busy c.args.names.now c.args.capacity c.args.version.now c.perform.new.actors c.args.actor c.requires.shown.0 c.in-Some.act (Ok c.in-Ok.value) p
 
 pub fail-requires-clause-fits : goal.fail-requires-clause-fits
 fail-requires-clause-fits c =
     let k = kept_there c.args.actors.now c.args.actor.0 c.requires.there in
-    let does : Does c.args.version.now c.perform.new.actors (done (constants_of c.args.names.now c.args.capacity) c.args.actor c.requires.shown.0 c.in-Some.act) (Err c.in-Err.fault) = subst (Does c.args.version.now c.perform.new.actors (done (constants_of c.args.names.now c.args.capacity) c.args.actor c.requires.shown.0 c.in-Some.act)) c.in-Err.is (c.in_ok-value.ensures.ok c.requires.shown.0 c.requires.shown.1) in
+    let does : Does c.args.version.now c.perform.new.actors (act_result (constants_of c.args.names.now c.args.capacity) c.args.actor c.requires.shown.0 c.in-Some.act) (Err c.in-Err.fault) = subst (Does c.args.version.now c.perform.new.actors (act_result (constants_of c.args.names.now c.args.capacity) c.args.actor c.requires.shown.0 c.in-Some.act)) c.in-Err.is (c.in_ok-value.ensures.ok c.requires.shown.0 c.requires.shown.1) in
     let p : Performed c.args.names.now c.args.capacity c.args.version.now c.perform.new.actors c.args.actor c.requires.shown.0 c.in-Some.act (Err c.in-Err.fault) = performed c.args.names.now c.args.capacity c.args.version.now c.args.actors.now c.perform.new.actors c.requires.shown.0 c.args.actor k.0 c.in-Some.act (Err c.in-Err.fault) c.requires.shown.1 k.1 (sym (c.in_ok-act.ensures k.0 k.1) ∙ c.in-Some.is) does in
     performed_fits c.args.names.now c.args.capacity c.args.version.now c.perform.new.actors c.args.actor c.requires.shown.0 c.in-Some.act (Err c.in-Err.fault) p
 
 pub fail-requires-clause-act : goal.fail-requires-clause-act
 fail-requires-clause-act c =
     let k = kept_there c.args.actors.now c.args.actor.0 c.requires.there in
-    let does : Does c.args.version.now c.perform.new.actors (done (constants_of c.args.names.now c.args.capacity) c.args.actor c.requires.shown.0 c.in-Some.act) (Err c.in-Err.fault) = subst (Does c.args.version.now c.perform.new.actors (done (constants_of c.args.names.now c.args.capacity) c.args.actor c.requires.shown.0 c.in-Some.act)) c.in-Err.is (c.in_ok-value.ensures.ok c.requires.shown.0 c.requires.shown.1) in
+    let does : Does c.args.version.now c.perform.new.actors (act_result (constants_of c.args.names.now c.args.capacity) c.args.actor c.requires.shown.0 c.in-Some.act) (Err c.in-Err.fault) = subst (Does c.args.version.now c.perform.new.actors (act_result (constants_of c.args.names.now c.args.capacity) c.args.actor c.requires.shown.0 c.in-Some.act)) c.in-Err.is (c.in_ok-value.ensures.ok c.requires.shown.0 c.requires.shown.1) in
     let p : Performed c.args.names.now c.args.capacity c.args.version.now c.perform.new.actors c.args.actor c.requires.shown.0 c.in-Some.act (Err c.in-Err.fault) = performed c.args.names.now c.args.capacity c.args.version.now c.args.actors.now c.perform.new.actors c.requires.shown.0 c.args.actor k.0 c.in-Some.act (Err c.in-Err.fault) c.requires.shown.1 k.1 (sym (c.in_ok-act.ensures k.0 k.1) ∙ c.in-Some.is) does in
     performed_next c.args.names.now c.args.capacity c.args.version.now c.perform.new.actors c.args.actor c.requires.shown.0 c.in-Some.act (Err c.in-Err.fault) p
 
 pub fail-requires-clause-busy : goal.fail-requires-clause-busy
 fail-requires-clause-busy c =
     let k = kept_there c.args.actors.now c.args.actor.0 c.requires.there in
-    let does : Does c.args.version.now c.perform.new.actors (done (constants_of c.args.names.now c.args.capacity) c.args.actor c.requires.shown.0 c.in-Some.act) (Err c.in-Err.fault) = subst (Does c.args.version.now c.perform.new.actors (done (constants_of c.args.names.now c.args.capacity) c.args.actor c.requires.shown.0 c.in-Some.act)) c.in-Err.is (c.in_ok-value.ensures.ok c.requires.shown.0 c.requires.shown.1) in
+    let does : Does c.args.version.now c.perform.new.actors (act_result (constants_of c.args.names.now c.args.capacity) c.args.actor c.requires.shown.0 c.in-Some.act) (Err c.in-Err.fault) = subst (Does c.args.version.now c.perform.new.actors (act_result (constants_of c.args.names.now c.args.capacity) c.args.actor c.requires.shown.0 c.in-Some.act)) c.in-Err.is (c.in_ok-value.ensures.ok c.requires.shown.0 c.requires.shown.1) in
     let p : Performed c.args.names.now c.args.capacity c.args.version.now c.perform.new.actors c.args.actor c.requires.shown.0 c.in-Some.act (Err c.in-Err.fault) = performed c.args.names.now c.args.capacity c.args.version.now c.args.actors.now c.perform.new.actors c.requires.shown.0 c.args.actor k.0 c.in-Some.act (Err c.in-Err.fault) c.requires.shown.1 k.1 (sym (c.in_ok-act.ensures k.0 k.1) ∙ c.in-Some.is) does in
     performed_busy c.args.names.now c.args.capacity c.args.version.now c.perform.new.actors c.args.actor c.requires.shown.0 c.in-Some.act (Err c.in-Err.fault) p
 
 pub returns-in-Ok-clause-ok : goal.returns-in-Ok-clause-ok
 returns-in-Ok-clause-ok c = λ w i.
     let k = kept_there c.args.actors.now c.args.actor.0 c.requires.there in
-    let does : Does c.args.version.now c.perform.new.actors (done (constants_of c.args.names.now c.args.capacity) c.args.actor w c.in-Some.act) (Ok c.in-Ok.value) = subst (Does c.args.version.now c.perform.new.actors (done (constants_of c.args.names.now c.args.capacity) c.args.actor w c.in-Some.act)) c.in-Ok.is (c.in_ok-value.ensures.ok w i) in
+    let does : Does c.args.version.now c.perform.new.actors (act_result (constants_of c.args.names.now c.args.capacity) c.args.actor w c.in-Some.act) (Ok c.in-Ok.value) = subst (Does c.args.version.now c.perform.new.actors (act_result (constants_of c.args.names.now c.args.capacity) c.args.actor w c.in-Some.act)) c.in-Ok.is (c.in_ok-value.ensures.ok w i) in
     let p : Performed c.args.names.now c.args.capacity c.args.version.now c.perform.new.actors c.args.actor w c.in-Some.act (Ok c.in-Ok.value) = performed c.args.names.now c.args.capacity c.args.version.now c.args.actors.now c.perform.new.actors w c.args.actor k.0 c.in-Some.act (Ok c.in-Ok.value) i k.1 (sym (c.in_ok-act.ensures k.0 k.1) ∙ c.in-Some.is) does in
     (stands_by c.args.version.now c.args.actors.now w c.args.actor k.0 true i.shows k.1 (sym (c.is_act_next.ensures k.0 k.1) ∙ c.if-not-is_act_next.false), performed_given c.args.names.now c.args.capacity c.args.version.now c.perform.new.actors c.give.new.self c.args.actor w c.in-Some.act (Ok c.in-Ok.value) p c.give.ensures)
 
 pub returns-in-Ok-clause-grown : goal.returns-in-Ok-clause-grown
 returns-in-Ok-clause-grown c =
     let k = kept_there c.args.actors.now c.args.actor.0 c.requires.there in
-    let does : Does c.args.version.now c.perform.new.actors (done (constants_of c.args.names.now c.args.capacity) c.args.actor c.requires.shown.0 c.in-Some.act) (Ok c.in-Ok.value) = subst (Does c.args.version.now c.perform.new.actors (done (constants_of c.args.names.now c.args.capacity) c.args.actor c.requires.shown.0 c.in-Some.act)) c.in-Ok.is (c.in_ok-value.ensures.ok c.requires.shown.0 c.requires.shown.1) in
+    let does : Does c.args.version.now c.perform.new.actors (act_result (constants_of c.args.names.now c.args.capacity) c.args.actor c.requires.shown.0 c.in-Some.act) (Ok c.in-Ok.value) = subst (Does c.args.version.now c.perform.new.actors (act_result (constants_of c.args.names.now c.args.capacity) c.args.actor c.requires.shown.0 c.in-Some.act)) c.in-Ok.is (c.in_ok-value.ensures.ok c.requires.shown.0 c.requires.shown.1) in
     let p : Performed c.args.names.now c.args.capacity c.args.version.now c.perform.new.actors c.args.actor c.requires.shown.0 c.in-Some.act (Ok c.in-Ok.value) = performed c.args.names.now c.args.capacity c.args.version.now c.args.actors.now c.perform.new.actors c.requires.shown.0 c.args.actor k.0 c.in-Some.act (Ok c.in-Ok.value) c.requires.shown.1 k.1 (sym (c.in_ok-act.ensures k.0 k.1) ∙ c.in-Some.is) does in
     performed_grows c.args.names.now c.args.capacity c.args.version.now c.args.actors.now c.perform.new.actors c.give.new.self c.args.actor c.requires.shown.0 c.in-Some.act (Ok c.in-Ok.value) p c.in_ok-value.ensures.grown c.give.ensures
 
 pub returns-in_ok-fail-in-Err-clause-ok : goal.returns-in_ok-fail-in-Err-clause-ok
 returns-in_ok-fail-in-Err-clause-ok c = λ w i.
     let k = kept_there c.args.actors.now c.args.actor.0 c.requires.there in
-    let does : Does c.args.version.now c.perform.new.actors (done (constants_of c.args.names.now c.args.capacity) c.args.actor w c.in-Some.act) (Err c.in-Err.fault) = subst (Does c.args.version.now c.perform.new.actors (done (constants_of c.args.names.now c.args.capacity) c.args.actor w c.in-Some.act)) c.in-Err.is (c.in_ok-value.ensures.ok w i) in
+    let does : Does c.args.version.now c.perform.new.actors (act_result (constants_of c.args.names.now c.args.capacity) c.args.actor w c.in-Some.act) (Err c.in-Err.fault) = subst (Does c.args.version.now c.perform.new.actors (act_result (constants_of c.args.names.now c.args.capacity) c.args.actor w c.in-Some.act)) c.in-Err.is (c.in_ok-value.ensures.ok w i) in
     let p : Performed c.args.names.now c.args.capacity c.args.version.now c.perform.new.actors c.args.actor w c.in-Some.act (Err c.in-Err.fault) = performed c.args.names.now c.args.capacity c.args.version.now c.args.actors.now c.perform.new.actors w c.args.actor k.0 c.in-Some.act (Err c.in-Err.fault) i k.1 (sym (c.in_ok-act.ensures k.0 k.1) ∙ c.in-Some.is) does in
     (stands_by c.args.version.now c.args.actors.now w c.args.actor k.0 true i.shows k.1 (sym (c.is_act_next.ensures k.0 k.1) ∙ c.if-not-is_act_next.false), performed_given c.args.names.now c.args.capacity c.args.version.now c.perform.new.actors c.fail.new.self c.args.actor w c.in-Some.act (Err c.in-Err.fault) p c.in_ok-fail-in-Err.ensures.ok)
 
 pub returns-in_ok-fail-in-Err-clause-grown : goal.returns-in_ok-fail-in-Err-clause-grown
 returns-in_ok-fail-in-Err-clause-grown c =
     let k = kept_there c.args.actors.now c.args.actor.0 c.requires.there in
-    let does : Does c.args.version.now c.perform.new.actors (done (constants_of c.args.names.now c.args.capacity) c.args.actor c.requires.shown.0 c.in-Some.act) (Err c.in-Err.fault) = subst (Does c.args.version.now c.perform.new.actors (done (constants_of c.args.names.now c.args.capacity) c.args.actor c.requires.shown.0 c.in-Some.act)) c.in-Err.is (c.in_ok-value.ensures.ok c.requires.shown.0 c.requires.shown.1) in
+    let does : Does c.args.version.now c.perform.new.actors (act_result (constants_of c.args.names.now c.args.capacity) c.args.actor c.requires.shown.0 c.in-Some.act) (Err c.in-Err.fault) = subst (Does c.args.version.now c.perform.new.actors (act_result (constants_of c.args.names.now c.args.capacity) c.args.actor c.requires.shown.0 c.in-Some.act)) c.in-Err.is (c.in_ok-value.ensures.ok c.requires.shown.0 c.requires.shown.1) in
     let p : Performed c.args.names.now c.args.capacity c.args.version.now c.perform.new.actors c.args.actor c.requires.shown.0 c.in-Some.act (Err c.in-Err.fault) = performed c.args.names.now c.args.capacity c.args.version.now c.args.actors.now c.perform.new.actors c.requires.shown.0 c.args.actor k.0 c.in-Some.act (Err c.in-Err.fault) c.requires.shown.1 k.1 (sym (c.in_ok-act.ensures k.0 k.1) ∙ c.in-Some.is) does in
     performed_grows c.args.names.now c.args.capacity c.args.version.now c.args.actors.now c.perform.new.actors c.fail.new.self c.args.actor c.requires.shown.0 c.in-Some.act (Err c.in-Err.fault) p c.in_ok-value.ensures.grown c.in_ok-fail-in-Err.ensures.ok

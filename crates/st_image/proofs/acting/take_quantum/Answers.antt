@@ -2,9 +2,9 @@ use Rattle.std.proofs.Common.{arith, ◌<◌, ◌≤◌, ◌^◌, ℕ, subst}
 use Rattle.std.proofs.lemmas.Option.{slice_get_within}
 use Rattle.std.proofs.lemmas.Bool.{not-false, not-true}
 use Rattle.st_image.specs.Worlds.{change}
-use Rattle.st_image.specs.Next.{with_body}
-use Rattle.st_image.specs.Kepts.{kept_of}
-use Rattle.st_image.specs.Acting.{TakesOuter, constants_of}
+use Rattle.st_image.specs.Replay.{with_body}
+use Rattle.st_image.specs.ActorViews.{actor_view}
+use Rattle.st_image.specs.ActResults.{TakesOuter, constants_of}
 use Rattle.st_image.proofs.Keeping.{accept_more}
 use Rattle.st_image.proofs.Showing.{kept_at}
 use Rattle.st_image.proofs.Outer.{kept_there, shown_runs}
@@ -32,7 +32,7 @@ take_outer-requires-clause-there c =
     let k = kept_there c.args.actors.now c.args.actor.0 c.requires.there in
     let r = c.in_ok-progress.ensures.ok k.0 k.1 in
     let g : Went c.args.names.now c.args.capacity c.args.version.now c.run.new.self c.args.actor c.args.limit c.requires.shown.0 c.in_ok-progress.progress.steps c.in_ok-progress.progress.is_whole = went c.args.names.now c.args.capacity c.args.version.now c.args.actors.now c.run.new.self c.args.actor c.args.limit c.requires.shown.0 c.in_ok-progress.progress.steps c.in_ok-progress.progress.is_whole k.0 r.0 c.requires.shown.1 k.1 (c.requires.busy k.0 k.1) r.1 r.2 in
-    slice_get_within c.run.new.self c.args.actor.0 (kept_of (with_body g.last g.being)) (kept_at c.args.version.now c.run.new.self (change (with_body g.last) c.args.actor c.requires.shown.0) c.args.actor.0 (with_body g.last g.being) g.shown.shows g.there)
+    slice_get_within c.run.new.self c.args.actor.0 (actor_view (with_body g.last g.being)) (kept_at c.args.version.now c.run.new.self (change (with_body g.last) c.args.actor c.requires.shown.0) c.args.actor.0 (with_body g.last g.being) g.shown.shows g.there)
 
 pub take_outer-requires-clause-few : goal.take_outer-requires-clause-few
 take_outer-requires-clause-few c =

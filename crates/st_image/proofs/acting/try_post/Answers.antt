@@ -1,9 +1,9 @@
 use Rattle.std.proofs.Common.{◌≡◌, ◌+◌, ◌<◌, ◌-◌, ◌^◌, ℕ, None, sym, ap, ◌∙◌, arith, slice_get}
 use Rattle.std.proofs.lemmas.Grind.{common_steps}
 use Rattle.st_classes.specs.Refusals.{first_of}
-use Rattle.st_image.specs.Posting.{post_rules}
+use Rattle.st_image.specs.PostRules.{post_rules}
 use Rattle.st_image.specs.Worlds.{change_at}
-use Rattle.st_image.specs.Kepts.{taken_in}
+use Rattle.st_image.specs.ActorViews.{view_with_message}
 use Rattle.st_image.proofs.Acts.{message_of, none_by, post_grows, post_tries}
 use Rattle.st_image.proofs.acting.try_post.Goals as goal
 
@@ -13,7 +13,7 @@ returns-clause-ok c = λ capacity w i.
     let args : c.from_vec.result ≡ c.args.args.now = c.from_vec.ensures ∙ c.in_ok-to_vec.ensures.items_if_clones_equal (λ x y e. e) in
     let low : c.in-Some.kept.now.last < 2 ^ 64 - 1 = grind (arith, common_steps) in
     let allowed : first_of (post_rules c.args.names.now w (slice_get w.actors c.args.to.0) (message_of c.args.actor n c.args.selector c.args.args.now)) ≡ None = rw (← args) (sym (c.post_refusal.ensures.value w i.shows) ∙ none_by c.post_refusal.result (sym c.if-is_some.ensures)) in
-    let middle : c.deliver.new.self ≡ change_at (taken_in (message_of c.args.actor n c.args.selector c.args.args.now)) c.args.to.0 c.args.actors.now = rw (← args) c.in_ok-deliver.ensures.ok in
+    let middle : c.deliver.new.self ≡ change_at (view_with_message (message_of c.args.actor n c.args.selector c.args.args.now)) c.args.to.0 c.args.actors.now = rw (← args) c.in_ok-deliver.ensures.ok in
     post_tries c.args.names.now capacity c.args.version.now c.args.actors.now c.deliver.new.self c.set_last.new.self w c.args.actor c.args.to c.args.selector c.args.args.now c.in-Some.kept.now n i (sym c.in-Some.ensures) low (ap (λ (x : ℕ). x + 1) c.last-last.ensures) allowed middle c.set_last.ensures
 
 pub returns-clause-grown : goal.returns-clause-grown

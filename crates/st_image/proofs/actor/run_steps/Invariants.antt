@@ -1,6 +1,6 @@
 use Rattle.std.proofs.Common.{◌-◌, ◌≡◌, ◌≤◌, Some}
 use Rattle.st_turn.specs.Steps.{own_steps}
-use Rattle.st_image.specs.Keeping.{CanRun}
+use Rattle.st_image.specs.ImageInvariant.{CanRun}
 use Rattle.st_image.proofs.actor.run_steps.Given as goal
 
 abbrev pub invariant-turn : goal.invariant-turn

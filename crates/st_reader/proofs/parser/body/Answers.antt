@@ -2,9 +2,9 @@ use Rattle.std.proofs.Common.{◌≡◌, ℕ, false, List, [], ◌∷◌, length
 use Rattle.std.specs.Prelude.{◌==◌, option_map, option_and_then}
 use Rattle.st_reader.specs.declared.tokens.Lexeme.{Lexeme}
 use Rattle.st_reader.specs.Syntax.{Statements}
-use Rattle.st_reader.specs.Views.{statements_view}
+use Rattle.st_reader.specs.TreeViews.{statements_view}
 use Rattle.st_reader.specs.Lexemes.{tokens_of}
-use Rattle.st_reader.specs.Reading.{Read, whole, statements_with, expression_of, body_of}
+use Rattle.st_reader.specs.Parser.{Read, whole, statements_with, expression_of, body_of}
 use Rattle.st_reader.proofs.parser.body.Goals as goal
 
 not_whole : (s : List ℕ) (ss : Statements) (rest : List Lexeme) → false ≡ (length rest == 0) → whole (ss, tokens_of s rest) ≡ None

@@ -4,8 +4,8 @@ use Rattle.std.specs.List.{list_all}
 use Rattle.st_reader.specs.declared.tokens.Lexeme.{Lexeme}
 use Rattle.st_reader.specs.Tokens.{Token, IsCut, token_fits, is_character}
 use Rattle.st_reader.specs.Lexemes.{tokens_of}
-use Rattle.st_reader.specs.Reading.{method_of}
-use Rattle.st_reader.specs.Views.{method_view}
+use Rattle.st_reader.specs.Parser.{method_of}
+use Rattle.st_reader.specs.TreeViews.{method_view}
 use Rattle.st_reader.proofs.Exact.{one_way}
 use Rattle.st_reader.proofs.Spelled.{spelled, one_method, no_method, no_fit, no_cut, said}
 use Rattle.st_reader.proofs.reader.read_syntax.Goals as goal
@@ -28,7 +28,7 @@ pub returns-in-Some-clause-refused : goal.returns-in-Some-clause-refused
 unfolding CutAt
 returns-in-Some-clause-refused c =
     let s = c.args.source.now in
-    said c.source_fault-in-Some.result c.source_fault-in-Some.ensures (no_cut s (stopped s c.in_ok-lexemes.field-0.lexemes.items c.in_ok-lexemes.field-0.stop c.in-Some.field-0 c.in-Some.is c.in_ok-lexemes.ensures.ok))
+    said c.source_fault-in-Some.result c.source_fault-in-Some.ensures.source (no_cut s (stopped s c.in_ok-lexemes.field-0.lexemes.items c.in_ok-lexemes.field-0.stop c.in-Some.field-0 c.in-Some.is c.in_ok-lexemes.ensures.ok))
 
 pub returns-then-not-fit-clause-refused : goal.returns-then-not-fit-clause-refused
 unfolding CutAt
@@ -36,7 +36,7 @@ returns-then-not-fit-clause-refused c =
     let s = c.args.source.now in
     let cut = whole s c.in_ok-lexemes.field-0.lexemes.items c.in_ok-lexemes.field-0.stop c.in_default.is c.in_ok-lexemes.ensures.ok in
     let over : list_all token_fits (tokens_of s c.in_ok-lexemes.field-0.lexemes.items) ≡ false = grind arith in
-    said c.source_fault-then-not-fit.result c.source_fault-then-not-fit.ensures (no_fit one_way s (tokens_of s c.in_ok-lexemes.field-0.lexemes.items) cut over)
+    said c.source_fault-then-not-fit.result c.source_fault-then-not-fit.ensures.source (no_fit one_way s (tokens_of s c.in_ok-lexemes.field-0.lexemes.items) cut over)
 
 pub returns-in-Ok-clause-ok : goal.returns-in-Ok-clause-ok
 unfolding CutAt
@@ -65,4 +65,4 @@ returns-in-Err-NoTree-clause-refused c =
     let ts = tokens_of s c.in_ok-lexemes.field-0.lexemes.items in
     let cut = whole s c.in_ok-lexemes.field-0.lexemes.items c.in_ok-lexemes.field-0.stop c.in_default.is c.in_ok-lexemes.ensures.ok in
     let none : method_of ts ≡ None = grind arith in
-    said c.source_fault-in-Err-NoTree.result c.source_fault-in-Err-NoTree.ensures (no_method one_way s ts cut none)
+    said c.source_fault-in-Err-NoTree.result c.source_fault-in-Err-NoTree.ensures.source (no_method one_way s ts cut none)

@@ -4,8 +4,8 @@ use Rattle.std.proofs.lemmas.Bool.{and_left, and_right}
 use Rattle.st_reader.specs.declared.trees.Span.{Span}
 use Rattle.st_reader.specs.declared.trees.Message.{Message as Sent}
 use Rattle.st_reader.specs.Syntax.{cascade}
-use Rattle.st_reader.specs.Views.{message_view, chain_view, sends, further_of, seen_further}
-use Rattle.st_reader.specs.Rules.{message_allowed, further_allowed, stands}
+use Rattle.st_reader.specs.TreeViews.{message_view, chain_view, sends, further_of, seen_further}
+use Rattle.st_reader.specs.WellFormed.{message_allowed, further_allowed, is_well_placed}
 use Rattle.st_reader.specs.Variables.{argument_texts}
 use Rattle.st_reader.proofs.Allowed.{cascade_allowed, sending_fails}
 use Rattle.st_reader.proofs.rules.+rules.Goals as goal
@@ -26,7 +26,7 @@ pub expression_allowed-returns-then-not-cascade_stands : goal.expression_allowed
 expression_allowed-returns-then-not-cascade_stands t c =
     let r = chain_view c.args.expression.now.receiver in
     let whole = cascade_allowed (argument_texts c.args.pattern.now) c.args.expression.now c.in-Some.first c.in-Some.further (sym c.may_assign.ensures ∙ c.if-not-may_assign.false) c.in-Some.is (sym c.chain_allowed.ensures ∙ c.if-not-chain_allowed.false) in
-    let test = c.cascade_stands.ensures ∙ ap (λ (l : List (Span × Sent)). stands (cascade r (message_view c.in-Some.first) (further_of (seen_further l)))) c.deref.ensures.value in
+    let test = c.cascade_stands.ensures ∙ ap (λ (l : List (Span × Sent)). is_well_placed (cascade r (message_view c.in-Some.first) (further_of (seen_further l)))) c.deref.ensures.value in
     none _ _ _ _ whole (sym test ∙ c.if-not-cascade_stands.true)
 
 pub expression_allowed-returns-then-message_allowed : goal.expression_allowed-returns-then-message_allowed
@@ -34,7 +34,7 @@ expression_allowed-returns-then-message_allowed t c =
     let fixed = argument_texts c.args.pattern.now in
     let r = chain_view c.args.expression.now.receiver in
     let whole = cascade_allowed fixed c.args.expression.now c.in-Some.first c.in-Some.further (sym c.may_assign.ensures ∙ c.if-not-may_assign.false) c.in-Some.is (sym c.chain_allowed.ensures ∙ c.if-not-chain_allowed.false) in
-    let test = c.cascade_stands.ensures ∙ ap (λ (l : List (Span × Sent)). stands (cascade r (message_view c.in-Some.first) (further_of (seen_further l)))) c.deref.ensures.value in
+    let test = c.cascade_stands.ensures ∙ ap (λ (l : List (Span × Sent)). is_well_placed (cascade r (message_view c.in-Some.first) (further_of (seen_further l)))) c.deref.ensures.value in
     let rest = c.further_allowed.ensures ∙ ap (λ (l : List (Span × Sent)). further_allowed fixed (further_of (seen_further l))) c.deref-then-message_allowed.ensures.value in
     rest ∙ last _ _ _ _ whole (sym test ∙ c.if-not-cascade_stands.false) (sym c.message_allowed.ensures ∙ c.if-message_allowed.true)
 
@@ -42,7 +42,7 @@ pub expression_allowed-returns-else-message_allowed : goal.expression_allowed-re
 expression_allowed-returns-else-message_allowed t c =
     let r = chain_view c.args.expression.now.receiver in
     let whole = cascade_allowed (argument_texts c.args.pattern.now) c.args.expression.now c.in-Some.first c.in-Some.further (sym c.may_assign.ensures ∙ c.if-not-may_assign.false) c.in-Some.is (sym c.chain_allowed.ensures ∙ c.if-not-chain_allowed.false) in
-    let test = c.cascade_stands.ensures ∙ ap (λ (l : List (Span × Sent)). stands (cascade r (message_view c.in-Some.first) (further_of (seen_further l)))) c.deref.ensures.value in
+    let test = c.cascade_stands.ensures ∙ ap (λ (l : List (Span × Sent)). is_well_placed (cascade r (message_view c.in-Some.first) (further_of (seen_further l)))) c.deref.ensures.value in
     c.message_allowed.ensures ∙ first _ _ _ _ whole (sym test ∙ c.if-not-cascade_stands.false) (sym c.message_allowed.ensures ∙ c.if-message_allowed.false)
 
 -- ---- messages to a receiver

@@ -1,10 +1,10 @@
 use Rattle.std.proofs.Common.{◌≡◌, true, drop}
 use Rattle.std.specs.List.{list_all}
 use Rattle.st_reader.specs.Syntax.{Expression}
-use Rattle.st_reader.specs.Views.{expression_view, message_view, sends, parts_of, further_of, seen_parts, seen_further}
-use Rattle.st_reader.specs.Rules.{allowed, parts_allowed, further_allowed}
+use Rattle.st_reader.specs.TreeViews.{expression_view, message_view, sends, parts_of, further_of, seen_parts, seen_further}
+use Rattle.st_reader.specs.WellFormed.{allowed, parts_allowed, further_allowed}
 use Rattle.st_reader.specs.Variables.{argument_texts}
-use Rattle.st_reader.specs.Alone.{alone}
+use Rattle.st_reader.specs.ExpressionKinds.{expression_kind}
 use Rattle.std.proofs.Common.{map}
 use Rattle.st_reader.proofs.Allowed.{Sending}
 use Rattle.st_reader.proofs.rules.+rules.Given as goal
@@ -23,4 +23,4 @@ invariant-sentences_allowed-loop-sentence l =
 
 abbrev pub invariant-messages_allowed-loop-message : goal.invariant-messages_allowed-loop-message
 invariant-messages_allowed-loop-message l =
-    (e : Expression) → alone e ≡ l.fn.receiver → allowed (argument_texts l.pattern) e ≡ true → Sending (argument_texts l.pattern) l.receiver (sends e (map message_view l.messages)) (drop l.message-index l.messages)
+    (e : Expression) → expression_kind e ≡ l.fn.receiver → allowed (argument_texts l.pattern) e ≡ true → Sending (argument_texts l.pattern) l.receiver (sends e (map message_view l.messages)) (drop l.message-index l.messages)

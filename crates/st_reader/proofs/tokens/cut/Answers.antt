@@ -1,7 +1,7 @@
 use Rattle.std.proofs.Common.{◌≡◌, ℕ, ◌+◌, List, Some, None, ◌∙◌, ap, sym, arith, drop-drop, subst, drop, map}
 use Rattle.std.specs.Prelude.{option_map}
 use Rattle.st_reader.specs.Tokens.{Token, IsCut, IsCutBefore}
-use Rattle.st_reader.specs.Cutting.{tokens, tokens_behind, front}
+use Rattle.st_reader.specs.Lexer.{tokens, tokens_behind, front}
 use Rattle.st_reader.specs.Lexemes.{token_of, tokens_of}
 use Rattle.st_reader.specs.declared.tokens.Lexeme.{Lexeme}
 use Rattle.st_reader.proofs.Cutting.{behind, cut_step, cut_none, cut_end}

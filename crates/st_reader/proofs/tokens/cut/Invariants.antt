@@ -1,7 +1,7 @@
 use Rattle.std.proofs.Common.{◌≡◌, ◌+◌, ◌++◌, ◌≤◌, List, length, map, drop}
 use Rattle.std.specs.Prelude.{option_map}
 use Rattle.st_reader.specs.Tokens.{Token, IsCutBefore}
-use Rattle.st_reader.specs.Cutting.{tokens, tokens_behind}
+use Rattle.st_reader.specs.Lexer.{tokens, tokens_behind}
 use Rattle.st_reader.specs.Lexemes.{token_of, tokens_of}
 use Rattle.st_reader.proofs.tokens.cut.Given as goal
 

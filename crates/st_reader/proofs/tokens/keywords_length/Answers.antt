@@ -2,7 +2,7 @@ use Rattle.std.proofs.Common.{◌≡◌, ℕ, ◌+◌, ◌-◌, List, length, ta
 use Rattle.std.proofs.lemmas.List.{length-drop, take_rest}
 use Rattle.st_classes.specs.Selectors.{is_letter}
 use Rattle.st_reader.specs.Pieces.{begins}
-use Rattle.st_reader.specs.Cutting.{keyword_more}
+use Rattle.st_reader.specs.Lexer.{keyword_more}
 use Rattle.st_reader.proofs.Lists.{begins_below}
 use Rattle.st_reader.proofs.Keywords.{more_keywords, other_word, no_more_keywords}
 use Rattle.st_reader.proofs.tokens.keywords_length.Goals as goal

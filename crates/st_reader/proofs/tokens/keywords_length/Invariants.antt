@@ -1,5 +1,5 @@
 use Rattle.std.proofs.Common.{◌≡◌, ◌-◌, ◌≤◌, false, length, drop}
-use Rattle.st_reader.specs.Cutting.{keywords_length}
+use Rattle.st_reader.specs.Lexer.{keywords_length}
 use Rattle.st_reader.proofs.Keywords.{longer}
 use Rattle.st_reader.proofs.tokens.keywords_length.Given as goal
 

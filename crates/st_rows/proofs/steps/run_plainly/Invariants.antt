@@ -1,4 +1,4 @@
-use Rattle.st_turn.specs.Fitting.{FitsSome}
+use Rattle.st_turn.specs.BodyFits.{FitsSome}
 use Rattle.st_rows.proofs.steps.run_plainly.Given as goal
 
 abbrev pub invariant-loop-steps : goal.invariant-loop-steps

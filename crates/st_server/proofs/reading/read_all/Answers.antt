@@ -3,7 +3,7 @@ use Rattle.std.proofs.KnownBytes.{Consumes-trans}
 use Rattle.st_classes.specs.declared.refusals.Refusal.{Refusal}
 use Rattle.st_classes.specs.declared.refusals.Refusal.TheVariants.{NoMemory, ReadFault}
 use Rattle.st_wire.specs.Streams.{InputView, input_view, one_more}
-use Rattle.st_server.specs.Reading.{WhyStopped, StopsReading}
+use Rattle.st_server.specs.InputBytes.{WhyStopped, StopsReading}
 use Rattle.st_server.proofs.Counting.{few_reads}
 use Rattle.st_server.proofs.reading.read_all.Goals as goal
 

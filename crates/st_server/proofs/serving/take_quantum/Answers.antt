@@ -3,5 +3,5 @@ use Rattle.st_server.proofs.serving.take_quantum.Goals as goal
 
 pub returns-in-Err : goal.returns-in-Err
 returns-in-Err c =
-    let stands = rw c.steps.ensures.same at c.in-Err.ensures.stands in
+    let stopped = rw c.steps.ensures.same at c.in-Err.ensures in
     search rules

@@ -1,7 +1,7 @@
-use Rattle.std.proofs.Common.{◌≡◌, ◌++◌, drop, nat_lt, false}
-use Rattle.serde_json.specs.Written.{items_text}
+use Rattle.std.proofs.Common.{◌≡◌, ◌++◌, drop}
 use Rattle.st_wire.specs.Replies.{site_items}
+use Rattle.st_wire.specs.Writing.{items_tokens}
 use Rattle.st_wire.proofs.replies.write_reports.Given as goal
 
-abbrev pub invariant-loop-place : goal.invariant-loop-place
-invariant-loop-place l = l.initial.line ++ items_text false (site_items l.sites) ≡ l.line ++ items_text (nat_lt 0 l.place) (site_items (drop l.place l.sites))
+abbrev pub invariant-loop-site : goal.invariant-loop-site
+invariant-loop-site l = (l.writer.before ≡ l.initial.writer.before) × (l.writer.tokens ++ items_tokens (site_items (drop l.site-index l.sites)) ≡ l.initial.writer.tokens ++ items_tokens (site_items l.sites))

@@ -3,11 +3,11 @@ use Rattle.std.specs.Prelude.{slice_set}
 use Rattle.std.proofs.lemmas.List.{length-map}
 use Rattle.std.proofs.lemmas.Result.{on_ok_weaker}
 use Rattle.st_reader.specs.declared.trees.Statements.{out-Statements}
-use Rattle.st_reader.specs.Views.{chain_view, expression_view}
-use Rattle.st_compile.specs.Words.{Word, line, return}
+use Rattle.st_reader.specs.TreeViews.{chain_view, expression_view}
+use Rattle.st_compile.specs.DraftCode.{Word, line, return}
 use Rattle.st_compile.specs.Equations.{code}
-use Rattle.st_compile.specs.Drafts.{line_of}
-use Rattle.st_compile.specs.Emitting.{branch_word, arm_code, goes_up}
+use Rattle.st_compile.specs.DraftViews.{line_of}
+use Rattle.st_compile.specs.DraftGrowth.{branch_word, arm_code, goes_up}
 use Rattle.st_compile.proofs.Lines.{patch_either, patch_loop}
 use Rattle.st_compile.proofs.EmittingRows.{further_step}
 use Rattle.st_compile.proofs.EmittingTrees.{behind, sent_keywords, inlined_many, expression_code, statements_code}

@@ -1,9 +1,9 @@
 use Rattle.std.specs.Prelude.{max}
 use Rattle.std.proofs.Common.{◌≡◌, ℕ, ◌+◌, ◌*◌, ◌<◌, ◌≤◌, ◌++◌, ◌∷◌, [], length, map, drop}
-use Rattle.st_reader.specs.Views.{chain_view, parts_of, seen_parts, further_of, seen_further, seen_sentences}
-use Rattle.st_compile.specs.Drafts.{line_of}
+use Rattle.st_reader.specs.TreeViews.{chain_view, parts_of, seen_parts, further_of, seen_further, seen_sentences}
+use Rattle.st_compile.specs.DraftViews.{line_of}
 use Rattle.st_compile.specs.Equations.{arguments, further_sent}
-use Rattle.st_compile.specs.Emitting.{dropped}
+use Rattle.st_compile.specs.DraftGrowth.{dropped}
 use Rattle.st_compile.proofs.EmittingChains.{ChainAt}
 use Rattle.st_compile.specs.declared.words.Arm.{Arm}
 use Rattle.st_compile.specs.declared.words.Arm.TheVariants.{Block, Plain}

@@ -1,10 +1,10 @@
 use Rattle.std.proofs.Common.{◌∷◌, [], None, Some, map, refl}
 use Rattle.std.proofs.lemmas.Result.{on_ok_weaker}
 use Rattle.st_reader.specs.declared.trees.Statements.{out-Statements}
-use Rattle.st_reader.specs.Views.{expression_view}
-use Rattle.st_compile.specs.Words.{line, drop, receiver, return}
+use Rattle.st_reader.specs.TreeViews.{expression_view}
+use Rattle.st_compile.specs.DraftCode.{line, drop, receiver, return}
 use Rattle.st_compile.specs.Equations.{code}
-use Rattle.st_compile.specs.Drafts.{line_of}
+use Rattle.st_compile.specs.DraftViews.{line_of}
 use Rattle.st_compile.proofs.EmittingTrees.{behind, body_is}
 use Rattle.st_compile.proofs.emit.Draft.body.Goals as goal
 

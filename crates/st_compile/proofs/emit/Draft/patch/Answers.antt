@@ -1,5 +1,5 @@
 use Rattle.std.proofs.lemmas.List.{map-set}
-use Rattle.st_compile.specs.Drafts.{line_of}
+use Rattle.st_compile.specs.DraftViews.{line_of}
 use Rattle.st_compile.proofs.emit.Draft.patch.Goals as goal
 
 pub returns-clause-code : goal.returns-clause-code

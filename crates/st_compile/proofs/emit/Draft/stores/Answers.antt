@@ -1,5 +1,5 @@
 use Rattle.std.proofs.Common.{map, arith}
-use Rattle.st_compile.specs.Drafts.{line_of}
+use Rattle.st_compile.specs.DraftViews.{line_of}
 use Rattle.st_compile.proofs.EmittingRows.{stores_step}
 use Rattle.st_compile.proofs.emit.Draft.stores.Goals as goal
 

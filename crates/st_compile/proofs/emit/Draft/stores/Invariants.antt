@@ -1,6 +1,6 @@
 use Rattle.std.proofs.Common.{◌≡◌, ◌≤◌, ◌++◌, length, map}
-use Rattle.st_compile.specs.Drafts.{line_of}
-use Rattle.st_compile.specs.Emitting.{stores}
+use Rattle.st_compile.specs.DraftViews.{line_of}
+use Rattle.st_compile.specs.DraftGrowth.{stores}
 use Rattle.st_compile.proofs.emit.Draft.stores.Given as goal
 
 abbrev pub invariant-loop-last : goal.invariant-loop-last

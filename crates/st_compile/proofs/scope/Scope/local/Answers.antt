@@ -1,6 +1,6 @@
 use Rattle.std.proofs.Common.{map, ap, ◌∙◌}
 use Rattle.st_classes.specs.Selectors.{place_of}
-use Rattle.st_compile.specs.Naming.{named}
+use Rattle.st_compile.specs.Scopes.{named}
 use Rattle.st_compile.proofs.Places.{local_place}
 use Rattle.st_compile.proofs.scope.Scope.local.Goals as goal
 

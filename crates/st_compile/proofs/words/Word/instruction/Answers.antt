@@ -1,4 +1,4 @@
-use Rattle.st_compile.specs.Drafts.{sent_arguments, sent_text}
+use Rattle.st_compile.specs.DraftViews.{sent_arguments, sent_text}
 use Rattle.st_compile.proofs.Arities.{number_few, selector_of_number}
 use Rattle.st_compile.proofs.words.Word.instruction.Goals as goal
 

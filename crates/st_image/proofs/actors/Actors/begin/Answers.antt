@@ -1,18 +1,18 @@
 use Rattle.std.proofs.Common.{◌≡◌, ◌<◌, Some, List, length, slice_get, sym, subst, ap, ◌∙◌}
-use Rattle.st_image.specs.Kepts.{Kept, begun_first, is_ready_kept}
+use Rattle.st_image.specs.ActorViews.{ActorView, view_after_begin, is_ready_view}
 use Rattle.st_image.proofs.ReadyOnes.{actors_same, here, put_is, ready_begun}
 use Rattle.st_image.proofs.actors.Actors.begin.Goals as goal
 
 pub invariant_of-self : goal.invariant_of-self
 invariant_of-self c =
     let i = c.self.inside in
-    let k : Kept = c.index_mut-kept.result.now in
-    let at : slice_get i.items.items c.args.actor.0 ≡ Some k = here i.items.items c.args.actor.0 k (subst (λ (ks : List Kept). c.args.actor.0 < length ks) (sym c.self.view_is) c.requires) c.index_mut-kept.ensures.value in
-    actors_same i.items.items i.ready.numbers c.args.actor.0 k c.begin.new.self c.self.invariant at (ap is_ready_kept c.begin.ensures ∙ ready_begun k)
+    let k : ActorView = c.index_mut-kept.result.now in
+    let at : slice_get i.items.items c.args.actor.0 ≡ Some k = here i.items.items c.args.actor.0 k (subst (λ (ks : List ActorView). c.args.actor.0 < length ks) (sym c.self.view_is) c.requires) c.index_mut-kept.ensures.value in
+    actors_same i.items.items i.ready.numbers c.args.actor.0 k c.begin.new.self c.self.invariant at (ap is_ready_view c.begin.ensures ∙ ready_begun k)
 
 pub returns : goal.returns
 returns c =
     let i = c.self.inside in
-    let k : Kept = c.index_mut-kept.result.now in
-    let at : slice_get i.items.items c.args.actor.0 ≡ Some k = here i.items.items c.args.actor.0 k (subst (λ (ks : List Kept). c.args.actor.0 < length ks) (sym c.self.view_is) c.requires) c.index_mut-kept.ensures.value in
-    put_is begun_first i.items.items c.args.self.now c.args.actor.0 k c.begin.new.self c.self.view_is at c.begin.ensures
+    let k : ActorView = c.index_mut-kept.result.now in
+    let at : slice_get i.items.items c.args.actor.0 ≡ Some k = here i.items.items c.args.actor.0 k (subst (λ (ks : List ActorView). c.args.actor.0 < length ks) (sym c.self.view_is) c.requires) c.index_mut-kept.ensures.value in
+    put_is view_after_begin i.items.items c.args.self.now c.args.actor.0 k c.begin.new.self c.self.view_is at c.begin.ensures

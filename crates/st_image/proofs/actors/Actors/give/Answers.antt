@@ -1,21 +1,21 @@
 use Rattle.std.proofs.Common.{◌≡◌, ◌<◌, Some, List, Ok, length, slice_get, sym, subst, ap, ◌∙◌}
-use Rattle.st_turn.specs.Steps.{outer, replied, step}
-use Rattle.st_image.specs.Kepts.{Kept, stepped_to}
+use Rattle.st_turn.specs.Steps.{outer, reply_body, step}
+use Rattle.st_image.specs.ActorViews.{ActorView, view_after_steps}
 use Rattle.st_image.proofs.ReadyOnes.{actors_set, here, only_one, put_is}
 use Rattle.st_image.proofs.actors.Actors.give.Goals as goal
 
 pub invariant_of-self : goal.invariant_of-self
 invariant_of-self c =
     let i = c.self.inside in
-    let k : Kept = c.index_mut-kept.result.now in
-    let at : slice_get i.items.items c.args.actor.0 ≡ Some k = here i.items.items c.args.actor.0 k (subst (λ (ks : List Kept). c.args.actor.0 < length ks) (sym c.self.view_is) c.requires.there) c.index_mut-kept.ensures.value in
+    let k : ActorView = c.index_mut-kept.result.now in
+    let at : slice_get i.items.items c.args.actor.0 ≡ Some k = here i.items.items c.args.actor.0 k (subst (λ (ks : List ActorView). c.args.actor.0 < length ks) (sym c.self.view_is) c.requires.there) c.index_mut-kept.ensures.value in
     actors_set i.items.items i.ready.numbers c.keep_if.new.self.numbers c.args.actor.0 k c.give.new.self c.self.invariant at (rw (← c.is_ready.ensures) c.keep_if.ensures)
 
 pub returns : goal.returns
 returns c = λ l act e f.
     let i = c.self.inside in
-    let k : Kept = c.index_mut-kept.result.now in
-    let at : slice_get i.items.items c.args.actor.0 ≡ Some k = here i.items.items c.args.actor.0 k (subst (λ (ks : List Kept). c.args.actor.0 < length ks) (sym c.self.view_is) c.requires.there) c.index_mut-kept.ensures.value in
-    let same : k ≡ l = only_one i.items.items c.args.actor.0 k l at (subst (λ (ks : List Kept). slice_get ks c.args.actor.0 ≡ Some l) (sym c.self.view_is) e) in
-    let step_is : step c.args.version.now c.args.actor k.body ≡ outer act = subst (λ (x : Kept). step c.args.version.now c.args.actor x.body ≡ outer act) (sym same) f in
-    put_is (stepped_to (replied act (Ok c.args.value) l.body)) i.items.items c.args.self.now c.args.actor.0 k c.give.new.self c.self.view_is at (c.give.ensures act step_is ∙ ap (λ (x : Kept). stepped_to (replied act (Ok c.args.value) x.body) k) same)
+    let k : ActorView = c.index_mut-kept.result.now in
+    let at : slice_get i.items.items c.args.actor.0 ≡ Some k = here i.items.items c.args.actor.0 k (subst (λ (ks : List ActorView). c.args.actor.0 < length ks) (sym c.self.view_is) c.requires.there) c.index_mut-kept.ensures.value in
+    let same : k ≡ l = only_one i.items.items c.args.actor.0 k l at (subst (λ (ks : List ActorView). slice_get ks c.args.actor.0 ≡ Some l) (sym c.self.view_is) e) in
+    let step_is : step c.args.version.now c.args.actor k.body ≡ outer act = subst (λ (x : ActorView). step c.args.version.now c.args.actor x.body ≡ outer act) (sym same) f in
+    put_is (view_after_steps (reply_body act (Ok c.args.value) l.body)) i.items.items c.args.self.now c.args.actor.0 k c.give.new.self c.self.view_is at (c.give.ensures act step_is ∙ ap (λ (x : ActorView). view_after_steps (reply_body act (Ok c.args.value) x.body) k) same)

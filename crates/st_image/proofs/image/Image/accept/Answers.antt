@@ -15,10 +15,10 @@ invariant_of-self-2 c =
     let p : IsPosted start i.names i.version c.deliver.new.self (i.history.items ++ Posted c.args.actor c.args.message ∷ []) i.edits_made i.settings c.args.actor c.in-Ok-deliver.place = posted start i.names i.version i.actors c.deliver.new.self i.history.items i.edits_made i.settings i.next_from c.in-Ok-deliver.place c.args.actor c.args.message c.self.invariant allowed c.requires c.in-Ok-deliver.ensures.ok c.in-Ok-deliver.ensures.count in
     rw items p.image
 
-pub returns-clause-answers : goal.returns-clause-answers
-returns-clause-answers c =
+pub returns : goal.returns
+returns c =
     let i = c.self.inside in
     let allowed : first_of (image_post_rules (seen start i.names i.history.items i.settings i.next_from) c.args.actor c.args.message) ≡ None = subst (λ (v : ImageView). first_of (image_post_rules v c.args.actor c.args.message) ≡ None) (sym c.self.view_is) (sym c.in_default.ensures.value) in
     let items : c.push.new.self.items ≡ i.history.items ++ Posted c.args.actor c.args.message ∷ [] = grind (arith, common_steps) in
     let p : IsPosted start i.names i.version c.deliver.new.self (i.history.items ++ Posted c.args.actor c.args.message ∷ []) i.edits_made i.settings c.args.actor c.in-Ok-deliver.place = posted start i.names i.version i.actors c.deliver.new.self i.history.items i.edits_made i.settings i.next_from c.in-Ok-deliver.place c.args.actor c.args.message c.self.invariant allowed c.requires c.in-Ok-deliver.ensures.ok c.in-Ok-deliver.ensures.count in
-    (sym c.in_default.ensures.value, (rw (items, ← c.self.view_is) refl, rw items p.place))
+    ((sym c.in_default.ensures.value, (rw (items, ← c.self.view_is) refl, rw items p.place)), tt)

@@ -2,8 +2,8 @@ use Rattle.std.proofs.Common.{◌≡◌, refl, sym, ◌∙◌, slice_get, subst}
 use Rattle.std.specs.Option.{option_map}
 use Rattle.st_image.specs.Worlds.{start}
 use Rattle.st_image.specs.Images.{ImageView, world, world_of}
-use Rattle.st_image.specs.Kepts.{kept_of}
-use Rattle.st_image.specs.Acting.{constants_of}
+use Rattle.st_image.specs.ActorViews.{actor_view}
+use Rattle.st_image.specs.ActResults.{constants_of}
 use Rattle.st_image.proofs.Showing.{being_of}
 use Rattle.st_image.proofs.image.Image.actor.Goals as goal
 
@@ -11,5 +11,5 @@ pub returns : goal.returns
 returns c =
     let i = c.self.inside in
     let o = being_of i.version i.actors (world_of (constants_of i.names i.settings.capacity) start i.history.items) c.args.actor.0 (slice_get i.actors c.args.actor.0) c.self.invariant.shows refl in
-    let here : option_map kept_of (slice_get (world c.args.self.now).actors c.args.actor.0) ≡ slice_get i.actors c.args.actor.0 = subst (λ (v : ImageView). option_map kept_of (slice_get (world v).actors c.args.actor.0) ≡ slice_get i.actors c.args.actor.0) c.self.view_is o in
+    let here : option_map actor_view (slice_get (world c.args.self.now).actors c.args.actor.0) ≡ slice_get i.actors c.args.actor.0 = subst (λ (v : ImageView). option_map actor_view (slice_get (world v).actors c.args.actor.0) ≡ slice_get i.actors c.args.actor.0) c.self.view_is o in
     c.get.ensures ∙ sym here

@@ -1,9 +1,9 @@
 use Rattle.std.proofs.Common.{◌≡◌, ◌++◌, List, ℕ, ap, ◌∙◌, subst, refl}
 use Rattle.st_classes.specs.declared.edits.Edit.{Edit}
 use Rattle.st_classes.specs.Refusals.{first_of, Answers}
-use Rattle.st_compile.specs.Interning.{InternsFirst, needed_texts}
-use Rattle.st_compile.specs.Refusing.{code_rules, method_rules}
-use Rattle.st_compile.specs.Compiled.{IsCompiled}
+use Rattle.st_compile.specs.NeededNames.{InternsFirst, needed_texts}
+use Rattle.st_compile.specs.CompileRules.{code_rules, method_rules}
+use Rattle.st_compile.specs.CompiledMethod.{IsCompiled}
 use Rattle.st_compile.proofs.Interning.{Grows, first-grows}
 use Rattle.st_image.specs.Worlds.{start}
 use Rattle.st_image.specs.Images.{ImageView, world}

@@ -5,7 +5,7 @@ use Rattle.st_turn.specs.declared.body.Body.{Body}
 use Rattle.st_image.specs.declared.items.Item.TheVariants.{Created}
 use Rattle.st_image.specs.Worlds.{start}
 use Rattle.st_image.specs.Images.{ImageView, create_rules}
-use Rattle.st_image.specs.Kepts.{Kept, new_kept}
+use Rattle.st_image.specs.ActorViews.{ActorView, new_actor_view}
 use Rattle.st_image.proofs.Keeping.{fresh_body}
 use Rattle.st_image.proofs.Posting.{seen}
 use Rattle.st_image.proofs.Creating.{created, few_actors, fresh_with}
@@ -23,6 +23,6 @@ invariant_of-self-2 c =
     let allowed : first_of (create_rules (seen start i.names i.history.items i.settings i.next_from) c.args.class) ≡ None = subst (λ (v : ImageView). first_of (create_rules v c.args.class) ≡ None) (sym c.self.view_is) (sym c.in_default.ensures) in
     let body : c.in-Ok.body ≡ fresh_body i.version c.args.class = c.in-Ok.ensures ∙ ap (fresh_with c.args.class) c.slots-slots.ensures in
     let items : c.push-2.new.self.items ≡ i.history.items ++ Created c.args.class ∷ [] = grind (arith, common_steps) in
-    let pushed : c.push.new.self ≡ i.actors ++ new_kept c.args.class i.settings.capacity c.in-Ok.body ∷ [] = c.in-Ok-push.ensures.ok ∙ ap (λ (k : Kept). i.actors ++ k ∷ []) c.new-actor.ensures in
-    let actors : c.push.new.self ≡ i.actors ++ new_kept c.args.class i.settings.capacity (fresh_body i.version c.args.class) ∷ [] = subst (λ (b : Body). c.push.new.self ≡ i.actors ++ new_kept c.args.class i.settings.capacity b ∷ []) body pushed in
+    let pushed : c.push.new.self ≡ i.actors ++ new_actor_view c.args.class i.settings.capacity c.in-Ok.body ∷ [] = c.in-Ok-push.ensures.ok ∙ ap (λ (k : ActorView). i.actors ++ k ∷ []) c.new-actor.ensures in
+    let actors : c.push.new.self ≡ i.actors ++ new_actor_view c.args.class i.settings.capacity (fresh_body i.version c.args.class) ∷ [] = subst (λ (b : Body). c.push.new.self ≡ i.actors ++ new_actor_view c.args.class i.settings.capacity b ∷ []) body pushed in
     rw items (created start i.names i.version i.actors c.push.new.self i.history.items i.edits_made i.settings i.next_from c.args.class c.self.invariant allowed actors)

@@ -1,40 +1,55 @@
-use Rattle.st_image.specs.Acting.{constants_of}
+use Rattle.st_image.specs.ActResults.{constants_of}
 use Rattle.std.proofs.Common.{arith, ◌≡◌, ◌+◌, ◌++◌, [], ◌∷◌, List, length, true, None, refl, sym, ap, ◌∙◌, subst}
 use Rattle.std.proofs.lemmas.Grind.{common_steps}
 use Rattle.st_classes.specs.declared.edits.Edit.{Edit}
 use Rattle.st_classes.specs.Refusals.{first_of}
-use Rattle.st_classes.specs.Accepting.{edit_rules}
-use Rattle.st_classes.specs.Suiting.{edit_suits}
+use Rattle.st_classes.specs.EditRules.{edit_rules}
+use Rattle.st_classes.specs.MethodSuits.{edit_suits}
 use Rattle.st_image.specs.declared.items.Item.TheVariants.{Edited}
 use Rattle.st_image.specs.Worlds.{start}
 use Rattle.st_image.specs.Images.{ImageView, run_rules, world, world_of}
 use Rattle.st_image.proofs.Posting.{seen}
 use Rattle.st_image.proofs.Keeping.{edits_few}
-use Rattle.st_image.proofs.Editing.{IsEdited, edited, last_is}
+use Rattle.st_image.proofs.Lists.{off_append}
+use Rattle.st_image.proofs.Editing.{IsEdited, edited}
 use Rattle.st_image.proofs.image.Image.edit.Goals as goal
 
 pub overflow_add-self : goal.overflow_add-self
 overflow_add-self c = omega (arith, edits_few c.self.inside.history.items, c.self.invariant.counted, c.self.invariant.few_items, c.self.invariant.numbers.few_items)
+
+pub with_accepted-requires-clause-accepted : goal.with_accepted-requires-clause-accepted
+with_accepted-requires-clause-accepted c =
+    let accepted = (off_append (edit_rules (world c.args.self.now).edits c.args.edit) (run_rules c.args.self.now) (sym c.in_default.ensures)).0 in
+    rw (c.version.ensures, c.in-Ok.ensures) accepted
+
+pub with_accepted-requires-clause-suits : goal.with_accepted-requires-clause-suits
+with_accepted-requires-clause-suits c = (c.args.self.now.names, rw (c.version.ensures, c.in-Ok.ensures) c.requires)
 
 pub invariant_of-self-2 : goal.invariant_of-self-2
 invariant_of-self-2 c =
     let i = c.self.inside in
     let w = world_of (constants_of i.names i.settings.capacity) start i.history.items in
     let suits : edit_suits i.names w.edits c.args.edit ≡ true = subst (λ (v : ImageView). edit_suits v.names (world v).edits c.args.edit ≡ true) (sym c.self.view_is) c.requires in
-    let allowed : first_of (edit_rules w.edits c.args.edit ++ run_rules (seen start i.names i.history.items i.settings i.next_from)) ≡ None = subst (λ (v : ImageView). first_of (edit_rules (world v).edits c.args.edit ++ run_rules v) ≡ None) (sym c.self.view_is) c.in-Ok.ensures.0 in
-    let after : c.in-Ok.version ≡ w.edits ++ c.args.edit ∷ [] = subst (λ (v : ImageView). c.in-Ok.version ≡ (world v).edits ++ c.args.edit ∷ []) (sym c.self.view_is) c.in-Ok.ensures.1 in
-    let items : c.push.new.self.items ≡ i.history.items ++ Edited c.args.edit ∷ [] = (let last : c.in-Ok-last_edit.last ≡ c.args.edit = last_is w.edits c.in-Ok.version c.args.edit c.in-Ok-last_edit.last after c.in-Ok-last_edit.ensures in let put : c.push.new.self.items ≡ i.history.items ++ Edited c.in-Ok-last_edit.last ∷ [] = grind (arith, common_steps) in subst (λ (x : Edit). c.push.new.self.items ≡ i.history.items ++ Edited x ∷ []) last put) in
-    let e : IsEdited start i.names c.in-Ok.version i.actors (i.history.items ++ Edited c.args.edit ∷ []) (i.edits_made + 1) i.settings = edited start i.names i.version c.in-Ok.version i.actors i.history.items i.edits_made i.settings i.next_from c.args.edit c.self.invariant c.known.ensures suits allowed after in
+    let allowed : first_of (edit_rules w.edits c.args.edit ++ run_rules (seen start i.names i.history.items i.settings i.next_from)) ≡ None = subst (λ (v : ImageView). first_of (edit_rules (world v).edits c.args.edit ++ run_rules v) ≡ None) (sym c.self.view_is) (sym c.in_default.ensures) in
+    let put_last : c.in-Ok-with_accepted.version ≡ (world c.args.self.now).edits ++ c.args.edit ∷ [] = c.in-Ok-with_accepted.ensures ∙ ap (λ (es : List Edit). es ++ c.in-Ok.shared ∷ []) c.version.ensures ∙ ap (λ (x : Edit). (world c.args.self.now).edits ++ x ∷ []) c.in-Ok.ensures in
+    let after : c.in-Ok-with_accepted.version ≡ w.edits ++ c.args.edit ∷ [] = subst (λ (v : ImageView). c.in-Ok-with_accepted.version ≡ (world v).edits ++ c.args.edit ∷ []) (sym c.self.view_is) put_last in
+    let item : c.in-Ok-again.item ≡ c.args.edit = c.in-Ok-again.ensures ∙ c.in-Ok.ensures in
+    let put : c.push.new.self.items ≡ i.history.items ++ Edited c.in-Ok-again.item ∷ [] = grind (arith, common_steps) in
+    let items : c.push.new.self.items ≡ i.history.items ++ Edited c.args.edit ∷ [] = subst (λ (x : Edit). c.push.new.self.items ≡ i.history.items ++ Edited x ∷ []) item put in
+    let e : IsEdited start i.names c.in-Ok-with_accepted.version i.actors (i.history.items ++ Edited c.args.edit ∷ []) (i.edits_made + 1) i.settings = edited start i.names i.version c.in-Ok-with_accepted.version i.actors i.history.items i.edits_made i.settings i.next_from c.args.edit c.self.invariant c.known.ensures suits allowed after in
     rw items e.image
 
-pub returns-clause-answers : goal.returns-clause-answers
-returns-clause-answers c =
+pub returns : goal.returns
+returns c =
     let i = c.self.inside in
     let w = world_of (constants_of i.names i.settings.capacity) start i.history.items in
     let suits : edit_suits i.names w.edits c.args.edit ≡ true = subst (λ (v : ImageView). edit_suits v.names (world v).edits c.args.edit ≡ true) (sym c.self.view_is) c.requires in
-    let allowed : first_of (edit_rules w.edits c.args.edit ++ run_rules (seen start i.names i.history.items i.settings i.next_from)) ≡ None = subst (λ (v : ImageView). first_of (edit_rules (world v).edits c.args.edit ++ run_rules v) ≡ None) (sym c.self.view_is) c.in-Ok.ensures.0 in
-    let after : c.in-Ok.version ≡ w.edits ++ c.args.edit ∷ [] = subst (λ (v : ImageView). c.in-Ok.version ≡ (world v).edits ++ c.args.edit ∷ []) (sym c.self.view_is) c.in-Ok.ensures.1 in
-    let items : c.push.new.self.items ≡ i.history.items ++ Edited c.args.edit ∷ [] = (let last : c.in-Ok-last_edit.last ≡ c.args.edit = last_is w.edits c.in-Ok.version c.args.edit c.in-Ok-last_edit.last after c.in-Ok-last_edit.ensures in let put : c.push.new.self.items ≡ i.history.items ++ Edited c.in-Ok-last_edit.last ∷ [] = grind (arith, common_steps) in subst (λ (x : Edit). c.push.new.self.items ≡ i.history.items ++ Edited x ∷ []) last put) in
-    let e : IsEdited start i.names c.in-Ok.version i.actors (i.history.items ++ Edited c.args.edit ∷ []) (i.edits_made + 1) i.settings = edited start i.names i.version c.in-Ok.version i.actors i.history.items i.edits_made i.settings i.next_from c.args.edit c.self.invariant c.known.ensures suits allowed after in
+    let allowed : first_of (edit_rules w.edits c.args.edit ++ run_rules (seen start i.names i.history.items i.settings i.next_from)) ≡ None = subst (λ (v : ImageView). first_of (edit_rules (world v).edits c.args.edit ++ run_rules v) ≡ None) (sym c.self.view_is) (sym c.in_default.ensures) in
+    let put_last : c.in-Ok-with_accepted.version ≡ (world c.args.self.now).edits ++ c.args.edit ∷ [] = c.in-Ok-with_accepted.ensures ∙ ap (λ (es : List Edit). es ++ c.in-Ok.shared ∷ []) c.version.ensures ∙ ap (λ (x : Edit). (world c.args.self.now).edits ++ x ∷ []) c.in-Ok.ensures in
+    let after : c.in-Ok-with_accepted.version ≡ w.edits ++ c.args.edit ∷ [] = subst (λ (v : ImageView). c.in-Ok-with_accepted.version ≡ (world v).edits ++ c.args.edit ∷ []) (sym c.self.view_is) put_last in
+    let item : c.in-Ok-again.item ≡ c.args.edit = c.in-Ok-again.ensures ∙ c.in-Ok.ensures in
+    let put : c.push.new.self.items ≡ i.history.items ++ Edited c.in-Ok-again.item ∷ [] = grind (arith, common_steps) in
+    let items : c.push.new.self.items ≡ i.history.items ++ Edited c.args.edit ∷ [] = subst (λ (x : Edit). c.push.new.self.items ≡ i.history.items ++ Edited x ∷ []) item put in
+    let e : IsEdited start i.names c.in-Ok-with_accepted.version i.actors (i.history.items ++ Edited c.args.edit ∷ []) (i.edits_made + 1) i.settings = edited start i.names i.version c.in-Ok-with_accepted.version i.actors i.history.items i.edits_made i.settings i.next_from c.args.edit c.self.invariant c.known.ensures suits allowed after in
     let count : c.edits.result ≡ length (world_of (constants_of i.names i.settings.capacity) start (i.history.items ++ Edited c.args.edit ∷ [])).edits = c.edits.ensures ∙ ap (λ (es : List Edit). length es) (sym e.edits_are) in
-    (c.in-Ok.ensures.0, (rw (items, ← c.self.view_is) refl, rw items count))
+    ((sym c.in_default.ensures, (rw (items, ← c.self.view_is) refl, rw items count)), tt)

@@ -1,6 +1,6 @@
 use Rattle.std.proofs.Common.{List, ℕ, subst, IfErr}
 use Rattle.st_classes.specs.Refusals.{first_of, Answers}
-use Rattle.st_image.specs.Installing.{Installs, LeavesNames, image_install_rules}
+use Rattle.st_image.specs.Installs.{Installs, LeavesNames, image_install_rules}
 use Rattle.st_image.proofs.Installing.{install_answered}
 use Rattle.st_image.proofs.image.Image.install.Goals as goal
 

@@ -1,7 +1,7 @@
 use Rattle.std.proofs.Common.{◌≡◌, sym, subst, true}
-use Rattle.st_classes.specs.Suiting.{suits}
+use Rattle.st_classes.specs.MethodSuits.{suits}
 use Rattle.st_image.specs.Worlds.{World}
-use Rattle.st_image.proofs.Installing.{tree_refused, tree_installed, tree_left, edit_left}
+use Rattle.st_image.proofs.Installing.{exact_answers, tree_refused, tree_installed, tree_left, edit_left}
 use Rattle.st_image.proofs.image.Image.install_free.Goals as goal
 
 pub returns-in-Err-clause-answers : goal.returns-in-Err-clause-answers
@@ -11,10 +11,10 @@ pub edit-requires : goal.edit-requires
 edit-requires c = subst (λ (v : World). suits c.compiled.new.self.names v.edits c.args.class c.in-Ok.method ≡ true) (sym c.compiled.ensures.world) c.in-Ok.ensures.answers.1.fitting
 
 pub returns-clause-answers : goal.returns-clause-answers
-returns-clause-answers c = tree_installed c.args.self.now c.compiled.new.self c.edit.new.self c.args.class c.args.tree.now.syntax c.args.tree.now.source c.in-Ok.method c.edit.result c.requires.class c.requires.free c.in-Ok.ensures.answers.0 c.in-Ok.ensures.names c.compiled.ensures.world c.known-2.ensures.lawful c.known-2.ensures.standing.constants.kernel c.in-Ok.ensures.answers.1 c.edit.ensures.answers
+returns-clause-answers c = tree_installed c.args.self.now c.compiled.new.self c.edit.new.self c.args.class c.args.tree.now.syntax c.args.tree.now.source c.in-Ok.method c.edit.result c.requires.class c.requires.free c.in-Ok.ensures.answers.0 c.in-Ok.ensures.names c.compiled.ensures.world c.known-2.ensures.lawful c.known-2.ensures.standing.constants.kernel c.in-Ok.ensures.answers.1 (exact_answers _ c.edit.result _ c.edit.ensures.0)
 
 pub returns-in-Err-clause-refused : goal.returns-in-Err-clause-refused
 returns-in-Err-clause-refused c = tree_left c.args.self.now c.compiled.new.self c.args.class c.args.tree.now.syntax c.args.tree.now.source c.in-Err.refusal c.known.ensures c.requires.class c.requires.free c.compiled.ensures.some c.compiled.ensures.only c.compiled.ensures.untouched c.in-Err.ensures.full c.in-Err.ensures.answers
 
 pub returns-clause-refused : goal.returns-clause-refused
-returns-clause-refused c = edit_left c.edit.result _ c.args.self.now c.compiled.new.self c.edit.new.self c.args.class c.args.tree.now.syntax c.args.tree.now.source c.in-Ok.method c.known.ensures c.requires.class c.requires.free c.in-Ok.ensures.answers.0 c.in-Ok.ensures.names c.compiled.ensures.world c.known-2.ensures.standing.constants.kernel c.in-Ok.ensures.answers.1.selector c.edit.ensures.unchanged c.edit.ensures.answers
+returns-clause-refused c = edit_left c.edit.result _ c.args.self.now c.compiled.new.self c.edit.new.self c.args.class c.args.tree.now.syntax c.args.tree.now.source c.in-Ok.method c.known.ensures c.requires.class c.requires.free c.in-Ok.ensures.answers.0 c.in-Ok.ensures.names c.compiled.ensures.world c.known-2.ensures.standing.constants.kernel c.in-Ok.ensures.answers.1.selector c.edit.ensures.1 (exact_answers _ c.edit.result _ c.edit.ensures.0)

@@ -1,8 +1,8 @@
 use Rattle.std.proofs.Common.{arith, ◌≡◌, length, subst}
 use Rattle.st_image.specs.Worlds.{World, start}
 use Rattle.st_image.specs.Images.{world_of}
-use Rattle.st_image.specs.Lasting.{IsLawful}
-use Rattle.st_image.specs.Acting.{constants_of}
+use Rattle.st_image.specs.WorldInvariant.{IsLawful}
+use Rattle.st_image.specs.ActResults.{constants_of}
 use Rattle.st_image.proofs.Showing.{count_is}
 use Rattle.st_image.proofs.image.Image.known.Goals as goal
 

@@ -1,6 +1,6 @@
 use Rattle.std.proofs.Common.{subst}
 use Rattle.st_image.specs.Images.{ImageView, world}
-use Rattle.st_image.specs.Kepts.{Shows}
+use Rattle.st_image.specs.ActorViews.{Shows}
 use Rattle.st_image.proofs.Showing.{none_ready}
 use Rattle.st_image.proofs.image.Image.next_ready.Goals as goal
 

@@ -5,8 +5,8 @@ use Rattle.st_classes.specs.Refusals.{first_of}
 use Rattle.st_image.specs.declared.items.Item.TheVariants.{Ran}
 use Rattle.st_image.specs.Worlds.{start, World}
 use Rattle.st_image.specs.Images.{ImageView, no_room, world, world_of}
-use Rattle.st_image.specs.Acting.{Quantum, constants_of}
-use Rattle.st_image.specs.Advancing.{CutsQuantum, TakesQuantum, idle_at, ran_image, ran_or_same}
+use Rattle.st_image.specs.ActResults.{Quantum, constants_of}
+use Rattle.st_image.specs.Quanta.{CutsQuantum, TakesQuantum, idle_at, image_after_run, image_after_steps}
 use Rattle.st_image.proofs.Posting.{seen}
 use Rattle.st_image.proofs.Advancing.{HasTaken, answered_err, answered_ok, cut_none, has_cut, has_taken, ran_keeps, ran_none, ran_some, small_by}
 use Rattle.st_image.proofs.image.Image.run.Goals as goal
@@ -42,13 +42,13 @@ returns-clause-ok c =
     let q : Quantum (constants_of i.names i.settings.capacity) i.version c.take_quantum.new.actors c.args.actor c.args.limit w c.in-Ok.progress.steps c.in-Ok.progress.is_whole = c.in-Ok.ensures.ok w (record { shows = c.self.invariant.shows; world = c.self.invariant.world }) in
     let n : ℕ = c.in-Ok.progress.steps in
     let old : ImageView = seen start i.names i.history.items i.settings i.next_from in
-    answered_ok c.answer.result c.in-Ok.progress.is_whole n (λ m. (1 ≤ m) × TakesQuantum c.args.self.now c.args.actor c.args.limit m × (c.if-progress-gt0.self ≡ ran_image c.args.self.now c.args.actor m)) c.answer.ensures (λ t.
+    answered_ok c.answer.result c.in-Ok.progress.is_whole n (λ m. (1 ≤ m) × TakesQuantum c.args.self.now c.args.actor c.args.limit m × (c.if-progress-gt0.self ≡ image_after_run c.args.self.now c.args.actor m)) c.answer.ensures (λ t.
     let h : HasTaken old c.args.actor c.args.limit n = has_taken start i.names i.version i.actors c.take_quantum.new.actors i.history.items i.edits_made i.settings i.next_from c.args.actor c.args.limit n c.in-Ok.progress.is_whole c.self.invariant busy c.requires.some q t in
-    let image : c.if-progress-gt0.self ≡ ran_image old c.args.actor n = elim c.if-progress-gt0.branch [
+    let image : c.if-progress-gt0.self ≡ image_after_run old c.args.actor n = elim c.if-progress-gt0.branch [
       | then-progress-gt0 x ↦ (let items : x.push.new.self.items ≡ i.history.items ++ Ran c.args.actor n ∷ [] = grind (arith, common_steps) in x.self-is ∙ ap (λ is. seen start i.names is i.settings (c.args.actor.0 + 1)) items)
       | else-progress-gt0 x ↦ absurd (omega (arith, h.some, x.if-progress-gt0.false))
     ] in
-    (h.some, subst (λ (v : ImageView). TakesQuantum v c.args.actor c.args.limit n) c.self.view_is h.quantum, image ∙ ap (λ (v : ImageView). ran_image v c.args.actor n) c.self.view_is))
+    (h.some, subst (λ (v : ImageView). TakesQuantum v c.args.actor c.args.limit n) c.self.view_is h.quantum, image ∙ ap (λ (v : ImageView). image_after_run v c.args.actor n) c.self.view_is))
 
 pub returns-clause-err : goal.returns-clause-err
 returns-clause-err c =
@@ -58,10 +58,10 @@ returns-clause-err c =
     let q : Quantum (constants_of i.names i.settings.capacity) i.version c.take_quantum.new.actors c.args.actor c.args.limit w c.in-Ok.progress.steps c.in-Ok.progress.is_whole = c.in-Ok.ensures.ok w (record { shows = c.self.invariant.shows; world = c.self.invariant.world }) in
     let n : ℕ = c.in-Ok.progress.steps in
     let old : ImageView = seen start i.names i.history.items i.settings i.next_from in
-    answered_err c.answer.result c.in-Ok.progress.is_whole n (λ e. (e ≡ NoMemory) × ((m : ℕ) × CutsQuantum c.args.self.now c.args.actor c.args.limit m × (c.if-progress-gt0.self ≡ ran_or_same c.args.self.now c.args.actor m))) c.answer.ensures (λ t.
+    answered_err c.answer.result c.in-Ok.progress.is_whole n (λ e. (e ≡ NoMemory) × ((m : ℕ) × CutsQuantum c.args.self.now c.args.actor c.args.limit m × (c.if-progress-gt0.self ≡ image_after_steps c.args.self.now c.args.actor m))) c.answer.ensures (λ t.
     let cut : CutsQuantum old c.args.actor c.args.limit n = has_cut start i.names i.version c.take_quantum.new.actors i.history.items i.settings i.next_from c.args.actor c.args.limit n c.in-Ok.progress.is_whole busy q t in
-    let image : c.if-progress-gt0.self ≡ ran_or_same old c.args.actor n = elim c.if-progress-gt0.branch [
+    let image : c.if-progress-gt0.self ≡ image_after_steps old c.args.actor n = elim c.if-progress-gt0.branch [
       | then-progress-gt0 x ↦ (let items : x.push.new.self.items ≡ i.history.items ++ Ran c.args.actor n ∷ [] = grind (arith, common_steps) in x.self-is ∙ ap (λ is. seen start i.names is i.settings (c.args.actor.0 + 1)) items ∙ sym (ran_some old c.args.actor n x.if-progress-gt0.true))
       | else-progress-gt0 x ↦ (let none : n ≡ 0 = omega (arith, x.if-progress-gt0.false) in x.self-is ∙ ap (λ is. seen start i.names is i.settings i.next_from) c.reserve.ensures.items ∙ sym (ran_none old c.args.actor n none))
     ] in
-    (refl, (n, subst (λ (v : ImageView). CutsQuantum v c.args.actor c.args.limit n) c.self.view_is cut, image ∙ ap (λ (v : ImageView). ran_or_same v c.args.actor n) c.self.view_is)))
+    (refl, (n, subst (λ (v : ImageView). CutsQuantum v c.args.actor c.args.limit n) c.self.view_is cut, image ∙ ap (λ (v : ImageView). image_after_steps v c.args.actor n) c.self.view_is)))

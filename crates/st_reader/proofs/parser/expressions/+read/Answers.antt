@@ -8,9 +8,9 @@ use Rattle.st_reader.specs.declared.trees.Name.{Name}
 use Rattle.st_reader.specs.declared.trees.Chain.{Chain}
 use Rattle.st_reader.specs.declared.trees.Message.{Message as Sent}
 use Rattle.st_reader.specs.Syntax.{send}
-use Rattle.st_reader.specs.Views.{chain_view, message_view, expression_view, assigns, seen_parts, seen_further, seen_sentences}
+use Rattle.st_reader.specs.TreeViews.{chain_view, message_view, expression_view, assigns, seen_parts, seen_further, seen_sentences}
 use Rattle.st_reader.specs.Lexemes.{tokens_of, seen}
-use Rattle.st_reader.specs.Reading.{term_of, binary_of, keyword_parts_of, message_of, further_messages_of, with_further, expression_of, statements_with, group_of, block_of}
+use Rattle.st_reader.specs.Parser.{term_of, binary_of, keyword_parts_of, message_of, further_messages_of, with_further, expression_of, statements_with, group_of, block_of}
 use Rattle.st_reader.proofs.Shorter.{with_tokens, expression_of-shortens, group_of-keeps, block_of-keeps}
 use Rattle.st_reader.proofs.Seen.{binary_is}
 use Rattle.st_reader.proofs.Results.{gives_err}
@@ -182,7 +182,7 @@ expression-returns-in_err-with_further t c =
     let more = tokens_of s c.in_ok-parts.rest.now in
     let end = tokens_of s c.in_ok-further.rest.now in
     let made = option_map (assigns c.in_ok-targets.targets) (with_further (chain_view c.in_ok-receiver.receiver) (seen_further c.in_ok-further.further.items)) in
-    gives_err _ expression_view _ c.in_err-with_further.field-0.0 made (expression_of c.args.nesting ts) c.from_residual-in_err-with_further.ensures.1 (λ none. expression_is c.args.nesting ts ∙ expression_whole g b ts rest after more end c.in_ok-targets.targets (chain_view c.in_ok-chain.chain) (chain_view c.in_ok-receiver.receiver) (seen_parts c.in_ok-parts.parts.items) (seen_further c.in_ok-further.further.items) c.in_ok-targets.ensures c.in_ok-chain.ensures c.in_ok-parts.ensures c.in_ok-receiver.ensures c.in_ok-further.ensures ∙ ap (option_map (with_tokens end)) none) c.in_err-with_further.ensures
+    gives_err _ expression_view _ c.in_err-with_further.field-0.0 made (expression_of c.args.nesting ts) c.from_residual-in_err-with_further.ensures.1 (λ none. expression_is c.args.nesting ts ∙ expression_whole g b ts rest after more end c.in_ok-targets.targets (chain_view c.in_ok-chain.chain) (chain_view c.in_ok-receiver.receiver) (seen_parts c.in_ok-parts.parts.items) (seen_further c.in_ok-further.further.items) c.in_ok-targets.ensures c.in_ok-chain.ensures c.in_ok-parts.ensures c.in_ok-receiver.ensures c.in_ok-further.ensures ∙ ap (option_map (with_tokens end)) none) c.in_err-with_further.ensures.gives
 
 pub expression-returns : goal.expression-returns
 expression-returns t c =
@@ -194,7 +194,7 @@ expression-returns t c =
     let after = tokens_of s c.in_ok-chain.rest.now in
     let more = tokens_of s c.in_ok-parts.rest.now in
     let end = tokens_of s c.in_ok-further.rest.now in
-    expression_is c.args.nesting ts ∙ expression_whole g b ts rest after more end c.in_ok-targets.targets (chain_view c.in_ok-chain.chain) (chain_view c.in_ok-receiver.receiver) (seen_parts c.in_ok-parts.parts.items) (seen_further c.in_ok-further.further.items) c.in_ok-targets.ensures c.in_ok-chain.ensures c.in_ok-parts.ensures c.in_ok-receiver.ensures c.in_ok-further.ensures ∙ ap (option_map (with_tokens end)) c.in_ok-with_further.ensures
+    expression_is c.args.nesting ts ∙ expression_whole g b ts rest after more end c.in_ok-targets.targets (chain_view c.in_ok-chain.chain) (chain_view c.in_ok-receiver.receiver) (seen_parts c.in_ok-parts.parts.items) (seen_further c.in_ok-further.further.items) c.in_ok-targets.ensures c.in_ok-chain.ensures c.in_ok-parts.ensures c.in_ok-receiver.ensures c.in_ok-further.ensures ∙ ap (option_map (with_tokens end)) c.in_ok-with_further.ensures.gives
 
 -- ---- statements
 

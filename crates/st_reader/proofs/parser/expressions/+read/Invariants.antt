@@ -1,8 +1,8 @@
 use Rattle.std.proofs.Common.{◌≡◌, ℕ, ◌+◌, ◌-◌, ◌*◌, ◌≤◌, length}
 use Rattle.std.specs.Prelude.{option_map}
 use Rattle.st_reader.specs.Lexemes.{tokens_of}
-use Rattle.st_reader.specs.Views.{chain_view, seen_parts, seen_further, seen_sentences, behind_sentences}
-use Rattle.st_reader.specs.Reading.{in_front, operations_of, binary_of, keyword_parts_of, further_messages_of, statements_with, expression_of, group_of, block_of}
+use Rattle.st_reader.specs.TreeViews.{chain_view, seen_parts, seen_further, seen_sentences, behind_sentences}
+use Rattle.st_reader.specs.Parser.{in_front, operations_of, binary_of, keyword_parts_of, further_messages_of, statements_with, expression_of, group_of, block_of}
 use Rattle.st_reader.proofs.parser.expressions.+read.Given as goal
 
 abbrev pub decreases-group : goal.decreases-group

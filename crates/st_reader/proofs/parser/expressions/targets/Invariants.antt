@@ -1,6 +1,6 @@
 use Rattle.std.proofs.Common.{◌≡◌, length}
 use Rattle.st_reader.specs.Lexemes.{tokens_of}
-use Rattle.st_reader.specs.Reading.{targets_of}
+use Rattle.st_reader.specs.Parser.{targets_of}
 use Rattle.st_reader.proofs.Rows.{ahead}
 use Rattle.st_reader.proofs.parser.expressions.targets.Given as goal
 

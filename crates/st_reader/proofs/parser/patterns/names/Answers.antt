@@ -1,7 +1,7 @@
 use Rattle.std.proofs.Common.{sym, ap, ◌∙◌, List}
 use Rattle.st_reader.specs.declared.trees.Name.{Name}
 use Rattle.st_reader.specs.Lexemes.{tokens_of}
-use Rattle.st_reader.specs.Reading.{names_of}
+use Rattle.st_reader.specs.Parser.{names_of}
 use Rattle.st_reader.proofs.Patterns.{names_step, names_done}
 use Rattle.st_reader.proofs.parser.patterns.names.Goals as goal
 

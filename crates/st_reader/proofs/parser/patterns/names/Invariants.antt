@@ -1,6 +1,6 @@
 use Rattle.std.proofs.Common.{◌≡◌, length}
 use Rattle.st_reader.specs.Lexemes.{tokens_of}
-use Rattle.st_reader.specs.Reading.{names_of}
+use Rattle.st_reader.specs.Parser.{names_of}
 use Rattle.st_reader.proofs.Rows.{ahead}
 use Rattle.st_reader.proofs.parser.patterns.names.Given as goal
 

@@ -1,7 +1,7 @@
 use Rattle.std.proofs.Common.{◌≡◌, ◌-◌, suc, length, length-append, ap, ◌∙◌, arith}
 use Rattle.st_reader.specs.declared.trees.Name.{Name}
 use Rattle.st_reader.specs.Lexemes.{tokens_of, seen}
-use Rattle.st_reader.specs.Reading.{parameter_of, parameters_of}
+use Rattle.st_reader.specs.Parser.{parameter_of, parameters_of}
 use Rattle.st_reader.proofs.Patterns.{parameters_step, parameters_fail, parameters_full, parameters_done}
 use Rattle.st_reader.proofs.Results.{gives_err}
 use Rattle.st_reader.proofs.parser.patterns.parameters.Goals as goal

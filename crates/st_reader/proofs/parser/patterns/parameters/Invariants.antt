@@ -1,6 +1,6 @@
 use Rattle.std.proofs.Common.{◌≡◌, ◌-◌, ◌≤◌, length}
 use Rattle.st_reader.specs.Lexemes.{tokens_of}
-use Rattle.st_reader.specs.Reading.{in_front, parameters_of}
+use Rattle.st_reader.specs.Parser.{in_front, parameters_of}
 use Rattle.st_reader.proofs.parser.patterns.parameters.Given as goal
 
 abbrev pub invariant-loop-keyword : goal.invariant-loop-keyword

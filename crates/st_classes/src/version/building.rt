@@ -1,0 +1,227 @@
+//! How class tables are built: the kernel's, and one with an edit more.
+ghost use Rattle.std.specs.Prelude.{◌≡◌, ◌≤◌, ℕ, List, [], ◌∷◌, ◌++◌, IfOk, IfErr, length, map, true, false, None};
+ghost use Rattle.std.specs.Arc.{arc_value};
+ghost use Rattle.st_classes.specs.declared.edits.Edit.{Edit as EditOf};
+ghost use Rattle.st_classes.specs.declared.edits.Edit.TheVariants.{Define};
+ghost use Rattle.st_classes.specs.declared.refusals.Refusal.TheVariants.{NoMemory};
+ghost use Rattle.st_classes.specs.Refusals.{Answers, first_of};
+ghost use Rattle.st_classes.specs.EditRules.{define_rules, edit_rules, has_twice, install_rules};
+ghost use Rattle.st_classes.specs.MethodSuits.{edit_suits};
+ghost use Rattle.st_classes.specs.Classes.{defined};
+ghost use Rattle.st_classes.specs.ClassRows.{plain_class};
+ghost use Rattle.st_classes.specs.Tables.{ArePlain, AreRows, IsAt, IsNaming};
+
+use crate::class_index::ClassIndex;
+use crate::class_rows::ClassRows;
+use crate::edits::{Edit, SharedEdit};
+use crate::kernel::OBJECT;
+use crate::refusals::Refusal;
+use crate::seq::Seq;
+use crate::values::{ClassId, MethodId, Selector};
+use crate::version::Version;
+use std::alloc::{AllocError, Global};
+use std::sync::Arc;
+
+/// The kernel's classes by their numbers: the name of each, and its superclass.
+const KERNEL: [(&[u8], Option<ClassId>); 8] = [
+    (b"Object", None),
+    (b"SmallInteger", Some(OBJECT)),
+    (b"True", Some(OBJECT)),
+    (b"False", Some(OBJECT)),
+    (b"UndefinedObject", Some(OBJECT)),
+    (b"Symbol", Some(OBJECT)),
+    (b"ActorRef", Some(OBJECT)),
+    (b"Class", Some(OBJECT)),
+];
+
+impl Version {
+    /// The rows of classes without methods and instance variables, no two of one name, and their index.
+    fn plain_tables(
+        alloc: Global,
+        classes: &[(&[u8], Option<ClassId>)],
+    ) -> Result<(ClassRows, ClassIndex), AllocError>
+        requires few { length classes.now ≤ 1024 }
+        requires different { has_twice (map (λ c. c.0.now) classes.now) ≡ false }
+        ensures { IfOk result (λ tables. ArePlain (map (λ c. plain_class c.0.now c.1) classes.now) tables.0 tables.1) }
+    {
+        let mut rows = ClassRows::new(alloc);
+        let mut index = ClassIndex::new(alloc);
+        for class in classes {
+            let id = ClassId(rows.len() as u16);
+            rows.push_plain(alloc, class.0, class.1)?;
+            index.put(alloc, class.0, id)?;
+        }
+        Ok((rows, index))
+    }
+
+    /// The class table of the kernel, with no edits.
+    pub fn kernel(alloc: Global) -> Result<Version, AllocError>
+        ensures { IfOk result (λ version. version ≡ []) }
+    {
+        let (rows, index) = Version::plain_tables(alloc, &KERNEL)?;
+        let named = Arc::new(alloc, index)?;
+        Ok(Version {
+            edits: Vec::new(alloc),
+            rows,
+            named,
+        })
+    }
+
+    /// The same edits, with room for one more.
+    fn edits_again(&self, alloc: Global) -> Result<Vec<SharedEdit>, AllocError>
+        ensures { IfOk result (λ edits. edits.items ≡ self.now) }
+    {
+        let mut edits = Vec::with_capacity(alloc, self.edits.len() + 1)?;
+        for edit in &self.edits {
+            edits.push(edit.again()?)?;
+        }
+        Ok(edits)
+    }
+
+    /// The edits with one more.
+    fn edits_with(&self, alloc: Global, edit: SharedEdit) -> Result<Vec<SharedEdit>, AllocError>
+        ensures { IfOk result (λ edits. edits.items ≡ self.now ++ edit ∷ []) }
+    {
+        let mut edits = self.edits_again(alloc)?;
+        edits.push(edit)?;
+        Ok(edits)
+    }
+
+    /// The rows with that of a new class.
+    fn rows_with_class(
+        &self,
+        alloc: Global,
+        name: &[u8],
+        parent: ClassId,
+        added: &[Seq<u8>],
+    ) -> Result<ClassRows, AllocError>
+        requires { first_of (define_rules self.now name.now parent added.now) ≡ None }
+        ensures { IfOk result (λ rows. AreRows (self.now ++ Define name.now parent added.now ∷ []) rows) }
+    {
+        self.kept();
+        let row = self.row(parent).under(alloc, name, parent, added)?;
+        let rows = self.rows.with(alloc, row)?;
+        Ok(rows)
+    }
+
+    /// The rows with a method of a class for a selector, or with none there.
+    fn rows_with_method(
+        &self,
+        alloc: Global,
+        class: ClassId,
+        selector: Selector,
+        method: Option<MethodId>,
+    ) -> Result<ClassRows, AllocError>
+        requires { first_of (install_rules self.now class selector) ≡ None }
+        ensures { IfOk result (λ rows. (e : EditOf) → IsAt e (length self.now) class selector method → AreRows (self.now ++ e ∷ []) rows) }
+    {
+        let row = self.row(class).with_method(alloc, selector, method)?;
+        let rows = self.rows.with_at(alloc, class, row)?;
+        Ok(rows)
+    }
+
+    /// The rows with an accepted edit more.
+    fn rows_with(&self, alloc: Global, edit: &Edit) -> Result<ClassRows, AllocError>
+        requires { first_of (edit_rules self.now edit.now) ≡ None }
+        ensures { IfOk result (λ rows. AreRows (self.now ++ edit.now ∷ []) rows) }
+    {
+        match edit {
+            Edit::Define {
+                name,
+                parent,
+                slots,
+            } => self.rows_with_class(alloc, name.as_slice(), *parent, slots.as_slice()),
+            Edit::Install { class, method } => {
+                let id = MethodId(self.edits());
+                self.rows_with_method(alloc, *class, method.selector(), Some(id))
+            }
+            Edit::Remove { class, selector } => {
+                self.rows_with_method(alloc, *class, *selector, None)
+            }
+        }
+    }
+
+    /// The names with that of a new class.
+    fn named_with_class(
+        &self,
+        alloc: Global,
+        name: &[u8],
+        parent: ClassId,
+        added: &[Seq<u8>],
+    ) -> Result<Arc<ClassIndex>, AllocError>
+        requires { first_of (define_rules self.now name.now parent added.now) ≡ None }
+        ensures { IfOk result (λ named. IsNaming (self.now ++ Define name.now parent added.now ∷ []) (arc_value named)) }
+    {
+        self.kept();
+        let class = ClassId(self.classes() as u16);
+        let index = self.named.with(alloc, name, class)?;
+        let named = Arc::new(alloc, index)?;
+        Ok(named)
+    }
+
+    /// The same names, for a table with a method more or less.
+    fn named_again(&self) -> Result<Arc<ClassIndex>, AllocError>
+        ensures { IfOk result (λ named. (e : EditOf) → defined (e ∷ []) ≡ [] → IsNaming (self.now ++ e ∷ []) (arc_value named)) }
+    {
+        let named = Arc::try_clone(&self.named)?;
+        Ok(named)
+    }
+
+    /// The names with an accepted edit more.
+    fn named_with(&self, alloc: Global, edit: &Edit) -> Result<Arc<ClassIndex>, AllocError>
+        requires { first_of (edit_rules self.now edit.now) ≡ None }
+        ensures { IfOk result (λ named. IsNaming (self.now ++ edit.now ∷ []) (arc_value named)) }
+    {
+        match edit {
+            Edit::Define {
+                name,
+                parent,
+                slots,
+            } => self.named_with_class(alloc, name.as_slice(), *parent, slots.as_slice()),
+            Edit::Install { .. } => self.named_again(),
+            Edit::Remove { .. } => self.named_again(),
+        }
+    }
+
+    /// The table with an edit more that no rule refuses: `refusal` is the test. This table stays as it is, and the two share what
+    /// the edit leaves alone. A method is to suit its class for the names of the image, whatever they are.
+    pub fn with_accepted(&self, alloc: Global, edit: SharedEdit) -> Result<Version, AllocError>
+        requires accepted { first_of (edit_rules self.now edit) ≡ None }
+        requires suits { (names : List (List ℕ)) × (edit_suits names self.now edit ≡ true) }
+        ensures { IfOk result (λ version. version ≡ self.now ++ edit ∷ []) }
+    {
+        self.kept();
+        self.methods_known();
+        let accepted = edit.edit();
+        accepted.known();
+        let rows = self.rows_with(alloc, accepted)?;
+        let named = self.named_with(alloc, accepted)?;
+        let edits = self.edits_with(alloc, edit)?;
+        Ok(Version { edits, rows, named })
+    }
+
+    /// The table with one edit more, or the first refusal that applies. This table stays as it is, and the two share what
+    /// the edit leaves alone. A method is to suit its class for the names of the image, whatever they are. A refused edit
+    /// is spent. Memory can run out only where no rule refuses the edit.
+    ///
+    /// Refusals of a definition, in this order: `UnknownClass`, `BadName`, `KernelClass`, `ClassExists`, `SlotClash`,
+    /// `TooDeep`, `TooMany` classes, instance variables or edits. Of an install: `UnknownClass`, `KernelMethod`, `TooMany`
+    /// edits. Of a removal: `UnknownClass`, `KernelMethod`, `NoSuchMethod` where the class has no method of its own for the
+    /// selector, `TooMany` edits.
+    pub fn with_edit(&self, alloc: Global, edit: Edit) -> Result<Version, Refusal>
+        requires { (names : List (List ℕ)) × (edit_suits names self.now edit ≡ true) }
+        ensures answers { Answers (first_of (edit_rules self.now edit)) result (λ version. version ≡ self.now ++ edit ∷ []) }
+        ensures memory { IfErr result (λ e. e ≡ NoMemory → first_of (edit_rules self.now edit) ≡ None) }
+    {
+        if let Some(refusal) = self.refusal(&edit) {
+            return Err(refusal);
+        }
+        let Ok(shared) = SharedEdit::new(alloc, edit) else {
+            return Err(Refusal::NoMemory);
+        };
+        match self.with_accepted(alloc, shared) {
+            Ok(version) => Ok(version),
+            Err(_) => Err(Refusal::NoMemory),
+        }
+    }
+}

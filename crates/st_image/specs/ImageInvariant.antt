@@ -1,0 +1,39 @@
+-- What is true of the fields of an image.
+use Rattle.std.specs.Prelude.{◌≡◌, ℕ, ◌<◌, ◌≤◌, List, length, Some, All}
+use Rattle.st_classes.specs.declared.values.ActorId.{ActorId}
+use Rattle.st_classes.specs.declared.edits.Edit.{Edit}
+use Rattle.st_classes.specs.Kernel.{does_not_understand}
+use Rattle.st_classes.specs.MethodSuits.{arity_at}
+use Rattle.st_classes.specs.EditLists.{AreLawful, AllSuit, AllSound}
+use Rattle.st_turn.specs.declared.body.Body.{Body}
+use Rattle.st_turn.specs.BodyFits.{Referents, Fits}
+use Rattle.st_image.specs.declared.items.Item.{Item}
+use Rattle.st_image.specs.declared.settings.Settings.{Settings}
+use Rattle.st_image.specs.Worlds.{World}
+use Rattle.st_image.specs.Replay.{replay}
+use Rattle.st_image.specs.Images.{world_of, edits_in}
+use Rattle.st_image.specs.WorldInvariant.{AreSettings, HaveTurns, IsSoundItem, IsWorld}
+use Rattle.st_image.specs.ActorViews.{ActorView, Shows}
+use Rattle.st_image.specs.ActResults.{constants_of}
+
+-- the history leads from the base to the world that is kept, and all numbers are within their limits
+pub record IsImage (base : World) (names : List (List ℕ)) (edits : List Edit) (actors : List ActorView)
+    (history : List Item) (made : ℕ) (s : Settings) : Type 0 where
+  pub base_is : IsWorld (constants_of names s.capacity) base
+  pub sound : All IsSoundItem history
+  pub lawful : replay (constants_of names s.capacity) base history
+      ≡ Some (world_of (constants_of names s.capacity) base history)
+  pub shows : Shows edits actors (world_of (constants_of names s.capacity) base history)
+  pub world : IsWorld (constants_of names s.capacity) (world_of (constants_of names s.capacity) base history)
+  pub turns : HaveTurns base (world_of (constants_of names s.capacity) base history)
+  pub counted : made ≡ edits_in history
+  pub numbers : AreSettings s
+  pub few_items : length history ≤ s.history
+  pub few_accepted : All (λ (k : ActorView). k.accepted ≤ length history) actors
+
+-- a body fits a table whose edits are lawful and sound, so that its steps fit it too
+abbrev pub CanRun : List Edit → ActorId → Body → Type 0
+CanRun edits a b = (given : Referents) × AreLawful edits × AllSuit given.names edits × AllSound edits
+    × (arity_at given.names does_not_understand ≡ Some 1)
+    × (a.0 < given.actors)
+    × Fits given edits b

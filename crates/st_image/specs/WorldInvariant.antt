@@ -1,0 +1,116 @@
+-- What is true of every world that a history leads to.
+use Rattle.std.specs.Prelude.{◌≡◌, ℕ, ◌+◌, ◌≤◌, List, ◌++◌, length, true, Option, Some, None, slice_get, All, if◌then◌else◌}
+use Rattle.st_classes.specs.declared.values.Value.TheVariants.{Local}
+use Rattle.st_classes.specs.declared.edits.Edit.{Edit}
+use Rattle.st_classes.specs.Kernel.{kernel_selectors}
+use Rattle.st_classes.specs.Classes.{class_count}
+use Rattle.st_classes.specs.EditLists.{AreLawful, AllSuit, AllSound, IsSoundEdit}
+use Rattle.st_turn.specs.declared.body.Outcome.{Outcome}
+use Rattle.st_turn.specs.declared.body.Phase.{Phase}
+use Rattle.st_turn.specs.declared.body.Phase.TheVariants.{Fresh, Done}
+use Rattle.st_turn.specs.Idle.{is_idle}
+use Rattle.st_turn.specs.Objects.{class_in}
+use Rattle.st_turn.specs.BodyFits.{Referents, FitsPhase, Fits}
+use Rattle.st_image.specs.declared.messages.Message.{Message}
+use Rattle.st_image.specs.declared.items.Item.{Item}
+use Rattle.st_image.specs.declared.items.Item.TheVariants.{Edited}
+use Rattle.st_image.specs.declared.settings.Settings.{Settings}
+use Rattle.st_image.specs.Worlds.{Constants, World, WorldActor, pending}
+use Rattle.st_image.specs.Replay.{replay}
+use Rattle.st_image.specs.Images.{ImageView, constants, world}
+use Rattle.st_image.specs.PostRules.{message_fits}
+use Rattle.st_image.specs.Delivery.{BeginsInOrder}
+
+-- names, and so many actors
+abbrev pub given : List (List ℕ) → ℕ → Referents
+given names actors = record { names = names; actors = actors }
+
+-- an actor: its body fits the table, and its first object is of its class; its mailbox is within its capacity; what it
+-- has begun is a prefix of what it accepted, and what it accepted still makes sense; and what a result names is there
+pub record IsWorldActor (names : List (List ℕ)) (edits : List Edit) (actors : ℕ) (b : WorldActor) : Type 0 where
+  pub fits : Fits (given names actors) edits b.body
+  pub itself : class_in b.body.objects (Local 0) ≡ b.class
+  pub some_capacity : 1 ≤ b.capacity
+  pub few_messages : b.capacity ≤ 1024
+  pub within : length (pending b) ≤ b.capacity
+  pub begins : BeginsInOrder b
+  pub mail : All (λ (m : Message). message_fits names (class_count edits) actors m ≡ true) b.accepted
+  pub told : All (λ (o : Outcome). FitsPhase (given names actors) edits b.body.objects (Done o)) b.results
+
+-- the names begin with the kernel's
+abbrev pub BeginsWithKernel : List (List ℕ) → Type 0
+BeginsWithKernel names = (more : List (List ℕ)) × (names ≡ kernel_selectors ++ more)
+
+-- an item's edit, where it is one, is sound
+abbrev pub IsSoundItem : Item → Type 0
+IsSoundItem (Edited e) = IsSoundEdit e
+IsSoundItem _ = Unit {0}
+
+-- the constants of a run: the names begin with the kernel's, and the capacity is one
+pub record AreConstants (c : Constants) : Type 0 where
+  pub kernel : BeginsWithKernel c.names
+  pub some_capacity : 1 ≤ c.capacity
+  pub few_messages : c.capacity ≤ 1024
+
+-- the table is lawful and its methods suit and are sound, and the actors fit it
+pub record IsWorld (c : Constants) (w : World) : Type 0 where
+  pub constants : AreConstants c
+  pub lawful : AreLawful w.edits
+  pub suited : AllSuit c.names w.edits
+  pub sound : AllSound w.edits
+  pub actors : All (IsWorldActor c.names w.edits (length w.actors)) w.actors
+
+-- ---- names
+
+-- a lawful history is lawful, and leads to the same world, also for names that go on from those it was made with
+abbrev pub NamesMayGrow : Type 0
+NamesMayGrow = (names more : List (List ℕ)) (capacity : ℕ) (base w : World) (h : List Item)
+    → IsWorld (record { names = names; capacity = capacity }) base
+    → All IsSoundItem h
+    → replay (record { names = names; capacity = capacity }) base h ≡ Some w
+    → replay (record { names = names ++ more; capacity = capacity }) base h ≡ Some w
+
+-- ---- turns and results
+
+-- the number of an actor's first turn: 0 where the base has it in a turn or behind one, else 1
+abbrev pub first_turn : Option WorldActor → ℕ
+first_turn None = 1
+first_turn (Some b) = first_of_phase b.body.phase
+  where
+    first_of_phase : Phase → ℕ
+    first_of_phase Fresh = 1
+    first_of_phase _ = 0
+
+-- each turn of an actor from its first on has one result, but for one that is going on
+abbrev pub HasTurns : ℕ → WorldActor → Type 0
+HasTurns first b = length b.results + (if is_idle b.body.phase then 0 else 1) + first ≡ length b.begun + 1
+
+-- the actors of a base are still there, and each actor has its turns
+pub record HaveTurns (base w : World) : Type 0 where
+  pub long : length base.actors ≤ length w.actors
+  pub each : (a : ℕ) (b : WorldActor) → slice_get w.actors a ≡ Some b
+      → HasTurns (first_turn (slice_get base.actors a)) b
+
+-- ---- images
+
+-- the numbers of a run are within their limits
+pub record AreSettings (s : Settings) : Type 0 where
+  pub some_capacity : 1 ≤ s.capacity
+  pub few_messages : s.capacity ≤ 1024
+  pub some_history : 1 ≤ s.history
+  pub few_items : s.history ≤ 1000000
+
+-- the numbers that are set for an image
+abbrev pub settings_of : ImageView → Settings
+settings_of i = record { capacity = i.capacity; history = i.most_items }
+
+-- what is true of every image: it began with a world, its history is lawful from there and no longer than its limit,
+-- its numbers are within theirs, its world has what every world has, and each turn has its result
+pub record IsLawful (i : ImageView) : Type 0 where
+  pub base : IsWorld (constants i) i.base
+  pub lawful : replay (constants i) i.base i.history ≡ Some (world i)
+  pub standing : IsWorld (constants i) (world i)
+  pub turns : HaveTurns i.base (world i)
+  pub numbers : AreSettings (settings_of i)
+  pub few_items : length i.history ≤ i.most_items
+  pub few_actors : length (world i).actors ≤ 65536

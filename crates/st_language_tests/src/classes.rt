@@ -1,0 +1,269 @@
+//! The class table by hand.
+ghost use Rattle.std.specs.Prelude.{◌≡◌, [], ◌∷◌, ℕ, List, true, IfOk};
+ghost use Rattle.st_classes.specs.MethodSuits.{suits};
+ghost use Rattle.st_classes.specs.declared.values.Value.TheVariants.{Int};
+ghost use Rattle.st_classes.specs.declared.instructions.Instruction.TheVariants.{PushLit, Answer};
+
+use st_classes::edits::{Edit, SharedEdit};
+use st_classes::instructions::Instruction;
+use st_classes::kernel::{Kernel, OBJECT, SMALL_INTEGER, TRUE, Target};
+use st_classes::methods::{Method, MethodParts};
+use st_classes::refusals::Refusal;
+use st_classes::seq::Seq;
+use st_classes::values::{ClassId, MethodId, Selector, Value};
+use st_classes::version::Version;
+use std::alloc::{AllocError, Global};
+use std::test::*;
+
+const CLASS_OF: Selector = Selector(2);
+
+const PLUS: Selector = Selector(5);
+
+const WHO: Selector = Selector(22);
+
+/// A method that answers a number.
+fn answering(
+    alloc: Global,
+    holder: ClassId,
+    selector: Selector,
+    number: i64,
+) -> Result<Method, AllocError>
+    ensures holder { IfOk result (λ m. m.holder ≡ holder) }
+    ensures selector { IfOk result (λ m. m.selector ≡ selector) }
+    ensures arguments { IfOk result (λ m. m.arguments ≡ 0) }
+    ensures code { IfOk result (λ m. m.code ≡ PushLit (Int number) ∷ Answer ∷ []) }
+{
+    let code = vec![in alloc;
+        Instruction::PushLit(Value::Int(number)),
+        Instruction::Answer,
+    ]?;
+    let depths = vec![in alloc; 0u8, 1u8]?;
+    Ok(Method::new(MethodParts {
+        holder,
+        selector,
+        arguments: 0,
+        temporaries: 0,
+        code: Seq::from_vec(code),
+        depths: Seq::from_vec(depths),
+        sites: Seq::from_vec(Vec::new(alloc)),
+        source: Seq::from_vec(Vec::new(alloc)),
+    }))
+}
+
+fn texts(alloc: Global, list: &[&[u8]]) -> Result<Seq<Seq<u8>>, AllocError> {
+    let mut texts = Vec::new(alloc);
+    for text in list {
+        texts.push(Seq::from_vec(Vec::from_slice(alloc, text)?))?;
+    }
+    Ok(Seq::from_vec(texts))
+}
+
+/// One class more.
+pub(crate) fn define(
+    alloc: Global,
+    version: &Version,
+    name: &[u8],
+    parent: ClassId,
+    slots: &[&[u8]],
+) -> Result<Version, Refusal> {
+    let Ok(name) = Vec::from_slice(alloc, name) else {
+        return Err(Refusal::NoMemory);
+    };
+    let Ok(slots) = texts(alloc, slots) else {
+        return Err(Refusal::NoMemory);
+    };
+    let name = Seq::from_vec(name);
+    version.with_edit(
+        alloc,
+        Edit::Define {
+            name,
+            parent,
+            slots,
+        },
+    )
+}
+
+/// One method more.
+fn install_method(
+    alloc: Global,
+    version: &Version,
+    class: ClassId,
+    method: Method,
+) -> Result<Version, Refusal>
+    requires { (names : List (List ℕ)) × (suits names version.now class method ≡ true) }
+{
+    version.with_edit(alloc, Edit::Install { class, method })
+}
+
+fn install(
+    alloc: Global,
+    version: &Version,
+    class: ClassId,
+    selector: Selector,
+) -> Result<Version, Refusal> {
+    let Ok(method) = answering(alloc, class, selector, 1) else {
+        return Err(Refusal::NoMemory);
+    };
+    install_method(alloc, version, class, method)
+}
+
+fn remove(
+    alloc: Global,
+    version: &Version,
+    class: ClassId,
+    selector: Selector,
+) -> Result<Version, Refusal> {
+    version.with_edit(alloc, Edit::Remove { class, selector })
+}
+
+/// Whether a send to an instance of a class finds this.
+fn finds(version: &Version, class: ClassId, selector: Selector, target: Target) -> bool {
+    version.is_class(class) && version.find(class, selector) == target
+}
+
+/// Whether a super send in a method of the holder finds this, where the receiver is an instance of the class.
+fn finds_above(
+    version: &Version,
+    holder: ClassId,
+    class: ClassId,
+    selector: Selector,
+    target: Target,
+) -> bool {
+    version.is_class(holder)
+        && version.is_class(class)
+        && version.find_super(holder, class, selector) == target
+}
+
+pub(crate) fn kernel_version(alloc: Global) -> Result<Version, AllocError> {
+    Version::kernel(alloc)
+}
+
+#[test]
+fn finds_kernel_methods(rt: HostRuntime) -> Result<(), Fail> {
+    let kernel = kernel_version(rt.alloc())?;
+    for (class, selector, target) in [
+        (SMALL_INTEGER, PLUS, Target::Primitive(Kernel::Add)),
+        (TRUE, CLASS_OF, Target::Primitive(Kernel::ClassOf)),
+        (TRUE, PLUS, Target::Missing(None)),
+    ] {
+        assert!(rt;
+            finds(&kernel, class, selector, target),
+            "{class:?} {selector:?}"
+        );
+    }
+    Ok(())
+}
+
+const A: ClassId = ClassId(8);
+
+const B: ClassId = ClassId(9);
+
+const C: ClassId = ClassId(10);
+
+/// Classes A, B under A and C under B, with a method `who` in A and in B.
+fn three_classes(alloc: Global) -> Result<Version, Refusal> {
+    let Ok(version) = kernel_version(alloc) else {
+        return Err(Refusal::NoMemory);
+    };
+    let version = define(alloc, &version, b"A", OBJECT, &[b"count"])?;
+    let version = install(alloc, &version, A, WHO)?;
+    let version = define(alloc, &version, b"B", A, &[])?;
+    let version = install(alloc, &version, B, WHO)?;
+    define(alloc, &version, b"C", B, &[b"more"])
+}
+
+#[test]
+fn finds_up_a_chain(rt: HostRuntime) -> Result<(), Fail> {
+    let before = three_classes(rt.alloc())?;
+    let after = install(rt.alloc(), &before, C, WHO)?;
+    let removed = remove(rt.alloc(), &after, C, WHO)?;
+    for (version, place) in [(&before, 3), (&after, 5), (&removed, 3)] {
+        assert!(rt;
+            finds(version, C, WHO, Target::Run(MethodId(place))),
+            "{place}"
+        );
+    }
+    Ok(())
+}
+
+#[test]
+fn finds_above_a_holder(rt: HostRuntime) -> Result<(), Fail> {
+    let version = three_classes(rt.alloc())?;
+    for (holder, target) in [
+        (C, Target::Run(MethodId(3))),
+        (B, Target::Run(MethodId(1))),
+        (A, Target::Missing(None)),
+    ] {
+        assert!(rt; finds_above(&version, holder, C, WHO, target), "{holder:?}");
+    }
+    Ok(())
+}
+
+/// Whether the parts of the table of three classes are these.
+fn reads(version: &Version) -> bool {
+    version.edits() == 5
+        && version.method(MethodId(3)).map(Method::holder) == Some(B)
+        && version.class_named(b"B") == Some(B)
+        && version.class_name(C) == Some(b"C".as_slice())
+        && version.parent(C) == Some(B)
+}
+
+#[test]
+fn reads_classes(rt: HostRuntime) -> Result<(), Fail> {
+    let version = three_classes(rt.alloc())?;
+    assert!(rt; reads(&version));
+    Ok(())
+}
+
+#[test]
+fn refuses_classes_in_order(rt: HostRuntime) -> Result<(), Fail> {
+    let version = three_classes(rt.alloc())?;
+    let cases: [(&[u8], ClassId, Refusal); 5] = [
+        (b"x", ClassId(11), Refusal::UnknownClass),
+        (b"x", SMALL_INTEGER, Refusal::BadName),
+        (b"B", SMALL_INTEGER, Refusal::KernelClass),
+        (b"B", A, Refusal::ClassExists),
+        (b"D", A, Refusal::SlotClash),
+    ];
+    for (name, parent, refusal) in cases {
+        let refused = define(rt.alloc(), &version, name, parent, &[b"count"]).err();
+        assert!(rt; refused == Some(refusal), "{refusal:?}");
+    }
+    Ok(())
+}
+
+#[test]
+fn refuses_methods(rt: HostRuntime) -> Result<(), Fail> {
+    let version = three_classes(rt.alloc())?;
+    for (class, refusal) in [
+        (ClassId(11), Refusal::UnknownClass),
+        (SMALL_INTEGER, Refusal::KernelMethod),
+    ] {
+        let refused = install(rt.alloc(), &version, class, PLUS).err();
+        assert!(rt; refused == Some(refusal), "{refusal:?}");
+    }
+    let refused = remove(rt.alloc(), &version, C, WHO).err();
+    assert!(rt; refused == Some(Refusal::NoSuchMethod));
+    Ok(())
+}
+
+/// Whether an edit takes the method `who` from A.
+fn is_removal(edit: &Edit) -> bool {
+    match edit {
+        Edit::Remove { class, selector } => *class == A && *selector == WHO,
+        _ => false,
+    }
+}
+
+/// An edit that is shared is the same for each that has it.
+#[test]
+fn shared_edits(rt: HostRuntime) -> Result<(), Fail> {
+    let removal = Edit::Remove {
+        class: A,
+        selector: WHO,
+    };
+    let shared = SharedEdit::new(rt.alloc(), removal)?;
+    let again = shared.again()?;
+    assert!(rt; is_removal(shared.edit()) && is_removal(again.edit()));
+    Ok(())
+}

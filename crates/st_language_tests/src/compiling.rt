@@ -1,0 +1,174 @@
+//! Compiling: the code of methods, written down by hand from the equations.
+mod codes;
+
+use crate::classes::{define, kernel_version};
+use crate::compiling::codes::codes;
+use st_classes::methods::Method;
+use st_classes::names::Names;
+use st_classes::refusals::Refusal;
+use st_classes::values::{ClassId, Selector};
+use st_classes::version::Version;
+use st_compile::compile::compile;
+use st_compile::names::joined_pattern;
+use st_reader::reader::read_method;
+use st_reader::trees::{MethodTree, Parameter, Pattern};
+use std::alloc::{AllocError, Global};
+use std::test::*;
+
+/// The kernel's classes and Counter, which is number 8.
+fn version(alloc: Global) -> Result<Version, Refusal> {
+    let Ok(kernel) = kernel_version(alloc) else {
+        return Err(Refusal::NoMemory);
+    };
+    define(alloc, &kernel, b"Counter", ClassId(0), &[b"count"])
+}
+
+fn kernel_names(alloc: Global) -> Result<Names, AllocError> {
+    Names::kernel(alloc)
+}
+
+fn read(alloc: Global, source: &str) -> Result<MethodTree, Refusal> {
+    read_method(alloc, source.as_bytes())
+}
+
+/// What a tree in Counter is compiled to.
+fn compiled_tree(
+    alloc: Global,
+    tree: &MethodTree,
+    version: &Version,
+    names: &mut Names,
+) -> Result<Method, Refusal> {
+    if !version.is_class(ClassId(8)) {
+        return Err(Refusal::UnknownClass);
+    }
+    compile(alloc, tree, ClassId(8), version, names)
+}
+
+/// What a source in Counter is compiled to.
+fn compiled(alloc: Global, source: &str, names: &mut Names) -> Result<Method, Refusal> {
+    let version = version(alloc)?;
+    let tree = read(alloc, source)?;
+    compiled_tree(alloc, &tree, &version, names)
+}
+
+/// What a source in Counter is compiled to, the first that has other names than the kernel's.
+fn compiled_first(alloc: Global, source: &str) -> Result<Method, Fail> {
+    let mut names = kernel_names(alloc)?;
+    Ok(compiled(alloc, source, &mut names)?)
+}
+
+/// The depth and the instruction of each place of a method's code, a line each.
+fn listing(alloc: Global, method: &Method) -> Result<String, AllocError> {
+    let mut text = String::new(alloc);
+    for (instruction, depth) in method.code().iter().zip(method.depths()) {
+        let line = format!(in alloc; "{depth} {instruction:?}\n")?;
+        text.push_str(&line)?;
+    }
+    Ok(text)
+}
+
+/// Whether the source in the first line of a sample is compiled to what the others list.
+fn is_listed(alloc: Global, sample: &str) -> Result<bool, Fail> {
+    let Some((source, code)) = sample.split_once('\n') else {
+        return Ok(false);
+    };
+    let method = compiled_first(alloc, source)?;
+    let listed = listing(alloc, &method)?;
+    Ok(listed.trim_end() == code)
+}
+
+#[test]
+fn listings(rt: HostRuntime) -> Result<(), Fail> {
+    for sample in codes().split("\n\n") {
+        assert!(rt; is_listed(rt.alloc(), sample)?, "{sample}");
+    }
+    Ok(())
+}
+
+/// Whether the parts of the method of `at:put:` are these.
+fn are_parts(method: &Method, source: &str) -> bool {
+    method.holder() == ClassId(8)
+        && method.selector() == Selector(22)
+        && method.arguments() == 2
+        && method.temporaries() == 1
+        && method.sites() == [2, 7].as_slice()
+        && method.source() == source.as_bytes()
+}
+
+/// Whether these are all the names, with those of the method of `at:put:` behind the kernel's.
+fn has_its_names(names: &Names) -> bool {
+    names.find(b"at:put:") == Some(Selector(22))
+        && names.find(b"bar") == Some(Selector(23))
+        && names.find(b"foo:") == Some(Selector(24))
+        && names.len() == 25
+}
+
+fn source_with_parts() -> &'static str {
+    "at: i put: x | t | t := self foo: #bar. ^t + i"
+}
+
+#[test]
+fn parts(rt: HostRuntime) -> Result<(), Fail> {
+    let mut names = kernel_names(rt.alloc())?;
+    let source = source_with_parts();
+    let method = compiled(rt.alloc(), source, &mut names)?;
+    assert!(rt; are_parts(&method, source));
+    assert!(rt; has_its_names(&names));
+    Ok(())
+}
+
+/// The keywords of a method's pattern.
+fn keywords(tree: &MethodTree) -> Option<&[Parameter]> {
+    match tree.pattern() {
+        Pattern::Keyword(parameters) => Some(parameters.as_slice()),
+        _ => None,
+    }
+}
+
+fn joined(alloc: Global, keywords: &[Parameter]) -> Result<Vec<u8>, Refusal> {
+    joined_pattern(alloc, keywords)
+}
+
+/// Whether the keywords make this selector.
+fn make(alloc: Global, keywords: &[Parameter], selector: &[u8]) -> bool {
+    match joined(alloc, keywords) {
+        Ok(text) => text.as_slice() == selector,
+        Err(_) => false,
+    }
+}
+
+/// The selector of a pattern is its keywords joined.
+#[test]
+fn keywords_of_a_pattern(rt: HostRuntime) -> Result<(), Fail> {
+    let tree = read(rt.alloc(), "at: i put: v ^v")?;
+    let keywords = keywords(&tree).ok_or("no keywords")?;
+    assert!(rt; make(rt.alloc(), keywords, b"at:put:"));
+    Ok(())
+}
+
+/// `m ^1+(1+( ..`: so many brackets, and as many operands and one.
+fn deep(alloc: Global, brackets: usize) -> Result<String, Fail> {
+    let open = "1+(".repeat(alloc, brackets)?;
+    let closed = ")".repeat(alloc, brackets)?;
+    Ok(format!(in alloc; "m ^{open}1{closed}")?)
+}
+
+/// So many statements, which are twice as many instructions and two.
+fn long(alloc: Global, statements: usize) -> Result<String, Fail> {
+    let statements = "1. ".repeat(alloc, statements)?;
+    Ok(format!(in alloc; "m {statements}")?)
+}
+
+/// How many instructions a source is compiled to.
+fn instructions(alloc: Global, source: &str) -> Result<usize, Fail> {
+    Ok(compiled_first(alloc, source)?.code().len())
+}
+
+/// A code of 1,024 instructions, and one of 64 operands.
+#[test]
+fn largest(rt: HostRuntime) -> Result<(), Fail> {
+    let alloc = rt.alloc();
+    assert!(rt; instructions(alloc, &long(alloc, 511)?)? == 1024);
+    assert!(rt; instructions(alloc, &deep(alloc, 63)?)? == 128);
+    Ok(())
+}

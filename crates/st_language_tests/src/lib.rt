@@ -1,0 +1,14 @@
+//! Tests of the public calls of names, tokens, classes and compiling. They stand in a crate of their own, below images, so that
+//! no library is proved twice for them, and that they are proved while the upper libraries still are.
+#![tactic(auto)]
+
+#[cfg(test)]
+mod classes;
+#[cfg(test)]
+mod compiling;
+#[cfg(test)]
+mod names;
+#[cfg(test)]
+mod syntax;
+#[cfg(test)]
+mod tokens;

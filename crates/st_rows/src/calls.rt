@@ -1,0 +1,183 @@
+//! The calls of an image, each behind a function without a contract: what a test does with several of them is then proved
+//! in seconds, since its proof carries nothing of what an image promises.
+use st_classes::kernel::OBJECT;
+use st_classes::refusals::Refusal;
+use st_classes::seq::Seq;
+use st_classes::values::{ActorId, ClassId, Selector};
+use st_image::image::Image;
+use st_image::messages::{Message, Sender};
+use st_image::settings::Settings;
+use st_turn::body::Outcome;
+use std::alloc::Global;
+
+/// The actor of the calls that name none.
+pub(crate) const FIRST: ActorId = ActorId(0);
+
+pub(crate) const IS_NIL: Selector = Selector(3);
+
+/// A new image with these numbers.
+pub(crate) fn image_with(alloc: Global, settings: Settings) -> Result<Image, Refusal> {
+    Image::new(alloc, settings)
+}
+
+pub(crate) fn new_image(alloc: Global) -> Result<Image, Refusal> {
+    image_with(alloc, Settings::DEFAULT)
+}
+
+/// A new image in which the numbers are set to these.
+pub(crate) fn image_set_to(alloc: Global, settings: Settings) -> Result<Image, Refusal> {
+    let mut image = Image::new(alloc, Settings::DEFAULT)?;
+    image.set(settings)?;
+    Ok(image)
+}
+
+/// A class with these instance variables of its own.
+pub(crate) fn define_with(
+    alloc: Global,
+    image: &mut Image,
+    name: &[u8],
+    parent: ClassId,
+    slots: Vec<Seq<u8>>,
+) -> Result<u32, Refusal> {
+    image.define(alloc, name, parent, Seq::from_vec(slots))
+}
+
+/// A class without instance variables of its own.
+pub(crate) fn define(
+    alloc: Global,
+    image: &mut Image,
+    name: &[u8],
+    parent: ClassId,
+) -> Result<u32, Refusal> {
+    define_with(alloc, image, name, parent, Vec::new(alloc))
+}
+
+pub(crate) fn install(
+    alloc: Global,
+    image: &mut Image,
+    class: ClassId,
+    source: &str,
+) -> Result<u32, Refusal> {
+    image.install(alloc, class, source.as_bytes())
+}
+
+pub(crate) fn remove(
+    alloc: Global,
+    image: &mut Image,
+    class: ClassId,
+    selector: Selector,
+) -> Result<u32, Refusal> {
+    image.remove(alloc, class, selector)
+}
+
+pub(crate) fn intern(alloc: Global, image: &mut Image, text: &[u8]) -> Result<Selector, Refusal> {
+    image.intern(alloc, text)
+}
+
+pub(crate) fn create(alloc: Global, image: &mut Image, class: ClassId) -> Result<ActorId, Refusal> {
+    image.create(alloc, class)
+}
+
+/// A new actor of class Object.
+pub(crate) fn create_object(alloc: Global, image: &mut Image) -> Result<ActorId, Refusal> {
+    create(alloc, image, OBJECT)
+}
+
+/// A message without arguments to the first actor.
+pub(crate) fn post(
+    alloc: Global,
+    image: &mut Image,
+    client: u16,
+    seq: u64,
+    selector: Selector,
+) -> Result<u64, Refusal> {
+    let none = Seq::from_vec(Vec::new(alloc));
+    image.post(alloc, client, seq, FIRST, selector, none)
+}
+
+/// Posts a unary message of the kernel to the first actor.
+pub(crate) fn ask(alloc: Global, image: &mut Image, seq: u64) -> Result<u64, Refusal> {
+    post(alloc, image, 1, seq, IS_NIL)
+}
+
+/// So many steps of the first actor at most, from 1 to 1,024.
+pub(crate) fn advance(alloc: Global, image: &mut Image, most: u32) -> Result<u32, Refusal> {
+    if most < 1 || 1024 < most {
+        return Err(Refusal::BadArguments);
+    }
+    image.advance(alloc, FIRST, most)
+}
+
+/// How a turn of the first actor ended.
+pub(crate) fn outcome(image: &Image, turn: u64) -> Result<Outcome, Refusal> {
+    image.outcome(FIRST, turn)
+}
+
+pub(crate) fn next_ready(image: &Image) -> Option<ActorId> {
+    image.next_ready()
+}
+
+/// How many names there are.
+pub(crate) fn names(image: &Image) -> u32 {
+    image.names().len()
+}
+
+/// The number of a name.
+pub(crate) fn number_of(image: &Image, name: &[u8]) -> Option<Selector> {
+    image.names().find(name)
+}
+
+/// How many items the history has.
+pub(crate) fn items(image: &Image) -> usize {
+    image.history().len()
+}
+
+pub(crate) fn edits(image: &Image) -> u32 {
+    image.version().edits()
+}
+
+pub(crate) fn actors(image: &Image) -> u32 {
+    image.actors()
+}
+
+/// The class of the first actor.
+pub(crate) fn class(image: &Image) -> Option<ClassId> {
+    image.class(FIRST)
+}
+
+/// Whether the first actor is idle.
+pub(crate) fn is_idle(image: &Image) -> Option<bool> {
+    Some(image.body(FIRST)?.is_idle())
+}
+
+pub(crate) fn capacity(image: &Image) -> Option<u32> {
+    image.capacity(FIRST)
+}
+
+pub(crate) fn is_open(image: &Image) -> Option<bool> {
+    image.is_open(FIRST)
+}
+
+pub(crate) fn last_sent(image: &Image) -> Option<u64> {
+    image.last_sent(FIRST)
+}
+
+/// How many messages are pending for the first actor.
+pub(crate) fn pending(image: &Image) -> Option<usize> {
+    Some(image.pending(FIRST)?.len())
+}
+
+/// The first message that is pending for the first actor.
+fn front(image: &Image) -> Option<&Message> {
+    image.pending(FIRST)?.front()
+}
+
+/// Who sent the first message that is pending, the sender's number for it, and its selector, where it has no arguments.
+pub(crate) fn front_without_arguments(image: &Image) -> Option<(Sender, u64, Selector)> {
+    let message = front(image)?;
+    if message.args.is_empty() {
+        Some((message.sender, message.seq, message.selector))
+    } else {
+        None
+    }
+}

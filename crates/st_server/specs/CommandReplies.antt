@@ -1,0 +1,120 @@
+-- The reply to a command, and the image that it leaves.
+use Rattle.std.specs.Prelude.{◌≡◌, ℕ, zero, suc, ◌+◌, ◌⊎◌, List, Bool, true, false, Result, Ok, Err, MatchOption, MatchResult}
+use Rattle.st_classes.specs.declared.values.ClassId.{ClassId}
+use Rattle.st_classes.specs.declared.values.ActorId.{ActorId}
+use Rattle.st_classes.specs.declared.values.Selector.{Selector}
+use Rattle.st_classes.specs.declared.refusals.Refusal.{Refusal}
+use Rattle.st_classes.specs.declared.refusals.Refusal.TheVariants.{NoMemory, UnknownClass, BadCommand}
+use Rattle.st_classes.specs.Classes.{class_named}
+use Rattle.st_turn.specs.declared.body.Outcome.{Outcome}
+use Rattle.st_turn.specs.declared.body.Outcome.TheVariants as outcome
+use Rattle.st_image.specs.PostRules.{from_client}
+use Rattle.st_image.specs.Images.{ImageView, world}
+use Rattle.st_image.specs.Quanta.{image_outcome}
+use Rattle.st_image.specs.Calls.{Advances, Creates, Defines, InstallsIn, Posts, Removes}
+use Rattle.st_image.specs.Scheduling.{IsNextReady, is_ready_at}
+use Rattle.st_wire.specs.declared.commands.Argument.{Argument}
+use Rattle.st_wire.specs.declared.commands.Command.{Command}
+use Rattle.st_wire.specs.declared.commands.Command.TheVariants as command
+use Rattle.st_wire.specs.declared.replies.Reply.{Reply}
+use Rattle.st_wire.specs.declared.replies.Reply.TheVariants as reply
+use Rattle.st_wire.specs.Commands.{command_of}
+use Rattle.st_server.specs.ArgumentValues.{Interns, StandsFor, AllResolve, found_selector, is_told_by_text, value_text}
+
+-- a call is made, and what is next with its value at the image that it left; where it is refused, that is the reply
+abbrev pub Then : {T : Type 0} → (Result T Refusal → ImageView → Type 0)
+    → (T → ImageView → Reply → ImageView → Type 0) → Reply → ImageView → Type 0
+Then {T} Calls Next r j = (result : Result T Refusal) × (k : ImageView) × Calls result k × MatchResult result
+    (λ value. Next value k r j)
+    (λ e. (r ≡ reply.Refused e) × (j ≡ k))
+
+-- the reply to what a call answered, made from its value
+abbrev pub reply_by : {T : Type 0} → (T → Reply) → Result T Refusal → Reply
+reply_by told (Ok value) = told value
+reply_by told (Err e) = reply.Refused e
+
+-- a call is made and replied to
+abbrev pub RepliesTo : {T : Type 0} → (T → Reply) → (Result T Refusal → ImageView → Type 0) → Reply → ImageView → Type 0
+RepliesTo {T} told Calls r j = (result : Result T Refusal) × (r ≡ reply_by told result) × Calls result j
+
+-- the same of a call on the class that a text names, where it names one
+abbrev pub RepliesFor : {T : Type 0} → ImageView → List ℕ → (T → Reply)
+    → (ClassId → Result T Refusal → ImageView → Type 0) → Reply → ImageView → Type 0
+RepliesFor i text told Calls r j = MatchOption (class_named (world i).edits text)
+    ((r ≡ reply.Refused UnknownClass) × (j ≡ i))
+    (λ c. RepliesTo told (Calls c) r j)
+
+-- the class's own method for the selector that a text names is removed; no name is added
+abbrev pub RemovesNamed : ImageView → List ℕ → ClassId → Result ℕ Refusal → ImageView → Type 0
+RemovesNamed i text c result j = MatchResult (found_selector i.names text)
+    (λ s. Removes i c s result j)
+    (λ e. (result ≡ Err e) × (j ≡ i))
+
+-- ---- a post: its selector and its arguments are resolved from the left, and then it is posted
+
+-- memory may run out before the first argument
+abbrev pub PostsArguments : ImageView → ActorId → List Argument → Selector → ℕ → ℕ → Reply → ImageView → Type 0
+PostsArguments i a args s sender seq r j = ((r ≡ reply.Refused NoMemory) × (j ≡ i))
+    ⊎ Then (AllResolve i args) (λ vs k. RepliesTo reply.Turn (Posts k a (from_client sender seq s vs))) r j
+
+-- the selector is interned first
+abbrev pub PostsNamed : ImageView → ActorId → List Argument → List ℕ → ℕ → ℕ → Reply → ImageView → Type 0
+PostsNamed i a args text sender seq =
+    Then (Interns i text (StandsFor text)) (λ s k. PostsArguments k a args s sender seq)
+
+-- ---- a run: so long as quanta are left and an actor is ready, the next ready one takes a quantum of so many steps
+
+-- no actor is ready
+abbrev pub NoneReady : ImageView → Type 0
+NoneReady i = (a : ℕ) → is_ready_at (world i) a ≡ false
+
+-- the next ready actor takes a quantum
+abbrev pub NextAdvances : ℕ → ImageView → Result ℕ Refusal → ImageView → Type 0
+NextAdvances quantum i result k =
+    (a : ActorId) × IsNextReady (world i) i.next_from a.0 × Advances i a quantum result k
+
+-- with so many quanta left, and so many quanta and steps taken
+abbrev pub Runs : ℕ → ℕ → ImageView → ℕ → ℕ → Reply → ImageView → Type 0
+Runs quantum zero i q s r j = (r ≡ reply.Ran q s) × (j ≡ i)
+Runs quantum (suc left) i q s r j = (NoneReady i × (r ≡ reply.Ran q s) × (j ≡ i))
+    ⊎ Then (NextAdvances quantum i) (λ n k. Runs quantum left k (q + 1) (s + n)) r j
+
+-- ---- an outcome
+
+-- the reply to a question for an outcome
+abbrev pub outcome_reply : ImageView → Result Outcome Refusal → Reply
+outcome_reply i (Ok (outcome.Answer v)) = reply.Answer (value_text i v)
+outcome_reply i (Ok (outcome.Fault f)) = reply.Fault f
+outcome_reply i (Err e) = reply.Refused e
+
+-- an outcome whose reply copies a text
+abbrev pub copies_text : Result Outcome Refusal → Bool
+copies_text (Ok (outcome.Answer v)) = is_told_by_text v
+copies_text _ = false
+
+-- the outcome is told; memory runs out only where a text is copied
+abbrev pub Tells : ImageView → Result Outcome Refusal → Reply → Type 0
+Tells i result r = (r ≡ outcome_reply i result) ⊎ ((copies_text result ≡ true) × (r ≡ reply.Refused NoMemory))
+
+-- ---- any command
+
+-- by the command; the last two are not served yet
+abbrev pub Serves : ℕ → ImageView → Command → Reply → ImageView → Type 0
+Serves quantum i (command.Define name parent slots) r j =
+    RepliesFor i parent reply.Version (λ c. Defines i name c slots) r j
+Serves quantum i (command.Method class source) r j =
+    RepliesFor i class reply.Version (λ c. InstallsIn i c source) r j
+Serves quantum i (command.Remove class text) r j = RepliesFor i class reply.Version (RemovesNamed i text) r j
+Serves quantum i (command.Actor class) r j = RepliesFor i class reply.Actor (Creates i) r j
+Serves quantum i (command.Post actor args text sender seq) r j = PostsNamed i actor args text sender seq r j
+Serves quantum i (command.Run quanta) r j = Runs quantum quanta i 0 0 r j
+Serves quantum i (command.Outcome actor turn) r j = Tells i (image_outcome i actor turn) r × (j ≡ i)
+Serves quantum i (command.Close actor) r j = (r ≡ reply.Refused BadCommand) × (j ≡ i)
+Serves quantum i (command.Stats class text) r j = (r ≡ reply.Refused BadCommand) × (j ≡ i)
+
+-- the reply to a line: a line that is no command is BadCommand
+abbrev pub Replies : ℕ → ImageView → List ℕ → Reply → ImageView → Type 0
+Replies quantum i line r j = ((r ≡ reply.Refused NoMemory) × (j ≡ i))
+    ⊎ MatchOption (command_of line)
+    ((r ≡ reply.Refused BadCommand) × (j ≡ i))
+    (λ c. Serves quantum i c r j)

@@ -1,7 +1,0 @@
-use Rattle.std.proofs.Common.{append_assoc}
-use Rattle.json.specs.Print.{escape_byte}
-use Rattle.st_wire.proofs.replies.write_fault.Goals as goal
-
-pub returns : goal.returns
-unfolding escape_byte
-returns c = simp append_assoc (simp (c.in_ok-name_at.ensures, c.fault_name.ensures, append_assoc) at c.put.ensures)

@@ -76,6 +76,8 @@ class Acting:
             return self.receiver() + " " + self.post(depth - 1)
         if kind < 0.8:
             return self.receiver() + " " + self.post(depth - 1) + "; " + self.post(depth - 1)
+        if kind < 0.81:
+            return self.receiver() + " close"
         return self.inner(depth - 1) + " " + self.message(depth - 1)
 
     def inner(self, depth):

@@ -1,7 +1,7 @@
 """The image: what each command of a script answers."""
 
 from .classes import Classes, Refused
-from .language import BadSource, MOST_ACTORS, arguments_of, is_selector
+from .language import BadSource, MOST_ACTORS, MOST_RESULTS, arguments_of, is_selector
 from .machine import Actor
 from .values import NIL, Value, boolean
 
@@ -13,7 +13,8 @@ class TooManySteps(Exception):
 
 
 class Image:
-    """`ready` has the numbers of the actors that are in a turn or have a message pending; `patience` is the number of steps
+    """`numbers` has the last number of each client that has sent a message; `ready` has the numbers of the actors that are in a
+    turn or have a message pending; `patience` is the number of steps
     that a run may take, where there is one."""
 
     def __init__(self, quantum=256, capacity=64, patience=None):
@@ -22,6 +23,7 @@ class Image:
         self.patience = patience
         self.classes = Classes()
         self.actors = []
+        self.numbers = {}
         self.ready = set()
         self.last = -1
         self.installed = None
@@ -73,9 +75,27 @@ class Image:
             return {"error": "UnknownActor"}
         if arguments_of(selector) != len(arguments) or not all(self.names_something(argument) for argument in arguments):
             return {"error": "BadArguments"}
-        if not self.deliver(number, selector, [self.value(argument) for argument in arguments]):
-            return {"error": "Full"}
+        sender, seq = command["sender"], command["seq"]
+        last = self.numbers.get(sender, 0)
+        if seq <= last:
+            return {"error": "Old", "last": last}
+        refused = self.refusal(number)
+        if refused:
+            return {"error": refused}
+        self.deliver(number, selector, [self.value(argument) for argument in arguments])
+        self.numbers[sender] = seq
         return {"ok": {"turn": self.actors[number].accepted}}
+
+    def close(self, command):
+        if command["actor"] >= len(self.actors):
+            return {"error": "UnknownActor"}
+        return {"ok": {}} if self.close_mailbox(command["actor"]) else {"error": "Closed"}
+
+    def close_mailbox(self, number):
+        """Whether the actor's mailbox was open until now. What is pending stays."""
+        was_open = self.actors[number].is_open
+        self.actors[number].is_open = False
+        return was_open
 
     def unread(self, selector, arguments):
         """What is wrong with the first text that says nothing; None where all are read."""
@@ -91,11 +111,18 @@ class Image:
     def names_something(self, argument):
         return not isinstance(argument, dict) or argument.get("ref", -1) < len(self.actors)
 
-    def deliver(self, number, selector, arguments):
-        """Whether the actor's mailbox had room for the message, which is in it then."""
+    def refusal(self, number):
+        """Why the actor's mailbox takes no message; None where it does."""
         actor = self.actors[number]
-        if len(actor.pending) >= self.capacity:
+        if not actor.is_open:
+            return "Closed"
+        return "Full" if len(actor.pending) >= self.capacity else None
+
+    def deliver(self, number, selector, arguments):
+        """Whether the actor's mailbox takes the message, which is in it then."""
+        if self.refusal(number):
             return False
+        actor = self.actors[number]
         actor.pending.append((selector, arguments))
         actor.accepted += 1
         self.ready.add(number)
@@ -143,6 +170,7 @@ class Image:
         twin.classes = self.classes
         twin.last = self.last
         twin.actors = [actor.copy(twin) for actor in self.actors]
+        twin.numbers = dict(self.numbers)
         return twin
 
     def outcome(self, command):
@@ -153,6 +181,8 @@ class Image:
             return {"error": "Expired"}
         if command["turn"] > len(results):
             return {"error": "Pending"}
+        if command["turn"] <= len(results) - MOST_RESULTS:
+            return {"error": "Expired"}
         result = results[command["turn"] - 1]
         return {"ok": {"answer": self.json(result)} if isinstance(result, Value) else {"fault": result}}
 

@@ -36,6 +36,8 @@ def answer(holder, selector, receiver, arguments, actor):
     if holder == "SmallInteger":
         return of_integers(selector, receiver, arguments[0])
     if holder == "ActorRef":
+        if selector == "close":
+            return boolean(actor.image.close_mailbox(receiver.content))
         return of_actors(receiver, arguments[0], arguments[1:], actor)
     if holder == "Class":
         return of_classes(selector, receiver, actor)

@@ -15,6 +15,7 @@ MOST_OPERANDS = 64
 MOST_FRAMES = 128
 MOST_OBJECTS = 1024
 MOST_ACTORS = 65536
+MOST_RESULTS = 64
 
 RESERVED = ("self", "super", "nil", "true", "false", "thisActor")
 
@@ -25,15 +26,14 @@ LOOPS = ("whileTrue:", "whileFalse:")
 KERNEL_CLASSES = ("Object", "SmallInteger", "True", "False", "UndefinedObject", "Symbol", "ActorRef", "Class")
 
 # The messages by which a turn reaches past its actor, by the kind of value that gets them.
-OUTER_SELECTORS = {"actor": ("post:", "post:with:", "post:with:with:"), "class": ("newActor",)}
+OUTER_SELECTORS = {"actor": ("post:", "post:with:", "post:with:with:", "close"), "class": ("newActor",)}
 
-# Not there yet: `close` of ActorRef, which stands here when it comes, and among the messages above.
 KERNEL_SELECTORS = {
     "Object": ("==", "=", "class", "isNil", "doesNotUnderstand:"),
     "SmallInteger": ("+", "-", "*", "//", "\\\\", "<", ">", "<=", ">="),
     "True": ("not", "&"),
     "False": ("not", "&"),
-    "ActorRef": ("post:", "post:with:", "post:with:with:"),
+    "ActorRef": ("post:", "post:with:", "post:with:with:", "close"),
     "Class": ("new", "newActor"),
 }
 

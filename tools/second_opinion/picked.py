@@ -5,7 +5,8 @@ rules, and the second reader is held to them before it is compared with anything
 
     class C S x y         a class C under S with the instance variables x and y
     method C source       actor C         remove C selector
-    post 0 at:put: 1 2    run             run 5
+    post 0 at:put: 1 2    run             run 5            close 0
+    send 2 7 0 at:put: 1 2                the same post by client 2, with the number 7
     outcome 0 1           how turn 1 of actor 0 ended; without the 1, the last message that it got
     turn 0 at:put: 1 2    posts, runs all there is, and asks how that turn ended
 """
@@ -13,7 +14,7 @@ rules, and the second reader is held to them before it is compared with anything
 import json
 from dataclasses import dataclass
 
-from . import picked_actors, picked_lookup, picked_objects
+from . import picked_actors, picked_lookup, picked_mailboxes, picked_objects
 from .language import LONGEST_WORD
 
 
@@ -33,13 +34,17 @@ def all_picked():
         picked_objects.OBJECTS,
         picked_actors.MAKING,
         picked_actors.POSTING,
+        picked_mailboxes.CLOSING,
+        picked_mailboxes.NUMBERS,
     ):
         for says, text in texts.items():
             yield Picked(says, text)
     for says, text in picked_lookup.WHILE_RUNNING.items():
         yield Picked(says, text, quantum=1)
-    for says, text in picked_actors.FULL.items():
-        yield Picked(says, text, capacity=1)
+    for texts in (picked_actors.FULL, picked_mailboxes.NARROW):
+        for says, text in texts.items():
+            yield Picked(says, text, capacity=1)
+    yield Picked("the newest outcomes are kept", picked_mailboxes.KEPT)
     for quantum, text in picked_actors.QUANTA.items():
         yield Picked(f"outer steps in quanta of {quantum}", text, quantum=quantum)
     for quantum in (1, 2, 3, 4, 5, 6, 256):
@@ -82,6 +87,14 @@ class Taker:
     def take_post(self, rest):
         number, selector, *arguments = rest.split()
         return self.script.post(int(number), selector, [json.loads(argument) for argument in arguments])
+
+    def take_send(self, rest):
+        sender, seq, number, selector, *arguments = rest.split()
+        values = [json.loads(argument) for argument in arguments]
+        self.script.send(int(sender), int(seq), int(number), selector, values)
+
+    def take_close(self, rest):
+        self.script.add({"actor": int(rest), "cmd": "close"})
 
     def take_run(self, rest):
         self.script.add({"cmd": "run", "quanta": int(rest)} if rest else {"cmd": "run"})

@@ -437,13 +437,6 @@ POSTING = {
         outcome 2 1
         > {"ok":{"answer":{"class":"Kid"}}}
     """,
-    "actor references do not understand close yet": PAIR + """
-        method A go ^thisActor close
-        turn 0 go
-        > {"ok":{"fault":"notUnderstood"}}
-        remove ActorRef close
-        > {"error":"NoSuchMethod"}
-    """,
     "a fault after a post leaves the message where it is": PAIR + """
         method A go: r r post: #seven. kept := 3. thisActor post: #kept. ^nil foo
         method A kept ^kept

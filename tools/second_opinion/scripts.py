@@ -102,18 +102,22 @@ class Script:
         self.add({"class": class_name, "cmd": "remove", "selector": selector})
 
     def post(self, number, selector, arguments):
+        return self.send(1, len(self.lines) + 1, number, selector, arguments)
+
+    def send(self, sender, seq, number, selector, arguments):
         self.names.add(selector)
-        seq = len(self.lines)
-        reply = self.add({"actor": number, "args": arguments, "cmd": "post", "selector": selector, "sender": 1, "seq": seq})
+        post = {"actor": number, "args": arguments, "cmd": "post", "selector": selector, "sender": sender, "seq": seq}
+        reply = self.add(post)
         self.turns += "ok" in reply
         return reply
 
     def run_turn(self, number, selector, arguments):
         """Posts, runs all there is, and asks how it ended; nothing where the turn would take too long."""
         if self.ends(number, selector, arguments):
-            turn = self.post(number, selector, arguments)["ok"]["turn"]
-            self.add({"cmd": "run"})
-            self.add({"actor": number, "cmd": "outcome", "turn": turn})
+            reply = self.post(number, selector, arguments)
+            if "ok" in reply:
+                self.add({"cmd": "run"})
+                self.add({"actor": number, "cmd": "outcome", "turn": reply["ok"]["turn"]})
 
     def ends(self, number, selector, arguments):
         """Whether all actors come to rest after the post."""
@@ -211,8 +215,10 @@ class CutTurns:
             self.post()
         elif kind < 0.8:
             self.script.add({"cmd": "run", "quanta": self.rng.choice(self.runs)})
-        elif kind < 0.995:
+        elif kind < 0.985:
             self.ask()
+        elif kind < 0.99:
+            self.script.add({"actor": self.actor(), "cmd": "close"})
         elif len(self.script.image.actors) < 8:
             self.script.add({"class": self.rng.choice(["A", "B", "C", "Object"]), "cmd": "actor"})
 
@@ -223,10 +229,12 @@ class CutTurns:
             self.selectors.append(method.selector)
 
     def post(self):
-        """A few have an argument too many."""
+        """A few have an argument too many. Some clients reuse a number, or leave some out."""
         selector = self.rng.choice(self.selectors)
         count = arguments_of(selector) + (self.rng.random() < 0.03)
-        self.script.post(self.actor(), selector, random_arguments(self.rng, count))
+        sender = self.rng.choice([1, 1, 2, 3, 65535])
+        seq = max(0, self.script.image.numbers.get(sender, 0) + self.rng.choice([1, 1, 1, 1, 1, 1, 1, 2, 9, 0, -1]))
+        self.script.send(sender, seq, self.actor(), selector, random_arguments(self.rng, count))
 
     def actor(self):
         """An actor's number; seldom one that isn't there."""
@@ -236,7 +244,7 @@ class CutTurns:
         number = self.actor()
         actors = self.script.image.actors
         ended = len(actors[number].results) if number < len(actors) else 0
-        turn = max(0, ended + self.rng.choice([0, 0, 0, -1, 1, -2]))
+        turn = max(0, ended + self.rng.choice([0, 0, 0, -1, 1, -2, -63, -64, -65]))
         self.script.add({"actor": number, "cmd": "outcome", "turn": turn})
 
 

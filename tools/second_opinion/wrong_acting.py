@@ -348,20 +348,20 @@ ACTORS = [
     WrongRule(
         "posts do not end the quantum",
         "language",
-        '"actor": ("post:", "post:with:", "post:with:with:")',
-        '"actor": ()',
+        '"actor": ("post:", "post:with:", "post:with:with:", "close")',
+        '"actor": ("close",)',
     ),
     WrongRule(
         "a post with an argument does not end the quantum",
         "language",
-        '"actor": ("post:", "post:with:", "post:with:with:")',
-        '"actor": ("post:", "post:with:with:")',
+        '"actor": ("post:", "post:with:", "post:with:with:", "close")',
+        '"actor": ("post:", "post:with:with:", "close")',
     ),
     WrongRule(
         "a post with two arguments does not end the quantum",
         "language",
-        '"actor": ("post:", "post:with:", "post:with:with:")',
-        '"actor": ("post:", "post:with:")',
+        '"actor": ("post:", "post:with:", "post:with:with:", "close")',
+        '"actor": ("post:", "post:with:", "close")',
     ),
     WrongRule(
         "an outer step waits for the next quantum where this one is over",
@@ -469,8 +469,8 @@ POSTS = [
     WrongRule(
         "the mailbox of an actor that a method made holds a message more",
         "image",
-        "if len(actor.pending) >= self.capacity:",
-        "if len(actor.pending) >= self.capacity + (number > 2):",
+        "if len(actor.pending) >= self.capacity else None",
+        "if len(actor.pending) >= self.capacity + (number > 2) else None",
     ),
     WrongRule(
         "a full mailbox is a fault",
@@ -491,8 +491,8 @@ POSTS = [
     WrongRule(
         "the message of a turn is in the mailbox until the turn ends",
         "image",
-        "        if len(actor.pending) >= self.capacity:\n",
-        "        if len(actor.pending) + actor.in_turn() >= self.capacity:\n",
+        "if len(actor.pending) >= self.capacity else None",
+        "if len(actor.pending) + actor.in_turn() >= self.capacity else None",
     ),
     WrongRule(
         "a posted selector may be any value",

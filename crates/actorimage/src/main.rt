@@ -6,7 +6,7 @@ mod options;
 use crate::options::{ScriptOptions, invalid_utf8_error, parsed_options};
 use clap::Error;
 use st_classes::refusals::Refusal;
-use st_image::image::Image;
+use st_server::images::Image;
 use st_server::scripts::script_on;
 use st_wire::names::refusal_name;
 use st_wire::streams::{Reader, Writer};

@@ -1,6 +1,7 @@
 pub mod Keywords
 pub mod Flowing
 pub mod Naming
+pub mod Beginnings
 pub mod LawLists
 pub mod LawChains
 pub mod LawGrowing

@@ -1,5 +1,5 @@
 -- Lists of edits that were accepted, and whose methods suit and are sound.
-use Rattle.std.specs.Prelude.{◌≡◌, ℕ, List, true, Option, Some, None, slice_get, take, option_and_then}
+use Rattle.std.specs.Prelude.{◌≡◌, ◌++◌, ℕ, List, true, Option, Some, None, slice_get, take, option_and_then}
 use Rattle.st_classes.specs.declared.values.ClassId.{ClassId}
 use Rattle.st_classes.specs.declared.values.MethodId.{MethodId}
 use Rattle.st_classes.specs.declared.methods.MethodParts.{MethodParts}
@@ -9,6 +9,10 @@ use Rattle.st_classes.specs.Refusals.{first_of}
 use Rattle.st_classes.specs.EditRules.{edit_rules}
 use Rattle.st_classes.specs.Methods.{IsSound}
 use Rattle.st_classes.specs.MethodSuits.{suits}
+
+-- one list begins another
+abbrev pub Begins : List Edit → List Edit → Type 0
+Begins edits later = (rest : List Edit) × (later ≡ edits ++ rest)
 
 -- each edit was accepted after those before it
 abbrev pub AreLawful : List Edit → Type 0

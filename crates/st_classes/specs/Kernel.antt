@@ -3,7 +3,7 @@ use Rattle.std.specs.Prelude.{ℕ, List, [], ◌∷◌, Option, Some, None, if�
 use Rattle.st_classes.specs.declared.values.ClassId.{ClassId}
 use Rattle.st_classes.specs.declared.values.Selector.{Selector}
 use Rattle.st_classes.specs.declared.kernel.Kernel.{Kernel}
-use Rattle.st_classes.specs.declared.kernel.Kernel.TheVariants.{Identical, Equal, ClassOf, IsNil, DoesNotUnderstand, Add, Subtract, Multiply, Quotient, Remainder, Less, Greater, LessOrEqual, GreaterOrEqual, Not, And, Post, PostWith, PostWithWith, New, NewActor}
+use Rattle.st_classes.specs.declared.kernel.Kernel.TheVariants.{Identical, Equal, ClassOf, IsNil, DoesNotUnderstand, Add, Subtract, Multiply, Quotient, Remainder, Less, Greater, LessOrEqual, GreaterOrEqual, Not, And, Post, PostWith, PostWithWith, Close, New, NewActor}
 
 -- a class by its number
 abbrev pub class : ℕ → ClassId
@@ -78,7 +78,8 @@ actor_method s =
     if s == 16 then Some Post
     else (if s == 17 then Some PostWith
     else (if s == 18 then Some PostWithWith
-    else None))
+    else (if s == 19 then Some Close
+    else None)))
 
 -- those of Class
 abbrev pub class_method : ℕ → Option Kernel

@@ -63,6 +63,7 @@ fn join_texts(
 
 impl ClassRow {
     /// The method that the row's class has of its own.
+    #[inline(always)]
     pub fn own(&self, class: ClassId, selector: Selector) -> Option<Found>
         ensures { result ≡ row_own self.now class selector }
     {
@@ -159,6 +160,7 @@ impl ClassRows {
         self.rows.len()
     }
 
+    #[inline(always)]
     pub fn get(&self, class: ClassId) -> Option<&ClassRow>
         ensures { option_copied result ≡ slice_get self.now class.0 }
     {
@@ -167,6 +169,7 @@ impl ClassRows {
     }
 
     /// The row of a class that is there.
+    #[inline(always)]
     pub fn of(&self, class: ClassId) -> &ClassRow
         requires { class.0 < length self.now }
         ensures { slice_get self.now class.0 ≡ Some result.now }
@@ -175,7 +178,7 @@ impl ClassRows {
     }
 
     /// A second table with the same rows, which it shares, and with room for one more.
-    fn again(&self, alloc: Global) -> Result<ClassRows, AllocError>
+    pub fn again(&self, alloc: Global) -> Result<ClassRows, AllocError>
         ensures { IfOk result (λ rows. rows ≡ self.now) }
     {
         let mut rows = Vec::with_capacity(alloc, self.rows.len() + 1)?;

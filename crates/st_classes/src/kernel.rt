@@ -101,6 +101,7 @@ pub enum Target {
     Missing(Option<MethodId>),
 }
 
+#[inline(always)]
 fn object_kernel(selector: Selector) -> Option<Kernel>
     ensures { result ≡ object_method selector.0 }
 {
@@ -114,6 +115,7 @@ fn object_kernel(selector: Selector) -> Option<Kernel>
     }
 }
 
+#[inline(always)]
 fn integer_kernel(selector: Selector) -> Option<Kernel>
     ensures { result ≡ integer_method selector.0 }
 {
@@ -131,6 +133,7 @@ fn integer_kernel(selector: Selector) -> Option<Kernel>
     }
 }
 
+#[inline(always)]
 fn boolean_kernel(selector: Selector) -> Option<Kernel>
     ensures { result ≡ boolean_method selector.0 }
 {
@@ -141,6 +144,7 @@ fn boolean_kernel(selector: Selector) -> Option<Kernel>
     }
 }
 
+#[inline(always)]
 fn actor_kernel(selector: Selector) -> Option<Kernel>
     ensures { result ≡ actor_method selector.0 }
 {
@@ -148,10 +152,12 @@ fn actor_kernel(selector: Selector) -> Option<Kernel>
         16 => Some(Kernel::Post),
         17 => Some(Kernel::PostWith),
         18 => Some(Kernel::PostWithWith),
+        19 => Some(Kernel::Close),
         _ => None,
     }
 }
 
+#[inline(always)]
 fn class_kernel(selector: Selector) -> Option<Kernel>
     ensures { result ≡ class_method selector.0 }
 {
@@ -163,6 +169,7 @@ fn class_kernel(selector: Selector) -> Option<Kernel>
 }
 
 /// The kernel's method in a class for a selector.
+#[inline(always)]
 pub fn kernel_at(class: ClassId, selector: Selector) -> Option<Kernel>
     ensures { result ≡ kernel_method class selector }
 {

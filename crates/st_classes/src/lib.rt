@@ -7,6 +7,7 @@
 mod accepting;
 mod class_index;
 mod class_rows;
+pub mod counted_rows;
 pub mod edits;
 pub mod faults;
 pub mod instructions;
@@ -18,7 +19,9 @@ mod method_map;
 pub mod methods;
 pub mod names;
 pub mod refusals;
+mod same;
 pub mod selectors;
 pub mod seq;
+pub mod token;
 pub mod values;
 pub mod version;

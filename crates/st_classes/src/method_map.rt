@@ -33,7 +33,7 @@ impl MethodMap {
         }
     }
 
-    #[inline]
+    #[inline(always)]
     pub fn get(&self, selector: Selector) -> Option<MethodId>
         ensures { result ≡ method_for self.now selector }
     {

@@ -34,7 +34,7 @@ impl<T> Seq<T> {
     }
 
     /// The items.
-    #[inline]
+    #[inline(always)]
     pub fn as_slice(&self) -> &[T]
         ensures { result.now ≡ self.now }
     {
@@ -42,7 +42,7 @@ impl<T> Seq<T> {
     }
 
     /// How many items there are.
-    #[inline]
+    #[inline(always)]
     pub fn len(&self) -> usize
         ensures { result ≡ length self.now }
     {
@@ -61,7 +61,7 @@ impl<T: Copy> Seq<T> {
     ghost use Rattle.std.specs.Prelude.{◌≡◌, ◌<◌, length, slice_set};
 
     /// Writes an item.
-    #[inline]
+    #[inline(always)]
     pub fn set(&mut self, place: usize, item: T)
         requires { place < length self.old }
         ensures { self.new ≡ slice_set self.old place item }

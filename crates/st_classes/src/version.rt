@@ -1,5 +1,5 @@
 //! Versions of the class table: what they say, and lookup.
-ghost use Rattle.std.specs.Prelude.{◌≡◌, ◌≤◌, length, true};
+ghost use Rattle.std.specs.Prelude.{◌≡◌, ◌≤◌, Decides, length, true};
 ghost use Rattle.std.specs.Option.{option_copied};
 ghost use Rattle.std.specs.List.{slice_get};
 ghost use Rattle.st_classes.specs.Classes.{
@@ -15,9 +15,10 @@ ghost use Rattle.st_classes.specs.Classes.{
 };
 ghost use Rattle.st_classes.specs.ClassRows.{IsRow};
 ghost use Rattle.st_classes.specs.Tables.{IsKept};
-ghost use Rattle.st_classes.specs.EditLists.{AllSound, AreLawful, method_at};
+ghost use Rattle.st_classes.specs.EditLists.{AllSound, AreLawful, Begins, method_at};
 ghost use Rattle.st_classes.specs.declared.methods.MethodParts.{MethodParts as PartsOf};
-ghost use Rattle.st_classes.specs.Walks.{or_missing, own, super_target, target, walk};
+ghost use Rattle.st_classes.specs.Kernel.{does_not_understand};
+ghost use Rattle.st_classes.specs.Walks.{or_missing, own, super_target, target, user_method, walk};
 
 mod building;
 
@@ -26,6 +27,7 @@ use crate::class_rows::{ClassRow, ClassRows};
 use crate::edits::{Edit, SharedEdit};
 use crate::kernel::{DOES_NOT_UNDERSTAND, Found, Target};
 use crate::methods::Method;
+use crate::same::begins;
 use crate::seq::Seq;
 use crate::values::{ClassId, MethodId, Selector};
 use std::marker::Model;
@@ -56,7 +58,7 @@ impl Model for Version {
 
 impl Version {
     /// Shows the part of the invariant that is about the edits alone.
-    #[inline]
+    #[inline(always)]
     fn kept(&self)
         ensures { IsKept self.now }
     {
@@ -64,7 +66,7 @@ impl Version {
     }
 
     /// Shows that the methods of every class table are sound.
-    #[inline]
+    #[inline(always)]
     fn methods_known(&self)
         ensures { AllSound self.now }
     {
@@ -73,7 +75,7 @@ impl Version {
 
     /// What callers may know of every class table: each edit was accepted after those before it, its methods are sound, no chain
     /// has over 64 classes, there are at most 4,096 edits and 1,024 classes, and each class has at most 64 instance variables.
-    #[inline]
+    #[inline(always)]
     pub fn known(&self)
         ensures lawful { AreLawful self.now }
         ensures sound { AllSound self.now }
@@ -107,6 +109,13 @@ impl Version {
         self.edits.get(place as usize)
     }
 
+    /// Whether its edits begin those of another table, or are the same. The edits are compared one by one.
+    pub fn begins(&self, later: &Version) -> bool
+        ensures { Decides result (Begins self.now later.now) }
+    {
+        begins(self.edits.as_slice(), later.edits.as_slice())
+    }
+
     /// The number of classes, 8 to 1,024.
     pub fn classes(&self) -> u32
         ensures { result ≡ class_count self.now }
@@ -115,6 +124,7 @@ impl Version {
     }
 
     /// The row of a class.
+    #[inline(always)]
     fn row(&self, class: ClassId) -> &ClassRow
         requires { is_class self.now class ≡ true }
         ensures { IsRow self.now class result.now }
@@ -137,6 +147,7 @@ impl Version {
     }
 
     /// The superclass.
+    #[inline(always)]
     pub fn parent(&self, class: ClassId) -> Option<ClassId>
         ensures { result ≡ parent self.now class }
     {
@@ -167,7 +178,7 @@ impl Version {
     }
 
     /// The method that was installed at a place of the list.
-    #[inline]
+    #[inline(always)]
     pub fn method(&self, id: MethodId) -> Option<&Method>
         ensures { option_copied result ≡ method_at self.now id }
     {
@@ -178,7 +189,7 @@ impl Version {
     }
 
     /// The method that was installed at a place where there is one, found without a test.
-    #[inline]
+    #[inline(always)]
     pub fn installed(&self, id: MethodId) -> &Method
         requires { (m : PartsOf) × (method_at self.now id ≡ Some m) }
         ensures { method_at self.now id ≡ Some result.now }
@@ -190,6 +201,7 @@ impl Version {
     }
 
     /// The method that a class has of its own.
+    #[inline(always)]
     pub(crate) fn own(&self, class: ClassId, selector: Selector) -> Option<Found>
         requires { is_class self.now class ≡ true }
         ensures { result ≡ own self.now class selector }
@@ -198,6 +210,7 @@ impl Version {
     }
 
     /// The first method that a walk up from the class finds.
+    #[inline(always)]
     #[tactic(auto, using(crate::proofs::Walking::walk_here, crate::proofs::Walking::walk_ends))]
     fn walk(&self, class: ClassId, selector: Selector) -> Option<Found>
         requires { is_class self.now class ≡ true }
@@ -216,7 +229,21 @@ impl Version {
         }
     }
 
+    /// The user's method for `doesNotUnderstand:` that a walk finds, where it finds one.
+    #[cold]
+    #[inline(never)]
+    fn missing(&self, class: ClassId) -> Option<MethodId>
+        requires { is_class self.now class ≡ true }
+        ensures { result ≡ user_method (walk self.now class does_not_understand) }
+    {
+        match self.walk(class, DOES_NOT_UNDERSTAND) {
+            Some(Found::User(id)) => Some(id),
+            _ => None,
+        }
+    }
+
     /// What a walk found, or else the user's method for `doesNotUnderstand:`.
+    #[inline(always)]
     fn or_missing(&self, class: ClassId, found: Option<Found>) -> Target
         requires { is_class self.now class ≡ true }
         ensures { result ≡ or_missing self.now class found }
@@ -224,14 +251,12 @@ impl Version {
         match found {
             Some(Found::User(id)) => Target::Run(id),
             Some(Found::Kernel(kernel)) => Target::Primitive(kernel),
-            None => Target::Missing(match self.walk(class, DOES_NOT_UNDERSTAND) {
-                Some(Found::User(id)) => Some(id),
-                _ => None,
-            }),
+            None => Target::Missing(self.missing(class)),
         }
     }
 
     /// What a send to an instance of the class runs.
+    #[inline(always)]
     pub fn find(&self, class: ClassId, selector: Selector) -> Target
         requires { is_class self.now class ≡ true }
         ensures { result ≡ target self.now class selector }

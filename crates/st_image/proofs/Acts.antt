@@ -15,10 +15,11 @@ use Rattle.st_classes.specs.Refusals.{Rule, first_of}
 use Rattle.st_classes.specs.EditRules.{is_value_class}
 use Rattle.st_classes.specs.Classes.{class_count}
 use Rattle.st_turn.specs.declared.body.Body.{Body}
-use Rattle.st_image.specs.declared.messages.Message.{Message}
-use Rattle.st_image.specs.declared.messages.Sender.TheVariants.{Actor}
+use Rattle.st_mailbox.specs.declared.messages.Message.{Message}
+use Rattle.st_mailbox.specs.declared.messages.Sender.TheVariants.{Actor}
 use Rattle.st_image.specs.Worlds.{Constants, World, WorldActor, change, change_at}
-use Rattle.st_image.specs.PostRules.{box_rules, message_fits, message_suits, number_rule, post_rules}
+use Rattle.st_image.specs.PostRules.{message_fits, message_suits, number_rule, post_rules}
+use Rattle.st_mailbox.specs.Mailboxes.{box_rules}
 use Rattle.st_image.specs.Replay.{ActResult, with_accepted, after_close, create_result, failed_act, is_open_at, new_world_actor, only_if, after_post, after_post_by, attempted_act, with_last, with_new}
 use Rattle.st_image.specs.ActorViews.{ActorView, Shows, actor_view, new_actor_view, view_with_message}
 use Rattle.st_image.specs.ActResults.{Does, GrowsByOne, IsShown, Tries, constants_of}

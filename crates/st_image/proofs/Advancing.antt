@@ -31,9 +31,9 @@ use Rattle.st_turn.specs.FrameViews.{FramesView}
 use Rattle.st_turn.specs.Effects.{Effect, goes, stores, sends, answers, fails, effect}
 use Rattle.st_turn.specs.BodyFits.{Referents, Fits, FitsPhase}
 use Rattle.st_turn.specs.Steps.{Step, next as leads, ended, outer, reply_body, act_of, act_or, arguments, send_body, effect_step, own_steps, instruction_step, receiver_below, frames_step, send_step, step, step_in}
-use Rattle.st_image.specs.declared.messages.Message.{Message}
-use Rattle.st_image.specs.declared.messages.Sender.{Sender}
-use Rattle.st_image.specs.declared.messages.Sender.TheVariants.{Client, Actor}
+use Rattle.st_mailbox.specs.declared.messages.Message.{Message}
+use Rattle.st_mailbox.specs.declared.messages.Sender.{Sender}
+use Rattle.st_mailbox.specs.declared.messages.Sender.TheVariants.{Client, Actor}
 use Rattle.st_image.specs.declared.settings.Settings.{Settings}
 use Rattle.st_image.specs.declared.items.Item.{Item}
 use Rattle.st_image.specs.declared.items.Item.TheVariants.{Edited, Created, Posted, Closed, Begun, Ran}
@@ -161,6 +161,17 @@ begun_is i a e = ap (λ (t : Bool). cond t (record i { history = i.history ++ Be
 pub busy_being : (o : Option WorldActor) → idle_at o ≡ false → (b : WorldActor) × (o ≡ Some b) × (is_idle b.body.phase ≡ false)
 busy_being None e = cc
 busy_being (Some b) e = (b, refl, e)
+
+-- an actor in a turn is kept, and is in a turn there too
+pub busy_kept : (edits : List Edit) (actors : List ActorView) (w : World) (a : ActorId) → Shows edits actors w → idle_at (slice_get w.actors a.0) ≡ false → (k : ActorView) → slice_get actors a.0 ≡ Some k → is_idle k.body.phase ≡ false
+busy_kept edits actors w a s busy k at =
+    let b = being_at_kept edits actors w a.0 k s at in
+    sym (ap (λ (x : ActorView). is_idle x.body.phase) b.2) ∙ sym (ap idle_at b.1) ∙ busy
+
+pub busy_within : (edits : List Edit) (actors : List ActorView) (w : World) (a : ActorId) → Shows edits actors w → idle_at (slice_get w.actors a.0) ≡ false → a.0 < length actors
+busy_within edits actors w a s busy =
+    let b = busy_being (slice_get w.actors a.0) busy in
+    slice_get_within actors a.0 (actor_view b.0) (kept_at edits actors w a.0 b.0 s b.1)
 
 pub ran_keeps : (base : World) (names : List (List ℕ)) (edits : List Edit) (actors actors' : List ActorView) (h : List Item) (made : ℕ) (s : Settings) (from : ℕ) (a : ActorId) (limit n : ℕ) (whole : Bool)
     → IsImage base names edits actors h made s → 0 < n → first_of (no_room (seen base names h s from) 1 ∷ []) ≡ None → Quantum (constants_of names s.capacity) edits actors' a limit (world_of (constants_of names s.capacity) base h) n whole → GrowsByOne actors actors'

@@ -16,6 +16,7 @@ use Rattle.st_image.specs.ActorViews.{ActorView}
 use Rattle.st_image.specs.WorldInvariant.{AreConstants, AreSettings, IsSoundItem}
 use Rattle.st_image.specs.ActResults.{constants_of}
 use Rattle.st_image.specs.ImageInvariant.{IsImage}
+use Rattle.st_image.proofs.SendingOrder.{start_in_order}
 use Rattle.st_image.proofs.Lasting.{start_has_turns, start_is_world}
 use Rattle.st_image.proofs.Lists.{off}
 
@@ -43,6 +44,7 @@ pub new_is : (s : Settings) → AreSettings s → IsImage start kernel_selectors
 unfolding world_of
 new_is s f = record {
   base_is = start_is_world (constants_of kernel_selectors s.capacity) (new_constants s f);
+  senders = start_in_order;
   sound = All-nil IsSoundItem;
   lawful = refl;
   shows = record { edits_are = refl; actors_are = refl };
@@ -60,6 +62,7 @@ no_items names edits actors made s t k f =
     let c : AreConstants (constants_of names t.capacity) = record { kernel = k.base_is.constants.kernel; some_capacity = f.some_capacity; few_messages = f.few_messages } in
     record {
       base_is = start_is_world (constants_of names t.capacity) c;
+      senders = start_in_order;
       sound = k.sound;
       lawful = refl;
       shows = k.shows;

@@ -1,5 +1,5 @@
 -- Delivery: each item keeps the order, and actors only grow.
-use Rattle.std.proofs.Common.{◌≡◌, ℕ, zero, suc, ◌++◌, [], ◌∷◌, List, Option, Some, None, Ok, refl, ap, sym, ◌∙◌, subst, length, slice_get, Bool, true, false, cond, drop, append_assoc, append-nil, option_and_then, inl, inr}
+use Rattle.std.proofs.Common.{arith, ◌≡◌, ℕ, zero, suc, ◌++◌, [], ◌∷◌, List, Option, Some, None, Ok, refl, ap, sym, ◌∙◌, subst, length, slice_get, Bool, true, false, cond, drop, append_assoc, append-nil, option_and_then, inl, inr}
 use Rattle.std.specs.Prelude.{All, not, nat_le, nat_lt}
 use Rattle.std.specs.List.{list_any}
 use Rattle.std.proofs.Math.Seq.{drop-append_seam}
@@ -22,9 +22,9 @@ use Rattle.st_turn.specs.declared.body.Phase.{Phase}
 use Rattle.st_turn.specs.declared.body.Phase.TheVariants.{Fresh, Start, Frames, Done as Ended}
 use Rattle.st_turn.specs.Steps.{Step, next as leads, ended, outer, reply_body, step}
 use Rattle.st_turn.specs.Idle.{is_idle}
-use Rattle.st_image.specs.declared.messages.Message.{Message}
-use Rattle.st_image.specs.declared.messages.Sender.{Sender}
-use Rattle.st_image.specs.declared.messages.Sender.TheVariants.{Client, Actor}
+use Rattle.st_mailbox.specs.declared.messages.Message.{Message}
+use Rattle.st_mailbox.specs.declared.messages.Sender.{Sender}
+use Rattle.st_mailbox.specs.declared.messages.Sender.TheVariants.{Client, Actor}
 use Rattle.st_image.specs.declared.items.Item.{Item}
 use Rattle.st_image.specs.declared.items.Item.TheVariants.{Edited, Created, Posted, Closed, Begun, Ran}
 use Rattle.st_image.specs.Worlds.{Constants, World, WorldActor, change, change_at, pending}
@@ -32,8 +32,10 @@ use Rattle.st_image.specs.Replay.{ActResult, with_accepted, after_act, after_beg
 use Rattle.st_image.specs.ActResults.{world_after}
 use Rattle.st_image.specs.Images.{ImageView, constants, world}
 use Rattle.st_image.specs.WorldInvariant.{IsWorldActor, IsLawful}
-use Rattle.st_image.specs.Delivery.{IsPrefixOf, BeginsInOrder, HasGrown, OnlyGrow, Delivers, HasDelivered}
+use Rattle.st_image.specs.Delivery.{IsPrefixOf, BeginsInOrder, HasGrown, OnlyGrow, IsDelivered, Delivers, HasDelivered}
+use Rattle.st_image.specs.Senders.{InSendingOrder}
 use Rattle.st_image.proofs.Changing.{All-change, get-change-any}
+use Rattle.st_image.proofs.SendingOrder.{KeepsMail, accepted_once, begun_in_order, follows_change, follows_edits, follows_new, order_follows, order_receives, post_receives, post_there}
 use Rattle.st_image.proofs.Replays.{replay_append}
 use Rattle.st_image.proofs.Stepping.{bound, mapped, cond_some, ran_after}
 
@@ -72,13 +74,14 @@ prefix_more xs ys zs p q = (p.0 ++ q.0, q.1 ∙ ap (λ (l : List _). l ++ q.0) p
 -- ---- what only grows
 
 grown_refl : (b : WorldActor) → HasGrown b b
-grown_refl b = record { accepted = prefix_refl b.accepted; begun = prefix_refl b.begun; results = prefix_refl b.results }
+grown_refl b = record { accepted = prefix_refl b.accepted; begun = prefix_refl b.begun; results = prefix_refl b.results; closed = λ e. (e, refl) }
 
 grown_more : (b c d : WorldActor) → HasGrown b c → HasGrown c d → HasGrown b d
 grown_more b c d f g = record {
   accepted = prefix_more b.accepted c.accepted d.accepted f.accepted g.accepted;
   begun = prefix_more b.begun c.begun d.begun f.begun g.begun;
   results = prefix_more b.results c.results d.results f.results g.results;
+  closed = λ e. let p = f.closed e in let q = g.closed p.0 in (q.0, q.1 ∙ p.1);
 }
 
 grow_refl : (xs : List WorldActor) → OnlyGrow xs xs
@@ -102,21 +105,23 @@ grow_change xs k f h = λ a b e. elim (get-change-any f k xs a b e) [
 pub record Keeps (w v : World) : Type 0 where
   pub begins : All BeginsInOrder w.actors → All BeginsInOrder v.actors
   pub grows : OnlyGrow w.actors v.actors
+  pub orders : InSendingOrder w → InSendingOrder v
 
 keeps_refl : (w : World) → Keeps w w
-keeps_refl w = record { begins = λ h. h; grows = grow_refl w.actors }
+keeps_refl w = record { begins = λ h. h; grows = grow_refl w.actors; orders = λ o. o }
 
 keeps_more : (w v u : World) → Keeps w v → Keeps v u → Keeps w u
-keeps_more w v u f g = record { begins = λ h. g.begins (f.begins h); grows = grow_more w.actors v.actors u.actors f.grows g.grows }
+keeps_more w v u f g = record { begins = λ h. g.begins (f.begins h); grows = grow_more w.actors v.actors u.actors f.grows g.grows; orders = λ o. g.orders (f.orders o) }
 
 -- what a change of an actor keeps
 abbrev KeepsBeing : WorldActor → WorldActor → Type 0
-KeepsBeing b d = (BeginsInOrder b → BeginsInOrder d) × HasGrown b d
+KeepsBeing b d = (BeginsInOrder b → BeginsInOrder d) × HasGrown b d × KeepsMail b d
 
 keeps_change : (w : World) (a : ActorId) (f : WorldActor → WorldActor) → ((b : WorldActor) → slice_get w.actors a.0 ≡ Some b → KeepsBeing b (f b)) → Keeps w (change f a w)
 keeps_change w a f h = record {
   begins = λ all. All-change BeginsInOrder f a.0 w.actors (λ b at p. (h b at).0 p) all;
   grows = grow_change w.actors a.0 f (λ b at. (h b at).1);
+  orders = order_follows w (change f a w) (follows_change w a f (λ b at. (h b at).2));
 }
 
 keeps_edited : (c : Constants) (w v : World) (e : Edit) → after_edit c w e ≡ Some v → Keeps w v
@@ -126,6 +131,7 @@ keeps_edited c w v e h =
     record {
       begins = λ all. subst (λ (xs : List WorldActor). All BeginsInOrder xs) same all;
       grows = subst (λ (xs : List WorldActor). OnlyGrow w.actors xs) same (grow_refl w.actors);
+      orders = subst (λ (x : World). InSendingOrder w → InSendingOrder x) t.1 (order_follows w _ (follows_edits w _));
     }
 
 pub nothing_begun : (b : WorldActor) → b.begun ≡ [] → BeginsInOrder b
@@ -135,6 +141,7 @@ keeps_new : (c : Constants) (class : ClassId) (w : World) → Keeps w (with_new 
 keeps_new c class w = record {
   begins = λ all. All-push BeginsInOrder w.actors (new_world_actor w.edits class c.capacity) all (nothing_begun (new_world_actor w.edits class c.capacity) refl);
   grows = grow_push w.actors (new_world_actor w.edits class c.capacity);
+  orders = order_follows w (with_new c class w) (follows_new c class w);
 }
 
 keeps_created : (c : Constants) (w v : World) (class : ClassId) → after_create c w class ≡ Some v → Keeps w v
@@ -143,20 +150,46 @@ keeps_created c w v class h = let t = let_through _ _ v h in subst (Keeps w) t.1
 pub accepting_begins : (m : Message) (b : WorldActor) → BeginsInOrder b → BeginsInOrder (with_accepted m b)
 accepting_begins m b h = (h.0 ++ m ∷ [], ap (λ (l : List Message). l ++ m ∷ []) h.1 ∙ append_assoc b.begun h.0 (m ∷ []))
 
-keeps_last : (s : Sender) (n : ℕ) (w : World) → Keeps w (with_last s n w)
-keeps_last (Client s) n w = record { begins = λ h. h; grows = grow_refl w.actors }
-keeps_last (Actor a) n w = keeps_change w a (λ b. record b { last = n }) (λ b at. (λ p. p, record { accepted = prefix_refl b.accepted; begun = prefix_refl b.begun; results = prefix_refl b.results }))
+same_being : (b d : WorldActor) → Some b ≡ Some d → b ≡ d
+same_being b d e = cc
+
+-- where only the body and the last number differ, and perhaps more was begun
+grown_same : (b d : WorldActor) → d.accepted ≡ b.accepted → d.begun ≡ b.begun → d.results ≡ b.results → d.is_open ≡ b.is_open → HasGrown b d
+grown_same b d accepted begun results is_open = record {
+  accepted = subst (λ (xs : List Message). IsPrefixOf b.accepted xs) (sym accepted) (prefix_refl b.accepted);
+  begun = subst (λ (xs : List Message). IsPrefixOf b.begun xs) (sym begun) (prefix_refl b.begun);
+  results = subst (λ (xs : List Outcome). IsPrefixOf b.results xs) (sym results) (prefix_refl b.results);
+  closed = λ e. (is_open ∙ e, accepted);
+}
+
+last_begins : (s : Sender) (n : ℕ) (w : World) → All BeginsInOrder w.actors → All BeginsInOrder (with_last s n w).actors
+last_begins (Client s) n w h = h
+last_begins (Actor a) n w h = All-change BeginsInOrder (λ b. record b { last = n }) a.0 w.actors (λ b at p. p) h
+
+last_grows : (s : Sender) (n : ℕ) (w : World) → OnlyGrow w.actors (with_last s n w).actors
+last_grows (Client s) n w = grow_refl w.actors
+last_grows (Actor a) n w = grow_change w.actors a.0 (λ b. record b { last = n }) (λ b at. grown_same b (record b { last = n }) refl refl refl refl)
+
+-- nothing that is accepted is accepted by a closed mailbox
+accepting_grows : (m : Message) (b : WorldActor) → b.is_open ≡ true → HasGrown b (with_accepted m b)
+accepting_grows m b e = record { accepted = (m ∷ [], refl); begun = prefix_refl b.begun; results = prefix_refl b.results; closed = λ f. cc }
 
 keeps_posted : (c : Constants) (w v : World) (a : ActorId) (m : Message) → after_post c w a m ≡ Some v → Keeps w v
 keeps_posted c w v a m h =
     let t = let_through _ _ v h in
-    let one : Keeps w (change (with_accepted m) a w) = keeps_change w a (with_accepted m) (λ b at. (accepting_begins m b, record { accepted = (m ∷ [], refl); begun = prefix_refl b.begun; results = prefix_refl b.results })) in
-    subst (Keeps w) t.1 (keeps_more w (change (with_accepted m) a w) (with_last m.sender m.seq (change (with_accepted m) a w)) one (keeps_last m.sender m.seq (change (with_accepted m) a w)))
+    let o = post_there c w a m t.0 in
+    let u : World = change (with_accepted m) a w in
+    let grows : OnlyGrow w.actors u.actors = grow_change w.actors a.0 (with_accepted m) (λ b at. accepting_grows m b (subst (λ (x : WorldActor). x.is_open ≡ true) (same_being o.0 b (sym o.1 ∙ at)) o.2.is_open)) in
+    subst (Keeps w) t.1 (record {
+      begins = λ all. last_begins m.sender m.seq u (All-change BeginsInOrder (with_accepted m) a.0 w.actors (λ b at p. accepting_begins m b p) all);
+      grows = grow_more w.actors u.actors (with_last m.sender m.seq u).actors grows (last_grows m.sender m.seq u);
+      orders = order_receives w (with_last m.sender m.seq u) a.0 (length o.0.accepted) m (post_receives c w a m o.0 o.1 o.2);
+    })
 
 keeps_closed : (w v : World) (a : ActorId) → after_close w a ≡ Some v → Keeps w v
 keeps_closed w v a h =
     let t = let_through _ _ v h in
-    subst (Keeps w) t.1 (keeps_change w a (λ b. record b { is_open = false }) (λ b at. (λ p. p, record { accepted = prefix_refl b.accepted; begun = prefix_refl b.begun; results = prefix_refl b.results })))
+    subst (Keeps w) t.1 (keeps_change w a (λ b. record b { is_open = false }) (λ b at. (λ p. p, record { accepted = prefix_refl b.accepted; begun = prefix_refl b.begun; results = prefix_refl b.results; closed = λ e. (refl, refl) }, (refl, omega arith))))
 
 -- what was begun, and then the first that is pending
 pub beginning_begins : (m : Message) (b : WorldActor) (ms : List Message) → pending b ≡ m ∷ ms → BeginsInOrder b → BeginsInOrder (with_begun m b)
@@ -165,16 +198,13 @@ beginning_begins m b ms e h =
     let next_first : h.0 ≡ m ∷ ms = sym rest ∙ e in
     (ms, h.1 ∙ ap (λ (l : List Message). b.begun ++ l) next_first ∙ sym (append_assoc b.begun (m ∷ []) ms))
 
-same_being : (b d : WorldActor) → Some b ≡ Some d → b ≡ d
-same_being b d e = cc
-
 keeps_begun : (w v : World) (a : ActorId) → after_begin w a ≡ Some v → Keeps w v
 keeps_begun w v a h =
     let p = mapped (λ m. change (with_begun m) a w) (next_message (slice_get w.actors a.0)) v h in
     let n : IsNextMessage (slice_get w.actors a.0) p.0 = next_is (slice_get w.actors a.0) p.0 p.1 in
     subst (Keeps w) p.2 (keeps_change w a (with_begun p.0) (λ b at.
     let same : n.being ≡ b = same_being n.being b (sym n.there ∙ at) in
-    (beginning_begins p.0 b n.rest (subst (λ (x : WorldActor). pending x ≡ p.0 ∷ n.rest) same n.first), record { accepted = prefix_refl b.accepted; begun = (p.0 ∷ [], refl); results = prefix_refl b.results })))
+    (beginning_begins p.0 b n.rest (subst (λ (x : WorldActor). pending x ≡ p.0 ∷ n.rest) same n.first), record { accepted = prefix_refl b.accepted; begun = (p.0 ∷ [], refl); results = prefix_refl b.results; closed = λ e. (e, refl) }, (refl, omega arith))))
 
 -- ---- acts
 
@@ -223,7 +253,7 @@ results_grow (Frames fs) results = prefix_refl results
 results_grow (Ended outcome) results = (outcome ∷ [], refl)
 
 body_keeps : (body : Body) (b : WorldActor) → KeepsBeing b (with_body body b)
-body_keeps body b = (λ p. p, record { accepted = prefix_refl b.accepted; begun = prefix_refl b.begun; results = results_grow body.phase b.results })
+body_keeps body b = (λ p. p, record { accepted = prefix_refl b.accepted; begun = prefix_refl b.begun; results = results_grow body.phase b.results; closed = λ e. (e, refl) }, (refl, omega arith))
 
 some_world : (w v : World) → Some w ≡ Some v → w ≡ v
 some_world w v e = cc
@@ -256,21 +286,25 @@ pub replay_keeps_order : (c : Constants) (w u : World) (is : List Item) → repl
 replay_keeps_order c w u [] h = subst (Keeps w) (some_world w u h) (keeps_refl w)
 replay_keeps_order c w u (i ∷ is) h = let p = bound (λ v. replay c v is) (next c w i) u h in keeps_more w p.0 u (next_keeps_order c w p.0 i p.1) (replay_keeps_order c p.0 u is p.2)
 
+-- what is in order is accepted once, and begun once and in order
+pub delivered_in : (w : World) → All BeginsInOrder w.actors → InSendingOrder w → IsDelivered w
+delivered_in w begins senders = record { begins = begins; once = accepted_once w senders; senders = senders; begun = begun_in_order w begins senders }
+
 -- delivery, over each prefix of a lawful history
 pub delivers : Delivers
-delivers c base first later v w all f h =
+delivers c base first later v w begins senders f h =
     let one : Keeps base v = replay_keeps_order c base v first f in
     let rest : replay c v later ≡ Some w = sym (ap (λ (o : Option World). option_and_then (λ u. replay c u later) o) f) ∙ sym (replay_append c base first later) ∙ h in
     let two : Keeps v w = replay_keeps_order c v w later rest in
-    let here : All BeginsInOrder v.actors = one.begins all in
-    (here, two.begins here, two.grows)
+    let here : IsDelivered v = delivered_in v (one.begins begins) (one.orders senders) in
+    (here, delivered_in w (two.begins here.begins) (two.orders here.senders), two.grows)
 
 -- delivery in an image
 pub has_delivered : (i : ImageView) → IsLawful i → HasDelivered i
 has_delivered i h first later e =
     let c : Constants = constants i in
-    let all : All BeginsInOrder i.base.actors = All-weaker (IsWorldActor c.names i.base.edits (length i.base.actors)) BeginsInOrder (λ b g. g.begins) i.base.actors h.base.actors in
+    let begins : All BeginsInOrder i.base.actors = All-weaker (IsWorldActor c.names i.base.edits (length i.base.actors)) BeginsInOrder (λ b g. g.begins) i.base.actors h.base.actors in
     let whole : replay c i.base (first ++ later) ≡ Some (world i) = subst (λ (is : List Item). replay c i.base is ≡ Some (world i)) e h.lawful in
     let f = bound (λ v. replay c v later) (replay c i.base first) (world i) (sym (replay_append c i.base first later) ∙ whole) in
-    let d = delivers c i.base first later f.0 (world i) all f.1 whole in
+    let d = delivers c i.base first later f.0 (world i) begins h.senders f.1 whole in
     (f.0, f.1, d.0, d.2)

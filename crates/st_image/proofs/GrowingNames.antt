@@ -25,12 +25,13 @@ use Rattle.st_turn.specs.BodyFits.{IsThere}
 use Rattle.st_turn.specs.Steps.{Step, next as leads, ended, outer, step}
 use Rattle.st_turn.proofs.KeepingActs.{FitsAct}
 use Rattle.st_turn.proofs.Keeping.{FitsStep}
-use Rattle.st_image.specs.declared.messages.Message.{Message}
-use Rattle.st_image.specs.declared.messages.Sender.TheVariants.{Actor as Acting}
+use Rattle.st_mailbox.specs.declared.messages.Message.{Message}
+use Rattle.st_mailbox.specs.declared.messages.Sender.TheVariants.{Actor as Acting}
 use Rattle.st_image.specs.declared.items.Item.{Item}
 use Rattle.st_image.specs.declared.items.Item.TheVariants.{Edited, Created, Posted, Closed, Begun, Ran}
 use Rattle.st_image.specs.Worlds.{Constants, World, WorldActor, change, pending}
-use Rattle.st_image.specs.PostRules.{argument_fits, message_suits, number_rule, post_rules, box_rules}
+use Rattle.st_image.specs.PostRules.{argument_fits, message_suits, number_rule, post_rules}
+use Rattle.st_mailbox.specs.Mailboxes.{box_rules}
 use Rattle.st_image.specs.Replay.{ActResult, after_act, with_accepted, act_result, after_edit, failed_act, is_local, next, only_if, post_result, after_post, after_post_by, after_run, replay, after_step, after_step_of, attempted_act, with_last}
 use Rattle.st_image.specs.ActResults.{world_after}
 use Rattle.st_image.specs.Images.{world_of}

@@ -60,7 +60,7 @@ boolean_high : (n : ℕ) → 21 < n → boolean_method n ≡ None
 boolean_high n h = rw (differ n 14 (omega arith), differ n 15 (omega arith)) refl
 
 actor_high : (n : ℕ) → 21 < n → actor_method n ≡ None
-actor_high n h = rw (differ n 16 (omega arith), differ n 17 (omega arith), differ n 18 (omega arith)) refl
+actor_high n h = rw (differ n 16 (omega arith), differ n 17 (omega arith), differ n 18 (omega arith), differ n 19 (omega arith)) refl
 
 class_high : (n : ℕ) → 21 < n → class_method n ≡ None
 class_high n h = rw (differ n 20 (omega arith), differ n 21 (omega arith)) refl

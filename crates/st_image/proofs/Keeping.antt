@@ -18,9 +18,9 @@ use Rattle.st_turn.specs.declared.body.Body.{Body}
 use Rattle.st_turn.specs.declared.body.Phase.TheVariants.{Fresh}
 use Rattle.st_turn.specs.Objects.{new_object}
 use Rattle.st_turn.specs.BodyFits.{has_instances}
-use Rattle.st_image.specs.declared.messages.Message.{Message}
-use Rattle.st_image.specs.declared.messages.Sender.{Sender}
-use Rattle.st_image.specs.declared.messages.Sender.TheVariants.{Client, Actor}
+use Rattle.st_mailbox.specs.declared.messages.Message.{Message}
+use Rattle.st_mailbox.specs.declared.messages.Sender.{Sender}
+use Rattle.st_mailbox.specs.declared.messages.Sender.TheVariants.{Client, Actor}
 use Rattle.st_image.specs.declared.settings.Settings.{Settings}
 use Rattle.st_image.specs.declared.items.Item.{Item}
 use Rattle.st_image.specs.declared.items.Item.TheVariants.{Edited, Created, Posted, Closed, Begun, Ran}
@@ -64,7 +64,7 @@ pub record IsNext (base : World) (names : List (List ℕ)) (edits : List Edit) (
   pub image : IsImage base names edits actors h made s
   pub world : world_of (constants_of names s.capacity) base h ≡ v
 
-pushed : (base : World) (names : List (List ℕ)) (edits edits' : List Edit) (actors actors' : List ActorView) (h : List Item) (made made' : ℕ) (s : Settings) (i : Item) (v : World)
+pub pushed : (base : World) (names : List (List ℕ)) (edits edits' : List Edit) (actors actors' : List ActorView) (h : List Item) (made made' : ℕ) (s : Settings) (i : Item) (v : World)
     → IsImage base names edits actors h made s → IsSoundItem i → next (constants_of names s.capacity) (world_of (constants_of names s.capacity) base h) i ≡ Some v → Shows edits' actors' v → made' ≡ made + edits_in (i ∷ []) → length h + 1 ≤ s.history → AcceptAtMost (length h + 1) actors'
     → IsNext base names edits' actors' (h ++ i ∷ []) made' s v
 pushed base names edits edits' actors actors' h made made' s i v k sound n shows count room acc =
@@ -75,6 +75,7 @@ pushed base names edits edits' actors actors' h made made' s i v k sound n shows
     record {
       image = record {
         base_is = k.base_is;
+        senders = k.senders;
         sound = All-push IsSoundItem h i k.sound sound;
         lawful = both.0 ∙ ap Some (sym both.1);
         shows = subst (Shows edits' actors') (sym both.1) shows;

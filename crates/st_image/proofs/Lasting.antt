@@ -1,6 +1,6 @@
--- Each item keeps what is true of every world, and each turn its result.
+-- Each item keeps what is true of every world, and each turn its message and its result.
 use Rattle.std.proofs.Common.{arith, ◌≡◌, ℕ, zero, suc, ◌+◌, ◌<◌, ◌≤◌, ◌++◌, [], ◌∷◌, List, Option, Some, None, Result, Ok, refl, ap, sym, ◌∙◌, subst, length, slice_get, Bool, true, false, append_assoc, append-nil, cond, drop, length-append, le_refl, lt-ltb, nat_le, inl, inr}
-use Rattle.std.specs.Prelude.{All, is_none, nat_lt, not}
+use Rattle.std.specs.Prelude.{All, nat_lt, not}
 use Rattle.std.specs.List.{list_all, list_any}
 use Rattle.std.proofs.lemmas.Bool.Decides.{nat_tests}
 use Rattle.std.proofs.lemmas.Bool.{and_parts, and_from}
@@ -14,9 +14,8 @@ use Rattle.st_classes.specs.declared.values.Value.TheVariants.{Int, Bool as Bool
 use Rattle.st_classes.specs.declared.faults.Fault.{Fault}
 use Rattle.st_classes.specs.declared.faults.Fault.TheVariants.{BadArgument, LocalArgument, TooManyActors}
 use Rattle.st_classes.specs.declared.edits.Edit.{Edit}
-use Rattle.st_classes.specs.declared.refusals.Refusal.TheVariants.{BadArguments, Closed as IsClosed, Full}
 use Rattle.st_classes.specs.Kernel.{kernel_selectors, does_not_understand}
-use Rattle.st_classes.specs.Refusals.{Rule, first_of}
+use Rattle.st_classes.specs.Refusals.{first_of}
 use Rattle.st_classes.specs.EditRules.{edit_rules, is_value_class}
 use Rattle.st_classes.specs.Classes.{class_count, is_class}
 use Rattle.st_classes.specs.MethodSuits.{arity_at, is_number}
@@ -38,24 +37,28 @@ use Rattle.st_turn.proofs.KeepingValues.{Gives}
 use Rattle.st_turn.proofs.KeepingActs.{FitsAct}
 use Rattle.st_turn.proofs.Keeping.{FitsStep, step_fits}
 use Rattle.st_turn.proofs.KeepingGrowth.{fresh_fits, begin_fits}
-use Rattle.st_turn.proofs.Leading.{IsBegun, Led, LeadsTo, step_leads}
-use Rattle.st_image.specs.declared.messages.Message.{Message}
-use Rattle.st_image.specs.declared.messages.Sender.{Sender}
-use Rattle.st_image.specs.declared.messages.Sender.TheVariants.{Client, Actor as Acting}
+use Rattle.st_turn.proofs.Leading.{IsDispatched, Led, LeadsTo, step_leads}
+use Rattle.st_mailbox.specs.declared.messages.Message.{Message}
+use Rattle.st_mailbox.specs.declared.messages.Sender.{Sender}
+use Rattle.st_mailbox.specs.declared.messages.Sender.TheVariants.{Client, Actor as Acting}
 use Rattle.st_image.specs.declared.items.Item.{Item}
 use Rattle.st_image.specs.declared.items.Item.TheVariants.{Edited, Created, Posted, Closed, Begun, Ran}
 use Rattle.st_image.specs.Worlds.{Constants, World, WorldActor, start, change, change_at, pending}
-use Rattle.st_image.specs.PostRules.{argument_fits, message_fits, message_suits, number_rule, box_rules, post_rules}
+use Rattle.st_image.specs.PostRules.{argument_fits, message_fits}
 use Rattle.st_image.specs.Replay.{ActResult as Acted, with_accepted, after_act, after_begin, with_begun, after_close, create_result, after_create, act_result, after_edit, failed_act, is_local, new_world_actor, next, next_message, post_result, after_post, after_post_by, after_step, after_step_of, attempted_act, with_body, with_last, with_new, with_result}
 use Rattle.st_image.specs.ActResults.{world_after}
+use Rattle.st_image.specs.Starts.{StartsLast}
 use Rattle.st_image.specs.WorldInvariant.{AreConstants, given, IsWorldActor, BeginsWithKernel, HasTurns, HaveTurns, first_turn, IsSoundItem, IsWorld}
 use Rattle.st_image.proofs.Places.{at_all}
-use Rattle.st_image.proofs.Lists.{off}
+use Rattle.st_image.proofs.PostFacts.{MayPost, may_post, none_from, rules_of}
 use Rattle.st_image.proofs.Changing.{All-change, length-change, get-change-any, get-change-back, get-push-back}
 use Rattle.st_image.proofs.MoreNames.{fits_more}
 use Rattle.st_image.proofs.Stepping.{bound, mapped, cond_some, ran_after}
 use Rattle.st_image.proofs.Deliveries.{let_through, IsNextMessage, next_is, accepting_begins, beginning_begins, nothing_begun}
 use Rattle.st_image.proofs.Showing.{pending_accepting, pending_beginning}
+use Rattle.st_image.proofs.SendingOrder.{number_above, post_there}
+use Rattle.st_image.proofs.Starting.{dispatched_is_plain, fitting_is_plain, starts_begun, starts_dispatched, starts_new, starts_same}
+use Rattle.st_image.proofs.RisingClients.{put_rises}
 use Rattle.st_image.proofs.BodyLaws.{fits_after, fits_given, told_after, told_given, told_later}
 
 -- ---- lists
@@ -77,6 +80,7 @@ being_after : (names : List (List ℕ)) (edits : List Edit) (n : ℕ) (e : Edit)
 being_after names edits n e b l r h = record {
   fits = fits_after (given names n) edits e b.body l r h.fits;
   itself = h.itself;
+  plain = h.plain;
   some_capacity = h.some_capacity;
   few_messages = h.few_messages;
   within = h.within;
@@ -89,6 +93,7 @@ being_given : (names more : List (List ℕ)) (edits : List Edit) (n m : ℕ) (b 
 being_given names more edits n m b l s k h = record {
   fits = fits_given names more n m edits b.body l s k h.fits;
   itself = h.itself;
+  plain = h.plain;
   some_capacity = h.some_capacity;
   few_messages = h.few_messages;
   within = h.within;
@@ -102,10 +107,11 @@ being_more names edits n m b l s k h = subst (λ (ns : List (List ℕ)). IsWorld
 
 -- ---- worlds
 
--- what a change of one actor keeps: it is an actor, and its turns have their results
+-- what a change of one actor keeps: it is an actor, its turns have their results, and it dispatches what it has begun
 pub record Lasts (names : List (List ℕ)) (edits : List Edit) (n : ℕ) (b d : WorldActor) : Type 0 where
   pub being : IsWorldActor names edits n d
   pub turns : length d.results + cond (is_idle d.body.phase) 0 1 + length b.begun ≡ length b.results + cond (is_idle b.body.phase) 0 1 + length d.begun
+  pub starts : (base : Option WorldActor) → StartsLast base b → StartsLast base d
 
 -- what one item keeps
 pub record KeepsWorld (c : Constants) (w v : World) : Type 0 where
@@ -132,6 +138,7 @@ change_keeps c w a f h k =
         suited = h.suited;
         sound = h.sound;
         actors = subst (λ (n : ℕ). All (IsWorldActor c.names w.edits n) (change_at f a.0 w.actors)) (sym count) (All-change (IsWorldActor c.names w.edits (length w.actors)) f a.0 w.actors (λ b at p. (k b at p).being) h.actors);
+        clients = h.clients;
       };
       turns = λ base t. record {
         long = omega (arith, t.long, count);
@@ -143,12 +150,17 @@ change_keeps c w a f h k =
                   let l = k back.0 at (at_all (IsWorldActor c.names w.edits (length w.actors)) w.actors a.0 back.0 h.actors at) in
                   subst (HasTurns (first_turn (slice_get base.actors j))) (sym s.1) (turns_of (first_turn (slice_get base.actors j)) c.names w.edits (length w.actors) back.0 (f back.0) l (t.each j back.0 back.1))
             ];
+        starts = λ j d e.
+            let back = get-change-back f a.0 w.actors j d e in
+            let old : StartsLast (slice_get base.actors j) back.0 = t.starts j back.0 back.1 in
+            elim back.2 [
+              | inl same ↦ subst (StartsLast (slice_get base.actors j)) (sym same) old
+              | inr s ↦ let at : slice_get w.actors a.0 ≡ Some back.0 = subst (λ (n : ℕ). slice_get w.actors n ≡ Some back.0) s.0 back.1 in
+                  let l = k back.0 at (at_all (IsWorldActor c.names w.edits (length w.actors)) w.actors a.0 back.0 h.actors at) in
+                  subst (StartsLast (slice_get base.actors j)) (sym s.1) (l.starts (slice_get base.actors j) old)
+            ];
       };
     }
-
-none_from : {X : Type 0} (o : Option X) → is_none o ≡ true → o ≡ None
-none_from None e = refl
-none_from (Some x) e = cc
 
 edited_keeps : (c : Constants) (w v : World) (e : Edit) → IsWorld c w → IsSoundEdit e → after_edit c w e ≡ Some v → KeepsWorld c w v
 edited_keeps c w v e h s f =
@@ -162,8 +174,9 @@ edited_keeps c w v e h s f =
         suited = all_suit_with c.names w.edits e h.lawful r h.suited b.1;
         sound = sound_push w.edits e h.sound s;
         actors = all_map (IsWorldActor c.names w.edits (length w.actors)) (IsWorldActor c.names (w.edits ++ e ∷ []) (length w.actors)) w.actors (λ x g. being_after c.names w.edits (length w.actors) e x h.lawful h.suited g) h.actors;
+        clients = h.clients;
       };
-      turns = λ base t. record { long = t.long; each = t.each };
+      turns = λ base t. record { long = t.long; each = t.each; starts = t.starts };
     })
 
 -- ---- a new actor
@@ -183,6 +196,10 @@ new_turns c class base w t =
         | inl there ↦ t.each j d there
         | inr s ↦ subst (HasTurns (first_turn (slice_get base.actors j))) (sym s.1) (subst (λ (n : ℕ). HasTurns n x) (sym (first_beyond base.actors j (omega (arith, t.long, s.0)))) refl)
       ];
+      starts = λ j d e. elim (get-push-back w.actors x j d e) [
+        | inl there ↦ t.starts j d there
+        | inr s ↦ subst (StartsLast (slice_get base.actors j)) (sym s.1) (starts_new (slice_get base.actors j) x (slice_get_past base.actors j (omega (arith, t.long, s.0))) refl refl)
+      ];
     }
 
 new_keeps : (c : Constants) (class : ClassId) (w : World) → IsWorld c w → has_instances w.edits class ≡ true → KeepsWorld c w (with_new c class w)
@@ -193,6 +210,7 @@ new_keeps c class w h inst =
     let fresh : IsWorldActor c.names w.edits (length (w.actors ++ x ∷ [])) x = record {
       fits = fresh_fits (given c.names (length (w.actors ++ x ∷ []))) w.edits class inst;
       itself = refl;
+      plain = tt;
       some_capacity = h.constants.some_capacity;
       few_messages = h.constants.few_messages;
       within = omega arith;
@@ -207,6 +225,7 @@ new_keeps c class w h inst =
         suited = h.suited;
         sound = h.sound;
         actors = All-push (IsWorldActor c.names w.edits (length (w.actors ++ x ∷ []))) w.actors x (all_map (IsWorldActor c.names w.edits (length w.actors)) (IsWorldActor c.names w.edits (length (w.actors ++ x ∷ []))) w.actors (λ b g. being_more c.names w.edits (length w.actors) (length (w.actors ++ x ∷ [])) b h.lawful h.suited count g) h.actors) fresh;
+        clients = h.clients;
       };
       turns = λ base t. new_turns c class base w t;
     }
@@ -216,35 +235,12 @@ created_keeps c w v class h f = let t = let_through _ _ v f in subst (KeepsWorld
 
 -- ---- a message
 
--- a number that is not too great
-above : (m n : ℕ) → nat_le m n ≡ false → n < m
-above m n e = grind (arith, nat_tests)
-
-is_true : (b : Bool) → not b ≡ false → b ≡ true
-is_true true e = refl
-is_true false e = cc
-
--- what no refusal of a post leaves
-pub record MayPost (c : Constants) (w : World) (m : Message) (b : WorldActor) : Type 0 where
-  pub suits : message_suits c.names w m ≡ true
-  pub number : (number_rule w m.sender m.seq).0 ≡ false
-  pub is_open : b.is_open ≡ true
-  pub room : length (pending b) < b.capacity
-
-pub may_post : (c : Constants) (w : World) (m : Message) (b : WorldActor) → first_of (post_rules c.names w (Some b) m) ≡ None → MayPost c w m b
-may_post c w m b e =
-    let r : Rule = number_rule w m.sender m.seq in
-    let o1 = off (not (message_suits c.names w m)) BadArguments (r ∷ box_rules b.is_open b.capacity (length (pending b))) e in
-    let o2 = off r.0 r.1 (box_rules b.is_open b.capacity (length (pending b))) o1.1 in
-    let o3 = off (not b.is_open) IsClosed ((nat_le b.capacity (length (pending b)), Full) ∷ []) o2.1 in
-    let o4 = off (nat_le b.capacity (length (pending b))) Full [] o3.1 in
-    record { suits = is_true _ o1.0; number = o2.0; is_open = is_true _ o3.0; room = above b.capacity (length (pending b)) o4.0 }
-
 accepting_lasts : (c : Constants) (w : World) (m : Message) (b : WorldActor) → MayPost c w m b → IsWorldActor c.names w.edits (length w.actors) b → Lasts c.names w.edits (length w.actors) b (with_accepted m b)
 accepting_lasts c w m b may here = record {
   being = record {
     fits = here.fits;
     itself = here.itself;
+    plain = here.plain;
     some_capacity = here.some_capacity;
     few_messages = here.few_messages;
     within = omega (arith, ap (λ (xs : List Message). length xs) (pending_accepting m b here.begins), length-append (pending b) (m ∷ []), may.room);
@@ -253,17 +249,26 @@ accepting_lasts c w m b may here = record {
     told = here.told;
   };
   turns = refl;
+  starts = λ base k. starts_same base b _ refl refl k;
 }
 
-last_keeps : (c : Constants) (s : Sender) (n : ℕ) (w : World) → IsWorld c w → KeepsWorld c w (with_last s n w)
-last_keeps c (Client s) n w h = record {
-  world = record { constants = h.constants; lawful = h.lawful; suited = h.suited; sound = h.sound; actors = h.actors };
-  turns = λ base t. record { long = t.long; each = t.each };
+last_keeps : (c : Constants) (s : Sender) (n : ℕ) (w : World) → 1 ≤ n → IsWorld c w → KeepsWorld c w (with_last s n w)
+last_keeps c (Client s) n w some h = record {
+  world = record {
+    constants = h.constants;
+    lawful = h.lawful;
+    suited = h.suited;
+    sound = h.sound;
+    actors = h.actors;
+    clients = put_rises 0 s n w.clients (omega arith) some h.clients;
+  };
+  turns = λ base t. record { long = t.long; each = t.each; starts = t.starts };
 }
-last_keeps c (Acting a) n w h = change_keeps c w a (λ b. record b { last = n }) h (λ b at here. record {
+last_keeps c (Acting a) n w some h = change_keeps c w a (λ b. record b { last = n }) h (λ b at here. record {
   being = record {
     fits = here.fits;
     itself = here.itself;
+    plain = here.plain;
     some_capacity = here.some_capacity;
     few_messages = here.few_messages;
     within = here.within;
@@ -272,18 +277,17 @@ last_keeps c (Acting a) n w h = change_keeps c w a (λ b. record b { last = n })
     told = here.told;
   };
   turns = refl;
+  starts = λ base k. starts_same base b _ refl refl k;
 })
-
-rules_of : (c : Constants) (w : World) (m : Message) (o : Option WorldActor) (b : WorldActor) → o ≡ Some b → is_none (first_of (post_rules c.names w o m)) ≡ true → first_of (post_rules c.names w (Some b) m) ≡ None
-rules_of c w m o b e h = none_from _ (subst (λ (x : Option WorldActor). is_none (first_of (post_rules c.names w x m)) ≡ true) e h)
 
 pub posted_keeps : (c : Constants) (w v : World) (a : ActorId) (m : Message) → IsWorld c w → after_post c w a m ≡ Some v → KeepsWorld c w v
 posted_keeps c w v a m h f =
     let t = let_through _ _ v f in
+    let may = (post_there c w a m t.0).2 in
     let one : World = change (with_accepted m) a w in
     subst (KeepsWorld c w) t.1 (keeps_both c w one (with_last m.sender m.seq one)
     (change_keeps c w a (with_accepted m) h (λ b at here. accepting_lasts c w m b (may_post c w m b (rules_of c w m (slice_get w.actors a.0) b at t.0)) here))
-    (λ g. last_keeps c m.sender m.seq one g))
+    (λ g. last_keeps c m.sender m.seq one (omega (arith, number_above w m.sender m.seq may.number)) g))
 
 pub closed_keeps : (c : Constants) (w v : World) (a : ActorId) → IsWorld c w → after_close w a ≡ Some v → KeepsWorld c w v
 closed_keeps c w v a h f =
@@ -292,6 +296,7 @@ closed_keeps c w v a h f =
       being = record {
         fits = here.fits;
         itself = here.itself;
+        plain = here.plain;
         some_capacity = here.some_capacity;
         few_messages = here.few_messages;
         within = here.within;
@@ -300,6 +305,7 @@ closed_keeps c w v a h f =
         told = here.told;
       };
       turns = refl;
+      starts = λ base k. starts_same base b _ refl refl k;
     }))
 
 -- ---- a message that begins
@@ -333,6 +339,7 @@ beginning_lasts c w m ms b idle e here =
       being = record {
         fits = begin_fits (given c.names (length w.actors)) w.edits b.body m.selector m.args here.fits (number_is _ _ both.0) (all_from_tests (argument_fits c.names (class_count w.edits) (length w.actors)) (IsThere (given c.names (length w.actors)) w.edits (length b.body.objects)) m.args (argument_there c.names w.edits (length w.actors) (length b.body.objects)) both.1);
         itself = here.itself;
+        plain = fitting_is_plain c.names (class_count w.edits) (length w.actors) m.args both.1;
         some_capacity = here.some_capacity;
         few_messages = here.few_messages;
         within = omega (arith, here.within, ap (λ (xs : List Message). length xs) e, ap (λ (xs : List Message). length xs) (pending_beginning m b ms e));
@@ -341,6 +348,7 @@ beginning_lasts c w m ms b idle e here =
         told = here.told;
       };
       turns = one_turn_more b m (is_idle b.body.phase) idle;
+      starts = λ base k. starts_begun base b m k;
     }
 
 same_being : (b d : WorldActor) → Some b ≡ Some d → b ≡ d
@@ -361,10 +369,10 @@ pub kernel_known : (names : List (List ℕ)) → BeginsWithKernel names → arit
 kernel_known names h = subst (λ (ns : List (List ℕ)). arity_at ns does_not_understand ≡ Some 1) (sym h.1) (kernel_names_know h.0)
 
 -- a turn that was going on has ended with a result, or goes on
-turns_after : (idle : Bool) (phase : Phase) (results : List Outcome) (after_begin : ℕ) → idle ≡ false → IsBegun phase → length (with_result phase results) + cond (is_idle phase) 0 1 + after_begin ≡ length results + cond idle 0 1 + after_begin
+turns_after : (idle : Bool) (phase : Phase) (results : List Outcome) (after_begin : ℕ) → idle ≡ false → IsDispatched phase → length (with_result phase results) + cond (is_idle phase) 0 1 + after_begin ≡ length results + cond idle 0 1 + after_begin
 turns_after true phase results after_begin f h = cc
 turns_after false Fresh results after_begin f h = absurd h
-turns_after false (Start s args) results after_begin f h = refl
+turns_after false (Start s args) results after_begin f h = absurd h
 turns_after false (Frames fs) results after_begin f h = refl
 turns_after false (Done outcome) results after_begin f h = omega (arith, length-append results (outcome ∷ []))
 
@@ -380,6 +388,7 @@ body_lasts c w body b busy led fits here = record {
   being = record {
     fits = fits;
     itself = led.keeps.itself ∙ here.itself;
+    plain = dispatched_is_plain body.phase led.dispatched;
     some_capacity = here.some_capacity;
     few_messages = here.few_messages;
     within = here.within;
@@ -387,7 +396,8 @@ body_lasts c w body b busy led fits here = record {
     mail = here.mail;
     told = told_results (given c.names (length w.actors)) w.edits b.body.objects body.objects body.phase b.results led.keeps.objects fits.phase here.told;
   };
-  turns = turns_after (is_idle b.body.phase) body.phase b.results (length b.begun) busy led.begun;
+  turns = turns_after (is_idle b.body.phase) body.phase b.results (length b.begun) busy led.dispatched;
+  starts = λ base k. starts_dispatched base b body led.dispatched k;
 }
 
 pub next_busy : (edits : List Edit) (a : ActorId) (objects : List Object) (phase : Phase) (c : Body) → step_in edits a objects phase ≡ leads c → is_idle phase ≡ false
@@ -552,10 +562,11 @@ start_is_world c k = record {
   suited = λ place d m at. cc;
   sound = λ place d m at. cc;
   actors = All-nil _;
+  clients = tt;
 }
 
 pub start_has_turns : HaveTurns start start
-start_has_turns = record { long = omega arith; each = λ a b e. cc }
+start_has_turns = record { long = omega arith; each = λ a b e. cc; starts = λ a b e. cc }
 
 kernel_more : (names more : List (List ℕ)) → BeginsWithKernel names → BeginsWithKernel (names ++ more)
 kernel_more names more h = (h.0 ++ more, ap (λ (ns : List (List ℕ)). ns ++ more) h.1 ∙ append_assoc kernel_selectors h.0 more)
@@ -572,4 +583,5 @@ names_keep c more w h = record {
   suited = all_suit_more_names c.names more w.edits h.suited;
   sound = h.sound;
   actors = all_map (IsWorldActor c.names w.edits (length w.actors)) (IsWorldActor (c.names ++ more) w.edits (length w.actors)) w.actors (λ b g. being_given c.names more w.edits (length w.actors) (length w.actors) b h.lawful h.suited (omega arith) g) h.actors;
+  clients = h.clients;
 }

@@ -3,7 +3,14 @@ pub mod Places
 pub mod Changing
 pub mod Replays
 pub mod Stepping
+pub mod PostFacts
+pub mod SendingOrder
 pub mod Deliveries
+pub mod ClientNumbers
+pub mod ClientLists
+pub mod NewestResults
+pub mod Starting
+pub mod RisingClients
 pub mod Showing
 pub mod ReadyOnes
 pub mod BodyLaws
@@ -12,6 +19,7 @@ pub mod Lasting
 pub mod GrowingNames
 pub mod Keeping
 pub mod Posting
+pub mod Closing
 pub mod Creating
 pub mod Naming
 pub mod Installing

@@ -8,7 +8,7 @@ use Rattle.st_classes.specs.Classes.{class_count}
 use Rattle.st_classes.specs.MethodSuits.{edit_suits}
 use Rattle.st_classes.proofs.LawLists.{list_all_weaker}
 use Rattle.st_classes.proofs.LawGrowing.{there_grows, extends_more, number_grows, suits_more_names}
-use Rattle.st_image.specs.declared.messages.Message.{Message}
+use Rattle.st_mailbox.specs.declared.messages.Message.{Message}
 use Rattle.st_image.specs.Worlds.{World}
 use Rattle.st_image.specs.PostRules.{argument_fits, message_fits, message_suits}
 

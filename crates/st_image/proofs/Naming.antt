@@ -25,6 +25,7 @@ more_kept base names more edits actors h made s k =
     record {
       image = record {
         base_is = names_keep c more base k.base_is;
+        senders = k.senders;
         sound = k.sound;
         lawful = m.0;
         shows = subst (Shows edits actors) (sym m.1) k.shows;

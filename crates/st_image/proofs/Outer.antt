@@ -25,6 +25,7 @@ use Rattle.st_image.specs.Quanta.{is_outer}
 use Rattle.st_image.specs.ActorViews.{ActorView, Shows, actor_view, view_after_steps}
 use Rattle.st_image.specs.ImageInvariant.{CanRun}
 use Rattle.st_image.specs.ActResults.{Does, GrowsByOne, IsShown, NamesClasses, StandsBefore, constants_of}
+use Rattle.st_image.proofs.NewestResults.{view_steps}
 use Rattle.st_image.proofs.Changing.{All-change, within_back}
 use Rattle.st_image.proofs.Showing.{being_at_kept, kept_at, shows_change}
 use Rattle.st_image.proofs.Keeping.{being_at}
@@ -112,7 +113,7 @@ performed names capacity edits actors middle w a k act answer i at is does =
             go,
             shows_change edits middle after d.world a (λ (y : WorldActor). with_body (reply_body act d.answer y.body) y) (view_after_steps (reply_body act answer x.0.body)) does.0 (λ y at'.
                 let same : x.0 ≡ y = some_being x.0 y (sym x.1 ∙ at') in
-                subst (λ (z : WorldActor). actor_view (with_body (reply_body act d.answer z.body) z) ≡ view_after_steps (reply_body act answer x.0.body) (actor_view z)) same (ap (λ (r : Result Value Fault). view_after_steps (reply_body act r x.0.body) (actor_view x.0)) does.1)) put,
+                subst (λ (z : WorldActor). actor_view (with_body (reply_body act d.answer z.body) z) ≡ view_after_steps (reply_body act answer x.0.body) (actor_view z)) same (view_steps (reply_body act d.answer x.0.body) x.0 ∙ ap (λ (r : Result Value Fault). view_after_steps (reply_body act r x.0.body) (actor_view x.0)) does.1)) put,
           );
     }
   where

@@ -18,6 +18,7 @@ use Rattle.st_image.proofs.Lists.{set_at_same, set_twice}
 use Rattle.st_image.proofs.Places.{same_or_not}
 use Rattle.st_image.proofs.Changing.{All-change, change_here, get-change}
 use Rattle.st_image.proofs.Stepping.{after_then, bound}
+use Rattle.st_image.proofs.NewestResults.{view_steps}
 use Rattle.st_image.proofs.Showing.{being_at_kept, shows_change}
 use Rattle.st_image.proofs.Lasting.{after_keeps, next_busy, outer_busy}
 
@@ -103,7 +104,7 @@ went names capacity edits actors middle a limit w n is_whole k last i at busy ow
       own = own';
       taken = taken;
       shown = record {
-        shows = shows_change edits actors middle w a (with_body last) (view_after_steps last) i.shows (λ x e. refl) put;
+        shows = shows_change edits actors middle w a (with_body last) (view_after_steps last) i.shows (λ x e. view_steps last x) put;
         world = (after_keeps c a n w (change (with_body last) a w) i.world taken).world;
       };
       there = get-change (with_body last) a.0 w.actors b.0 b.1;

@@ -7,7 +7,7 @@ use Rattle.std.proofs.Math.ListN.{length-set}
 use Rattle.std.proofs.lemmas.Bool.Decides.{nat_tests}
 use Rattle.std.proofs.lemmas.Option.{slice_get-get_or}
 use Rattle.st_turn.specs.Idle.{is_idle}
-use Rattle.st_image.specs.declared.messages.Message.{Message}
+use Rattle.st_mailbox.specs.declared.messages.Message.{Message}
 use Rattle.st_image.specs.Worlds.{change_at}
 use Rattle.st_image.specs.ActorViews.{AreActors, HasAlso, ActorView, view_begins, view_after_begin, has, is_ready_in, is_ready_view, view_with_message}
 use Rattle.st_image.proofs.Changing.{change_here}

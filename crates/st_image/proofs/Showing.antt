@@ -5,7 +5,7 @@ use Rattle.std.proofs.lemmas.List.{drop-append-le, map-append, length-map}
 use Rattle.std.proofs.lemmas.Option.{slice_get-map}
 use Rattle.st_classes.specs.declared.values.ActorId.{ActorId}
 use Rattle.st_classes.specs.declared.edits.Edit.{Edit}
-use Rattle.st_image.specs.declared.messages.Message.{Message}
+use Rattle.st_mailbox.specs.declared.messages.Message.{Message}
 use Rattle.st_image.specs.Worlds.{World, WorldActor, change, change_at, pending}
 use Rattle.st_image.specs.Replay.{with_accepted, with_begun}
 use Rattle.st_image.specs.Delivery.{BeginsInOrder}

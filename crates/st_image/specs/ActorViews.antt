@@ -6,13 +6,14 @@ use Rattle.st_classes.specs.declared.values.ClassId.{ClassId}
 use Rattle.st_classes.specs.declared.values.ActorId.{ActorId}
 use Rattle.st_classes.specs.declared.edits.Edit.{Edit}
 use Rattle.st_turn.specs.declared.body.Body.{Body}
-use Rattle.st_turn.specs.declared.body.Outcome.{Outcome}
 use Rattle.st_turn.specs.declared.body.Phase.TheVariants.{Start}
 use Rattle.st_turn.specs.Idle.{is_idle}
 use Rattle.st_turn.specs.Steps.{own_steps, step}
-use Rattle.st_image.specs.declared.messages.Message.{Message}
+use Rattle.st_classes.specs.Refusals.{first_of}
+use Rattle.st_mailbox.specs.Mailboxes.{box_rules}
+use Rattle.st_mailbox.specs.declared.messages.Message.{Message}
 use Rattle.st_image.specs.Worlds.{World, WorldActor, pending}
-use Rattle.st_image.specs.Replay.{with_result}
+use Rattle.st_image.specs.Newest.{Kept, kept_of, kept_with}
 use Rattle.st_image.specs.Scheduling.{is_no_later}
 use Rattle.st_image.specs.Quanta.{IsOver}
 
@@ -25,7 +26,7 @@ pub record ActorView : Type 0 where
   pub last : ℕ
   pub pending : List Message
   pub accepted : ℕ
-  pub results : List Outcome
+  pub results : Kept
 
 -- what is kept of an actor of the world
 abbrev pub actor_view : WorldActor → ActorView
@@ -37,13 +38,18 @@ actor_view b = record {
   last = b.last;
   pending = pending b;
   accepted = length b.accepted;
-  results = b.results;
+  results = kept_of b.results;
 }
 
 -- what is kept of the actors is a world's, and so is the class table
 pub record Shows (edits : List Edit) (actors : List ActorView) (w : World) : Type 0 where
   pub edits_are : edits ≡ w.edits
   pub actors_are : actors ≡ map actor_view w.actors
+
+-- the mailbox of an actor that is there takes a message
+abbrev pub Accepts : List ActorView → ActorId → Type 0
+Accepts actors a = (k : ActorView) → slice_get actors a.0 ≡ Some k
+    → first_of (box_rules k.is_open k.capacity (length k.pending)) ≡ None
 
 -- a new actor
 abbrev pub new_actor_view : ClassId → ℕ → Body → ActorView
@@ -55,7 +61,7 @@ new_actor_view c capacity body = record {
   last = 0;
   pending = [];
   accepted = 0;
-  results = [];
+  results = kept_of [];
 }
 
 -- a message goes last in the mailbox
@@ -73,7 +79,7 @@ view_after_begin k = view_begins k k.pending
 
 -- the body after some steps, and the result of a turn that ended
 abbrev pub view_after_steps : Body → ActorView → ActorView
-view_after_steps body k = record k { body = body; results = with_result body.phase k.results }
+view_after_steps body k = record k { body = body; results = kept_with body.phase k.results }
 
 -- the actor is in a turn, or has a message pending
 abbrev pub is_ready_view : ActorView → Bool

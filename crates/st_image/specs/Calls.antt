@@ -8,10 +8,10 @@ use Rattle.st_classes.specs.declared.edits.Edit.TheVariants.{Define, Remove}
 use Rattle.st_classes.specs.declared.refusals.Refusal.{Refusal}
 use Rattle.st_classes.specs.declared.refusals.Refusal.TheVariants.{NoMemory}
 use Rattle.st_classes.specs.Refusals.{Rule, first_of}
-use Rattle.st_image.specs.declared.messages.Message.{Message}
+use Rattle.st_mailbox.specs.declared.messages.Message.{Message}
 use Rattle.st_image.specs.declared.items.Item.{Item}
-use Rattle.st_image.specs.declared.items.Item.TheVariants.{Edited, Created, Posted}
-use Rattle.st_image.specs.Images.{ImageView, world, appended, image_define_rules, image_remove_rules, create_rules, image_post_rules, accepted_by}
+use Rattle.st_image.specs.declared.items.Item.TheVariants.{Edited, Created, Posted, Closed}
+use Rattle.st_image.specs.Images.{ImageView, world, appended, image_define_rules, image_remove_rules, close_rules, create_rules, image_post_rules, accepted_by}
 use Rattle.st_image.specs.Quanta.{advance_rules, HasAdvanced, HasStopped}
 use Rattle.st_image.specs.Installs.{AnswersInstall, LeavesNames}
 
@@ -47,6 +47,10 @@ Creates i c = Adds (create_rules i c) i (Created c) (λ j. record { 0 = length (
 -- a message is posted, and the answer is how many messages its actor has accepted
 abbrev pub Posts : ImageView → ActorId → Message → Result ℕ Refusal → ImageView → Type 0
 Posts i a m = Adds (image_post_rules i a m) i (Posted a m) (λ j. accepted_by (slice_get (world j).actors a.0))
+
+-- a mailbox is closed
+abbrev pub Closes : ImageView → ActorId → Result (Unit {0}) Refusal → ImageView → Type 0
+Closes i a = Adds (close_rules i (slice_get (world i).actors a.0)) i (Closed a) (λ j. tt)
 
 -- a method is installed; a refused install changes nothing but names
 abbrev pub InstallsIn : ImageView → ClassId → List ℕ → Result ℕ Refusal → ImageView → Type 0

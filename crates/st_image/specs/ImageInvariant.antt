@@ -13,6 +13,8 @@ use Rattle.st_image.specs.Worlds.{World}
 use Rattle.st_image.specs.Replay.{replay}
 use Rattle.st_image.specs.Images.{world_of, edits_in}
 use Rattle.st_image.specs.WorldInvariant.{AreSettings, HaveTurns, IsSoundItem, IsWorld}
+use Rattle.st_image.specs.Senders.{InSendingOrder}
+use Rattle.st_image.specs.Clients.{KeepsClients}
 use Rattle.st_image.specs.ActorViews.{ActorView, Shows}
 use Rattle.st_image.specs.ActResults.{constants_of}
 
@@ -20,6 +22,7 @@ use Rattle.st_image.specs.ActResults.{constants_of}
 pub record IsImage (base : World) (names : List (List ℕ)) (edits : List Edit) (actors : List ActorView)
     (history : List Item) (made : ℕ) (s : Settings) : Type 0 where
   pub base_is : IsWorld (constants_of names s.capacity) base
+  pub senders : InSendingOrder base
   pub sound : All IsSoundItem history
   pub lawful : replay (constants_of names s.capacity) base history
       ≡ Some (world_of (constants_of names s.capacity) base history)
@@ -30,6 +33,12 @@ pub record IsImage (base : World) (names : List (List ℕ)) (edits : List Edit) 
   pub numbers : AreSettings s
   pub few_items : length history ≤ s.history
   pub few_accepted : All (λ (k : ActorView). k.accepted ≤ length history) actors
+
+-- the history leads to what is kept, and the numbers of clients are those that it leads to
+pub record HoldsImage (base : World) (names : List (List ℕ)) (edits : List Edit) (actors : List ActorView)
+    (history : List Item) (made : ℕ) (s : Settings) (clients : List ℕ) : Type 0 where
+  pub image : IsImage base names edits actors history made s
+  pub numbers_of_clients : KeepsClients clients base.clients history
 
 -- a body fits a table whose edits are lawful and sound, so that its steps fit it too
 abbrev pub CanRun : List Edit → ActorId → Body → Type 0

@@ -1,15 +1,15 @@
 -- What callers see of an image, and the refusals of its calls.
-use Rattle.std.specs.Prelude.{ℕ, ◌+◌, ◌&&◌, ◌||◌, List, [], ◌∷◌, ◌++◌, length, not, Option, Some, None, nat_le, nat_lt, slice_get, unwrap_or}
+use Rattle.std.specs.Prelude.{true, ℕ, ◌+◌, ◌&&◌, ◌||◌, List, [], ◌∷◌, ◌++◌, length, not, Option, Some, None, nat_le, nat_lt, slice_get, unwrap_or}
 use Rattle.st_classes.specs.declared.values.ClassId.{ClassId}
 use Rattle.st_classes.specs.declared.values.ActorId.{ActorId}
 use Rattle.st_classes.specs.declared.values.Selector.{Selector}
-use Rattle.st_classes.specs.declared.refusals.Refusal.TheVariants.{UnknownClass, KernelClass, BadArguments, HistoryFull, TooMany}
+use Rattle.st_classes.specs.declared.refusals.Refusal.TheVariants.{UnknownClass, KernelClass, UnknownActor, Closed as IsClosed, BadArguments, HistoryFull, TooMany}
 use Rattle.st_classes.specs.declared.refusals.Limited.TheVariants.{Edits, Actors}
 use Rattle.st_classes.specs.Refusals.{Rule}
 use Rattle.st_classes.specs.Kernel.{kernel_selectors}
 use Rattle.st_classes.specs.Classes.{is_class}
 use Rattle.st_classes.specs.EditRules.{is_value_class, define_rules, remove_rules}
-use Rattle.st_image.specs.declared.messages.Message.{Message}
+use Rattle.st_mailbox.specs.declared.messages.Message.{Message}
 use Rattle.st_image.specs.declared.items.Item.{Item}
 use Rattle.st_image.specs.declared.items.Item.TheVariants.{Edited}
 use Rattle.st_image.specs.declared.settings.Settings.{Settings}
@@ -96,6 +96,11 @@ create_rules i c =
 -- the refusals of a post in an image, in their order
 abbrev pub image_post_rules : ImageView → ActorId → Message → List Rule
 image_post_rules i a m = post_rules i.names (world i) (slice_get (world i).actors a.0) m ++ no_room i 1 ∷ []
+
+-- the refusals of a close, in their order
+abbrev pub close_rules : ImageView → Option WorldActor → List Rule
+close_rules i None = (true, UnknownActor) ∷ []
+close_rules i (Some b) = (not b.is_open, IsClosed) ∷ no_room i 1 ∷ []
 
 -- how many messages an actor accepted
 abbrev pub accepted_by : Option WorldActor → ℕ

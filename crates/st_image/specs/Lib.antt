@@ -2,9 +2,13 @@ pub mod Worlds
 pub mod PostRules
 pub mod Replay
 pub mod Images
+pub mod Senders
 pub mod Delivery
+pub mod Starts
 pub mod WorldInvariant
+pub mod Newest
 pub mod Quanta
+pub mod Clients
 pub mod Scheduling
 pub mod ActorViews
 pub mod ActResults

@@ -1,16 +1,17 @@
 -- When a message is accepted.
-use Rattle.std.specs.Prelude.{ℕ, ◌&&◌, List, [], ◌∷◌, length, Bool, true, false, not, Option, Some, None, nat_le, slice_get}
+use Rattle.std.specs.Prelude.{option_map, ℕ, ◌&&◌, List, [], ◌∷◌, length, Bool, true, not, Option, Some, None, nat_le, slice_get}
 use Rattle.std.specs.List.{list_all}
 use Rattle.st_classes.specs.declared.values.Selector.{Selector}
 use Rattle.st_classes.specs.declared.values.Value.{Value}
-use Rattle.st_classes.specs.declared.refusals.Refusal.TheVariants.{UnknownActor, BadArguments, Closed, Full, Old}
+use Rattle.st_classes.specs.declared.refusals.Refusal.TheVariants.{UnknownActor, BadArguments, Old}
 use Rattle.st_classes.specs.Refusals.{Rule}
 use Rattle.st_classes.specs.Classes.{class_count}
 use Rattle.st_classes.specs.MethodSuits.{arity_at, is_number, is_there}
-use Rattle.st_image.specs.declared.messages.Message.{Message}
-use Rattle.st_image.specs.declared.messages.Sender.{Sender}
-use Rattle.st_image.specs.declared.messages.Sender.TheVariants.{Client, Actor as Acting}
-use Rattle.st_image.specs.Worlds.{World, WorldActor, pending}
+use Rattle.st_mailbox.specs.Mailboxes.{box_rules}
+use Rattle.st_mailbox.specs.declared.messages.Message.{Message}
+use Rattle.st_mailbox.specs.declared.messages.Sender.{Sender}
+use Rattle.st_mailbox.specs.declared.messages.Sender.TheVariants.{Client, Actor as Acting}
+use Rattle.st_image.specs.Worlds.{World, WorldActor, client_last, pending}
 
 -- an argument of a message names no object
 abbrev pub argument_fits : List (List ℕ) → ℕ → ℕ → Value → Bool
@@ -36,17 +37,16 @@ old_rule (Some last) n = (nat_le n last, Old last)
 
 -- the last number of an actor, where it is there
 abbrev pub last_at : Option WorldActor → Option ℕ
-last_at None = None
-last_at (Some b) = Some b.last
+last_at o = option_map (λ b. b.last) o
 
--- actors number their messages upwards; the numbers of clients are not looked at yet
+-- the last number of a sender, where it is there; that of a client is 0 at first
+abbrev pub sender_last : World → Sender → Option ℕ
+sender_last w (Client s) = Some (client_last s w.clients)
+sender_last w (Acting a) = last_at (slice_get w.actors a.0)
+
+-- the numbers of a sender rise
 abbrev pub number_rule : World → Sender → ℕ → Rule
-number_rule w (Client s) n = (false, Old 0)
-number_rule w (Acting a) n = old_rule (last_at (slice_get w.actors a.0)) n
-
--- the refusals of a mailbox, open or not, of a capacity and with so many messages pending, in their order
-abbrev pub box_rules : Bool → ℕ → ℕ → List Rule
-box_rules is_open capacity count = (not is_open, Closed) ∷ (nat_le capacity count, Full) ∷ []
+number_rule w s n = old_rule (sender_last w s) n
 
 -- the refusals of a post, in their order
 abbrev pub post_rules : List (List ℕ) → World → Option WorldActor → Message → List Rule

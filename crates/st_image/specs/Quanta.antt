@@ -1,8 +1,8 @@
 -- What an advance adds to an image, when it is refused, what want of memory leaves of it, and how a turn ended.
-use Rattle.std.specs.Prelude.{◌≡◌, ◌⊎◌, ◌≤◌, ◌<◌, ℕ, ◌+◌, ◌-◌, ◌==◌, ◌&&◌, List, [], ◌∷◌, ◌++◌, length, Bool, true, false, Option, Some, None, Result, Ok, Err, nat_lt, slice_get, if◌then◌else◌}
+use Rattle.std.specs.Prelude.{◌≡◌, ◌⊎◌, ◌≤◌, ◌<◌, ℕ, ◌+◌, ◌-◌, ◌==◌, ◌&&◌, List, [], ◌∷◌, ◌++◌, length, Bool, true, false, Option, Some, None, Result, Err, nat_lt, slice_get, if◌then◌else◌}
 use Rattle.st_classes.specs.declared.values.ActorId.{ActorId}
 use Rattle.st_classes.specs.declared.refusals.Refusal.{Refusal}
-use Rattle.st_classes.specs.declared.refusals.Refusal.TheVariants.{UnknownActor, NothingToDo, Pending, Expired}
+use Rattle.st_classes.specs.declared.refusals.Refusal.TheVariants.{UnknownActor, NothingToDo, Expired}
 use Rattle.st_classes.specs.Refusals.{Rule, first_of}
 use Rattle.st_turn.specs.declared.body.Outcome.{Outcome}
 use Rattle.st_turn.specs.declared.body.Body.{Body}
@@ -11,6 +11,7 @@ pub use Rattle.st_turn.specs.Steps.{IsOver, is_outer}
 use Rattle.st_turn.specs.Steps.{own_steps, step}
 use Rattle.st_classes.specs.declared.edits.Edit.{Edit}
 use Rattle.st_image.specs.declared.items.Item.TheVariants.{Begun, Ran}
+use Rattle.st_image.specs.Newest.{or_pending}
 use Rattle.st_image.specs.Worlds.{WorldActor, pending}
 use Rattle.st_image.specs.Images.{ImageView, world, no_room}
 use Rattle.st_image.specs.WorldInvariant.{first_turn}
@@ -90,14 +91,13 @@ pub record HasStopped (i : ImageView) (a : ActorId) (limit : ℕ) (j : ImageView
 
 -- ---- the outcome of a turn
 
--- the outcome of a turn, where the first of the results is that of a turn of this number; a turn that has no result
--- yet has not ended
+-- the outcome of a turn, where the first of the results is that of a turn of this number: only the newest 64 results are
+-- kept, and a turn that has no result yet has not ended
 abbrev pub outcome_in : ℕ → List Outcome → ℕ → Result Outcome Refusal
-outcome_in first results turn = if nat_lt turn first then Err Expired else or_pending (slice_get results (turn - first))
-  where
-    or_pending : Option Outcome → Result Outcome Refusal
-    or_pending None = Err Pending
-    or_pending (Some outcome) = Ok outcome
+outcome_in first results turn =
+    if nat_lt turn first then Err Expired
+    else if nat_lt (turn - first + 64) (length results) then Err Expired
+    else or_pending (slice_get results (turn - first))
 
 -- the outcome of an actor's turn
 abbrev pub outcome_at : ℕ → Option WorldActor → ℕ → Result Outcome Refusal

@@ -22,9 +22,9 @@ use Rattle.st_turn.specs.Objects.{new_object}
 use Rattle.st_turn.specs.Steps.{Asked, Step, next as leads, ended, outer, asked, reply_body, step}
 use Rattle.st_turn.specs.BodyFits.{has_instances}
 use Rattle.st_turn.specs.Idle.{is_idle}
-use Rattle.st_image.specs.declared.messages.Message.{Message}
-use Rattle.st_image.specs.declared.messages.Sender.{Sender}
-use Rattle.st_image.specs.declared.messages.Sender.TheVariants.{Client, Actor}
+use Rattle.st_mailbox.specs.declared.messages.Message.{Message}
+use Rattle.st_mailbox.specs.declared.messages.Sender.{Sender}
+use Rattle.st_mailbox.specs.declared.messages.Sender.TheVariants.{Client, Actor}
 use Rattle.st_image.specs.declared.items.Item.{Item}
 use Rattle.st_image.specs.declared.items.Item.TheVariants.{Edited, Created, Posted, Closed, Begun, Ran}
 use Rattle.st_image.specs.Worlds.{Constants, World, WorldActor, change, pending, put_number}

@@ -1,5 +1,5 @@
 -- What is true of every world that a history leads to.
-use Rattle.std.specs.Prelude.{◌≡◌, ℕ, ◌+◌, ◌≤◌, List, ◌++◌, length, true, Option, Some, None, slice_get, All, if◌then◌else◌}
+use Rattle.std.specs.Prelude.{◌≡◌, ℕ, suc, ◌+◌, ◌≤◌, List, [], ◌∷◌, ◌++◌, length, true, Option, Some, None, slice_get, All, if◌then◌else◌}
 use Rattle.st_classes.specs.declared.values.Value.TheVariants.{Local}
 use Rattle.st_classes.specs.declared.edits.Edit.{Edit}
 use Rattle.st_classes.specs.Kernel.{kernel_selectors}
@@ -11,7 +11,7 @@ use Rattle.st_turn.specs.declared.body.Phase.TheVariants.{Fresh, Done}
 use Rattle.st_turn.specs.Idle.{is_idle}
 use Rattle.st_turn.specs.Objects.{class_in}
 use Rattle.st_turn.specs.BodyFits.{Referents, FitsPhase, Fits}
-use Rattle.st_image.specs.declared.messages.Message.{Message}
+use Rattle.st_mailbox.specs.declared.messages.Message.{Message}
 use Rattle.st_image.specs.declared.items.Item.{Item}
 use Rattle.st_image.specs.declared.items.Item.TheVariants.{Edited}
 use Rattle.st_image.specs.declared.settings.Settings.{Settings}
@@ -19,17 +19,21 @@ use Rattle.st_image.specs.Worlds.{Constants, World, WorldActor, pending}
 use Rattle.st_image.specs.Replay.{replay}
 use Rattle.st_image.specs.Images.{ImageView, constants, world}
 use Rattle.st_image.specs.PostRules.{message_fits}
+use Rattle.st_image.specs.Senders.{InSendingOrder}
 use Rattle.st_image.specs.Delivery.{BeginsInOrder}
+use Rattle.st_image.specs.Starts.{StartsLast, StartsWithoutLocals}
 
 -- names, and so many actors
 abbrev pub given : List (List ℕ) → ℕ → Referents
 given names actors = record { names = names; actors = actors }
 
--- an actor: its body fits the table, and its first object is of its class; its mailbox is within its capacity; what it
--- has begun is a prefix of what it accepted, and what it accepted still makes sense; and what a result names is there
+-- an actor: its body fits the table, its first object is of its class, and a message that it is to dispatch has no
+-- object of its own; its mailbox is within its capacity; what it has begun is a prefix of what it accepted, and what it
+-- accepted still makes sense; and what a result names is there
 pub record IsWorldActor (names : List (List ℕ)) (edits : List Edit) (actors : ℕ) (b : WorldActor) : Type 0 where
   pub fits : Fits (given names actors) edits b.body
   pub itself : class_in b.body.objects (Local 0) ≡ b.class
+  pub plain : StartsWithoutLocals b.body.phase
   pub some_capacity : 1 ≤ b.capacity
   pub few_messages : b.capacity ≤ 1024
   pub within : length (pending b) ≤ b.capacity
@@ -52,13 +56,19 @@ pub record AreConstants (c : Constants) : Type 0 where
   pub some_capacity : 1 ≤ c.capacity
   pub few_messages : c.capacity ≤ 1024
 
--- the table is lawful and its methods suit and are sound, and the actors fit it
+-- clients rise from a number on, and each has sent a message
+abbrev pub AreClientsFrom : ℕ → List (ℕ × ℕ) → Type 0
+AreClientsFrom least [] = Unit {0}
+AreClientsFrom least (p ∷ ps) = (least ≤ p.0) × (1 ≤ p.1) × AreClientsFrom (suc p.0) ps
+
+-- the table is lawful and its methods suit and are sound, the actors fit it, and the clients rise
 pub record IsWorld (c : Constants) (w : World) : Type 0 where
   pub constants : AreConstants c
   pub lawful : AreLawful w.edits
   pub suited : AllSuit c.names w.edits
   pub sound : AllSound w.edits
   pub actors : All (IsWorldActor c.names w.edits (length w.actors)) w.actors
+  pub clients : AreClientsFrom 0 w.clients
 
 -- ---- names
 
@@ -85,11 +95,12 @@ first_turn (Some b) = first_of_phase b.body.phase
 abbrev pub HasTurns : ℕ → WorldActor → Type 0
 HasTurns first b = length b.results + (if is_idle b.body.phase then 0 else 1) + first ≡ length b.begun + 1
 
--- the actors of a base are still there, and each actor has its turns
+-- the actors of a base are still there, and each actor has its turns, and dispatches what it has begun
 pub record HaveTurns (base w : World) : Type 0 where
   pub long : length base.actors ≤ length w.actors
   pub each : (a : ℕ) (b : WorldActor) → slice_get w.actors a ≡ Some b
       → HasTurns (first_turn (slice_get base.actors a)) b
+  pub starts : (a : ℕ) (b : WorldActor) → slice_get w.actors a ≡ Some b → StartsLast (slice_get base.actors a) b
 
 -- ---- images
 
@@ -105,9 +116,10 @@ abbrev pub settings_of : ImageView → Settings
 settings_of i = record { capacity = i.capacity; history = i.most_items }
 
 -- what is true of every image: it began with a world, its history is lawful from there and no longer than its limit,
--- its numbers are within theirs, its world has what every world has, and each turn has its result
+-- its numbers are within theirs, its world has what every world has, and each turn has its message and its result
 pub record IsLawful (i : ImageView) : Type 0 where
   pub base : IsWorld (constants i) i.base
+  pub senders : InSendingOrder i.base
   pub lawful : replay (constants i) i.base i.history ≡ Some (world i)
   pub standing : IsWorld (constants i) (world i)
   pub turns : HaveTurns i.base (world i)

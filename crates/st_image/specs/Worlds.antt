@@ -5,7 +5,8 @@ use Rattle.st_classes.specs.declared.values.ActorId.{ActorId}
 use Rattle.st_classes.specs.declared.edits.Edit.{Edit}
 use Rattle.st_turn.specs.declared.body.Body.{Body}
 use Rattle.st_turn.specs.declared.body.Outcome.{Outcome}
-use Rattle.st_image.specs.declared.messages.Message.{Message}
+use Rattle.st_mailbox.specs.Mailboxes.{BoxView}
+use Rattle.st_mailbox.specs.declared.messages.Message.{Message}
 
 -- the constants of a run: the names, and the capacity of new actors' mailboxes
 pub record Constants : Type 0 where
@@ -39,11 +40,20 @@ is_capacity n = nat_le 1 n && nat_le n 1024
 abbrev pub pending : WorldActor → List Message
 pending b = drop (length b.begun) b.accepted
 
+-- the mailbox of an actor
+abbrev pub mailbox_of : WorldActor → BoxView
+mailbox_of b = record { items = pending b; capacity = b.capacity; is_open = b.is_open }
+
 -- the world of a new image
 abbrev pub start : World
 start = record { edits = []; actors = []; clients = [] }
 
--- the number of a client put in
+-- the last number of a client, 0 where it sent nothing
+abbrev pub client_last : ℕ → List (ℕ × ℕ) → ℕ
+client_last s [] = 0
+client_last s (p ∷ ps) = if s == p.0 then p.1 else client_last s ps
+
+-- the number of a client in place of its old one, or where the list stays rising
 abbrev pub put_number : ℕ → ℕ → List (ℕ × ℕ) → List (ℕ × ℕ)
 put_number s n [] = (s, n) ∷ []
 put_number s n (p ∷ ps) =

@@ -6,14 +6,13 @@ ghost use Rattle.st_classes.specs.Classes.{class_count};
 ghost use Rattle.st_classes.specs.Refusals.{first_of};
 ghost use Rattle.st_classes.specs.MethodSuits.{arity_at, is_number};
 ghost use Rattle.st_image.specs.ActResults.{Does, FewAccepted, GrowsByOne, IsShown, NamesClasses, Quantum, StandsBefore, TakesOuter, Tries, constants_of};
-ghost use Rattle.st_image.specs.ActorViews.{ActorView, Shows};
+ghost use Rattle.st_image.specs.ActorViews.{Accepts, ActorView, Shows};
 ghost use Rattle.st_image.specs.Replay.{after_close, create_result, act_result, is_local as is_local_value, post_result, after_post_by, attempted_act};
-ghost use Rattle.st_image.specs.PostRules.{argument_fits as fits_argument, message_fits as fits_message, number_rule, post_rules};
+ghost use Rattle.st_image.specs.PostRules.{argument_fits as fits_argument, message_fits as fits_message, old_rule, post_rules, sender_last};
 ghost use Rattle.st_image.specs.Worlds.{World};
 
 use crate::actor::{Actor, Progress};
 use crate::actors::Actors;
-use crate::messages::{Message, Sender};
 use st_classes::faults::Fault;
 use st_classes::kernel::KERNEL_CLASSES;
 use st_classes::limits::ACTORS;
@@ -22,6 +21,8 @@ use st_classes::refusals::Refusal;
 use st_classes::seq::Seq;
 use st_classes::values::{ActorId, ClassId, Selector, Value, Values};
 use st_classes::version::Version;
+use st_mailbox::mailboxes::Mailbox;
+use st_mailbox::messages::{Message, Sender};
 use st_turn::acts::Act;
 use st_turn::body::Body;
 use std::alloc::{AllocError, Global};
@@ -29,7 +30,12 @@ use std::alloc::{AllocError, Global};
 // ---- messages
 
 /// Whether an argument is no local and names something that is there.
-fn argument_fits(names: &Names, version: &Version, actors: &Actors, value: Value) -> bool
+fn argument_fits<M: Mailbox>(
+    names: &Names,
+    version: &Version,
+    actors: &Actors<M>,
+    value: Value,
+) -> bool
     ensures { result ≡ fits_argument names.now (class_count version.now) (length actors.now) value }
 {
     match value {
@@ -41,7 +47,12 @@ fn argument_fits(names: &Names, version: &Version, actors: &Actors, value: Value
     }
 }
 
-fn arguments_fit(names: &Names, version: &Version, actors: &Actors, args: &[Value]) -> bool
+fn arguments_fit<M: Mailbox>(
+    names: &Names,
+    version: &Version,
+    actors: &Actors<M>,
+    args: &[Value],
+) -> bool
     ensures { result ≡ list_all (fits_argument names.now (class_count version.now) (length actors.now)) args.now }
 {
     args.iter()
@@ -56,37 +67,41 @@ fn takes(names: &Names, selector: Selector, count: usize) -> bool
 }
 
 /// Whether a message has as many arguments as its selector says, all of which fit.
-fn message_fits(names: &Names, version: &Version, actors: &Actors, message: &Message) -> bool
+fn message_fits<M: Mailbox>(
+    names: &Names,
+    version: &Version,
+    actors: &Actors<M>,
+    message: &Message,
+) -> bool
     ensures { result ≡ fits_message names.now (class_count version.now) (length actors.now) message.now }
 {
     let args = message.args.as_slice();
     takes(names, message.selector, args.len()) && arguments_fit(names, version, actors, args)
 }
 
-/// Why a sender's number is refused, if it is.
-fn number_refusal(version: &Version, actors: &Actors, message: &Message) -> Option<Refusal>
-    ensures { (w : World) → Shows version.now actors.now w → result ≡ first_of (number_rule w message.now.sender message.now.seq ∷ []) }
+/// Why a number is refused after the sender's last one, if it is. A sender that is not there sends nothing.
+fn number_refusal(last: Option<u64>, number: u64) -> Option<Refusal>
+    ensures { result ≡ first_of (old_rule last number ∷ []) }
 {
-    match message.sender {
-        Sender::Client(_) => None,
-        Sender::Actor(actor) => match actors.get(actor) {
-            Some(kept) if kept.last() < message.seq => None,
-            Some(kept) => Some(Refusal::Old { last: kept.last() }),
-            None => Some(Refusal::Old { last: 0 }),
-        },
+    match last {
+        Some(last) if last < number => None,
+        Some(last) => Some(Refusal::Old { last }),
+        None => Some(Refusal::Old { last: 0 }),
     }
 }
 
-/// Why a message is refused, if it is.
-pub(crate) fn post_refusal(
+/// Why a message is refused after its sender's last number, if it is.
+pub(crate) fn post_refusal<M: Mailbox>(
     names: &Names,
     version: &Version,
-    actors: &Actors,
+    actors: &Actors<M>,
+    last: Option<u64>,
     actor: ActorId,
     message: &Message,
 ) -> Option<Refusal>
-    ensures value { (w : World) → Shows version.now actors.now w → result ≡ first_of (post_rules names.now w (slice_get w.actors actor.0) message.now) }
+    ensures value { (w : World) → Shows version.now actors.now w → sender_last w message.now.sender ≡ last → result ≡ first_of (post_rules names.now w (slice_get w.actors actor.0) message.now) }
     ensures there { IfNone result (actor.0 < length actors.now) }
+    ensures accepts { IfNone result (Accepts actors.now actor) }
 {
     let Some(kept) = actors.get(actor) else {
         return Some(Refusal::UnknownActor);
@@ -94,18 +109,18 @@ pub(crate) fn post_refusal(
     if !message_fits(names, version, actors, message) {
         return Some(Refusal::BadArguments);
     }
-    match number_refusal(version, actors, message) {
+    match number_refusal(last, message.seq) {
         Some(refusal) => Some(refusal),
         None => kept.refusal(),
     }
 }
 
 /// An actor's message, with its next number, goes to the mailbox of an actor. The answer is whether that accepted it.
-fn try_post(
+fn try_post<M: Mailbox>(
     alloc: Global,
     names: &Names,
     version: &Version,
-    actors: &mut Actors,
+    actors: &mut Actors<M>,
     actor: ActorId,
     to: ActorId,
     selector: Selector,
@@ -130,7 +145,7 @@ fn try_post(
         selector,
         args: Seq::from_vec(args.to_vec(alloc)?),
     };
-    if post_refusal(names, version, actors, to, &message).is_some() {
+    if post_refusal(names, version, actors, Some(last), to, &message).is_some() {
         return Ok(false);
     }
     actors.deliver(to, message)?;
@@ -151,11 +166,11 @@ fn has_local(args: &[Value]) -> bool
 }
 
 /// A post of an actor: what it answers, or its fault, for which nothing changed.
-fn post(
+fn post<M: Mailbox>(
     alloc: Global,
     names: &Names,
     version: &Version,
-    actors: &mut Actors,
+    actors: &mut Actors<M>,
     actor: ActorId,
     to: ActorId,
     selector: Selector,
@@ -179,14 +194,16 @@ fn post(
 }
 
 /// A new actor that an actor asks for: the answer is its reference.
-fn create(
+fn create<M: Mailbox>(
     alloc: Global,
     version: &Version,
     capacity: u32,
-    actors: &mut Actors,
+    actors: &mut Actors<M>,
     class: ClassId,
 ) -> Result<Result<Value, Fault>, AllocError>
-    requires { class.0 < class_count version.now }
+    requires class { class.0 < class_count version.now }
+    requires some { 1 ≤ capacity }
+    requires few { capacity ≤ 1024 }
     ensures ok { IfOk result (λ answer. (names : List (List ℕ)) (w : World) → IsShown names capacity version.now actors.old w → Does version.now actors.new (create_result (constants_of names capacity) class w) answer) }
     ensures fault { IfOk result (λ answer. IsErr answer → actors.new ≡ actors.old) }
     ensures grown { OnOk result (GrowsByOne actors.old actors.new) }
@@ -200,12 +217,12 @@ fn create(
     }
     let number = actors.len() as u32;
     let body = Body::fresh(alloc, class, version.slots(class).len())?;
-    actors.push(Actor::new(alloc, class, capacity, body))?;
+    actors.push(Actor::new(alloc, class, capacity, body)?)?;
     Ok(Ok(Value::Actor(ActorId(number))))
 }
 
 /// An actor asks that a mailbox be closed: the answer is whether it was open.
-fn close(version: &Version, actors: &mut Actors, to: ActorId) -> Value
+fn close<M: Mailbox>(version: &Version, actors: &mut Actors<M>, to: ActorId) -> Value
     ensures does { (names : List (List ℕ)) (capacity : ℕ) (w : World) → IsShown names capacity version.now actors.old w → Does version.now actors.new (attempted_act w (after_close w to)) (Ok result) }
     ensures grown { GrowsByOne actors.old actors.new }
 {
@@ -219,18 +236,20 @@ fn close(version: &Version, actors: &mut Actors, to: ActorId) -> Value
 }
 
 /// Does an act: the answer, or its fault, for which nothing changed.
-fn perform(
+fn perform<M: Mailbox>(
     alloc: Global,
     names: &Names,
     version: &Version,
     capacity: u32,
-    actors: &mut Actors,
+    actors: &mut Actors<M>,
     actor: ActorId,
     act: Act,
 ) -> Result<Result<Value, Fault>, AllocError>
     requires there { actor.0 < length actors.old }
     requires few { FewAccepted actors.old }
     requires class { NamesClasses version.now act }
+    requires some { 1 ≤ capacity }
+    requires few_messages { capacity ≤ 1024 }
     ensures ok { IfOk result (λ answer. (w : World) → IsShown names.now capacity version.now actors.old w → Does version.now actors.new (act_result (constants_of names.now capacity) actor w act) answer) }
     ensures fault { IfOk result (λ answer. IsErr answer → actors.new ≡ actors.old) }
     ensures grown { OnOk result (GrowsByOne actors.old actors.new) }
@@ -251,12 +270,12 @@ fn perform(
 // ---- quanta
 
 /// Takes the next step of an actor where it is the image's to take. The answer is whether it was.
-fn take_outer(
+fn take_outer<M: Mailbox>(
     alloc: Global,
     names: &Names,
     version: &Version,
     capacity: u32,
-    actors: &mut Actors,
+    actors: &mut Actors<M>,
     actor: ActorId,
 ) -> Result<bool, AllocError>
     requires there { actor.0 < length actors.old }
@@ -282,12 +301,12 @@ fn take_outer(
 
 /// A quantum of an actor that is in a turn: up to so many steps of its own, and the image's step where it comes next. Where there
 /// is no memory for a step, the steps before it stand; an error says that nothing changed.
-pub(crate) fn take_quantum(
+pub(crate) fn take_quantum<M: Mailbox>(
     alloc: Global,
     names: &Names,
     version: &Version,
     capacity: u32,
-    actors: &mut Actors,
+    actors: &mut Actors<M>,
     actor: ActorId,
     limit: u32,
 ) -> Result<Progress, AllocError>

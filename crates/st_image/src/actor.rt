@@ -5,16 +5,17 @@ ghost use Rattle.st_turn.specs.Steps.{own_steps, step};
 ghost use Rattle.st_image.specs.Quanta.{IsOver};
 ghost use Rattle.st_image.specs.ImageInvariant.{CanRun};
 
-use crate::messages::Message;
+use crate::results::Results;
 use st_classes::faults::Fault;
 use st_classes::refusals::Refusal;
 use st_classes::values::{ActorId, ClassId, Value};
 use st_classes::version::Version;
+use st_mailbox::mailboxes::Mailbox;
+use st_mailbox::messages::Message;
 use st_turn::acts::reply;
 use st_turn::body::{Body, Outcome, Phase, Stop};
 use st_turn::plain::step_plain;
 use std::alloc::{AllocError, Global};
-use std::collections::VecDeque;
 use std::marker::Model;
 
 /// How far a quantum went.
@@ -76,54 +77,62 @@ fn run_steps(
 
 /// An actor. Contracts see what is kept of it.
 #[derive(Drop)]
-pub(crate) struct Actor {
+pub(crate) struct Actor<M: Mailbox> {
     class: ClassId,
-    capacity: u32,
-    is_open: bool,
+    /// What it accepted and has not begun.
+    mailbox: M,
     body: Body,
     /// The number of the last message that it sent.
     last: u64,
-    /// What its mailbox accepted and it has not begun.
-    pending: VecDeque<Message>,
     /// How many messages its mailbox accepted.
     accepted: u64,
     /// How its turns ended.
-    results: Vec<Outcome>,
+    results: Results,
 }
 
-impl Model for Actor {
+impl<M: Mailbox> Model for Actor<M> {
     ghost use Rattle.st_image.specs.ActorViews.{ActorView};
 
     ghost Value = { ActorView };
 
-    ghost view = { λ a. record { class = a.class; capacity = a.capacity; is_open = a.is_open; body = a.body; last = a.last; pending = a.pending.items; accepted = a.accepted; results = a.results.items } };
+    ghost view = { λ a. record { class = a.class; capacity = (M.shown a.mailbox).capacity; is_open = (M.shown a.mailbox).is_open; body = a.body; last = a.last; pending = (M.shown a.mailbox).items; accepted = a.accepted; results = record { items = a.results.items; count = a.results.count } } };
+
+    ghost use Rattle.std.specs.Prelude.{◌+◌, ◌≤◌, length, if◌then◌else◌};
+    ghost use Rattle.st_turn.specs.Idle.{is_idle as idle_phase};
+
+    ghost invariant = { λ a. a.results.count + length (M.shown a.mailbox).items + (if idle_phase a.body.phase then 0 else 1) ≤ a.accepted + 1 };
 }
 
-impl Actor {
+impl<M: Mailbox> Actor<M> {
     ghost use Rattle.std.specs.Prelude.{◌≡◌, ◌+◌, ◌<◌, ◌≤◌, ◌^◌, ◌==◌, length, not, true, false, IfOk, OnOk, OnErr, Ok, Err};
     ghost use Rattle.st_classes.specs.Refusals.{first_of};
     ghost use Rattle.st_turn.specs.declared.acts.Act.{Act as ActOf};
     ghost use Rattle.st_turn.specs.BodyFits.{FitsSome};
     ghost use Rattle.st_turn.specs.StepResults.{IsAct};
     ghost use Rattle.st_turn.specs.Steps.{outer, reply_body};
-    ghost use Rattle.st_image.specs.PostRules.{box_rules};
-    ghost use Rattle.st_image.specs.Quanta.{outcome_in};
+    ghost use Rattle.st_mailbox.specs.Mailboxes.{box_rules};
+    ghost use Rattle.st_image.specs.Newest.{kept_outcome};
     ghost use Rattle.st_image.specs.ActorViews.{view_after_begin, is_ready_view, new_actor_view, view_after_steps, view_with_message};
 
     /// A new actor with a body and an open mailbox.
-    pub(crate) fn new(alloc: Global, class: ClassId, capacity: u32, body: Body) -> Actor
-        ensures { result ≡ new_actor_view class capacity body }
+    pub(crate) fn new(
+        alloc: Global,
+        class: ClassId,
+        capacity: u32,
+        body: Body,
+    ) -> Result<Actor<M>, AllocError>
+        requires some { 1 ≤ capacity }
+        requires few { capacity ≤ 1024 }
+        ensures { IfOk result (λ a. a ≡ new_actor_view class capacity body) }
     {
-        Actor {
+        Ok(Actor {
             class,
-            capacity,
-            is_open: true,
+            mailbox: M::with_capacity(alloc, capacity)?,
             body,
             last: 0,
-            pending: VecDeque::new(alloc),
             accepted: 0,
-            results: Vec::new(alloc),
-        }
+            results: Results::new(alloc)?,
+        })
     }
 
     pub(crate) fn class(&self) -> ClassId
@@ -138,22 +147,16 @@ impl Actor {
         &self.body
     }
 
-    pub(crate) fn pending(&self) -> &VecDeque<Message>
-        ensures { result.now.items ≡ self.now.pending }
+    pub(crate) fn mailbox(&self) -> &M
+        ensures { M.shown result.now ≡ record { items = self.now.pending; capacity = self.now.capacity; is_open = self.now.is_open } }
     {
-        &self.pending
-    }
-
-    pub(crate) fn capacity(&self) -> u32
-        ensures { result ≡ self.now.capacity }
-    {
-        self.capacity
+        &self.mailbox
     }
 
     pub(crate) fn is_open(&self) -> bool
         ensures { result ≡ self.now.is_open }
     {
-        self.is_open
+        self.mailbox.is_open()
     }
 
     /// The number of the last message that it sent, 0 where it sent none.
@@ -173,7 +176,7 @@ impl Actor {
     pub(crate) fn has_pending(&self) -> bool
         ensures { result ≡ not (length self.now.pending == 0) }
     {
-        !self.pending.is_empty()
+        self.mailbox.len() != 0
     }
 
     /// Whether it is in a turn or has a message pending.
@@ -185,40 +188,39 @@ impl Actor {
 
     /// How a turn ended, where the first of the results is that of turn 1.
     pub(crate) fn outcome(&self, turn: u64) -> Result<Outcome, Refusal>
-        ensures { result ≡ outcome_in 1 self.now.results turn }
+        ensures { result ≡ kept_outcome 1 self.now.results turn }
     {
         if turn == 0 {
             return Err(Refusal::Expired);
         }
-        match self.results.get((turn - 1) as usize) {
-            Some(outcome) => Ok(*outcome),
-            None => Err(Refusal::Pending),
-        }
+        self.results.outcome(turn - 1)
     }
 
     /// Why the mailbox refuses a message, if it does.
     pub(crate) fn refusal(&self) -> Option<Refusal>
         ensures { result ≡ first_of (box_rules self.now.is_open self.now.capacity (length self.now.pending)) }
     {
-        if !self.is_open {
+        if !self.mailbox.is_open() {
             return Some(Refusal::Closed);
         }
-        if (self.capacity as usize) <= self.pending.len() {
+        if self.mailbox.capacity() <= self.mailbox.len() {
             return Some(Refusal::Full);
         }
         None
     }
 
-    /// Puts a message last in the mailbox. The answer is how many messages the mailbox has accepted.
-    pub(crate) fn take_in(&mut self, message: Message) -> Result<u64, AllocError>
-        requires { self.old.accepted < 2 ^ 63 }
-        ensures count { IfOk result (λ n. n ≡ self.old.accepted + 1) }
-        ensures ok { OnOk result (self.new ≡ view_with_message message self.old) }
-        ensures err { OnErr result (self.new ≡ self.old) }
+    /// Puts a message last in the mailbox, which does not refuse it. The answer is how many messages the mailbox has accepted.
+    pub(crate) fn take_in(&mut self, message: Message) -> u64
+        requires few { self.old.accepted < 2 ^ 63 }
+        requires accepts { first_of (box_rules self.old.is_open self.old.capacity (length self.old.pending)) ≡ None }
+        ensures count { result ≡ self.old.accepted + 1 }
+        ensures message { self.new ≡ view_with_message message self.old }
     {
-        self.pending.push_back(message)?;
+        let Ok(()) = self.mailbox.accept(message) else {
+            unreachable!()
+        };
         self.accepted += 1;
-        Ok(self.accepted)
+        self.accepted
     }
 
     /// Its last message has this number.
@@ -232,14 +234,14 @@ impl Actor {
     pub(crate) fn close(&mut self)
         ensures { self.new ≡ record self.old { is_open = false } }
     {
-        self.is_open = false;
+        self.mailbox.close();
     }
 
     /// Begins the first pending message, where one is pending.
     pub(crate) fn begin(&mut self)
         ensures { self.new ≡ view_after_begin self.old }
     {
-        if let Some(message) = self.pending.pop_front() {
+        if let Some(message) = self.mailbox.take() {
             self.body.begin(message.selector, message.args);
         }
     }
@@ -255,6 +257,7 @@ impl Actor {
     ) -> Result<Progress, AllocError>
         requires runs { CanRun version.now number self.old.body }
         requires busy { idle self.old.body.phase ≡ false }
+        requires few { self.old.accepted < 2 ^ 63 }
         ensures steps { IfOk result (λ p. own_steps version.now number p.steps self.old.body ≡ Some self.new.body) }
         ensures kept { OnOk result (self.new ≡ view_after_steps self.new.body self.old) }
         ensures within { IfOk result (λ p. p.steps ≤ limit) }
@@ -262,10 +265,10 @@ impl Actor {
         ensures cut { IfOk result (λ p. p.is_whole ≡ false → (p.steps < limit) × (idle self.new.body.phase ≡ false)) }
         ensures err { OnErr result (self.new ≡ self.old) }
     {
-        self.results.reserve(1)?;
+        self.results.reserve()?;
         let progress = run_steps(alloc, &mut self.body, version, number, limit);
         if let Phase::Done(outcome) = &self.body.phase {
-            self.results.push(*outcome).unwrap();
+            self.results.push(*outcome);
         }
         Ok(progress)
     }
@@ -288,13 +291,14 @@ impl Actor {
     ) -> Result<(), AllocError>
         requires fits { FitsSome version.now number self.old.body }
         requires act { IsAct (step version.now number self.old.body) }
+        requires few { self.old.accepted < 2 ^ 63 }
         ensures ok { OnOk result ((act : ActOf) → step version.now number self.old.body ≡ outer act → self.new ≡ view_after_steps (reply_body act (Err fault) self.old.body) self.old) }
         ensures err { OnErr result (self.new ≡ self.old) }
     {
-        self.results.reserve(1)?;
+        self.results.reserve()?;
         reply(&mut self.body, number, version, Err(fault));
         if let Phase::Done(outcome) = &self.body.phase {
-            self.results.push(*outcome).unwrap();
+            self.results.push(*outcome);
         }
         Ok(())
     }

@@ -1,22 +1,23 @@
 //! The actors of an image, and which of them are ready.
 use crate::actor::{Actor, Progress};
-use crate::messages::Message;
 use crate::queues::Queue;
 use st_classes::faults::Fault;
 use st_classes::values::{ActorId, Value};
 use st_classes::version::Version;
+use st_mailbox::mailboxes::Mailbox;
+use st_mailbox::messages::Message;
 use st_turn::acts::{Act, is_act_next, next_act};
 use std::alloc::{AllocError, Global};
 use std::marker::Model;
 
 /// The actors by their numbers. Contracts see what is kept of each.
 #[derive(Drop)]
-pub(crate) struct Actors {
-    items: Vec<Actor>,
+pub(crate) struct Actors<M: Mailbox> {
+    items: Vec<Actor<M>>,
     ready: Queue,
 }
 
-impl Model for Actors {
+impl<M: Mailbox> Model for Actors<M> {
     ghost use Rattle.std.specs.Prelude.{List};
     ghost use Rattle.st_image.specs.ActorViews.{ActorView, AreActors};
 
@@ -27,7 +28,7 @@ impl Model for Actors {
     ghost invariant = { λ a. AreActors a.items.items a.ready.numbers };
 }
 
-impl Actors {
+impl<M: Mailbox> Actors<M> {
     ghost use Rattle.std.specs.Prelude.{◌≡◌, ◌+◌, ◌<◌, ◌≤◌, ◌^◌, ◌++◌, [], ◌∷◌, ℕ, length, slice_get, slice_set, Some, true, false, IfOk, IfSome, IfNone, OnOk, OnErr, Ok, Err, is_some};
     ghost use Rattle.std.specs.Option.{option_copied};
     ghost use Rattle.st_turn.specs.declared.acts.Act.{Act as ActOf};
@@ -38,9 +39,9 @@ impl Actors {
     ghost use Rattle.st_turn.specs.Steps.{outer, reply_body, step};
     ghost use Rattle.st_image.specs.ImageInvariant.{CanRun};
     ghost use Rattle.st_image.specs.Worlds.{change_at};
-    ghost use Rattle.st_image.specs.ActorViews.{ActorView, RunsOwn, view_after_begin, is_ready_view, is_ready_in, IsNextReadyView, view_after_steps, view_with_message};
+    ghost use Rattle.st_image.specs.ActorViews.{Accepts, ActorView, RunsOwn, view_after_begin, is_ready_view, is_ready_in, IsNextReadyView, view_after_steps, view_with_message};
 
-    pub(crate) fn new(alloc: Global) -> Actors
+    pub(crate) fn new(alloc: Global) -> Actors<M>
         ensures { result ≡ [] }
     {
         Actors {
@@ -57,7 +58,7 @@ impl Actors {
         self.items.len()
     }
 
-    pub(crate) fn get(&self, actor: ActorId) -> Option<&Actor>
+    pub(crate) fn get(&self, actor: ActorId) -> Option<&Actor<M>>
         ensures { option_copied result ≡ slice_get self.now actor.0 }
     {
         self.items.get(actor.0 as usize)
@@ -73,7 +74,7 @@ impl Actors {
     }
 
     /// Puts a new actor last, which is not ready.
-    pub(crate) fn push(&mut self, actor: Actor) -> Result<(), AllocError>
+    pub(crate) fn push(&mut self, actor: Actor<M>) -> Result<(), AllocError>
         requires few { length self.old < 65536 }
         requires idle { is_ready_view actor ≡ false }
         ensures ok { OnOk result (self.new ≡ self.old ++ actor ∷ []) }
@@ -87,19 +88,14 @@ impl Actors {
     pub(crate) fn deliver(&mut self, actor: ActorId, message: Message) -> Result<u64, AllocError>
         requires there { actor.0 < length self.old }
         requires few { (k : ActorView) → slice_get self.old actor.0 ≡ Some k → k.accepted < 2 ^ 63 }
+        requires accepts { Accepts self.old actor }
         ensures count { IfOk result (λ n. (k : ActorView) → slice_get self.old actor.0 ≡ Some k → n ≡ k.accepted + 1) }
         ensures ok { OnOk result (self.new ≡ change_at (view_with_message message) actor.0 self.old) }
         ensures err { OnErr result (self.new ≡ self.old) }
     {
         self.ready.insert(actor.0)?;
         let kept = &mut self.items[actor.0 as usize];
-        match kept.take_in(message) {
-            Ok(count) => Ok(count),
-            Err(error) => {
-                self.ready.keep_if(actor.0, kept.is_ready());
-                Err(error)
-            }
-        }
+        Ok(kept.take_in(message))
     }
 
     /// The last message that an actor sent has this number.
@@ -141,6 +137,7 @@ impl Actors {
         requires there { actor.0 < length self.old }
         requires runs { (k : ActorView) → slice_get self.old actor.0 ≡ Some k → CanRun version.now actor k.body }
         requires busy { (k : ActorView) → slice_get self.old actor.0 ≡ Some k → idle k.body.phase ≡ false }
+        requires few { (k : ActorView) → slice_get self.old actor.0 ≡ Some k → k.accepted < 2 ^ 63 }
         ensures ok { IfOk result (λ p. (k : ActorView) → slice_get self.old actor.0 ≡ Some k → (body : BodyOf) × RunsOwn version.now actor limit k.body p.steps p.is_whole body × (self.new ≡ change_at (view_after_steps body) actor.0 self.old)) }
         ensures err { OnErr result (self.new ≡ self.old) }
     {
@@ -199,6 +196,7 @@ impl Actors {
         requires fits { (k : ActorView) → slice_get self.old actor.0 ≡ Some k → FitsSome version.now actor k.body }
         requires act { (k : ActorView) → slice_get self.old actor.0 ≡ Some k → IsAct (step version.now actor k.body) }
         requires busy { (k : ActorView) → slice_get self.old actor.0 ≡ Some k → idle k.body.phase ≡ false }
+        requires few { (k : ActorView) → slice_get self.old actor.0 ≡ Some k → k.accepted < 2 ^ 63 }
         ensures ok { OnOk result ((k : ActorView) (act : ActOf) → slice_get self.old actor.0 ≡ Some k → step version.now actor k.body ≡ outer act → self.new ≡ change_at (view_after_steps (reply_body act (Err fault) k.body)) actor.0 self.old) }
         ensures err { OnErr result (self.new ≡ self.old) }
     {

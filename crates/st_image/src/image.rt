@@ -1,17 +1,20 @@
-//! The image: construction, readers, interning and new actors. Edits, installs, posts and turns are in image/.
+//! The image: construction, readers, interning and new actors. Edits, installs, posts, closing, turns and the list of
+//! clients are in image/.
 ghost use Rattle.st_image.specs.Delivery.{Delivers};
 ghost use Rattle.st_image.specs.WorldInvariant.{NamesMayGrow};
 
 mod advancing;
+mod closing;
 mod defining;
 mod installing;
+mod listing;
 mod posting;
 mod removing;
 
 use crate::actor::Actor;
 use crate::actors::Actors;
+use crate::clients::Clients;
 use crate::items::Item;
-use crate::messages::Message;
 use crate::settings::Settings;
 use st_classes::kernel::KERNEL_CLASSES;
 use st_classes::limits::ACTORS;
@@ -19,13 +22,15 @@ use st_classes::names::Names;
 use st_classes::refusals::{Limited, Refusal};
 use st_classes::values::{ActorId, ClassId, Selector};
 use st_classes::version::Version;
+use st_mailbox::mailboxes::Mailbox;
+use st_mailbox::messages::Sender;
 use st_turn::body::{Body, Outcome};
 use std::alloc::Global;
-use std::collections::VecDeque;
 use std::marker::Model;
 
-/// Whatever happens, the messages that an actor has begun are the first ones that its mailbox accepted, in their order; what a
-/// mailbox accepted stays accepted, what an actor began stays begun, and how its turns ended stays so.
+/// Whatever happens, each actor has begun a prefix of what its mailbox accepted, every message once, each sender's in
+/// sending order, and none accepted after close. What a mailbox accepted stays accepted, what an actor began stays
+/// begun, and how its turns ended stays so.
 pub fn delivery()
     ensures { Delivers }
 {}
@@ -40,10 +45,11 @@ pub fn names_may_grow()
 /// Contracts see the world that it began with, its names, its history, the numbers that are set, and the number from which the next
 /// ready actor is looked for. All else follows from the history.
 #[derive(Drop)]
-pub struct Image {
+pub struct Image<M: Mailbox> {
     names: Names,
     version: Version,
-    actors: Actors,
+    actors: Actors<M>,
+    clients: Clients,
     history: Vec<Item>,
     /// How many edits are in the history.
     edits_made: u32,
@@ -52,20 +58,20 @@ pub struct Image {
     next_from: u32,
 }
 
-impl Model for Image {
+impl<M: Mailbox> Model for Image<M> {
     ghost use Rattle.st_image.specs.Images.{ImageView};
 
     ghost Value = { ImageView };
 
-    ghost use Rattle.st_image.specs.ImageInvariant.{IsImage};
+    ghost use Rattle.st_image.specs.ImageInvariant.{HoldsImage};
     ghost use Rattle.st_image.specs.Worlds.{start};
 
     ghost view = { λ i. record { base = start; names = i.names; history = i.history.items; capacity = i.settings.capacity; most_items = i.settings.history; next_from = i.next_from } };
 
-    ghost invariant = { λ i. IsImage start i.names i.version i.actors i.history.items i.edits_made i.settings };
+    ghost invariant = { λ i. HoldsImage start i.names i.version i.actors i.history.items i.edits_made i.settings i.clients };
 }
 
-impl Image {
+impl<M: Mailbox> Image<M> {
     ghost use Rattle.std.specs.Prelude.{◌≡◌, ◌+◌, ◌<◌, [], ◌∷◌, length, slice_get, OnOk, OnErr, MatchResult, IfSome, IfNone, IfOk, IfErr, None, Some, Err, ℕ, false, option_map};
     ghost use Rattle.st_image.specs.ActorViews.{actor_view};
     ghost use Rattle.st_classes.specs.declared.refusals.Refusal.TheVariants.{NoMemory};
@@ -73,8 +79,9 @@ impl Image {
     ghost use Rattle.st_classes.specs.Refusals.{first_of, Answers};
     ghost use Rattle.st_image.specs.Calls.{Creates};
     ghost use Rattle.st_image.specs.Images.{create_rules, new_image, no_room, settings_rules, world};
+    ghost use Rattle.st_image.specs.PostRules.{sender_last as last_of_sender};
     ghost use Rattle.st_image.specs.Quanta.{image_outcome};
-    ghost use Rattle.st_image.specs.Worlds.{pending};
+    ghost use Rattle.st_image.specs.Worlds.{mailbox_of};
     ghost use Rattle.std.specs.Option.{option_copied};
     ghost use Rattle.st_image.specs.Scheduling.{IsNextReady, is_ready_at};
     ghost use Rattle.st_image.specs.Delivery.{HasDelivered};
@@ -83,7 +90,7 @@ impl Image {
     /// An image with the kernel's names and classes, no actors and no history.
     ///
     /// `BadArguments` says that a number is out of its range.
-    pub fn new(alloc: Global, settings: Settings) -> Result<Image, Refusal>
+    pub fn new(alloc: Global, settings: Settings) -> Result<Image<M>, Refusal>
         ensures { Answers (first_of (settings_rules settings)) result (λ i. i ≡ new_image settings) }
     {
         if let Some(refusal) = settings.refusal() {
@@ -99,6 +106,7 @@ impl Image {
             names,
             version,
             actors: Actors::new(alloc),
+            clients: Clients::new(alloc),
             history: Vec::new(alloc),
             edits_made: 0,
             settings,
@@ -129,8 +137,8 @@ impl Image {
         self.actors.len();
     }
 
-    /// Over each prefix of its own history, what each actor had begun was the front of what it had accepted, and both have only
-    /// grown since.
+    /// Over each prefix of its own history, each actor had begun a prefix of what its mailbox had accepted, every
+    /// message once and each sender's in sending order. Both have only grown since, and none was accepted after close.
     pub fn delivered(&self)
         ensures { HasDelivered self.now }
     {
@@ -181,7 +189,8 @@ impl Image {
 
     /// How a turn of an actor ended. Turns are numbered from 1, as the actor's accepted messages are.
     ///
-    /// Refusals, in this order: `UnknownActor`; `Expired` for turn 0; `Pending` where the turn has not ended.
+    /// Refusals, in this order: `UnknownActor`; `Expired` for turn 0, and for a turn whose result is no longer among the
+    /// newest 64; `Pending` where the turn has not ended, or there is none.
     pub fn outcome(&self, actor: ActorId, turn: u64) -> Result<Outcome, Refusal>
         ensures { result ≡ image_outcome self.now actor turn }
     {
@@ -214,28 +223,14 @@ impl Image {
         Some(self.actor(actor)?.body())
     }
 
-    /// What the mailbox of an actor accepted and the actor has not begun, the first to be begun in front.
-    pub fn pending(&self, actor: ActorId) -> Option<&VecDeque<Message>>
-        ensures { option_map (λ q. q.items) (option_copied result) ≡ option_map pending (slice_get (world self.now).actors actor.0) }
+    /// The mailbox of an actor: what it accepted and the actor has not begun, the first to be begun in front.
+    pub fn mailbox(&self, actor: ActorId) -> Option<&M>
+        ensures { option_map (λ b. M.shown b) (option_copied result) ≡ option_map mailbox_of (slice_get (world self.now).actors actor.0) }
     {
-        Some(self.actor(actor)?.pending())
+        Some(self.actor(actor)?.mailbox())
     }
 
-    /// How many messages the mailbox of an actor holds, from 1 to 1,024.
-    pub fn capacity(&self, actor: ActorId) -> Option<u32>
-        ensures { result ≡ option_map (λ b. b.capacity) (slice_get (world self.now).actors actor.0) }
-    {
-        Some(self.actor(actor)?.capacity())
-    }
-
-    /// Whether the mailbox of an actor is open.
-    pub fn is_open(&self, actor: ActorId) -> Option<bool>
-        ensures { result ≡ option_map (λ b. b.is_open) (slice_get (world self.now).actors actor.0) }
-    {
-        Some(self.actor(actor)?.is_open())
-    }
-
-    /// The number of the last message that an actor sent, 0 where it sent none.
+    /// The number of the last message of an actor that a mailbox accepted, 0 where none was.
     pub fn last_sent(&self, actor: ActorId) -> Option<u64>
         ensures { result ≡ option_map (λ b. b.last) (slice_get (world self.now).actors actor.0) }
     {
@@ -243,10 +238,20 @@ impl Image {
     }
 
     /// The actor of a number, if there is one.
-    fn actor(&self, actor: ActorId) -> Option<&Actor>
+    fn actor(&self, actor: ActorId) -> Option<&Actor<M>>
         ensures { option_copied result ≡ option_map actor_view (slice_get (world self.now).actors actor.0) }
     {
         self.actors.get(actor)
+    }
+
+    /// The last number of a sender, if it is there: that of a client is 0 at first.
+    fn sender_last(&self, sender: Sender) -> Option<u64>
+        ensures { result ≡ last_of_sender (world self.now) sender }
+    {
+        match sender {
+            Sender::Client(client) => Some(self.clients.last(client)),
+            Sender::Actor(actor) => self.last_sent(actor),
+        }
     }
 
     /// Why the history has no place for so many items more, if it has none.
@@ -298,7 +303,9 @@ impl Image {
         };
         let capacity = self.settings.capacity;
         let number = self.actors.len() as u32;
-        let actor = Actor::new(alloc, class, capacity, body);
+        let Ok(actor) = Actor::new(alloc, class, capacity, body) else {
+            return Err(Refusal::NoMemory);
+        };
         let Ok(()) = self.actors.push(actor) else {
             return Err(Refusal::NoMemory);
         };

@@ -1,7 +1,7 @@
 //! The items of a history.
-use crate::messages::Message;
 use st_classes::edits::SharedEdit;
 use st_classes::values::{ActorId, ClassId};
+use st_mailbox::messages::Message;
 
 /// One thing that happened to an image.
 #[derive(Drop)]

@@ -7,8 +7,9 @@
 mod acting;
 mod actor;
 mod actors;
+mod clients;
 pub mod image;
 pub mod items;
-pub mod messages;
 mod queues;
+mod results;
 pub mod settings;

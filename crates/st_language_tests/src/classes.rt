@@ -6,7 +6,7 @@ ghost use Rattle.st_classes.specs.declared.instructions.Instruction.TheVariants.
 
 use st_classes::edits::{Edit, SharedEdit};
 use st_classes::instructions::Instruction;
-use st_classes::kernel::{Kernel, OBJECT, SMALL_INTEGER, TRUE, Target};
+use st_classes::kernel::{ACTOR_REF, CLASS, Kernel, OBJECT, SMALL_INTEGER, TRUE, Target};
 use st_classes::methods::{Method, MethodParts};
 use st_classes::refusals::Refusal;
 use st_classes::seq::Seq;
@@ -18,6 +18,8 @@ use std::test::*;
 const CLASS_OF: Selector = Selector(2);
 
 const PLUS: Selector = Selector(5);
+
+const CLOSE: Selector = Selector(19);
 
 const WHO: Selector = Selector(22);
 
@@ -145,6 +147,8 @@ fn finds_kernel_methods(rt: HostRuntime) -> Result<(), Fail> {
         (SMALL_INTEGER, PLUS, Target::Primitive(Kernel::Add)),
         (TRUE, CLASS_OF, Target::Primitive(Kernel::ClassOf)),
         (TRUE, PLUS, Target::Missing(None)),
+        (ACTOR_REF, CLOSE, Target::Primitive(Kernel::Close)),
+        (CLASS, CLOSE, Target::Missing(None)),
     ] {
         assert!(rt;
             finds(&kernel, class, selector, target),

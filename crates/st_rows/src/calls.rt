@@ -4,9 +4,11 @@ use st_classes::kernel::OBJECT;
 use st_classes::refusals::Refusal;
 use st_classes::seq::Seq;
 use st_classes::values::{ActorId, ClassId, Selector};
-use st_image::image::Image;
-use st_image::messages::{Message, Sender};
 use st_image::settings::Settings;
+use st_mailbox::list_box::ListBox;
+use st_mailbox::mailboxes::Mailbox;
+use st_mailbox::messages::{Message, Sender};
+use st_server::images::Image;
 use st_turn::body::Outcome;
 use std::alloc::Global;
 
@@ -83,6 +85,19 @@ pub(crate) fn create_object(alloc: Global, image: &mut Image) -> Result<ActorId,
     create(alloc, image, OBJECT)
 }
 
+/// A message without arguments.
+pub(crate) fn post_to(
+    alloc: Global,
+    image: &mut Image,
+    client: u16,
+    seq: u64,
+    actor: ActorId,
+    selector: Selector,
+) -> Result<u64, Refusal> {
+    let none = Seq::from_vec(Vec::new(alloc));
+    image.post(alloc, client, seq, actor, selector, none)
+}
+
 /// A message without arguments to the first actor.
 pub(crate) fn post(
     alloc: Global,
@@ -91,8 +106,12 @@ pub(crate) fn post(
     seq: u64,
     selector: Selector,
 ) -> Result<u64, Refusal> {
-    let none = Seq::from_vec(Vec::new(alloc));
-    image.post(alloc, client, seq, FIRST, selector, none)
+    post_to(alloc, image, client, seq, FIRST, selector)
+}
+
+/// Closes the mailbox of the first actor.
+pub(crate) fn close(image: &mut Image) -> Result<(), Refusal> {
+    image.close(FIRST)
 }
 
 /// Posts a unary message of the kernel to the first actor.
@@ -150,12 +169,17 @@ pub(crate) fn is_idle(image: &Image) -> Option<bool> {
     Some(image.body(FIRST)?.is_idle())
 }
 
+/// The mailbox of the first actor.
+fn mailbox(image: &Image) -> Option<&ListBox> {
+    image.mailbox(FIRST)
+}
+
 pub(crate) fn capacity(image: &Image) -> Option<u32> {
-    image.capacity(FIRST)
+    Some(mailbox(image)?.capacity())
 }
 
 pub(crate) fn is_open(image: &Image) -> Option<bool> {
-    image.is_open(FIRST)
+    Some(mailbox(image)?.is_open())
 }
 
 pub(crate) fn last_sent(image: &Image) -> Option<u64> {
@@ -163,21 +187,35 @@ pub(crate) fn last_sent(image: &Image) -> Option<u64> {
 }
 
 /// How many messages are pending for the first actor.
-pub(crate) fn pending(image: &Image) -> Option<usize> {
-    Some(image.pending(FIRST)?.len())
+pub(crate) fn pending(image: &Image) -> Option<u32> {
+    Some(mailbox(image)?.len())
 }
 
-/// The first message that is pending for the first actor.
-fn front(image: &Image) -> Option<&Message> {
-    image.pending(FIRST)?.front()
+/// The message that is pending for the first actor at this place, from 0.
+fn message(image: &Image, place: u32) -> Option<&Message> {
+    mailbox(image)?.item(place)
 }
 
 /// Who sent the first message that is pending, the sender's number for it, and its selector, where it has no arguments.
 pub(crate) fn front_without_arguments(image: &Image) -> Option<(Sender, u64, Selector)> {
-    let message = front(image)?;
+    let message = message(image, 0)?;
     if message.args.is_empty() {
         Some((message.sender, message.seq, message.selector))
     } else {
         None
+    }
+}
+
+/// Who sent the message that is pending for the first actor at this place, from 0, and the sender's number for it.
+pub(crate) fn number_at(image: &Image, place: u32) -> Option<(Sender, u64)> {
+    let message = message(image, place)?;
+    Some((message.sender, message.seq))
+}
+
+/// Whether the clients that have sent a message are these, each with this last number.
+pub(crate) fn clients_are(alloc: Global, image: &Image, wanted: &[(u16, u64)]) -> bool {
+    match image.clients(alloc) {
+        Ok(clients) => clients.as_slice() == wanted,
+        Err(_) => false,
     }
 }

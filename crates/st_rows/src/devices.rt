@@ -2,8 +2,8 @@
 ghost use Rattle.std.specs.Prelude.{Some};
 
 use st_classes::refusals::Refusal;
-use st_image::image::Image;
 use st_image::settings::Settings;
+use st_server::images::Image;
 use st_server::scripts::script_on;
 use st_server::settings::ScriptSettings;
 use st_wire::streams::{Input, MemoryInput, MemoryOutput, Output, Reader, WriteFailed, Writer};

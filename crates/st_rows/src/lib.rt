@@ -11,6 +11,8 @@ mod images;
 #[cfg(test)]
 mod limits;
 #[cfg(test)]
+mod mailboxes;
+#[cfg(test)]
 mod scripts;
 #[cfg(test)]
 mod sessions;

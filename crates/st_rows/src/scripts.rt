@@ -2,6 +2,7 @@
 mod acts;
 mod dialogues;
 mod lookups;
+mod mailboxes;
 
 use crate::scripts::acts::{
     BAD_ARGUMENTS, FULL_MAILBOX, HEAP_FULL, HISTORY_FULL, NEW_ACTOR_BY_STEPS, NEW_OBJECTS,
@@ -14,6 +15,10 @@ use crate::scripts::lookups::{
     CLASSES_OF_REFERENCES, CLASSES_OF_VALUES, DOES_NOT_UNDERSTAND, OWN_SELECTORS_OF_THE_KERNEL,
     REMOVED_AND_MISSING, REPLACED, REPLACED_WHILE_IT_RUNS, SUPER_AND_THE_KERNEL, SUPER_CHAIN,
     UNRELATED,
+};
+use crate::scripts::mailboxes::{
+    CLOSE_IN_A_FULL_HISTORY, CLOSE_OF_THE_KERNEL, CLOSED, NUMBERS_OVER_ACTORS, OLD_NUMBERS,
+    ORDER_OF_POST_REFUSALS, ROOM_FOR_ONE, SHUTS_ANOTHER, SHUTS_ITSELF,
 };
 use crate::sessions_in_memory::says_within;
 use st_image::settings::Settings;
@@ -48,6 +53,13 @@ const DIALOGUES: &[&str] = &[
     POSTS_WITH_ARGUMENTS,
     BAD_ARGUMENTS,
     RUNS_A_MESSAGE,
+    CLOSED,
+    OLD_NUMBERS,
+    NUMBERS_OVER_ACTORS,
+    ORDER_OF_POST_REFUSALS,
+    SHUTS_ITSELF,
+    SHUTS_ANOTHER,
+    CLOSE_OF_THE_KERNEL,
 ];
 
 /// Scripts in quanta of so many steps, with mailboxes of so many messages, and so many items of history at most.
@@ -57,6 +69,8 @@ const SET_DIALOGUES: &[(u32, u32, u32, &str)] = &[
     (1, 64, 1_000_000, NEW_ACTOR_BY_STEPS),
     (256, 1, 1_000_000, FULL_MAILBOX),
     (256, 2, 6, HISTORY_FULL),
+    (256, 1, 1_000_000, ROOM_FOR_ONE),
+    (256, 64, 3, CLOSE_IN_A_FULL_HISTORY),
 ];
 
 // The tables stand behind functions without contracts, so that the proofs of tests carry nothing of them.
@@ -183,6 +197,56 @@ fn deepest_chain(rt: HostRuntime) -> Result<(), Fail> {
         };
         dialogue.push_str(&reply)?;
     }
+    assert!(rt; is_answered(rt.alloc(), ScriptSettings::DEFAULT, &dialogue)?);
+    Ok(())
+}
+
+/// The post of a message of this number, and the reply to it where it is the turn of this number.
+fn numbered_post(alloc: Global, number: u32) -> Result<String, AllocError> {
+    format!(in alloc;
+        "{{\"actor\":0,\"args\":[],\"cmd\":\"post\",\"selector\":\"a\",\"sender\":1,\"seq\":{number}}}\n{{\"ok\":{{\"turn\":{number}}}}}\n"
+    )
+}
+
+/// An actor of a class with one method.
+const ONE_METHOD: &str = r#"{"cmd":"define","name":"M","slots":[],"super":"Object"}
+{"ok":{"version":1}}
+{"class":"M","cmd":"method","source":"a ^1"}
+{"ok":{"version":2}}
+{"class":"M","cmd":"actor"}
+{"ok":{"actor":0}}
+"#;
+
+/// After 64 turns, the first outcome is still there.
+const AFTER_64_TURNS: &str = r#"{"cmd":"run"}
+{"ok":{"quanta":64,"steps":192}}
+{"actor":0,"cmd":"outcome","turn":1}
+{"ok":{"answer":1}}
+"#;
+
+/// After one turn more it is not, and the second one is.
+const AFTER_65_TURNS: &str = r#"{"cmd":"run"}
+{"ok":{"quanta":1,"steps":3}}
+{"actor":0,"cmd":"outcome","turn":1}
+{"error":"Expired"}
+{"actor":0,"cmd":"outcome","turn":2}
+{"ok":{"answer":1}}
+{"actor":0,"cmd":"outcome","turn":65}
+{"ok":{"answer":1}}
+{"actor":0,"cmd":"outcome","turn":66}
+{"error":"Pending"}
+"#;
+
+/// The newest 64 outcomes of an actor are kept.
+#[test]
+fn kept_outcomes(rt: HostRuntime) -> Result<(), Fail> {
+    let mut dialogue = String::from_str(rt.alloc(), ONE_METHOD)?;
+    for number in 1..65 {
+        dialogue.push_str(&numbered_post(rt.alloc(), number)?)?;
+    }
+    dialogue.push_str(AFTER_64_TURNS)?;
+    dialogue.push_str(&numbered_post(rt.alloc(), 65)?)?;
+    dialogue.push_str(AFTER_65_TURNS)?;
     assert!(rt; is_answered(rt.alloc(), ScriptSettings::DEFAULT, &dialogue)?);
     Ok(())
 }

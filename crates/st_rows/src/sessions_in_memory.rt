@@ -5,8 +5,8 @@ ghost use Rattle.st_classes.specs.declared.refusals.Refusal.TheVariants.{NoMemor
 ghost use Rattle.st_server.specs.Scripts.{AnswersLines, script_rules, with_settings};
 
 use st_classes::refusals::Refusal;
-use st_image::image::Image;
 use st_image::settings::Settings;
+use st_server::images::Image;
 use st_server::scripts::script_on;
 use st_server::settings::ScriptSettings;
 use st_wire::streams::{MemoryInput, MemoryOutput};

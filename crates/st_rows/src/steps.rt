@@ -14,7 +14,7 @@ use st_classes::refusals::Refusal;
 use st_classes::seq::Seq;
 use st_classes::values::{ClassId, Selector, Value};
 use st_classes::version::Version;
-use st_image::image::Image;
+use st_server::images::Image;
 use st_turn::body::{Body, Outcome, Phase, Stop};
 use st_turn::kernel_methods::kernel_answer;
 use st_turn::plain::step_plain;

@@ -1,5 +1,5 @@
 -- Sessions of an image, and scripts that are refused.
-use Rattle.std.proofs.Common.{◌≡◌, ℕ, ◌⊎◌, true, false, List, [], ◌∷◌, Option, Some, None, Err, MatchOption, refl, ap, ◌∙◌, inl, inr}
+use Rattle.std.proofs.Common.{◌≡◌, ℕ, ◌⊎◌, true, false, List, [], ◌∷◌, Option, Some, None, Result, Err, MatchOption, refl, ap, ◌∙◌, inl, inr}
 use Rattle.st_classes.specs.declared.refusals.Refusal.{Refusal}
 use Rattle.st_classes.specs.declared.refusals.Refusal.TheVariants.{BadArguments}
 use Rattle.st_classes.specs.Refusals.{first_of}
@@ -13,7 +13,7 @@ use Rattle.st_server.specs.declared.settings.ScriptSettings.{ScriptSettings}
 use Rattle.st_server.specs.Lines.{ends_with}
 use Rattle.st_server.specs.Sessions.{Breaks, Session}
 use Rattle.st_server.specs.CommandReplies.{Replies}
-use Rattle.st_server.specs.Scripts.{is_quantum, Script}
+use Rattle.st_server.specs.Scripts.{is_quantum, with_settings, Scripted, Script}
 
 -- what a handler of an image answers
 abbrev pub Handles : ImageHandler → List ℕ → Reply → ImageHandler → Type 0
@@ -42,3 +42,6 @@ refuses_quantum s i input e = rw e (refl, refl, refl, refl)
 
 pub refuses_settings : (s : ScriptSettings) (i j : ImageView) (input : InputView) (f : Refusal) → is_quantum s.quantum ≡ true → first_of (settings_rules (record { capacity = s.capacity; history = s.history })) ≡ Some f → j ≡ i → Script s i input input [] j (Err f)
 refuses_settings s i j input f e is same = rw (e, is) (refl, refl, refl, same)
+
+pub keeps_settings : (s : ScriptSettings) (i j k : ImageView) (quantum : ℕ) (before after : InputView) (written : List ℕ) (r : Result ℕ Refusal) → is_quantum s.quantum ≡ true → quantum ≡ s.quantum → first_of (settings_rules (record { capacity = s.capacity; history = s.history })) ≡ None → j ≡ with_settings i s → Scripted quantum j before after written k r → Script s i before after written k r
+keeps_settings s i j k quantum before after written r is q none same d = rw (is, none) (rw (q, same) at d)

@@ -11,7 +11,7 @@ use Rattle.st_turn.specs.declared.body.Outcome.TheVariants as outcome
 use Rattle.st_image.specs.PostRules.{from_client}
 use Rattle.st_image.specs.Images.{ImageView, world}
 use Rattle.st_image.specs.Quanta.{image_outcome}
-use Rattle.st_image.specs.Calls.{Advances, Creates, Defines, InstallsIn, Posts, Removes}
+use Rattle.st_image.specs.Calls.{Advances, Closes, Creates, Defines, InstallsIn, Posts, Removes}
 use Rattle.st_image.specs.Scheduling.{IsNextReady, is_ready_at}
 use Rattle.st_wire.specs.declared.commands.Argument.{Argument}
 use Rattle.st_wire.specs.declared.commands.Command.{Command}
@@ -98,7 +98,7 @@ Tells i result r = (r ≡ outcome_reply i result) ⊎ ((copies_text result ≡ t
 
 -- ---- any command
 
--- by the command; the last two are not served yet
+-- by the command; the last one is not served yet
 abbrev pub Serves : ℕ → ImageView → Command → Reply → ImageView → Type 0
 Serves quantum i (command.Define name parent slots) r j =
     RepliesFor i parent reply.Version (λ c. Defines i name c slots) r j
@@ -109,7 +109,7 @@ Serves quantum i (command.Actor class) r j = RepliesFor i class reply.Actor (Cre
 Serves quantum i (command.Post actor args text sender seq) r j = PostsNamed i actor args text sender seq r j
 Serves quantum i (command.Run quanta) r j = Runs quantum quanta i 0 0 r j
 Serves quantum i (command.Outcome actor turn) r j = Tells i (image_outcome i actor turn) r × (j ≡ i)
-Serves quantum i (command.Close actor) r j = (r ≡ reply.Refused BadCommand) × (j ≡ i)
+Serves quantum i (command.Close actor) r j = RepliesTo (λ done. reply.Closed) (Closes i actor) r j
 Serves quantum i (command.Stats class text) r j = (r ≡ reply.Refused BadCommand) × (j ≡ i)
 
 -- the reply to a line: a line that is no command is BadCommand

@@ -4,6 +4,7 @@
 //! asked of the image as the line before left it.
 #![tactic(auto)]
 
+pub mod images;
 pub mod lines;
 mod quantum;
 mod reading;

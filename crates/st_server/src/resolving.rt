@@ -6,12 +6,12 @@ ghost use Rattle.st_classes.specs.Classes.{class_name};
 ghost use Rattle.st_image.specs.Images.{world};
 ghost use Rattle.st_server.specs.ArgumentValues.{Resolves, AllResolve, found_selector, is_told_by_text, value_text as shown_as};
 
+use crate::images::Image;
 use st_classes::names::Names;
 use st_classes::refusals::Refusal;
 use st_classes::selectors::arity_of;
 use st_classes::seq::Seq;
 use st_classes::values::{ClassId, Selector, Value, Values};
-use st_image::image::Image;
 use st_wire::commands::Argument;
 use st_wire::replies::Answered;
 use st_wire::text::Text;

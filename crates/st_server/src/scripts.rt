@@ -5,13 +5,13 @@ ghost use Rattle.st_wire.specs.Streams.{input_view};
 ghost use Rattle.st_server.specs.Sessions.{end_of, failures_after};
 ghost use Rattle.st_server.specs.Scripts.{AnswersLines, Scripted, Script};
 
+use crate::images::Image;
 use crate::quantum::Quantum;
 use crate::reading::read_all;
 use crate::serving::ImageHandler;
 use crate::sessions::session;
 use crate::settings::ScriptSettings;
 use st_classes::refusals::Refusal;
-use st_image::image::Image;
 use st_wire::streams::{Input, Output};
 use std::alloc::Global;
 

@@ -1,18 +1,18 @@
 //! Commands, asked of an image.
 ghost use Rattle.std.specs.Prelude.{◌≡◌, Ok, Err, MatchOption, MatchResult};
-ghost use Rattle.st_image.specs.Calls.{Creates, Defines, InstallsIn, Posts};
+ghost use Rattle.st_image.specs.Calls.{Closes, Creates, Defines, InstallsIn, Posts};
 ghost use Rattle.st_image.specs.PostRules.{from_client};
 ghost use Rattle.st_image.specs.Quanta.{image_outcome};
 ghost use Rattle.st_wire.specs.declared.replies.Reply.TheVariants as replies;
 ghost use Rattle.st_server.specs.CommandReplies.{RepliesTo, RepliesFor, RemovesNamed, PostsArguments, PostsNamed, NoneReady, NextAdvances, Runs, Tells, Serves, Replies};
 
+use crate::images::Image;
 use crate::quantum::Quantum;
 use crate::resolving::{argument_values, find_selector, shown};
 use crate::sessions::Handler;
 use st_classes::refusals::Refusal;
 use st_classes::seq::Seq;
 use st_classes::values::{ActorId, ClassId, Selector, Values};
-use st_image::image::Image;
 use st_turn::body::Outcome;
 use st_wire::commands::{Argument, Command, read_command};
 use st_wire::replies::Reply;
@@ -82,6 +82,16 @@ fn create(alloc: Global, image: &mut Image, class: &[u8]) -> Reply
     };
     match image.create(alloc, class) {
         Ok(actor) => Reply::Actor(actor),
+        Err(refusal) => Reply::Refused(refusal),
+    }
+}
+
+/// Closes a mailbox.
+fn close(image: &mut Image, actor: ActorId) -> Reply
+    ensures { RepliesTo (λ done. replies.Closed) (Closes image.old actor) result image.new }
+{
+    match image.close(actor) {
+        Ok(()) => Reply::Closed,
         Err(refusal) => Reply::Refused(refusal),
     }
 }
@@ -221,7 +231,8 @@ fn serve(alloc: Global, image: &mut Image, quantum: Quantum, command: Command) -
         ),
         Command::Run { quanta } => run(alloc, image, quantum, quanta),
         Command::Outcome { actor, turn } => outcome(alloc, image, actor, turn),
-        Command::Close { .. } | Command::Stats { .. } => Reply::Refused(Refusal::BadCommand),
+        Command::Close { actor } => close(image, actor),
+        Command::Stats { .. } => Reply::Refused(Refusal::BadCommand),
     }
 }
 

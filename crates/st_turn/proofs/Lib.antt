@@ -1,4 +1,3 @@
-pub mod Buffers
 pub mod KeepingValues
 pub mod KeepingEffects
 pub mod KeepingMoves
@@ -12,3 +11,8 @@ pub mod Keeping
 pub mod Leading
 pub mod Stepping
 pub mod Flooring
+pub mod OneFrame
+pub mod LaidFrames
+pub mod StackMoves
+pub mod StackDetermined
+pub mod StackMade

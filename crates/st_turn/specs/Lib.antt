@@ -1,4 +1,5 @@
 pub mod FrameViews
+pub mod StackLayout
 pub mod Arithmetic
 pub mod Objects
 pub mod KernelMethods

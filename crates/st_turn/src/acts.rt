@@ -26,13 +26,15 @@ pub enum Act {
     Create(ClassId),
 }
 
-/// Whether a message with so many arguments asks something of the image: a post to an actor, or a new actor.
-#[inline]
+/// Whether a message with so many arguments asks something of the image: a post to an actor, its close, or a new actor.
+#[inline(always)]
 pub(crate) fn is_act(receiver: Value, selector: Selector, count: u8) -> bool
     ensures { (args : List ValueOf) → length args ≡ count → result ≡ is_some (act_for receiver selector args) }
 {
     match receiver {
-        Value::Actor(_) => 16 <= selector.0 && selector.0 <= 18,
+        Value::Actor(_) => {
+            16 <= selector.0 && selector.0 <= 18 || selector.0 == 19 && count == 0
+        }
         Value::Class(_) => selector.0 == 21 && count == 0,
         _ => false,
     }
@@ -52,6 +54,7 @@ fn act_of(
             actor,
             args: Seq::from_vec(args.to_vec(alloc)?),
         })),
+        Value::Actor(actor) if selector.0 == 19 && args.is_empty() => Ok(Some(Act::Close(actor))),
         Value::Class(class) if selector.0 == 21 && args.is_empty() => Ok(Some(Act::Create(class))),
         _ => Ok(None),
     }
@@ -66,11 +69,10 @@ pub fn is_act_next(body: &Body, actor: ActorId, version: &Version) -> bool
     let Phase::Frames(frames) = &body.phase else {
         return false;
     };
-    let running = frames.running();
-    let method = version.installed(running.method());
-    match fetch(method, running) {
+    let method = version.installed(frames.method());
+    match fetch(method, frames) {
         Instruction::Send(selector, count) => {
-            is_act(running.receiver_below(count), selector, count)
+            is_act(frames.receiver_below(count), selector, count)
         }
         _ => false,
     }
@@ -90,12 +92,11 @@ pub fn next_act(
     let Phase::Frames(frames) = &body.phase else {
         return Ok(None);
     };
-    let running = frames.running();
-    let method = version.installed(running.method());
-    match fetch(method, running) {
+    let method = version.installed(frames.method());
+    match fetch(method, frames) {
         Instruction::Send(selector, count) => {
-            let receiver = running.receiver_below(count);
-            act_of(alloc, receiver, selector, running.arguments(count))
+            let receiver = frames.receiver_below(count);
+            act_of(alloc, receiver, selector, frames.arguments(count))
         }
         _ => Ok(None),
     }
@@ -111,8 +112,8 @@ pub fn reply(body: &mut Body, actor: ActorId, version: &Version, answer: Result<
     let Phase::Frames(frames) = &mut body.phase else {
         return;
     };
-    let method = version.installed(frames.running().method());
-    let Instruction::Send(_, count) = fetch(method, frames.running()) else {
+    let method = version.installed(frames.method());
+    let Instruction::Send(_, count) = fetch(method, frames) else {
         return;
     };
     match answer {

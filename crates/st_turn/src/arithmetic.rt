@@ -6,7 +6,7 @@ use st_classes::faults::Fault;
 use st_classes::values::Value;
 
 /// The sum of two integers, or the fault `overflow`.
-#[inline]
+#[inline(always)]
 pub(crate) fn sum(x: i64, y: i64) -> Result<Value, Fault>
     ensures { result ≡ int_or_overflow (x +ℤ y) }
 {
@@ -17,7 +17,7 @@ pub(crate) fn sum(x: i64, y: i64) -> Result<Value, Fault>
 }
 
 /// The first less the second, or the fault `overflow`.
-#[inline]
+#[inline(always)]
 pub(crate) fn difference(x: i64, y: i64) -> Result<Value, Fault>
     ensures { result ≡ int_or_overflow (x -ℤ y) }
 {
@@ -28,7 +28,7 @@ pub(crate) fn difference(x: i64, y: i64) -> Result<Value, Fault>
 }
 
 /// The product of two integers, or the fault `overflow`.
-#[inline]
+#[inline(always)]
 pub(crate) fn product(x: i64, y: i64) -> Result<Value, Fault>
     ensures { result ≡ int_or_overflow (x *ℤ y) }
 {
@@ -39,7 +39,7 @@ pub(crate) fn product(x: i64, y: i64) -> Result<Value, Fault>
 }
 
 /// The quotient rounded towards negative infinity, where it has 64 bits.
-#[inline]
+#[inline(always)]
 fn floored_quotient(x: i64, y: i64) -> Option<i64>
     requires { y ≢ pos 0 }
     ensures { result ≡ (if has_64_bits (floor_quotient x y) then Some (floor_quotient x y) else None) }
@@ -54,7 +54,7 @@ fn floored_quotient(x: i64, y: i64) -> Option<i64>
 }
 
 /// What x less that quotient times y is.
-#[inline]
+#[inline(always)]
 fn floored_remainder(x: i64, y: i64) -> i64
     requires { y ≢ pos 0 }
     ensures { result ≡ floor_remainder x y }
@@ -69,7 +69,7 @@ fn floored_remainder(x: i64, y: i64) -> i64
 }
 
 /// The quotient rounded towards negative infinity, or the fault of a divisor 0 or of a quotient over 64 bits.
-#[inline]
+#[inline(always)]
 pub(crate) fn quotient(x: i64, y: i64) -> Result<Value, Fault>
     ensures { result ≡ quotient_of x y }
 {
@@ -83,7 +83,7 @@ pub(crate) fn quotient(x: i64, y: i64) -> Result<Value, Fault>
 }
 
 /// The remainder of that quotient, which has the sign of y, or the fault of a divisor 0.
-#[inline]
+#[inline(always)]
 pub(crate) fn remainder(x: i64, y: i64) -> Result<Value, Fault>
     ensures { result ≡ remainder_of x y }
 {

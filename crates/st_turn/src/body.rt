@@ -8,7 +8,9 @@ ghost use Rattle.st_turn.specs.Objects.{class_in};
 ghost use Rattle.st_turn.specs.Needs.{HasSlot, IsAmong};
 ghost use Rattle.st_turn.specs.Idle.{is_idle};
 
-use crate::frame::Frames;
+mod plain_data;
+
+use crate::stack::Stack;
 use st_classes::faults::Fault;
 use st_classes::kernel::{ACTOR_REF, CLASS, FALSE, SMALL_INTEGER, SYMBOL, TRUE, UNDEFINED_OBJECT};
 use st_classes::seq::Seq;
@@ -96,7 +98,7 @@ impl Objects {
         items
     }
 
-    #[inline]
+    #[inline(always)]
     pub fn len(&self) -> usize
         ensures { result ≡ length self.now }
     {
@@ -111,7 +113,7 @@ impl Objects {
     }
 
     /// The class of a value.
-    #[inline]
+    #[inline(always)]
     pub fn class_of(&self, value: Value) -> ClassId
         requires { IsAmong self.now value }
         ensures { result ≡ class_in self.now value }
@@ -129,7 +131,7 @@ impl Objects {
     }
 
     /// An instance variable of a receiver.
-    #[inline]
+    #[inline(always)]
     pub(crate) fn slot(&self, receiver: Value, place: u8) -> Value
         requires { HasSlot self.now receiver place }
         ensures { result ≡ slot_of self.now receiver place }
@@ -141,7 +143,7 @@ impl Objects {
     }
 
     /// Gives a value to an instance variable of a receiver.
-    #[inline]
+    #[inline(always)]
     pub(crate) fn store(&mut self, receiver: Value, place: u8, value: Value)
         requires { HasSlot self.old receiver place }
         ensures { self.new ≡ objects_after_store self.old receiver place value }
@@ -167,7 +169,7 @@ pub enum Phase {
     /// A message was taken, and is not yet dispatched.
     Start { selector: Selector, args: Values },
     /// The message was dispatched, and these are the frames of its turn.
-    Frames(Frames),
+    Frames(Stack),
     /// The last turn has ended.
     Done(Outcome),
 }
@@ -214,7 +216,7 @@ impl Body {
     }
 
     /// Whether no turn is going on.
-    #[inline]
+    #[inline(always)]
     pub fn is_idle(&self) -> bool
         ensures { result ≡ is_idle self.now.phase }
     {

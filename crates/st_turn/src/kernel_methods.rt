@@ -12,7 +12,7 @@ use st_classes::kernel::{KERNEL_CLASSES, Kernel};
 use st_classes::values::{ClassId, Value};
 
 /// Whether a class has no instances that a message makes: one of the kernel's, Object aside.
-#[inline]
+#[inline(always)]
 pub(crate) fn is_closed(class: ClassId) -> bool
     ensures { result ≡ closed class }
 {
@@ -20,14 +20,14 @@ pub(crate) fn is_closed(class: ClassId) -> bool
 }
 
 /// Whether a method of the kernel is `new`.
-#[inline]
+#[inline(always)]
 pub(crate) fn is_new(kernel: Kernel) -> bool
     ensures { result ≡ makes_object kernel }
 {
     matches!(kernel, Kernel::New)
 }
 
-#[inline]
+#[inline(always)]
 fn is_same(a: Value, b: Value) -> bool
     ensures { result ≡ is_same a b }
 {
@@ -43,14 +43,14 @@ fn is_same(a: Value, b: Value) -> bool
     }
 }
 
-#[inline]
+#[inline(always)]
 fn is_nil(value: Value) -> bool
     ensures { result ≡ is_nil value }
 {
     matches!(value, Value::Nil)
 }
 
-#[inline]
+#[inline(always)]
 fn negated(receiver: Value) -> Result<Value, Fault>
     ensures { result ≡ not_answer receiver }
 {
@@ -60,7 +60,7 @@ fn negated(receiver: Value) -> Result<Value, Fault>
     }
 }
 
-#[inline]
+#[inline(always)]
 fn conjunction(receiver: Value, argument: Value) -> Result<Value, Fault>
     ensures { result ≡ and_answer receiver argument }
 {
@@ -72,7 +72,7 @@ fn conjunction(receiver: Value, argument: Value) -> Result<Value, Fault>
 }
 
 /// A method of SmallInteger, for an integer.
-#[inline]
+#[inline(always)]
 fn integer_answer(kernel: Kernel, x: i64, y: i64) -> Result<Value, Fault>
     ensures { result ≡ integer_answer kernel x y }
 {
@@ -91,7 +91,7 @@ fn integer_answer(kernel: Kernel, x: i64, y: i64) -> Result<Value, Fault>
 }
 
 /// A method with one argument.
-#[inline]
+#[inline(always)]
 fn binary_answer(kernel: Kernel, receiver: Value, argument: Value) -> Result<Value, Fault>
     ensures { result ≡ binary_answer kernel receiver argument }
 {
@@ -106,7 +106,7 @@ fn binary_answer(kernel: Kernel, receiver: Value, argument: Value) -> Result<Val
 }
 
 /// What a method of the kernel answers, or its fault.
-#[inline]
+#[inline(always)]
 pub fn kernel_answer(
     kernel: Kernel,
     objects: &Objects,

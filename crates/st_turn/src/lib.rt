@@ -10,3 +10,6 @@ pub mod body;
 pub mod frame;
 pub mod kernel_methods;
 pub mod plain;
+mod quick;
+pub mod stack;
+mod value_lists;

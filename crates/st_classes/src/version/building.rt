@@ -78,6 +78,16 @@ impl Version {
         Ok(edits)
     }
 
+    /// The same table once more. The edits, the rows and the names are shared; memory is taken for their pointers.
+    pub fn again(&self, alloc: Global) -> Result<Version, AllocError>
+        ensures { IfOk result (λ version. version ≡ self.now) }
+    {
+        let edits = self.edits_again(alloc)?;
+        let rows = self.rows.again(alloc)?;
+        let named = Arc::try_clone(&self.named)?;
+        Ok(Version { edits, rows, named })
+    }
+
     /// The edits with one more.
     fn edits_with(&self, alloc: Global, edit: SharedEdit) -> Result<Vec<SharedEdit>, AllocError>
         ensures { IfOk result (λ edits. edits.items ≡ self.now ++ edit ∷ []) }

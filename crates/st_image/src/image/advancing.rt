@@ -4,9 +4,10 @@ use crate::image::Image;
 use crate::items::Item;
 use st_classes::refusals::Refusal;
 use st_classes::values::ActorId;
+use st_mailbox::mailboxes::Mailbox;
 use std::alloc::{AllocError, Global};
 
-impl Image {
+impl<M: Mailbox> Image<M> {
     ghost use Rattle.std.specs.Prelude.{◌≡◌, ◌≤◌, ◌<◌, [], ◌∷◌, ℕ, length, slice_get, false, None, IfNone, IfOk, IfErr, OnOk, OnErr};
     ghost use Rattle.st_classes.specs.Refusals.{first_of};
     ghost use Rattle.st_classes.specs.declared.refusals.Refusal.TheVariants as refusals;

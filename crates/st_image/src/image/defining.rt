@@ -6,9 +6,10 @@ use st_classes::limits::RUN_EDITS;
 use st_classes::refusals::{Limited, Refusal};
 use st_classes::seq::Seq;
 use st_classes::values::ClassId;
+use st_mailbox::mailboxes::Mailbox;
 use std::alloc::Global;
 
-impl Image {
+impl<M: Mailbox> Image<M> {
     ghost use Rattle.std.specs.Prelude.{◌≡◌, ◌++◌, true};
     ghost use Rattle.st_classes.specs.EditRules.{edit_rules};
     ghost use Rattle.st_classes.specs.MethodSuits.{edit_suits};

@@ -7,11 +7,12 @@ use st_classes::refusals::Refusal;
 use st_classes::values::ClassId;
 use st_compile::compile::compile;
 use st_compile::names::joined_pattern;
+use st_mailbox::mailboxes::Mailbox;
 use st_reader::reader::read_method;
 use st_reader::trees::{MethodTree, Pattern};
 use std::alloc::Global;
 
-impl Image {
+impl<M: Mailbox> Image<M> {
     ghost use Rattle.std.specs.Prelude.{◌≡◌, true, false, Some, OnOk, OnErr, IfOk, IfErr};
     ghost use Rattle.st_classes.specs.declared.refusals.Refusal.{Refusal as RefusalOf};
     ghost use Rattle.st_classes.specs.declared.refusals.Refusal.TheVariants.{NoMemory};

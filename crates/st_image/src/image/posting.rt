@@ -2,12 +2,13 @@
 use crate::acting::post_refusal;
 use crate::image::Image;
 use crate::items::Item;
-use crate::messages::{Message, Sender};
 use st_classes::refusals::Refusal;
 use st_classes::values::{ActorId, Selector, Values};
+use st_mailbox::mailboxes::Mailbox;
+use st_mailbox::messages::{Message, Sender};
 use std::alloc::Global;
 
-impl Image {
+impl<M: Mailbox> Image<M> {
     ghost use Rattle.std.specs.Prelude.{◌≡◌, ◌<◌, length, IfNone};
     ghost use Rattle.st_classes.specs.Refusals.{first_of};
     ghost use Rattle.st_image.specs.Calls.{Posts};
@@ -19,7 +20,15 @@ impl Image {
         ensures value { result ≡ first_of (image_post_rules self.now actor message.now) }
         ensures there { IfNone result (actor.0 < length (world self.now).actors) }
     {
-        match post_refusal(&self.names, &self.version, &self.actors, actor, message) {
+        let last = self.sender_last(message.sender);
+        match post_refusal(
+            &self.names,
+            &self.version,
+            &self.actors,
+            last,
+            actor,
+            message,
+        ) {
             Some(refusal) => Some(refusal),
             None => self.room_refusal(1),
         }
@@ -31,6 +40,10 @@ impl Image {
         requires { IsClients message.sender }
         ensures { Posts self.old actor message result self.new }
     {
+        let Sender::Client(client) = message.sender else {
+            unreachable!()
+        };
+        let number = message.seq;
         if let Some(refusal) = self.post_refusal(actor, &message) {
             return Err(refusal);
         }
@@ -40,9 +53,13 @@ impl Image {
         if self.history.reserve(1).is_err() {
             return Err(Refusal::NoMemory);
         }
+        if self.clients.make_room(client).is_err() {
+            return Err(Refusal::NoMemory);
+        }
         let Ok(place) = self.actors.deliver(actor, message) else {
             return Err(Refusal::NoMemory);
         };
+        self.clients.set(client, number);
         self.history
             .push(Item::Posted {
                 actor,
@@ -56,8 +73,8 @@ impl Image {
     /// among the messages that the actor accepted, from 1, which is also the number of its turn.
     ///
     /// Refusals, in this order: `UnknownActor`; `BadArguments` where the selector isn't there or takes another number of
-    /// arguments, or an argument is a local or names nothing; `Closed`; `Full`; `HistoryFull`. Memory can run out only where none
-    /// of these applies. A refused call changes nothing.
+    /// arguments, or an argument is a local or names nothing; `Old` where the number is not above the client's last one; `Closed`;
+    /// `Full`; `HistoryFull`. Memory can run out only where none of these applies. A refused call changes nothing.
     pub fn post(
         &mut self,
         alloc: Global,

@@ -3,9 +3,10 @@ use crate::image::Image;
 use st_classes::edits::Edit;
 use st_classes::refusals::Refusal;
 use st_classes::values::{ClassId, Selector};
+use st_mailbox::mailboxes::Mailbox;
 use std::alloc::Global;
 
-impl Image {
+impl<M: Mailbox> Image<M> {
     ghost use Rattle.st_image.specs.Calls.{Removes};
 
     /// Takes away the method that a class has of its own for a selector. The answer is the number of edits.

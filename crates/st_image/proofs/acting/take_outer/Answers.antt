@@ -8,43 +8,43 @@ use Rattle.st_image.proofs.Outer.{Performed, kept_there, next_names, on_err, per
 use Rattle.st_image.proofs.acting.take_outer.Goals as goal
 
 pub is_act_next-requires-clause-fits : goal.is_act_next-requires-clause-fits
-is_act_next-requires-clause-fits c = λ k at. fits_some c.args.version.now c.args.actor k.body (shown_runs c.args.names.now c.args.capacity c.args.version.now c.args.actors.now c.requires.shown.0 c.args.actor k c.requires.shown.1 at)
+is_act_next-requires-clause-fits g c = λ k at. fits_some c.args.version.now c.args.actor k.body (shown_runs c.args.names.now c.args.capacity c.args.version.now c.args.actors.now c.requires.shown.0 c.args.actor k c.requires.shown.1 at)
 
 pub next_act-requires-clause-fits : goal.next_act-requires-clause-fits
-next_act-requires-clause-fits c = λ k at. fits_some c.args.version.now c.args.actor k.body (shown_runs c.args.names.now c.args.capacity c.args.version.now c.args.actors.now c.requires.shown.0 c.args.actor k c.requires.shown.1 at)
+next_act-requires-clause-fits g c = λ k at. fits_some c.args.version.now c.args.actor k.body (shown_runs c.args.names.now c.args.capacity c.args.version.now c.args.actors.now c.requires.shown.0 c.args.actor k c.requires.shown.1 at)
 
 pub returns-then-not-is_act_next-clause-ok : goal.returns-then-not-is_act_next-clause-ok
-returns-then-not-is_act_next-clause-ok c = λ w i.
+returns-then-not-is_act_next-clause-ok g c = λ w i.
     let k = kept_there c.args.actors.now c.args.actor.0 c.requires.there in
     (stands_by c.args.version.now c.args.actors.now w c.args.actor k.0 false i.shows k.1 (sym (c.is_act_next.ensures k.0 k.1) ∙ c.if-not-is_act_next.true), refl)
 
 pub returns-in_err-act-clause-stands : goal.returns-in_err-act-clause-stands
-returns-in_err-act-clause-stands c = on_err c.from_residual.result ((w : World) → IsShown c.args.names.now c.args.capacity c.args.version.now c.args.actors.now w → StandsBefore c.args.actor w true) (λ w i.
+returns-in_err-act-clause-stands g c = on_err c.from_residual.result ((w : World) → IsShown c.args.names.now c.args.capacity c.args.version.now c.args.actors.now w → StandsBefore c.args.actor w true) (λ w i.
     let k = kept_there c.args.actors.now c.args.actor.0 c.requires.there in
     stands_by c.args.version.now c.args.actors.now w c.args.actor k.0 true i.shows k.1 (sym (c.is_act_next.ensures k.0 k.1) ∙ c.if-not-is_act_next.false))
 
 pub returns-in_default-clause-ok : goal.returns-in_default-clause-ok
-returns-in_default-clause-ok c = λ w i.
+returns-in_default-clause-ok g c = λ w i.
     let k = kept_there c.args.actors.now c.args.actor.0 c.requires.there in
     (stands_by c.args.version.now c.args.actors.now w c.args.actor k.0 false i.shows k.1 (ap is_some (sym (c.in_ok-act.ensures k.0 k.1) ∙ c.in_default.is)), refl)
 
 pub perform-requires-clause-class : goal.perform-requires-clause-class
-perform-requires-clause-class c =
+perform-requires-clause-class g c =
     let k = kept_there c.args.actors.now c.args.actor.0 c.requires.there in
     next_names c.args.names.now c.args.capacity c.args.version.now c.args.actors.now c.requires.shown.0 c.args.actor k.0 c.in-Some.act c.requires.shown.1 k.1 (sym (c.in_ok-act.ensures k.0 k.1) ∙ c.in-Some.is)
 
 pub returns-in_err-value-clause-stands : goal.returns-in_err-value-clause-stands
-returns-in_err-value-clause-stands c = on_err c.from_residual-in_err-value.result ((w : World) → IsShown c.args.names.now c.args.capacity c.args.version.now c.args.actors.now w → StandsBefore c.args.actor w true) (λ w i.
+returns-in_err-value-clause-stands g c = on_err c.from_residual-in_err-value.result ((w : World) → IsShown c.args.names.now c.args.capacity c.args.version.now c.args.actors.now w → StandsBefore c.args.actor w true) (λ w i.
     let k = kept_there c.args.actors.now c.args.actor.0 c.requires.there in
     stands_by c.args.version.now c.args.actors.now w c.args.actor k.0 true i.shows k.1 (sym (c.is_act_next.ensures k.0 k.1) ∙ c.if-not-is_act_next.false))
 
 pub returns-in_err-fail-in-Err-clause-stands : goal.returns-in_err-fail-in-Err-clause-stands
-returns-in_err-fail-in-Err-clause-stands c = on_err c.from_residual-in_err-fail-in-Err.result ((w : World) → IsShown c.args.names.now c.args.capacity c.args.version.now c.args.actors.now w → StandsBefore c.args.actor w true) (λ w i.
+returns-in_err-fail-in-Err-clause-stands g c = on_err c.from_residual-in_err-fail-in-Err.result ((w : World) → IsShown c.args.names.now c.args.capacity c.args.version.now c.args.actors.now w → StandsBefore c.args.actor w true) (λ w i.
     let k = kept_there c.args.actors.now c.args.actor.0 c.requires.there in
     stands_by c.args.version.now c.args.actors.now w c.args.actor k.0 true i.shows k.1 (sym (c.is_act_next.ensures k.0 k.1) ∙ c.if-not-is_act_next.false))
 
 pub give-requires-clause-there : goal.give-requires-clause-there
-give-requires-clause-there c =
+give-requires-clause-there g c =
     let k = kept_there c.args.actors.now c.args.actor.0 c.requires.there in
     let w : World = c.requires.shown.0 in
     let does : Does c.args.version.now c.perform.new.actors (act_result (constants_of c.args.names.now c.args.capacity) c.args.actor w c.in-Some.act) c.in_ok-value.field-0 = c.in_ok-value.ensures.ok w c.requires.shown.1 in
@@ -52,70 +52,70 @@ give-requires-clause-there c =
     slice_get_within c.perform.new.actors c.args.actor.0 p.kept p.there
 
 pub give-requires-clause-fits : goal.give-requires-clause-fits
-give-requires-clause-fits c =
+give-requires-clause-fits g c =
     let k = kept_there c.args.actors.now c.args.actor.0 c.requires.there in
     let does : Does c.args.version.now c.perform.new.actors (act_result (constants_of c.args.names.now c.args.capacity) c.args.actor c.requires.shown.0 c.in-Some.act) (Ok c.in-Ok.value) = subst (Does c.args.version.now c.perform.new.actors (act_result (constants_of c.args.names.now c.args.capacity) c.args.actor c.requires.shown.0 c.in-Some.act)) c.in-Ok.is (c.in_ok-value.ensures.ok c.requires.shown.0 c.requires.shown.1) in
     let p : Performed c.args.names.now c.args.capacity c.args.version.now c.perform.new.actors c.args.actor c.requires.shown.0 c.in-Some.act (Ok c.in-Ok.value) = performed c.args.names.now c.args.capacity c.args.version.now c.args.actors.now c.perform.new.actors c.requires.shown.0 c.args.actor k.0 c.in-Some.act (Ok c.in-Ok.value) c.requires.shown.1 k.1 (sym (c.in_ok-act.ensures k.0 k.1) ∙ c.in-Some.is) does in
     performed_fits c.args.names.now c.args.capacity c.args.version.now c.perform.new.actors c.args.actor c.requires.shown.0 c.in-Some.act (Ok c.in-Ok.value) p
 
 pub give-requires-clause-act : goal.give-requires-clause-act
-give-requires-clause-act c =
+give-requires-clause-act g c =
     let k = kept_there c.args.actors.now c.args.actor.0 c.requires.there in
     let does : Does c.args.version.now c.perform.new.actors (act_result (constants_of c.args.names.now c.args.capacity) c.args.actor c.requires.shown.0 c.in-Some.act) (Ok c.in-Ok.value) = subst (Does c.args.version.now c.perform.new.actors (act_result (constants_of c.args.names.now c.args.capacity) c.args.actor c.requires.shown.0 c.in-Some.act)) c.in-Ok.is (c.in_ok-value.ensures.ok c.requires.shown.0 c.requires.shown.1) in
     let p : Performed c.args.names.now c.args.capacity c.args.version.now c.perform.new.actors c.args.actor c.requires.shown.0 c.in-Some.act (Ok c.in-Ok.value) = performed c.args.names.now c.args.capacity c.args.version.now c.args.actors.now c.perform.new.actors c.requires.shown.0 c.args.actor k.0 c.in-Some.act (Ok c.in-Ok.value) c.requires.shown.1 k.1 (sym (c.in_ok-act.ensures k.0 k.1) ∙ c.in-Some.is) does in
     performed_next c.args.names.now c.args.capacity c.args.version.now c.perform.new.actors c.args.actor c.requires.shown.0 c.in-Some.act (Ok c.in-Ok.value) p
 
 pub give-requires-clause-busy : goal.give-requires-clause-busy
-give-requires-clause-busy c =
+give-requires-clause-busy g c =
     let k = kept_there c.args.actors.now c.args.actor.0 c.requires.there in
     let does : Does c.args.version.now c.perform.new.actors (act_result (constants_of c.args.names.now c.args.capacity) c.args.actor c.requires.shown.0 c.in-Some.act) (Ok c.in-Ok.value) = subst (Does c.args.version.now c.perform.new.actors (act_result (constants_of c.args.names.now c.args.capacity) c.args.actor c.requires.shown.0 c.in-Some.act)) c.in-Ok.is (c.in_ok-value.ensures.ok c.requires.shown.0 c.requires.shown.1) in
     let p : Performed c.args.names.now c.args.capacity c.args.version.now c.perform.new.actors c.args.actor c.requires.shown.0 c.in-Some.act (Ok c.in-Ok.value) = performed c.args.names.now c.args.capacity c.args.version.now c.args.actors.now c.perform.new.actors c.requires.shown.0 c.args.actor k.0 c.in-Some.act (Ok c.in-Ok.value) c.requires.shown.1 k.1 (sym (c.in_ok-act.ensures k.0 k.1) ∙ c.in-Some.is) does in
     performed_busy c.args.names.now c.args.capacity c.args.version.now c.perform.new.actors c.args.actor c.requires.shown.0 c.in-Some.act (Ok c.in-Ok.value) p
 
 pub fail-requires-clause-fits : goal.fail-requires-clause-fits
-fail-requires-clause-fits c =
+fail-requires-clause-fits g c =
     let k = kept_there c.args.actors.now c.args.actor.0 c.requires.there in
     let does : Does c.args.version.now c.perform.new.actors (act_result (constants_of c.args.names.now c.args.capacity) c.args.actor c.requires.shown.0 c.in-Some.act) (Err c.in-Err.fault) = subst (Does c.args.version.now c.perform.new.actors (act_result (constants_of c.args.names.now c.args.capacity) c.args.actor c.requires.shown.0 c.in-Some.act)) c.in-Err.is (c.in_ok-value.ensures.ok c.requires.shown.0 c.requires.shown.1) in
     let p : Performed c.args.names.now c.args.capacity c.args.version.now c.perform.new.actors c.args.actor c.requires.shown.0 c.in-Some.act (Err c.in-Err.fault) = performed c.args.names.now c.args.capacity c.args.version.now c.args.actors.now c.perform.new.actors c.requires.shown.0 c.args.actor k.0 c.in-Some.act (Err c.in-Err.fault) c.requires.shown.1 k.1 (sym (c.in_ok-act.ensures k.0 k.1) ∙ c.in-Some.is) does in
     performed_fits c.args.names.now c.args.capacity c.args.version.now c.perform.new.actors c.args.actor c.requires.shown.0 c.in-Some.act (Err c.in-Err.fault) p
 
 pub fail-requires-clause-act : goal.fail-requires-clause-act
-fail-requires-clause-act c =
+fail-requires-clause-act g c =
     let k = kept_there c.args.actors.now c.args.actor.0 c.requires.there in
     let does : Does c.args.version.now c.perform.new.actors (act_result (constants_of c.args.names.now c.args.capacity) c.args.actor c.requires.shown.0 c.in-Some.act) (Err c.in-Err.fault) = subst (Does c.args.version.now c.perform.new.actors (act_result (constants_of c.args.names.now c.args.capacity) c.args.actor c.requires.shown.0 c.in-Some.act)) c.in-Err.is (c.in_ok-value.ensures.ok c.requires.shown.0 c.requires.shown.1) in
     let p : Performed c.args.names.now c.args.capacity c.args.version.now c.perform.new.actors c.args.actor c.requires.shown.0 c.in-Some.act (Err c.in-Err.fault) = performed c.args.names.now c.args.capacity c.args.version.now c.args.actors.now c.perform.new.actors c.requires.shown.0 c.args.actor k.0 c.in-Some.act (Err c.in-Err.fault) c.requires.shown.1 k.1 (sym (c.in_ok-act.ensures k.0 k.1) ∙ c.in-Some.is) does in
     performed_next c.args.names.now c.args.capacity c.args.version.now c.perform.new.actors c.args.actor c.requires.shown.0 c.in-Some.act (Err c.in-Err.fault) p
 
 pub fail-requires-clause-busy : goal.fail-requires-clause-busy
-fail-requires-clause-busy c =
+fail-requires-clause-busy g c =
     let k = kept_there c.args.actors.now c.args.actor.0 c.requires.there in
     let does : Does c.args.version.now c.perform.new.actors (act_result (constants_of c.args.names.now c.args.capacity) c.args.actor c.requires.shown.0 c.in-Some.act) (Err c.in-Err.fault) = subst (Does c.args.version.now c.perform.new.actors (act_result (constants_of c.args.names.now c.args.capacity) c.args.actor c.requires.shown.0 c.in-Some.act)) c.in-Err.is (c.in_ok-value.ensures.ok c.requires.shown.0 c.requires.shown.1) in
     let p : Performed c.args.names.now c.args.capacity c.args.version.now c.perform.new.actors c.args.actor c.requires.shown.0 c.in-Some.act (Err c.in-Err.fault) = performed c.args.names.now c.args.capacity c.args.version.now c.args.actors.now c.perform.new.actors c.requires.shown.0 c.args.actor k.0 c.in-Some.act (Err c.in-Err.fault) c.requires.shown.1 k.1 (sym (c.in_ok-act.ensures k.0 k.1) ∙ c.in-Some.is) does in
     performed_busy c.args.names.now c.args.capacity c.args.version.now c.perform.new.actors c.args.actor c.requires.shown.0 c.in-Some.act (Err c.in-Err.fault) p
 
 pub returns-in-Ok-clause-ok : goal.returns-in-Ok-clause-ok
-returns-in-Ok-clause-ok c = λ w i.
+returns-in-Ok-clause-ok g c = λ w i.
     let k = kept_there c.args.actors.now c.args.actor.0 c.requires.there in
     let does : Does c.args.version.now c.perform.new.actors (act_result (constants_of c.args.names.now c.args.capacity) c.args.actor w c.in-Some.act) (Ok c.in-Ok.value) = subst (Does c.args.version.now c.perform.new.actors (act_result (constants_of c.args.names.now c.args.capacity) c.args.actor w c.in-Some.act)) c.in-Ok.is (c.in_ok-value.ensures.ok w i) in
     let p : Performed c.args.names.now c.args.capacity c.args.version.now c.perform.new.actors c.args.actor w c.in-Some.act (Ok c.in-Ok.value) = performed c.args.names.now c.args.capacity c.args.version.now c.args.actors.now c.perform.new.actors w c.args.actor k.0 c.in-Some.act (Ok c.in-Ok.value) i k.1 (sym (c.in_ok-act.ensures k.0 k.1) ∙ c.in-Some.is) does in
     (stands_by c.args.version.now c.args.actors.now w c.args.actor k.0 true i.shows k.1 (sym (c.is_act_next.ensures k.0 k.1) ∙ c.if-not-is_act_next.false), performed_given c.args.names.now c.args.capacity c.args.version.now c.perform.new.actors c.give.new.self c.args.actor w c.in-Some.act (Ok c.in-Ok.value) p c.give.ensures)
 
 pub returns-in-Ok-clause-grown : goal.returns-in-Ok-clause-grown
-returns-in-Ok-clause-grown c =
+returns-in-Ok-clause-grown g c =
     let k = kept_there c.args.actors.now c.args.actor.0 c.requires.there in
     let does : Does c.args.version.now c.perform.new.actors (act_result (constants_of c.args.names.now c.args.capacity) c.args.actor c.requires.shown.0 c.in-Some.act) (Ok c.in-Ok.value) = subst (Does c.args.version.now c.perform.new.actors (act_result (constants_of c.args.names.now c.args.capacity) c.args.actor c.requires.shown.0 c.in-Some.act)) c.in-Ok.is (c.in_ok-value.ensures.ok c.requires.shown.0 c.requires.shown.1) in
     let p : Performed c.args.names.now c.args.capacity c.args.version.now c.perform.new.actors c.args.actor c.requires.shown.0 c.in-Some.act (Ok c.in-Ok.value) = performed c.args.names.now c.args.capacity c.args.version.now c.args.actors.now c.perform.new.actors c.requires.shown.0 c.args.actor k.0 c.in-Some.act (Ok c.in-Ok.value) c.requires.shown.1 k.1 (sym (c.in_ok-act.ensures k.0 k.1) ∙ c.in-Some.is) does in
     performed_grows c.args.names.now c.args.capacity c.args.version.now c.args.actors.now c.perform.new.actors c.give.new.self c.args.actor c.requires.shown.0 c.in-Some.act (Ok c.in-Ok.value) p c.in_ok-value.ensures.grown c.give.ensures
 
 pub returns-in_ok-fail-in-Err-clause-ok : goal.returns-in_ok-fail-in-Err-clause-ok
-returns-in_ok-fail-in-Err-clause-ok c = λ w i.
+returns-in_ok-fail-in-Err-clause-ok g c = λ w i.
     let k = kept_there c.args.actors.now c.args.actor.0 c.requires.there in
     let does : Does c.args.version.now c.perform.new.actors (act_result (constants_of c.args.names.now c.args.capacity) c.args.actor w c.in-Some.act) (Err c.in-Err.fault) = subst (Does c.args.version.now c.perform.new.actors (act_result (constants_of c.args.names.now c.args.capacity) c.args.actor w c.in-Some.act)) c.in-Err.is (c.in_ok-value.ensures.ok w i) in
     let p : Performed c.args.names.now c.args.capacity c.args.version.now c.perform.new.actors c.args.actor w c.in-Some.act (Err c.in-Err.fault) = performed c.args.names.now c.args.capacity c.args.version.now c.args.actors.now c.perform.new.actors w c.args.actor k.0 c.in-Some.act (Err c.in-Err.fault) i k.1 (sym (c.in_ok-act.ensures k.0 k.1) ∙ c.in-Some.is) does in
     (stands_by c.args.version.now c.args.actors.now w c.args.actor k.0 true i.shows k.1 (sym (c.is_act_next.ensures k.0 k.1) ∙ c.if-not-is_act_next.false), performed_given c.args.names.now c.args.capacity c.args.version.now c.perform.new.actors c.fail.new.self c.args.actor w c.in-Some.act (Err c.in-Err.fault) p c.in_ok-fail-in-Err.ensures.ok)
 
 pub returns-in_ok-fail-in-Err-clause-grown : goal.returns-in_ok-fail-in-Err-clause-grown
-returns-in_ok-fail-in-Err-clause-grown c =
+returns-in_ok-fail-in-Err-clause-grown g c =
     let k = kept_there c.args.actors.now c.args.actor.0 c.requires.there in
     let does : Does c.args.version.now c.perform.new.actors (act_result (constants_of c.args.names.now c.args.capacity) c.args.actor c.requires.shown.0 c.in-Some.act) (Err c.in-Err.fault) = subst (Does c.args.version.now c.perform.new.actors (act_result (constants_of c.args.names.now c.args.capacity) c.args.actor c.requires.shown.0 c.in-Some.act)) c.in-Err.is (c.in_ok-value.ensures.ok c.requires.shown.0 c.requires.shown.1) in
     let p : Performed c.args.names.now c.args.capacity c.args.version.now c.perform.new.actors c.args.actor c.requires.shown.0 c.in-Some.act (Err c.in-Err.fault) = performed c.args.names.now c.args.capacity c.args.version.now c.args.actors.now c.perform.new.actors c.requires.shown.0 c.args.actor k.0 c.in-Some.act (Err c.in-Err.fault) c.requires.shown.1 k.1 (sym (c.in_ok-act.ensures k.0 k.1) ∙ c.in-Some.is) does in

@@ -5,14 +5,14 @@ use Rattle.st_image.proofs.ReadyOnes.{actors_set, here, only_one, put_is}
 use Rattle.st_image.proofs.actors.Actors.give.Goals as goal
 
 pub invariant_of-self : goal.invariant_of-self
-invariant_of-self c =
+invariant_of-self g c =
     let i = c.self.inside in
     let k : ActorView = c.index_mut-kept.result.now in
     let at : slice_get i.items.items c.args.actor.0 ≡ Some k = here i.items.items c.args.actor.0 k (subst (λ (ks : List ActorView). c.args.actor.0 < length ks) (sym c.self.view_is) c.requires.there) c.index_mut-kept.ensures.value in
     actors_set i.items.items i.ready.numbers c.keep_if.new.self.numbers c.args.actor.0 k c.give.new.self c.self.invariant at (rw (← c.is_ready.ensures) c.keep_if.ensures)
 
 pub returns : goal.returns
-returns c = λ l act e f.
+returns g c = λ l act e f.
     let i = c.self.inside in
     let k : ActorView = c.index_mut-kept.result.now in
     let at : slice_get i.items.items c.args.actor.0 ≡ Some k = here i.items.items c.args.actor.0 k (subst (λ (ks : List ActorView). c.args.actor.0 < length ks) (sym c.self.view_is) c.requires.there) c.index_mut-kept.ensures.value in

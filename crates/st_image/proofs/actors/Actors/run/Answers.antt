@@ -5,14 +5,14 @@ use Rattle.st_image.proofs.ReadyOnes.{actors_set, here, only_one, put_is}
 use Rattle.st_image.proofs.actors.Actors.run.Goals as goal
 
 pub invariant_of-self-2 : goal.invariant_of-self-2
-invariant_of-self-2 c =
+invariant_of-self-2 g c =
     let i = c.self.inside in
     let k : ActorView = c.index_mut-kept.result.now in
     let at : slice_get i.items.items c.args.actor.0 ≡ Some k = here i.items.items c.args.actor.0 k (subst (λ (ks : List ActorView). c.args.actor.0 < length ks) (sym c.self.view_is) c.requires.there) c.index_mut-kept.ensures.value in
     actors_set i.items.items i.ready.numbers c.keep_if.new.self.numbers c.args.actor.0 k c.run.new.self c.self.invariant at (rw (← c.is_ready.ensures) c.keep_if.ensures)
 
 pub returns-clause-ok : goal.returns-clause-ok
-returns-clause-ok c = λ l e.
+returns-clause-ok g c = λ l e.
     let i = c.self.inside in
     let k : ActorView = c.index_mut-kept.result.now in
     let at : slice_get i.items.items c.args.actor.0 ≡ Some k = here i.items.items c.args.actor.0 k (subst (λ (ks : List ActorView). c.args.actor.0 < length ks) (sym c.self.view_is) c.requires.there) c.index_mut-kept.ensures.value in

@@ -4,14 +4,14 @@ use Rattle.st_image.proofs.ReadyOnes.{actors_same, here, put_is}
 use Rattle.st_image.proofs.actors.Actors.set_last.Goals as goal
 
 pub invariant_of-self : goal.invariant_of-self
-invariant_of-self c =
+invariant_of-self g c =
     let i = c.self.inside in
     let k : ActorView = c.index_mut-kept.result.now in
     let at : slice_get i.items.items c.args.actor.0 ≡ Some k = here i.items.items c.args.actor.0 k (subst (λ (ks : List ActorView). c.args.actor.0 < length ks) (sym c.self.view_is) c.requires) c.index_mut-kept.ensures.value in
     actors_same i.items.items i.ready.numbers c.args.actor.0 k c.set_last.new.self c.self.invariant at (ap is_ready_view c.set_last.ensures)
 
 pub returns : goal.returns
-returns c =
+returns g c =
     let i = c.self.inside in
     let k : ActorView = c.index_mut-kept.result.now in
     let at : slice_get i.items.items c.args.actor.0 ≡ Some k = here i.items.items c.args.actor.0 k (subst (λ (ks : List ActorView). c.args.actor.0 < length ks) (sym c.self.view_is) c.requires) c.index_mut-kept.ensures.value in

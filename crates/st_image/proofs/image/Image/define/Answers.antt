@@ -6,7 +6,7 @@ use Rattle.st_image.specs.Calls.{Edits}
 use Rattle.st_image.proofs.image.Image.define.Goals as goal
 
 pub returns : goal.returns
-returns c =
+returns g c =
     let e : c.from_vec.result ≡ c.args.name.now = search rules in
     let P : List ℕ → Type 0 = λ name. Edits (edit_rules (world c.args.self.now).edits (Define name c.args.parent c.args.slots) ++ run_rules c.args.self.now) (Define name c.args.parent c.args.slots) c.args.self.now c.edit.result c.edit.new.self in
     inr (subst P e c.edit.ensures)

@@ -12,21 +12,22 @@ use Rattle.st_image.proofs.Posting.{seen}
 use Rattle.st_image.proofs.Keeping.{edits_few}
 use Rattle.st_image.proofs.Lists.{off_append}
 use Rattle.st_image.proofs.Editing.{IsEdited, edited}
+use Rattle.st_image.proofs.ClientNumbers.{kept_other}
 use Rattle.st_image.proofs.image.Image.edit.Goals as goal
 
 pub overflow_add-self : goal.overflow_add-self
-overflow_add-self c = omega (arith, edits_few c.self.inside.history.items, c.self.invariant.counted, c.self.invariant.few_items, c.self.invariant.numbers.few_items)
+overflow_add-self g c = omega (arith, edits_few c.self.inside.history.items, c.self.invariant.image.counted, c.self.invariant.image.few_items, c.self.invariant.image.numbers.few_items)
 
 pub with_accepted-requires-clause-accepted : goal.with_accepted-requires-clause-accepted
-with_accepted-requires-clause-accepted c =
+with_accepted-requires-clause-accepted g c =
     let accepted = (off_append (edit_rules (world c.args.self.now).edits c.args.edit) (run_rules c.args.self.now) (sym c.in_default.ensures)).0 in
     rw (c.version.ensures, c.in-Ok.ensures) accepted
 
 pub with_accepted-requires-clause-suits : goal.with_accepted-requires-clause-suits
-with_accepted-requires-clause-suits c = (c.args.self.now.names, rw (c.version.ensures, c.in-Ok.ensures) c.requires)
+with_accepted-requires-clause-suits g c = (c.args.self.now.names, rw (c.version.ensures, c.in-Ok.ensures) c.requires)
 
 pub invariant_of-self-2 : goal.invariant_of-self-2
-invariant_of-self-2 c =
+invariant_of-self-2 g c =
     let i = c.self.inside in
     let w = world_of (constants_of i.names i.settings.capacity) start i.history.items in
     let suits : edit_suits i.names w.edits c.args.edit ≡ true = subst (λ (v : ImageView). edit_suits v.names (world v).edits c.args.edit ≡ true) (sym c.self.view_is) c.requires in
@@ -36,11 +37,11 @@ invariant_of-self-2 c =
     let item : c.in-Ok-again.item ≡ c.args.edit = c.in-Ok-again.ensures ∙ c.in-Ok.ensures in
     let put : c.push.new.self.items ≡ i.history.items ++ Edited c.in-Ok-again.item ∷ [] = grind (arith, common_steps) in
     let items : c.push.new.self.items ≡ i.history.items ++ Edited c.args.edit ∷ [] = subst (λ (x : Edit). c.push.new.self.items ≡ i.history.items ++ Edited x ∷ []) item put in
-    let e : IsEdited start i.names c.in-Ok-with_accepted.version i.actors (i.history.items ++ Edited c.args.edit ∷ []) (i.edits_made + 1) i.settings = edited start i.names i.version c.in-Ok-with_accepted.version i.actors i.history.items i.edits_made i.settings i.next_from c.args.edit c.self.invariant c.known.ensures suits allowed after in
-    rw items e.image
+    let e : IsEdited start i.names c.in-Ok-with_accepted.version i.actors (i.history.items ++ Edited c.args.edit ∷ []) (i.edits_made + 1) i.settings = edited start i.names i.version c.in-Ok-with_accepted.version i.actors i.history.items i.edits_made i.settings i.next_from c.args.edit c.self.invariant.image c.known.ensures suits allowed after in
+    rw items (record { image = e.image; numbers_of_clients = kept_other i.clients [] i.history.items (Edited c.args.edit) (λ qs. refl) c.self.invariant.numbers_of_clients })
 
 pub returns : goal.returns
-returns c =
+returns g c =
     let i = c.self.inside in
     let w = world_of (constants_of i.names i.settings.capacity) start i.history.items in
     let suits : edit_suits i.names w.edits c.args.edit ≡ true = subst (λ (v : ImageView). edit_suits v.names (world v).edits c.args.edit ≡ true) (sym c.self.view_is) c.requires in
@@ -50,6 +51,6 @@ returns c =
     let item : c.in-Ok-again.item ≡ c.args.edit = c.in-Ok-again.ensures ∙ c.in-Ok.ensures in
     let put : c.push.new.self.items ≡ i.history.items ++ Edited c.in-Ok-again.item ∷ [] = grind (arith, common_steps) in
     let items : c.push.new.self.items ≡ i.history.items ++ Edited c.args.edit ∷ [] = subst (λ (x : Edit). c.push.new.self.items ≡ i.history.items ++ Edited x ∷ []) item put in
-    let e : IsEdited start i.names c.in-Ok-with_accepted.version i.actors (i.history.items ++ Edited c.args.edit ∷ []) (i.edits_made + 1) i.settings = edited start i.names i.version c.in-Ok-with_accepted.version i.actors i.history.items i.edits_made i.settings i.next_from c.args.edit c.self.invariant c.known.ensures suits allowed after in
+    let e : IsEdited start i.names c.in-Ok-with_accepted.version i.actors (i.history.items ++ Edited c.args.edit ∷ []) (i.edits_made + 1) i.settings = edited start i.names i.version c.in-Ok-with_accepted.version i.actors i.history.items i.edits_made i.settings i.next_from c.args.edit c.self.invariant.image c.known.ensures suits allowed after in
     let count : c.edits.result ≡ length (world_of (constants_of i.names i.settings.capacity) start (i.history.items ++ Edited c.args.edit ∷ [])).edits = c.edits.ensures ∙ ap (λ (es : List Edit). length es) (sym e.edits_are) in
     ((sym c.in_default.ensures, (rw (items, ← c.self.view_is) refl, rw items count)), tt)

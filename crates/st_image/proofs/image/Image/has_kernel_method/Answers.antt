@@ -4,4 +4,4 @@ use Rattle.st_image.proofs.Installing.{kernel_found}
 use Rattle.st_image.proofs.image.Image.has_kernel_method.Goals as goal
 
 pub returns-in-Some : goal.returns-in-Some
-returns-in-Some c = c.is_some.ensures ∙ ap is_some c.kernel_at.ensures ∙ kernel_found c.self.inside.names c.self.invariant.world.constants.kernel c.args.class c.args.selector.now c.in-Some.selector (sym c.find.ensures ∙ c.in-Some.is)
+returns-in-Some g c = c.is_some.ensures ∙ ap is_some c.kernel_at.ensures ∙ kernel_found c.self.inside.names c.self.invariant.image.world.constants.kernel c.args.class c.args.selector.now c.in-Some.selector (sym c.find.ensures ∙ c.in-Some.is)

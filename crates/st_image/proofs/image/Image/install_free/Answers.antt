@@ -5,16 +5,16 @@ use Rattle.st_image.proofs.Installing.{exact_answers, tree_refused, tree_install
 use Rattle.st_image.proofs.image.Image.install_free.Goals as goal
 
 pub returns-in-Err-clause-answers : goal.returns-in-Err-clause-answers
-returns-in-Err-clause-answers c = tree_refused c.args.self.now c.args.class c.args.tree.now.syntax c.in-Err.refusal c.requires.class c.requires.free c.in-Err.ensures.answers
+returns-in-Err-clause-answers g c = tree_refused c.args.self.now c.args.class c.args.tree.now.syntax c.in-Err.refusal c.requires.class c.requires.free c.in-Err.ensures.answers
 
 pub edit-requires : goal.edit-requires
-edit-requires c = subst (λ (v : World). suits c.compiled.new.self.names v.edits c.args.class c.in-Ok.method ≡ true) (sym c.compiled.ensures.world) c.in-Ok.ensures.answers.1.fitting
+edit-requires g c = subst (λ (v : World). suits c.compiled.new.self.names v.edits c.args.class c.in-Ok.method ≡ true) (sym c.compiled.ensures.world) c.in-Ok.ensures.answers.1.fitting
 
 pub returns-clause-answers : goal.returns-clause-answers
-returns-clause-answers c = tree_installed c.args.self.now c.compiled.new.self c.edit.new.self c.args.class c.args.tree.now.syntax c.args.tree.now.source c.in-Ok.method c.edit.result c.requires.class c.requires.free c.in-Ok.ensures.answers.0 c.in-Ok.ensures.names c.compiled.ensures.world c.known-2.ensures.lawful c.known-2.ensures.standing.constants.kernel c.in-Ok.ensures.answers.1 (exact_answers _ c.edit.result _ c.edit.ensures.0)
+returns-clause-answers g c = tree_installed c.args.self.now c.compiled.new.self c.edit.new.self c.args.class c.args.tree.now.syntax c.args.tree.now.source c.in-Ok.method c.edit.result c.requires.class c.requires.free c.in-Ok.ensures.answers.0 c.in-Ok.ensures.names c.compiled.ensures.world c.known-2.ensures.lawful c.known-2.ensures.standing.constants.kernel c.in-Ok.ensures.answers.1 (exact_answers _ c.edit.result _ c.edit.ensures.0)
 
 pub returns-in-Err-clause-refused : goal.returns-in-Err-clause-refused
-returns-in-Err-clause-refused c = tree_left c.args.self.now c.compiled.new.self c.args.class c.args.tree.now.syntax c.args.tree.now.source c.in-Err.refusal c.known.ensures c.requires.class c.requires.free c.compiled.ensures.some c.compiled.ensures.only c.compiled.ensures.untouched c.in-Err.ensures.full c.in-Err.ensures.answers
+returns-in-Err-clause-refused g c = tree_left c.args.self.now c.compiled.new.self c.args.class c.args.tree.now.syntax c.args.tree.now.source c.in-Err.refusal c.known.ensures c.requires.class c.requires.free c.compiled.ensures.some c.compiled.ensures.only c.compiled.ensures.untouched c.in-Err.ensures.full c.in-Err.ensures.answers
 
 pub returns-clause-refused : goal.returns-clause-refused
-returns-clause-refused c = edit_left c.edit.result _ c.args.self.now c.compiled.new.self c.edit.new.self c.args.class c.args.tree.now.syntax c.args.tree.now.source c.in-Ok.method c.known.ensures c.requires.class c.requires.free c.in-Ok.ensures.answers.0 c.in-Ok.ensures.names c.compiled.ensures.world c.known-2.ensures.standing.constants.kernel c.in-Ok.ensures.answers.1.selector c.edit.ensures.1 (exact_answers _ c.edit.result _ c.edit.ensures.0)
+returns-clause-refused g c = edit_left c.edit.result _ c.args.self.now c.compiled.new.self c.edit.new.self c.args.class c.args.tree.now.syntax c.args.tree.now.source c.in-Ok.method c.known.ensures c.requires.class c.requires.free c.in-Ok.ensures.answers.0 c.in-Ok.ensures.names c.compiled.ensures.world c.known-2.ensures.standing.constants.kernel c.in-Ok.ensures.answers.1.selector c.edit.ensures.1 (exact_answers _ c.edit.result _ c.edit.ensures.0)

@@ -7,13 +7,14 @@ use Rattle.st_image.proofs.Showing.{count_is}
 use Rattle.st_image.proofs.image.Image.known.Goals as goal
 
 pub returns : goal.returns
-returns c =
+returns g c =
     let i = c.self.inside in
-    let k = c.self.invariant in
+    let k = c.self.invariant.image in
     let w : World = world_of (constants_of i.names i.settings.capacity) start i.history.items in
     let count : length i.actors ≡ length w.actors = count_is i.version i.actors w k.shows in
     subst IsLawful c.self.view_is (record {
       base = k.base_is;
+      senders = k.senders;
       lawful = k.lawful;
       standing = k.world;
       turns = k.turns;

@@ -1,6 +1,6 @@
-use Rattle.std.proofs.Common.{sym}
+use Rattle.std.proofs.Common.{refl, sym}
 use Rattle.st_image.proofs.Beginning.{new_is, settings_are}
 use Rattle.st_image.proofs.image.Image.new.Goals as goal
 
 pub invariant_of-result : goal.invariant_of-result
-invariant_of-result c = rw (c.in-Ok.ensures, c.in-Ok-kernel.ensures, c.new.ensures, c.new-2.ensures.items) (new_is c.args.settings (settings_are c.args.settings (sym c.in_default.ensures)))
+invariant_of-result g c = rw (c.in-Ok.ensures, c.in-Ok-kernel.ensures, c.new.ensures, c.new-2.ensures, c.new-3.ensures.items) (record { image = new_is c.args.settings (settings_are c.args.settings (sym c.in_default.ensures)); numbers_of_clients = λ s. refl })

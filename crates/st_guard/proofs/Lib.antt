@@ -1,0 +1,5 @@
+pub mod Covering
+pub mod ChainWalks
+pub mod Numbering
+pub mod Validity
+pub mod LaterEdits

@@ -1,0 +1,78 @@
+//! The walk over the rows of a class table, which the caches save.
+ghost use Rattle.std.specs.Prelude.{◌≡◌, ◌+◌, ◌^◌, ◌%◌, true, IfSome};
+ghost use Rattle.st_classes.specs.Classes.{chain, is_class, parent};
+ghost use Rattle.st_classes.specs.Walks.{found_by, or_missing, super_walk, walk};
+ghost use Rattle.st_guard.specs.RowsRead.{rows_from, rows_missing, rows_read, rows_walked};
+
+use st_classes::counted_rows::ClassRows;
+use st_classes::kernel::{DOES_NOT_UNDERSTAND, Found, Target};
+use st_classes::keys::Key;
+use st_classes::values::{ClassId, Selector};
+
+/// The first method that a walk up from a class finds.
+fn walk<R: ClassRows>(rows: &mut R, class: ClassId, selector: Selector) -> Option<Found>
+    requires { is_class (R.edits rows.old) class ≡ true }
+    ensures found { result ≡ walk (R.edits rows.old) class selector }
+    ensures edits { R.edits rows.new ≡ R.edits rows.old }
+    ensures reads { R.reads rows.new ≡ (R.reads rows.old + rows_walked (R.edits rows.old) (chain (R.edits rows.old) class) selector) % 2 ^ 64 }
+{
+    rows.known();
+    let mut at = class;
+    'up: loop {
+        let row = rows.read(at, selector);
+        if let Some(found) = row.own {
+            return Some(found);
+        }
+        match row.parent {
+            Some(up) => at = up,
+            None => return None,
+        }
+    }
+}
+
+/// What a walk found, or else the user's method for `doesNotUnderstand:`.
+fn or_missing<R: ClassRows>(rows: &mut R, class: ClassId, found: Option<Found>) -> Target
+    requires { is_class (R.edits rows.old) class ≡ true }
+    ensures target { result ≡ or_missing (R.edits rows.old) class found }
+    ensures edits { R.edits rows.new ≡ R.edits rows.old }
+    ensures reads { R.reads rows.new ≡ (R.reads rows.old + rows_missing (R.edits rows.old) class found) % 2 ^ 64 }
+{
+    rows.known();
+    match found {
+        Some(Found::User(id)) => Target::Run(id),
+        Some(Found::Kernel(kernel)) => Target::Primitive(kernel),
+        None => Target::Missing(match walk(rows, class, DOES_NOT_UNDERSTAND) {
+            Some(Found::User(id)) => Some(id),
+            _ => None,
+        }),
+    }
+}
+
+/// The walk that begins above a holder.
+fn walk_above<R: ClassRows>(rows: &mut R, holder: ClassId, selector: Selector) -> Option<Found>
+    requires { is_class (R.edits rows.old) holder ≡ true }
+    ensures found { result ≡ super_walk (R.edits rows.old) holder selector }
+    ensures edits { R.edits rows.new ≡ R.edits rows.old }
+    ensures reads { R.reads rows.new ≡ (R.reads rows.old + (1 + rows_from (R.edits rows.old) (parent (R.edits rows.old) holder) selector)) % 2 ^ 64 }
+{
+    rows.known();
+    match rows.read(holder, selector).parent {
+        Some(up) => walk(rows, up, selector),
+        None => None,
+    }
+}
+
+/// What the send of a key runs, by the walk alone. How many rows it reads is exact.
+pub fn find<R: ClassRows>(rows: &mut R, key: Key) -> Target
+    requires class { is_class (R.edits rows.old) key.class ≡ true }
+    requires holder { IfSome key.holder (λ h. is_class (R.edits rows.old) h ≡ true) }
+    ensures target { result ≡ found_by (R.edits rows.old) key }
+    ensures edits { R.edits rows.new ≡ R.edits rows.old }
+    ensures reads { R.reads rows.new ≡ (R.reads rows.old + rows_read (R.edits rows.old) key) % 2 ^ 64 }
+{
+    let found = match key.holder {
+        None => walk(rows, key.class, key.selector),
+        Some(holder) => walk_above(rows, holder, key.selector),
+    };
+    or_missing(rows, key.class, found)
+}

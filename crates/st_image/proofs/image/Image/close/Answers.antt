@@ -1,0 +1,18 @@
+use Rattle.std.proofs.Common.{arith, ◌≡◌, ◌++◌, [], ◌∷◌, None, refl, sym, subst, slice_get}
+use Rattle.std.proofs.lemmas.Grind.{common_steps}
+use Rattle.st_classes.specs.Refusals.{first_of}
+use Rattle.st_image.specs.declared.items.Item.TheVariants.{Closed}
+use Rattle.st_image.specs.Worlds.{change_at, start}
+use Rattle.st_image.specs.Images.{ImageView, close_rules, world, world_of}
+use Rattle.st_image.specs.ActResults.{constants_of}
+use Rattle.st_image.proofs.ClientNumbers.{kept_other}
+use Rattle.st_image.proofs.Closing.{closed, shut}
+use Rattle.st_image.proofs.Posting.{seen}
+use Rattle.st_image.proofs.image.Image.close.Goals as goal
+
+pub invariant_of-self-2 : goal.invariant_of-self-2
+invariant_of-self-2 g c =
+    let i = c.self.inside in
+    let allowed : first_of (close_rules (seen start i.names i.history.items i.settings i.next_from) (slice_get (world_of (constants_of i.names i.settings.capacity) start i.history.items).actors c.args.actor.0)) ≡ None = subst (λ (v : ImageView). first_of (close_rules v (slice_get (world v).actors c.args.actor.0)) ≡ None) (sym c.self.view_is) (sym c.in_default.ensures.value) in
+    let items : c.push.new.self.items ≡ i.history.items ++ Closed c.args.actor ∷ [] = grind (arith, common_steps) in
+    rw items (record { image = closed start i.names i.version i.actors c.close.new.self i.history.items i.edits_made i.settings i.next_from c.args.actor c.self.invariant.image allowed c.close.ensures; numbers_of_clients = kept_other i.clients [] i.history.items (Closed c.args.actor) (λ qs. refl) c.self.invariant.numbers_of_clients })

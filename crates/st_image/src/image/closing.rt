@@ -1,0 +1,46 @@
+//! Image::close: a mailbox accepts no more messages.
+use crate::image::Image;
+use crate::items::Item;
+use st_classes::refusals::Refusal;
+use st_classes::values::ActorId;
+use st_mailbox::mailboxes::Mailbox;
+
+impl<M: Mailbox> Image<M> {
+    ghost use Rattle.std.specs.Prelude.{◌≡◌, ◌<◌, length, slice_get, IfNone};
+    ghost use Rattle.st_classes.specs.Refusals.{first_of};
+    ghost use Rattle.st_image.specs.Calls.{Closes};
+    ghost use Rattle.st_image.specs.Images.{close_rules, world};
+
+    /// Why a close is refused, if it is.
+    fn close_refusal(&self, actor: ActorId) -> Option<Refusal>
+        ensures value { result ≡ first_of (close_rules self.now (slice_get (world self.now).actors actor.0)) }
+        ensures there { IfNone result (actor.0 < length (world self.now).actors) }
+    {
+        let Some(kept) = self.actor(actor) else {
+            return Some(Refusal::UnknownActor);
+        };
+        if !kept.is_open() {
+            return Some(Refusal::Closed);
+        }
+        self.room_refusal(1)
+    }
+
+    /// Closes the mailbox of an actor: it accepts no more messages. What it accepted before
+    /// may still be begun.
+    ///
+    /// Refusals, in this order: `UnknownActor`; `Closed` where it is closed already; `HistoryFull`. Memory can run out
+    /// only where none of these applies. A refused call changes nothing.
+    pub fn close(&mut self, actor: ActorId) -> Result<(), Refusal>
+        ensures { Closes self.old actor result self.new }
+    {
+        if let Some(refusal) = self.close_refusal(actor) {
+            return Err(refusal);
+        }
+        if self.history.reserve(1).is_err() {
+            return Err(Refusal::NoMemory);
+        }
+        self.actors.close(actor);
+        self.history.push(Item::Closed(actor)).unwrap();
+        Ok(())
+    }
+}

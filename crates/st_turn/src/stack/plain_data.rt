@@ -1,0 +1,112 @@
+//! Frames as plain data: made of their parts, copied, and compared. What lies above the top never counts.
+ghost use Rattle.std.specs.Prelude.{◌≡◌, ◌↔◌, ◌++◌, length, IfOk, IsTrue, OnOk};
+ghost use Rattle.st_turn.specs.StackLayout.{place_of, places_of, spread, spread_all};
+
+use crate::frame::Frame;
+use crate::stack::{Place, Stack};
+use crate::value_lists::same_values;
+use st_classes::limits::OPERANDS;
+use st_classes::values::Value;
+use std::alloc::{AllocError, Global};
+
+impl Stack {
+    /// The frames of a turn by their parts: those that wait, the last called last, and the running one. Only want of memory
+    /// is an error.
+    pub fn from_frames(
+        alloc: Global,
+        callers: &[Frame],
+        running: &Frame,
+    ) -> Result<Stack, AllocError>
+        ensures { IfOk result (λ stack. stack ≡ record { callers = callers.now; running = running.now }) }
+    {
+        let mut values = Vec::new(alloc);
+        let callers = lay_all(alloc, &mut values, callers)?;
+        let at = lay(&mut values, running)?;
+        let top = values.len();
+        let size = usize::max(top, at.base + at.temps + OPERANDS);
+        values.resize(size, Value::Nil)?;
+        Ok(Stack {
+            values,
+            top,
+            callers,
+            at,
+        })
+    }
+
+    /// The same frames in memory of their own.
+    pub fn copy(&self, alloc: Global) -> Result<Stack, AllocError>
+        ensures { IfOk result (λ stack. stack ≡ self.now) }
+    {
+        let size = usize::max(self.top, self.at.base + self.at.temps + OPERANDS);
+        let mut values = Vec::new(alloc);
+        values.extend_from_slice(&self.values[..self.top])?;
+        values.resize(size, Value::Nil)?;
+        let mut callers = Vec::new(alloc);
+        callers.extend_from_slice(self.callers.as_slice())?;
+        Ok(Stack {
+            values,
+            top: self.top,
+            callers,
+            at: self.at,
+        })
+    }
+
+    /// Whether two stacks have the same frames.
+    pub fn is_same(&self, other: &Stack) -> bool
+        ensures { IsTrue result ↔ self.now ≡ other.now }
+    {
+        if !same_place(&self.at, &other.at) {
+            return false;
+        }
+        if !same_places(self.callers.as_slice(), other.callers.as_slice()) {
+            return false;
+        }
+        same_values(&self.values[..self.top], &other.values[..other.top])
+    }
+}
+
+/// Lays a frame on top of some values. The answer is its place.
+fn lay(values: &mut Vec<Value>, frame: &Frame) -> Result<Place, AllocError>
+    ensures place { IfOk result (λ place. place ≡ place_of (length values.old.items) frame.now) }
+    ensures values { OnOk result (values.new.items ≡ values.old.items ++ spread frame.now) }
+{
+    let base = values.len() + 1;
+    values.push(frame.receiver)?;
+    values.extend_from_slice(frame.temps.as_slice())?;
+    values.extend_from_slice(frame.operands.as_slice())?;
+    Ok(Place {
+        method: frame.method,
+        pc: frame.pc,
+        base,
+        temps: frame.temps.len(),
+    })
+}
+
+/// Lays frames one above the other, from the bottom. The answer is their places.
+fn lay_all(
+    alloc: Global,
+    values: &mut Vec<Value>,
+    frames: &[Frame],
+) -> Result<Vec<Place>, AllocError>
+    requires { length values.old.items ≡ 0 }
+    ensures places { IfOk result (λ places. places.items ≡ places_of 0 frames.now) }
+    ensures values { OnOk result (values.new.items ≡ spread_all frames.now) }
+{
+    let mut places = Vec::new(alloc);
+    for frame in frames {
+        places.push(lay(values, frame)?)?;
+    }
+    Ok(places)
+}
+
+fn same_place(one: &Place, other: &Place) -> bool
+    ensures { IsTrue result ↔ one.now ≡ other.now }
+{
+    one == other
+}
+
+fn same_places(some: &[Place], others: &[Place]) -> bool
+    ensures { IsTrue result ↔ some.now ≡ others.now }
+{
+    some == others
+}

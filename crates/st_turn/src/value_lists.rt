@@ -1,0 +1,22 @@
+//! Lists of values: their copy, and whether they are the same.
+ghost use Rattle.std.specs.Prelude.{◌≡◌, ◌↔◌, IfOk, IsTrue};
+
+use st_classes::seq::Seq;
+use st_classes::values::{Value, Values};
+use std::alloc::{AllocError, Global};
+
+/// The same values in memory of their own.
+pub(crate) fn copied(alloc: Global, values: &Values) -> Result<Values, AllocError>
+    ensures { IfOk result (λ copy. copy ≡ values.now) }
+{
+    let mut items = Vec::new(alloc);
+    items.extend_from_slice(values.as_slice())?;
+    Ok(Seq::from_vec(items))
+}
+
+/// Whether two lists have the same values.
+pub(crate) fn same_values(some: &[Value], others: &[Value]) -> bool
+    ensures { IsTrue result ↔ some.now ≡ others.now }
+{
+    some == others
+}

@@ -1,0 +1,9 @@
+local function count(n)
+  local i = 0
+  while i < n do
+    i = i + 1
+  end
+  return i
+end
+
+print(count(tonumber(arg[1])))

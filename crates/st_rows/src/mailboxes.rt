@@ -32,7 +32,7 @@ fn holding(alloc: Global, capacity: u32) -> Result<Image, Refusal> {
 fn filled(alloc: Global, capacity: u32) -> Result<Image, Refusal> {
     let mut image = holding(alloc, capacity)?;
     create_object(alloc, &mut image)?;
-    for number in 1..capacity + 1 {
+    for number in 1..capacity.saturating_add(1) {
         ask(alloc, &mut image, u64::from(number))?;
     }
     Ok(image)
@@ -75,7 +75,7 @@ fn runs_what_is_left(alloc: Global, image: &mut Image, last: u64) -> bool {
         && pending(image) == Some(0)
         && is_open(image) == Some(false)
         && outcome(image, last) == FALSE
-        && outcome(image, last + 1) == Err(Refusal::Pending)
+        && outcome(image, last.saturating_add(1)) == Err(Refusal::Pending)
 }
 
 /// Mailboxes of one message and of 1,024 that a client fills and closes.
@@ -150,13 +150,14 @@ fn fills_its_own(alloc: Global, image: &mut Image, most: u32) -> bool {
 fn shuts_its_own(alloc: Global, image: &mut Image, sent: u64) -> bool {
     let tell = named(image, "tell");
     let shut = named(image, "shut");
+    let (third, fourth) = (sent.saturating_add(3), sent.saturating_add(4));
     run(alloc, image) == Ok(())
-        && post(alloc, image, 1, 3, shut) == Ok(sent + 3)
+        && post(alloc, image, 1, 3, shut) == Ok(third)
         && advance(alloc, image, 1) == Ok(1)
-        && post(alloc, image, 1, 4, tell) == Ok(sent + 4)
+        && post(alloc, image, 1, 4, tell) == Ok(fourth)
         && run(alloc, image) == Ok(())
-        && outcome(image, sent + 3) == TRUE
-        && outcome(image, sent + 4) == FALSE
+        && outcome(image, third) == TRUE
+        && outcome(image, fourth) == FALSE
         && last_sent(image) == Some(sent)
         && post(alloc, image, 1, 5, tell) == Err(Refusal::Closed)
 }

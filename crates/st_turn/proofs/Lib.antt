@@ -16,3 +16,6 @@ pub mod LaidFrames
 pub mod StackMoves
 pub mod StackDetermined
 pub mod StackMade
+pub mod ClaimSteps
+pub mod Busy
+pub mod WorkerSteps

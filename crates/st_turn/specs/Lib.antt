@@ -9,3 +9,6 @@ pub mod BodyFits
 pub mod Needs
 pub mod Idle
 pub mod StepResults
+pub mod Lookups
+pub mod Claims
+pub mod WorkerSteps

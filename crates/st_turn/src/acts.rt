@@ -4,12 +4,13 @@ ghost use Rattle.st_classes.specs.declared.values.Value.{Value as ValueOf};
 ghost use Rattle.st_turn.specs.declared.acts.Act.{Act as ActOf};
 ghost use Rattle.st_turn.specs.BodyFits.{FitsSome};
 ghost use Rattle.st_turn.specs.StepResults.{IsAct};
-ghost use Rattle.st_turn.specs.Steps.{act_in, act_of as act_for, outer, reply_body, step};
+ghost use Rattle.st_turn.specs.Steps.{act_in, act_of as act_for, next_site_in, outer, reply_body, step};
 
 use crate::body::{Body, Outcome, Phase};
-use crate::plain::fetch;
+use crate::general::fetch;
 use st_classes::faults::Fault;
 use st_classes::instructions::Instruction;
+use st_classes::keys::SiteId;
 use st_classes::seq::Seq;
 use st_classes::values::{ActorId, ClassId, Selector, Value, Values};
 use st_classes::version::Version;
@@ -100,6 +101,19 @@ pub fn next_act(
         }
         _ => Ok(None),
     }
+}
+
+/// The site of the next step of a body, where it is one of a frame.
+pub fn next_site(body: &Body) -> Option<SiteId>
+    ensures { result ≡ next_site_in body.now.phase }
+{
+    let Phase::Frames(frames) = &body.phase else {
+        return None;
+    };
+    Some(SiteId {
+        method: frames.method(),
+        place: frames.pc(),
+    })
 }
 
 /// The image did what the next step of a body asks of it: the turn goes on with the answer, or ends with a fault.

@@ -1,0 +1,141 @@
+//! Steps of an actor that are taken apart from the image.
+ghost use Rattle.std.specs.Prelude.{◌≡◌, [], IfOk};
+ghost use Rattle.st_turn.specs.BodyFits.{FitsSome};
+ghost use Rattle.st_turn.specs.Claims.{IsSound};
+ghost use Rattle.st_turn.specs.Steps.{is_outer, step};
+
+pub(crate) mod stepping;
+
+use crate::acts::is_act_next;
+use crate::body::Body;
+use st_classes::keys::SiteId;
+use st_classes::token::Token;
+use st_classes::values::ActorId;
+use st_guard::how::How;
+use st_sites::site::SiteState;
+use std::alloc::{AllocError, Global};
+use std::marker::Model;
+
+/// The most steps of a claim.
+pub const MOST_STEPS: u32 = 4_294_967_294;
+
+/// What became of a send.
+#[derive(Clone, Copy, PartialEq, Eq, Debug)]
+pub struct Sent {
+    pub site: SiteId,
+    /// How its target was found.
+    pub how: How,
+    /// The state of its site afterwards.
+    pub state: SiteState,
+}
+
+/// Steps of an actor at a published version, which lead from a body of the actor's to another. Contracts see the actor, the edits of
+/// the version, the two bodies, the number of steps, and the sends among them in order.
+///
+/// A claim is sound by its type: its steps are steps of the definitions, none of them an act that the image does.
+#[derive(Drop)]
+pub struct Claim {
+    actor: ActorId,
+    token: Token,
+    before: Body,
+    after: Body,
+    steps: u32,
+    sends: Vec<Sent>,
+}
+
+impl Model for Claim {
+    ghost use Rattle.st_turn.specs.Claims.{ClaimView, IsSound};
+
+    ghost Value = { ClaimView };
+
+    ghost view = { λ c. record { actor = c.actor; edits = c.token; before = c.before; after = c.after; steps = c.steps; sends = c.sends.items } };
+
+    ghost invariant = { λ c. IsSound c.actor c.token c.before c.after c.steps c.sends.items };
+}
+
+impl Claim {
+    /// No steps, from a body that fits the version.
+    pub fn new(alloc: Global, actor: ActorId, token: Token, body: Body) -> Result<Claim, AllocError>
+        requires { FitsSome token actor body }
+        ensures { IfOk result (λ c. c ≡ record { actor = actor; edits = token; before = body; after = body; steps = 0; sends = [] }) }
+    {
+        let after = body.copy(alloc)?;
+        Ok(Claim {
+            actor,
+            token,
+            before: body,
+            after,
+            steps: 0,
+            sends: Vec::new(alloc),
+        })
+    }
+
+    /// Shows that the claim is sound.
+    pub fn known(&self)
+        ensures { IsSound self.now.actor self.now.edits self.now.before self.now.after self.now.steps self.now.sends }
+    {
+        let _steps = self.steps;
+    }
+
+    #[inline]
+    pub fn actor(&self) -> ActorId
+        ensures { result ≡ self.now.actor }
+    {
+        self.actor
+    }
+
+    /// The version at which the steps were taken.
+    #[inline]
+    pub fn token(&self) -> &Token
+        ensures { result.now ≡ self.now.edits }
+    {
+        &self.token
+    }
+
+    /// The body from which the steps lead.
+    #[inline]
+    pub fn before(&self) -> &Body
+        ensures { result.now ≡ self.now.before }
+    {
+        &self.before
+    }
+
+    /// The body to which the steps lead.
+    #[inline]
+    pub fn after(&self) -> &Body
+        ensures { result.now ≡ self.now.after }
+    {
+        &self.after
+    }
+
+    /// The number of steps.
+    #[inline]
+    pub fn steps(&self) -> u32
+        ensures { result ≡ self.now.steps }
+    {
+        self.steps
+    }
+
+    /// The sends of the steps, in order.
+    #[inline]
+    pub fn sends(&self) -> &[Sent]
+        ensures { result.now ≡ self.now.sends }
+    {
+        self.sends.as_slice()
+    }
+
+    /// Whether the next step is an act that the image does.
+    pub fn is_act_next(&self) -> bool
+        ensures { result ≡ is_outer (step self.now.edits self.now.actor self.now.after) }
+    {
+        is_act_next(&self.after, self.actor, self.token.shown())
+    }
+
+    /// Gives the body to which the steps lead. No memory is taken.
+    pub fn into_after(self) -> Body
+        ensures { result ≡ self.after }
+    {
+        let Claim { after, .. } = self;
+        after
+    }
+}

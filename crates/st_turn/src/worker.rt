@@ -1,0 +1,92 @@
+//! A worker: caches, with which it takes the steps of claims.
+ghost use Rattle.std.specs.Prelude.{◌≡◌, None, IfSome};
+ghost use Rattle.st_classes.specs.EditLists.{Begins};
+ghost use Rattle.st_guard.specs.Moves.{CachesView, IsEmptied};
+ghost use Rattle.st_turn.specs.WorkerSteps.{HasMoved, Runs, StandsAt, Steps};
+
+use crate::body::Stop;
+use crate::claim::Claim;
+use crate::claim::stepping::run_steps;
+use crate::finder::Finder;
+use st_classes::token::Token;
+use st_guard::caches::Caches;
+use st_guard::guard::Guard;
+use std::alloc::{AllocError, Global};
+use std::marker::Model;
+
+/// Takes the steps of claims, and keeps what it found on the way. Contracts see its caches.
+#[derive(Drop)]
+pub struct Worker<G: Guard> {
+    finder: Finder<G>,
+}
+
+impl<G: Guard> Model for Worker<G> {
+    ghost use Rattle.st_guard.specs.Moves.{CachesView};
+
+    ghost Value = { CachesView G };
+
+    ghost view = { λ w. w.finder.caches };
+}
+
+impl<G: Guard> Worker<G> {
+    /// A worker with these caches.
+    pub fn new(caches: Caches<G>) -> Worker<G>
+        ensures { result ≡ caches }
+    {
+        Worker {
+            finder: Finder { caches, last: None },
+        }
+    }
+
+    /// Its caches, which are valid at the list of edits that they keep, where they keep one.
+    #[inline]
+    pub fn caches(&self) -> &Caches<G>
+        ensures { result.now ≡ self.now }
+    {
+        &self.finder.caches
+    }
+
+    /// Brings the caches to a version whose edits those that are kept begin.
+    fn move_to(&mut self, token: &Token)
+        requires { IfSome self.old.kept (λ k. Begins k token.now) }
+        ensures { HasMoved G.count G.floor G.raises self.old self.new token.now }
+    {
+        let _moved = self.finder.caches.move_known(token);
+    }
+
+    /// Takes one step of a claim, whose edits those begin that the caches keep, as the caller knows.
+    ///
+    /// `More` says that a step was taken; `Ended` that no turn is going on, `Outer` that the next step is an act that the image
+    /// does, and `Limit` that the claim can have no more steps: then the claim stays. It also stays for want of memory; then the
+    /// caches may have changed. The sends of the claim tell how the caches, moved to its edits, found what a send runs.
+    pub fn step(&mut self, alloc: Global, claim: &mut Claim) -> Result<Stop, AllocError>
+        requires { IfSome self.old.kept (λ k. Begins k claim.old.edits) }
+        ensures steps { (moved : CachesView G) × HasMoved G.count G.floor G.raises self.old moved claim.old.edits × Steps G.floor moved claim.old result self.new claim.new }
+        ensures stands { StandsAt G.count G.floor self.new claim.new.edits }
+        ensures edits { claim.new.edits ≡ claim.old.edits }
+    {
+        self.move_to(claim.token());
+        claim.step(alloc, &mut self.finder)
+    }
+
+    /// Takes steps of a claim, one after the other, until it has taken so many (it answers `More` then, for 0 too), none is next,
+    /// or memory was refused. Else as `step`. The caches are moved once.
+    pub fn run(&mut self, alloc: Global, claim: &mut Claim, limit: u32) -> Result<Stop, AllocError>
+        requires { IfSome self.old.kept (λ k. Begins k claim.old.edits) }
+        ensures runs { (moved : CachesView G) × HasMoved G.count G.floor G.raises self.old moved claim.old.edits × Runs G.floor limit moved claim.old result self.new claim.new }
+        ensures stands { StandsAt G.count G.floor self.new claim.new.edits }
+        ensures edits { claim.new.edits ≡ claim.old.edits }
+    {
+        self.move_to(claim.token());
+        run_steps(alloc, claim, &mut self.finder, limit)
+    }
+
+    /// Empties the caches. They keep no list of edits then. No memory is taken.
+    pub fn forget(&mut self)
+        ensures emptied { IsEmptied (G.floor self.new.guard) self.new.sites self.new.recent self.old.edits }
+        ensures edits { self.new.edits ≡ self.old.edits }
+        ensures kept { self.new.kept ≡ None }
+    {
+        self.finder.caches.forget();
+    }
+}

@@ -21,9 +21,11 @@ use Rattle.st_image.specs.Worlds.{Constants, World, WorldActor, change, change_a
 use Rattle.st_image.specs.PostRules.{message_fits, message_suits, number_rule, post_rules}
 use Rattle.st_mailbox.specs.Mailboxes.{box_rules}
 use Rattle.st_image.specs.Replay.{ActResult, with_accepted, after_close, create_result, failed_act, is_open_at, new_world_actor, only_if, after_post, after_post_by, attempted_act, with_last, with_new}
-use Rattle.st_image.specs.ActorViews.{ActorView, Shows, actor_view, new_actor_view, view_with_message}
+use Rattle.st_image.specs.ClaimsOut.{claims_of}
+use Rattle.st_image.specs.ActorViews.{ActorView, ActorsView, SameOut, Shows, actor_view, new_actor_view, view_with_message}
 use Rattle.st_image.specs.ActResults.{Does, GrowsByOne, IsShown, Tries, constants_of}
 use Rattle.st_image.proofs.Changing.{All-change}
+use Rattle.st_image.proofs.FreeOnes.{index_push}
 use Rattle.st_image.proofs.Showing.{being_at_kept, count_is, kept_accepting, kept_at, shows_change, shows_push}
 use Rattle.st_image.proofs.Keeping.{accept_more, being_at, fresh_body, none_is_none, take_in_accepts, through}
 
@@ -140,3 +142,19 @@ close_not names capacity edits actors w to o i at shut =
 
 pub close_grows : (actors after : List ActorView) (a : ℕ) → after ≡ change_at (λ (x : ActorView). record x { is_open = false }) a actors → GrowsByOne actors after
 close_grows actors after a put = λ bound h. subst (All (λ (k : ActorView). k.accepted ≤ bound + 1)) (sym put) (All-change (λ (k : ActorView). k.accepted ≤ bound + 1) (λ (x : ActorView). record x { is_open = false }) a actors (λ k at l. l) (accept_more bound actors h))
+
+-- the actors of two lists that are the same
+pub kept_is : (v w : ActorsView) → v ≡ w → v.kept ≡ w.kept
+kept_is v w e = ap (λ (x : ActorsView). x.kept) e
+
+-- and the counts of their claims
+pub out_same : (v w : ActorsView) → v ≡ w → v.out ≡ w.out
+out_same v w e = ap (λ (x : ActorsView). x.out) e
+
+-- as many claims are out, and then the counts are the same
+pub then_out : (one two three : List ℕ) → SameOut one two → three ≡ two → SameOut one three
+then_out one two three h e = λ b. ap (λ (ns : List ℕ). claims_of ns b) e ∙ h b
+
+-- no claim of a new actor is out
+pub pushed_out : (old new : List ℕ) → new ≡ old ++ 0 ∷ [] → SameOut old new
+pushed_out old new e = λ b. ap (λ (ns : List ℕ). claims_of ns b) e ∙ index_push old 0 b

@@ -10,7 +10,7 @@ use Rattle.st_image.specs.declared.items.Item.{Item}
 use Rattle.st_image.specs.declared.items.Item.TheVariants.{Closed}
 use Rattle.st_image.specs.Worlds.{Constants, World, WorldActor, change, change_at}
 use Rattle.st_image.specs.Replay.{is_open_at, next}
-use Rattle.st_image.specs.Images.{close_rules, no_room, world_of}
+use Rattle.st_image.specs.Images.{close_rules, no_room, world_of, Standing}
 use Rattle.st_image.specs.ActorViews.{ActorView, Shows}
 use Rattle.st_image.specs.ImageInvariant.{IsImage}
 use Rattle.st_image.specs.ActResults.{constants_of}
@@ -33,7 +33,7 @@ may_close : (i : _) (limit count : ℕ) (o : Option WorldActor) → first_of (cl
 may_close i limit count None e = cc
 may_close i limit count (Some b) e = let o1 = off (not b.is_open) IsClosed (no_room i 1 ∷ []) e in (open_by b.is_open o1.0, o1.1)
 
-pub closed : (base : World) (names : List (List ℕ)) (edits : List Edit) (actors actors' : List ActorView) (h : List Item) (made : ℕ) (s : Settings) (from : ℕ) (a : ActorId)
+pub closed : (base : World) (names : List (List ℕ)) (edits : List Edit) (actors actors' : List ActorView) (h : List Item) (made : ℕ) (s : Settings) (from : Standing) (a : ActorId)
     → IsImage base names edits actors h made s
     → first_of (close_rules (seen base names h s from) (slice_get (world_of (constants_of names s.capacity) base h).actors a.0)) ≡ None
     → actors' ≡ change_at shut a.0 actors

@@ -17,7 +17,7 @@ use Rattle.st_image.specs.declared.settings.Settings.{Settings}
 use Rattle.st_image.specs.declared.items.Item.{Item}
 use Rattle.st_image.specs.declared.items.Item.TheVariants.{Created}
 use Rattle.st_image.specs.Worlds.{World}
-use Rattle.st_image.specs.Images.{world_of, create_rules, no_room}
+use Rattle.st_image.specs.Images.{world_of, create_rules, no_room, Standing}
 use Rattle.st_image.specs.ActorViews.{ActorView, new_actor_view}
 use Rattle.st_image.specs.ImageInvariant.{IsImage}
 use Rattle.st_image.specs.ActResults.{constants_of}
@@ -29,7 +29,7 @@ use Rattle.st_image.proofs.Posting.{seen}
 fewer : (m n : ℕ) → nat_le m n ≡ false → n < m
 fewer m n h = grind (arith, nat_tests)
 
-pub created : (base : World) (names : List (List ℕ)) (edits : List Edit) (actors actors' : List ActorView) (h : List Item) (made : ℕ) (s : Settings) (from : ℕ) (class : ClassId)
+pub created : (base : World) (names : List (List ℕ)) (edits : List Edit) (actors actors' : List ActorView) (h : List Item) (made : ℕ) (s : Settings) (from : Standing) (class : ClassId)
     → IsImage base names edits actors h made s → first_of (create_rules (seen base names h s from) class) ≡ None → actors' ≡ actors ++ new_actor_view class s.capacity (fresh_body edits class) ∷ []
     → IsImage base names edits actors' (h ++ Created class ∷ []) made s
 created base names edits actors actors' h made s from class k allowed e =
@@ -44,7 +44,7 @@ created base names edits actors actors' h made s from class k allowed e =
     (created_kept base names edits actors actors' h made s class k inst (has_room s.history (length h) 1 _ o3.1) e).image
 
 -- there are fewer actors than there may be
-pub few_actors : (base : World) (names : List (List ℕ)) (edits : List Edit) (actors : List ActorView) (h : List Item) (made : ℕ) (s : Settings) (from : ℕ) (class : ClassId) → IsImage base names edits actors h made s → first_of (create_rules (seen base names h s from) class) ≡ None → length actors < 65536
+pub few_actors : (base : World) (names : List (List ℕ)) (edits : List Edit) (actors : List ActorView) (h : List Item) (made : ℕ) (s : Settings) (from : Standing) (class : ClassId) → IsImage base names edits actors h made s → first_of (create_rules (seen base names h s from) class) ≡ None → length actors < 65536
 few_actors base names edits actors h made s from class k allowed =
     let w : World = world_of (constants_of names s.capacity) base h in
     let room : List Rule = no_room (seen base names h s from) 1 ∷ [] in

@@ -10,7 +10,7 @@ use Rattle.st_image.specs.declared.settings.Settings.{Settings}
 use Rattle.st_image.specs.declared.items.Item.{Item}
 use Rattle.st_image.specs.declared.items.Item.TheVariants.{Edited}
 use Rattle.st_image.specs.Worlds.{World}
-use Rattle.st_image.specs.Images.{ImageView, constants, world, world_of, appended, edits_in, run_rules, no_room}
+use Rattle.st_image.specs.Images.{ImageView, constants, world, world_of, appended, edits_in, run_rules, no_room, Standing}
 use Rattle.st_image.specs.Replay.{replay}
 use Rattle.st_classes.specs.EditLists.{IsSoundEdit}
 use Rattle.st_image.specs.ActorViews.{ActorView}
@@ -28,7 +28,7 @@ pub record IsEdited (base : World) (names : List (List ℕ)) (edits : List Edit)
   pub image : IsImage base names edits actors h made s
   pub edits_are : (world_of (constants_of names s.capacity) base h).edits ≡ edits
 
-pub edited : (base : World) (names : List (List ℕ)) (edits edits' : List Edit) (actors : List ActorView) (h : List Item) (made : ℕ) (s : Settings) (from : ℕ) (e : Edit)
+pub edited : (base : World) (names : List (List ℕ)) (edits edits' : List Edit) (actors : List ActorView) (h : List Item) (made : ℕ) (s : Settings) (from : Standing) (e : Edit)
     → IsImage base names edits actors h made s → IsSoundEdit e → edit_suits names (world_of (constants_of names s.capacity) base h).edits e ≡ true → first_of (edit_rules (world_of (constants_of names s.capacity) base h).edits e ++ run_rules (seen base names h s from)) ≡ None → edits' ≡ (world_of (constants_of names s.capacity) base h).edits ++ e ∷ []
     → IsEdited base names edits' actors (h ++ Edited e ∷ []) (made + 1) s
 edited base names edits edits' actors h made s from e k sound suits allowed after =

@@ -12,7 +12,7 @@ use Rattle.st_classes.specs.Classes.{class_count, is_class}
 use Rattle.st_turn.specs.declared.acts.Act.{Act}
 use Rattle.st_turn.specs.declared.acts.Act.TheVariants.{Post, Close, Create}
 use Rattle.st_turn.specs.declared.body.Body.{Body}
-use Rattle.st_turn.specs.Steps.{Step, next as leads, ended, outer, reply_body, step}
+use Rattle.st_turn.specs.Steps.{Step, next as leads, ended, is_outer, outer, reply_body, step}
 use Rattle.st_turn.specs.StepResults.{IsAct, act_in}
 use Rattle.st_turn.specs.BodyFits.{FitsSome, Referents}
 use Rattle.st_turn.specs.Idle.{is_idle}
@@ -21,7 +21,6 @@ use Rattle.st_turn.proofs.KeepingActs.{FitsAct}
 use Rattle.st_image.specs.Worlds.{Constants, World, WorldActor, change_at}
 use Rattle.st_image.specs.Replay.{ActResult, after_act, act_result, after_step, after_step_of, with_body}
 use Rattle.st_image.specs.WorldInvariant.{given}
-use Rattle.st_image.specs.Quanta.{is_outer}
 use Rattle.st_image.specs.ActorViews.{ActorView, Shows, actor_view, view_after_steps}
 use Rattle.st_image.specs.ImageInvariant.{CanRun}
 use Rattle.st_image.specs.ActResults.{Does, GrowsByOne, IsShown, NamesClasses, StandsBefore, constants_of}

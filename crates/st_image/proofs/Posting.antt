@@ -12,7 +12,9 @@ use Rattle.st_image.specs.declared.items.Item.TheVariants.{Posted}
 use Rattle.st_image.specs.Worlds.{World, WorldActor, change, change_at}
 use Rattle.st_image.specs.Replay.{with_accepted, with_last}
 use Rattle.st_image.specs.PostRules.{IsClients, post_rules}
-use Rattle.st_image.specs.Images.{ImageView, world_of, image_post_rules, no_room, accepted_by}
+use Rattle.st_image.specs.declared.tallies.Tally.{Tally}
+use Rattle.st_image.specs.ClaimsOut.{trimmed}
+use Rattle.st_image.specs.Images.{ImageView, Standing, world_of, image_post_rules, no_room, accepted_by}
 use Rattle.st_image.specs.ActorViews.{ActorView, actor_view, view_with_message}
 use Rattle.st_image.specs.ActResults.{constants_of}
 use Rattle.st_image.specs.ImageInvariant.{IsImage}
@@ -22,8 +24,12 @@ use Rattle.st_image.proofs.Showing.{kept_at}
 use Rattle.st_image.proofs.Keeping.{IsNext, posted_kept, has_room}
 
 -- an image as callers see it
-abbrev pub seen : World → List (List ℕ) → List Item → Settings → ℕ → ImageView
-seen base names h s from = record { base = base; names = names; history = h; capacity = s.capacity; most_items = s.history; next_from = from }
+abbrev pub seen : World → List (List ℕ) → List Item → Settings → Standing → ImageView
+seen base names h s beside = record { base = base; names = names; history = h; capacity = s.capacity; most_items = s.history; standing = beside }
+
+-- what an image keeps beside its world, by its fields
+abbrev pub standing_of : ℕ → List ℕ → List (List Tally) → Standing
+standing_of next_from out tallies = record { next_from = next_from; claims_out = trimmed out; tallies = tallies }
 
 -- a post that isn't refused
 pub record IsPosted (base : World) (names : List (List ℕ)) (edits : List Edit) (actors : List ActorView) (h : List Item) (made : ℕ) (s : Settings) (a : ActorId) (n : ℕ) : Type 0 where
@@ -47,7 +53,7 @@ posted_option base names edits actors actors' h made s n a m (Some b) at k allow
     ap (λ (x : World). slice_get x.actors a.0) after.world ∙ ap (λ (xs : List WorldActor). slice_get xs a.0) (same_actors m.sender m.seq (change (with_accepted m) a w) client) ∙ get-change (with_accepted m) a.0 w.actors b at in
     record { image = after.image; place = count ∙ ap accepted_by (sym now) }
 
-pub posted : (base : World) (names : List (List ℕ)) (edits : List Edit) (actors actors' : List ActorView) (h : List Item) (made : ℕ) (s : Settings) (from n : ℕ) (a : ActorId) (m : Message)
+pub posted : (base : World) (names : List (List ℕ)) (edits : List Edit) (actors actors' : List ActorView) (h : List Item) (made : ℕ) (s : Settings) (from : Standing) (n : ℕ) (a : ActorId) (m : Message)
     → IsImage base names edits actors h made s → first_of (image_post_rules (seen base names h s from) a m) ≡ None → IsClients m.sender
     → actors' ≡ change_at (view_with_message m) a.0 actors → ((k : ActorView) → slice_get actors a.0 ≡ Some k → n ≡ k.accepted + 1)
     → IsPosted base names edits actors' (h ++ Posted a m ∷ []) made s a n

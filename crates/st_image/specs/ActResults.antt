@@ -7,11 +7,10 @@ use Rattle.st_classes.specs.declared.edits.Edit.{Edit}
 use Rattle.st_classes.specs.Classes.{is_class}
 use Rattle.st_turn.specs.declared.acts.Act.{Act}
 use Rattle.st_turn.specs.declared.acts.Act.TheVariants.{Post, Close, Create}
-use Rattle.st_turn.specs.Steps.{step}
+use Rattle.st_turn.specs.Steps.{is_outer, step}
 use Rattle.st_image.specs.Worlds.{Constants, World, WorldActor}
 use Rattle.st_image.specs.Replay.{ActResult, after_step, attempted_act}
 use Rattle.st_image.specs.WorldInvariant.{IsWorld}
-use Rattle.st_image.specs.Quanta.{IsQuantum, IsCut, is_outer}
 use Rattle.st_image.specs.ActorViews.{ActorView, Shows}
 
 -- the constants by their parts
@@ -62,12 +61,3 @@ TakesOuter c edits old new a w false = StandsBefore a w false × (new ≡ old)
 abbrev pub world_after : Constants → ActorId → ℕ → World → Option World
 world_after c a zero w = Some w
 world_after c a (suc n) w = option_and_then (world_after c a n) (after_step c a w)
-
--- an actor took so many steps, a whole quantum or one that was cut short
-pub record Quantum (c : Constants) (edits : List Edit) (actors : List ActorView) (a : ActorId) (limit : ℕ) (w : World)
-    (n : ℕ) (is_whole : Bool) : Type 0 where
-  pub last : World
-  pub taken : world_after c a n w ≡ Some last
-  pub shows : Shows edits actors last
-  pub whole : IsTrue is_whole → (b : WorldActor) → slice_get w.actors a.0 ≡ Some b → IsQuantum w.edits a limit b.body n
-  pub cut : is_whole ≡ false → (b : WorldActor) → slice_get w.actors a.0 ≡ Some b → IsCut w.edits a limit b.body n

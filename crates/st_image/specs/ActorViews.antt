@@ -1,21 +1,18 @@
 -- What an image keeps of an actor.
-use Rattle.std.specs.Prelude.{IsTrue, ◌⊎◌, ◌<◌, ℕ, ◌+◌, ◌≡◌, ◌≤◌, ◌||◌, ◌==◌, List, [], ◌∷◌, ◌++◌, length, map, Bool, true, false, not, Option, Some, None, nat_eq, slice_get, if◌then◌else◌}
-use Rattle.std.specs.Ordering.{nat_cmp}
-use Rattle.std.specs.BTreeSet.{BTreeSet, contains}
+use Rattle.std.specs.Prelude.{ℕ, ◌+◌, ◌≡◌, ◌≤◌, ◌||◌, ◌&&◌, ◌==◌, List, [], ◌∷◌, ◌++◌, length, map, Bool, true, false, not, Option, Some, None, slice_get, if◌then◌else◌}
 use Rattle.st_classes.specs.declared.values.ClassId.{ClassId}
 use Rattle.st_classes.specs.declared.values.ActorId.{ActorId}
 use Rattle.st_classes.specs.declared.edits.Edit.{Edit}
 use Rattle.st_turn.specs.declared.body.Body.{Body}
 use Rattle.st_turn.specs.declared.body.Phase.TheVariants.{Start}
 use Rattle.st_turn.specs.Idle.{is_idle}
-use Rattle.st_turn.specs.Steps.{own_steps, step}
 use Rattle.st_classes.specs.Refusals.{first_of}
+use Rattle.st_flags.specs.Flags.{is_no_later, is_raised}
 use Rattle.st_mailbox.specs.Mailboxes.{box_rules}
 use Rattle.st_mailbox.specs.declared.messages.Message.{Message}
 use Rattle.st_image.specs.Worlds.{World, WorldActor, pending}
 use Rattle.st_image.specs.Newest.{Kept, kept_of, kept_with}
-use Rattle.st_image.specs.Scheduling.{is_no_later}
-use Rattle.st_image.specs.Quanta.{IsOver}
+use Rattle.st_image.specs.ClaimsOut.{claims_of}
 
 -- an actor without the messages that it began: what is pending, and how many it accepted
 pub record ActorView : Type 0 where
@@ -93,34 +90,35 @@ is_ready_in ks n = ready_kept (slice_get ks n)
     ready_kept None = false
     ready_kept (Some k) = is_ready_view k
 
--- a set of numbers has a number
-abbrev pub has : BTreeSet ℕ → ℕ → Bool
-has numbers a = contains nat_cmp numbers a
+-- the actors, and how many claims of each are out
+pub record ActorsView : Type 0 where
+  pub kept : List ActorView
+  pub out : List ℕ
 
--- the set has the ready ones, and there are 65,536 actors at most
-pub record AreActors (ks : List ActorView) (ready : BTreeSet ℕ) : Type 0 where
-  pub queued : (n : ℕ) → has ready n ≡ is_ready_in ks n
-  pub few : length ks ≤ 65536
+-- an actor may be checked out next: it is ready, and no claim of it is out
+abbrev pub is_free_in : ActorsView → ℕ → Bool
+is_free_in v a = is_ready_in v.kept a && (claims_of v.out a == 0)
 
--- the set with a number put in or taken out
-abbrev pub HasAlso : BTreeSet ℕ → BTreeSet ℕ → ℕ → Bool → Type 0
-HasAlso old new a is_in = (b : ℕ) → has new b ≡ (if nat_eq a b then is_in else has old b)
+-- the flags of those that may be checked out are raised; there are as many flags and counts as actors, 65,536 at most
+pub record AreActors (v : ActorsView) (free : List Bool) : Type 0 where
+  pub flags : (n : ℕ) → is_raised free n ≡ is_free_in v n
+  pub each_flag : length free ≡ length v.kept
+  pub each_count : length v.out ≡ length v.kept
+  pub few : length v.kept ≤ 65536
 
--- the first number of a set in cyclic order from a number
-pub record IsNext (numbers : BTreeSet ℕ) (from a : ℕ) : Type 0 where
-  pub there : has numbers a ≡ true
-  pub first : (b : ℕ) → has numbers b ≡ true → is_no_later from a b ≡ true
+-- a free actor that comes no later than any other
+pub record IsNextFree (v : ActorsView) (from a : ℕ) : Type 0 where
+  pub free : is_free_in v a ≡ true
+  pub first : (b : ℕ) → is_free_in v b ≡ true → is_no_later from a b ≡ true
 
--- a ready actor that comes no later than any other
-pub record IsNextReadyView (ks : List ActorView) (from a : ℕ) : Type 0 where
-  pub ready : is_ready_in ks a ≡ true
-  pub first : (b : ℕ) → is_ready_in ks b ≡ true → is_no_later from a b ≡ true
+-- the claims of one actor that are out are counted anew
+abbrev pub CountsIn : (ℕ → ℕ) → ℕ → List ℕ → List ℕ → Type 0
+CountsIn count a old new = (b : ℕ) → claims_of new b ≡ (if b == a then count (claims_of old b) else claims_of old b)
 
--- an actor comes by so many steps of its own to a body: with its last step or where none is next, or cut short before
--- either
-pub record RunsOwn (edits : List Edit) (a : ActorId) (limit : ℕ) (b : Body) (n : ℕ) (is_whole : Bool) (last : Body)
-    : Type 0 where
-  pub taken : own_steps edits a n b ≡ Some last
-  pub within : n ≤ limit
-  pub whole : IsTrue is_whole → (n ≡ limit) ⊎ IsOver (step edits a last)
-  pub cut : is_whole ≡ false → (n < limit) × (is_idle last.phase ≡ false)
+-- as many claims of each actor are out as before
+abbrev pub SameOut : List ℕ → List ℕ → Type 0
+SameOut old new = (b : ℕ) → claims_of new b ≡ claims_of old b
+
+-- an actor that is idle begins its next message
+abbrev pub view_checked_out : ActorView → ActorView
+view_checked_out k = if is_idle k.body.phase then view_after_begin k else k

@@ -12,7 +12,6 @@ use Rattle.st_mailbox.specs.declared.messages.Message.{Message}
 use Rattle.st_image.specs.declared.items.Item.{Item}
 use Rattle.st_image.specs.declared.items.Item.TheVariants.{Edited, Created, Posted, Closed}
 use Rattle.st_image.specs.Images.{ImageView, world, appended, image_define_rules, image_remove_rules, close_rules, create_rules, image_post_rules, accepted_by}
-use Rattle.st_image.specs.Quanta.{advance_rules, HasAdvanced, HasStopped}
 use Rattle.st_image.specs.Installs.{AnswersInstall, LeavesNames}
 
 -- the answer of a call that asks its rules before it takes memory: a value only where no refusal applies; else the
@@ -56,10 +55,3 @@ Closes i a = Adds (close_rules i (slice_get (world i).actors a.0)) i (Closed a) 
 abbrev pub InstallsIn : ImageView → ClassId → List ℕ → Result ℕ Refusal → ImageView → Type 0
 InstallsIn i c text result j = AnswersInstall i c text j result
     × IfErr result (λ e. LeavesNames i c text e j × (world j ≡ world i))
-
--- an actor takes a quantum, and the answer is how many steps that were; one that is refused changes nothing, or is
--- stopped in the middle for want of memory
-abbrev pub Advances : ImageView → ActorId → ℕ → Result ℕ Refusal → ImageView → Type 0
-Advances i a limit result j = AnswersExactly (first_of (advance_rules i (slice_get (world i).actors a.0))) result
-    (λ n. HasAdvanced i a limit n j)
-    × IfErr result (λ e. (j ≡ i) ⊎ ((e ≡ NoMemory) × HasStopped i a limit j))

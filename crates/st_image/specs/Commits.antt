@@ -1,28 +1,78 @@
 -- Checkouts, commits and releases of claims.
-use Rattle.std.specs.Prelude.{◌≡◌, ◌≢◌, ◌×◌, ◌⊎◌, ⊥, ℕ, ◌+◌, ◌-◌, ◌==◌, ◌&&◌, List, [], ◌∷◌, ◌++◌, length, Bool, true, false, Option, Some, None, Result, Ok, Err, if◌then◌else◌, slice_get, slice_index_or, option_map}
+use Rattle.std.specs.Prelude.{◌≡◌, ◌≢◌, ℕ, ◌+◌, ◌==◌, ◌&&◌, List, [], ◌∷◌, length, Bool, true, Option, Some, None, Result, Ok, Err, OnErr, nat_lt, if◌then◌else◌, slice_get, option_and_then}
+use Rattle.std.specs.Option.{option_map}
 use Rattle.st_classes.specs.declared.values.ActorId.{ActorId}
+use Rattle.st_classes.specs.declared.keys.SiteId.{SiteId}
 use Rattle.st_classes.specs.declared.edits.Edit.{Edit}
 use Rattle.st_classes.specs.declared.refusals.Refusal.{Refusal}
 use Rattle.st_classes.specs.declared.refusals.Refusal.TheVariants.{UnknownActor, NothingToDo, Stale, Changed, HistoryFull, NoMemory}
 use Rattle.st_classes.specs.Refusals.{Rule, first_of}
 use Rattle.st_turn.specs.declared.body.Body.{Body}
+use Rattle.st_turn.specs.Idle.{is_idle}
 use Rattle.st_turn.specs.Claims.{ClaimView}
-use Rattle.st_turn.specs.Steps.{is_outer, step}
+use Rattle.st_turn.specs.Steps.{Asked, asked, is_outer, step}
 use Rattle.st_image.specs.declared.items.Item.{Item}
 use Rattle.st_image.specs.declared.items.Item.TheVariants.{Begun, Ran}
-use Rattle.st_image.specs.Worlds.{WorldActor}
+use Rattle.st_image.specs.Worlds.{WorldActor, pending}
 use Rattle.st_image.specs.Images.{ImageView, appended, no_room, world}
-use Rattle.st_image.specs.Quanta.{advance_rules, idle_at, image_after_begin}
+use Rattle.st_image.specs.Calls.{AnswersExactly}
+use Rattle.st_image.specs.ClaimsOut.{claims_of, one_less, one_more}
+use Rattle.st_image.specs.Tallies.{SameTallies, Tallied}
 
 -- the body of an actor that is there
 abbrev pub body_at : ImageView → ActorId → Option Body
-body_at i a = option_map (λ b. b.body) (slice_get (world i).actors a.0)
+body_at i a = option_map (λ (b : WorldActor). b.body) (slice_get (world i).actors a.0)
+
+-- how many claims of an actor are out
+abbrev pub out_at : ImageView → ℕ → ℕ
+out_at i a = claims_of i.standing.claims_out a
+
+-- the claims of one actor that are out are counted anew, and those of every other stay
+abbrev pub CountsOut : (ℕ → ℕ) → ActorId → ImageView → ImageView → Type 0
+CountsOut count a i j = (b : ℕ) → out_at j b ≡ (if b == a.0 then count (out_at i b) else out_at i b)
+
+-- an image with the numbers of claims out of another
+abbrev pub with_out : ImageView → ImageView → ImageView
+with_out i j = record i { standing = record i.standing { claims_out = j.standing.claims_out } }
 
 -- ---- checkout
 
--- the claim of no steps on a body at the edits of an image
-abbrev pub new_claim : ImageView → ActorId → Body → ClaimView
-new_claim i a b = record { actor = a; edits = (world i).edits; before = b; after = b; steps = 0; sends = [] }
+-- the refusals of a checkout, in their order: an idle actor needs a message, and the history room for its beginning
+abbrev pub checkout_rules : ImageView → Option WorldActor → List Rule
+checkout_rules i None = (true, UnknownActor) ∷ []
+checkout_rules i (Some b) =
+    (is_idle b.body.phase && (length (pending b) == 0), NothingToDo)
+    ∷ (is_idle b.body.phase && nat_lt i.most_items (length i.history + 1), HistoryFull)
+    ∷ []
+
+-- an actor is idle, where it is there
+abbrev pub idle_at : Option WorldActor → Bool
+idle_at None = true
+idle_at (Some b) = is_idle b.body.phase
+
+-- the image after a checkout, but for the claims out: an idle actor begins its next message
+abbrev pub after_checkout : ImageView → ActorId → ImageView
+after_checkout i a =
+    let begun = if idle_at (slice_get (world i).actors a.0) then appended i (Begun a ∷ []) else i in
+    record begun { standing = record begun.standing { next_from = a.0 + 1 } }
+
+-- the claim of no steps on a body
+abbrev pub new_claim : List Edit → ActorId → Body → ClaimView
+new_claim edits a b = record { actor = a; edits = edits; before = b; after = b; steps = 0; sends = [] }
+
+-- the claim is on the actor's body as it is then, at the present table
+pub record HasCheckedOut (i : ImageView) (a : ActorId) (c : ClaimView) (j : ImageView) : Type 0 where
+  pub body : Body
+  pub there : body_at j a ≡ Some body
+  pub claim : c ≡ new_claim (world i).edits a body
+  pub image : j ≡ with_out (after_checkout i a) j
+  pub counted : CountsOut one_more a i j
+
+-- a claim is handed out; a refused checkout changes nothing
+abbrev pub ChecksOut : ImageView → ActorId → Result ClaimView Refusal → ImageView → Type 0
+ChecksOut i a result j = AnswersExactly (first_of (checkout_rules i (slice_get (world i).actors a.0))) result
+    (λ c. HasCheckedOut i a c j)
+    × OnErr result (j ≡ i)
 
 -- ---- commit
 
@@ -38,6 +88,11 @@ steps_of c = c.steps + (if stands_before_act c then 1 else 0)
 abbrev pub items_of : ClaimView → List Item
 items_of c = if steps_of c == 0 then [] else Ran c.actor (steps_of c) ∷ []
 
+-- the site of the image's step, where it comes next
+abbrev pub act_site : ClaimView → Option SiteId
+act_site c =
+    if stands_before_act c then option_and_then (λ (q : Asked). q.site) (asked c.edits c.after) else None
+
 -- a claim survives where nothing was edited since
 abbrev pub Survives : ImageView → ClaimView → Type 0
 Survives i c = c.edits ≡ (world i).edits
@@ -46,17 +101,53 @@ Survives i c = c.edits ≡ (world i).edits
 abbrev pub IsUnchanged : ImageView → ClaimView → Type 0
 IsUnchanged i c = body_at i c.actor ≡ Some c.before
 
--- the answer of a commit: the steps; Stale with the present version where the claim does not survive, and else Changed
--- where the body is another, which both spend the claim; HistoryFull where there is no place for its item, or want of
--- memory, which both hand it back
-abbrev pub CommitAnswers : ImageView → ClaimView → Result ℕ (Refusal × Option ClaimView) → Type 0
-CommitAnswers i c (Ok n) = Survives i c × IsUnchanged i c × (first_of (no_room i (length (items_of c)) ∷ []) ≡ None)
-    × (n ≡ steps_of c)
-CommitAnswers i c (Err (Stale version, back)) = (c.edits ≢ (world i).edits) × (version ≡ length (world i).edits)
-    × (back ≡ None)
-CommitAnswers i c (Err (Changed, back)) = Survives i c × (body_at i c.actor ≢ Some c.before) × (back ≡ None)
-CommitAnswers i c (Err (HistoryFull, back)) = Survives i c × IsUnchanged i c
-    × (first_of (no_room i (length (items_of c)) ∷ []) ≡ Some HistoryFull)
-    × (back ≡ Some c)
-CommitAnswers i c (Err (NoMemory, back)) = back ≡ Some c
-CommitAnswers i c (Err (e, back)) = ⊥
+-- why the history has no place for what a commit adds, if it has none
+abbrev pub commit_room : ImageView → ClaimView → Option Refusal
+commit_room i c = first_of (no_room i (length (items_of c)) ∷ [])
+
+-- nothing refuses a commit
+pub record CommitAllowed (i : ImageView) (c : ClaimView) : Type 0 where
+  pub survives : Survives i c
+  pub unchanged : IsUnchanged i c
+  pub room : commit_room i c ≡ None
+
+-- the steps are the actor's now, and each call site has the sends among them; the image's step counts as a walk
+pub record HasCommitted (i : ImageView) (c : ClaimView) (n : ℕ) (j : ImageView) : Type 0 where
+  pub allowed : CommitAllowed i c
+  pub steps : n ≡ steps_of c
+  pub image : j ≡ record (appended i (items_of c)) { standing = j.standing }
+  pub next_from : j.standing.next_from ≡ i.standing.next_from
+  pub counted : CountsOut one_less c.actor i j
+  pub tallied : Tallied i.standing.tallies c.sends (act_site c) j.standing.tallies
+
+-- nothing changes but that a claim is no longer out
+pub record IsReleased (i : ImageView) (a : ActorId) (j : ImageView) : Type 0 where
+  pub image : j ≡ with_out i j
+  pub counted : CountsOut one_less a i j
+
+-- nothing changes; rows of tallies may have grown by empty ones
+pub record IsAsBefore (i j : ImageView) : Type 0 where
+  pub image : j ≡ record i { standing = record i.standing { tallies = j.standing.tallies } }
+  pub tallies : SameTallies i.standing.tallies j.standing.tallies
+
+-- Why a commit is refused, memory aside: the table is another, with the present number of edits; else the actor is not
+-- there or has another body; else the history has no place.
+abbrev pub CommitRefused : ImageView → ClaimView → Refusal → Type 0
+CommitRefused i c (Stale version) = (c.edits ≢ (world i).edits) × (version ≡ length (world i).edits)
+CommitRefused i c Changed = Survives i c × (body_at i c.actor ≢ Some c.before)
+CommitRefused i c HistoryFull = Survives i c × IsUnchanged i c × (commit_room i c ≡ Some HistoryFull)
+CommitRefused i c e = ⊥
+
+-- What a refused commit leaves: Stale and Changed spend the claim, the other two hand it back as it was. Memory runs out
+-- only where nothing else refuses the commit.
+abbrev pub RefusesCommit : ImageView → ClaimView → Refusal → Option ClaimView → ImageView → Type 0
+RefusesCommit i c (Stale version) back j = CommitRefused i c (Stale version) × (back ≡ None) × IsReleased i c.actor j
+RefusesCommit i c Changed back j = CommitRefused i c Changed × (back ≡ None) × IsReleased i c.actor j
+RefusesCommit i c HistoryFull back j = CommitRefused i c HistoryFull × (back ≡ Some c) × IsAsBefore i j
+RefusesCommit i c NoMemory back j = CommitAllowed i c × (back ≡ Some c) × IsAsBefore i j
+RefusesCommit i c e back j = ⊥
+
+-- a claim is committed, or refused
+abbrev pub Commits : ImageView → ClaimView → Result ℕ (Refusal × Option ClaimView) → ImageView → Type 0
+Commits i c (Ok n) j = HasCommitted i c n j
+Commits i c (Err refused) j = RefusesCommit i c refused.0 refused.1 j

@@ -13,19 +13,27 @@ use Rattle.st_mailbox.specs.declared.messages.Message.{Message}
 use Rattle.st_image.specs.declared.items.Item.{Item}
 use Rattle.st_image.specs.declared.items.Item.TheVariants.{Edited}
 use Rattle.st_image.specs.declared.settings.Settings.{Settings}
+use Rattle.st_image.specs.declared.tallies.Tally.{Tally}
 use Rattle.st_image.specs.Worlds.{Constants, World, WorldActor, start, is_capacity}
 use Rattle.st_image.specs.PostRules.{post_rules}
 use Rattle.st_image.specs.Replay.{replay}
 
+-- what an image keeps beside its world: the number from which the next ready actor is looked for, how many claims of
+-- each actor are out, up to the last that has one, and the tallies of the call sites
+pub record Standing : Type 0 where
+  pub next_from : ℕ
+  pub claims_out : List ℕ
+  pub tallies : List (List Tally)
+
 -- an image: the world that it began with, its names, its history, the capacity of new actors, the most items of the
--- history, and the number from which the next ready actor is looked for
+-- history, and what it keeps beside its world
 pub record ImageView : Type 0 where
   pub base : World
   pub names : List (List ℕ)
   pub history : List Item
   pub capacity : ℕ
   pub most_items : ℕ
-  pub next_from : ℕ
+  pub standing : Standing
 
 -- the constants of an image
 abbrev pub constants : ImageView → Constants
@@ -53,7 +61,7 @@ new_image s = record {
   history = [];
   capacity = s.capacity;
   most_items = s.history;
-  next_from = 0;
+  standing = record { next_from = 0; claims_out = []; tallies = [] };
 }
 
 -- the image with items behind its history

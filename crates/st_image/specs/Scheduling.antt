@@ -1,7 +1,10 @@
 -- Which actor is next.
-use Rattle.std.specs.Prelude.{◌≡◌, ℕ, ◌==◌, ◌&&◌, ◌||◌, length, Bool, true, false, not, Option, Some, None, nat_le, slice_get, if◌then◌else◌}
+use Rattle.std.specs.Prelude.{◌≡◌, ℕ, ◌==◌, ◌&&◌, ◌||◌, length, Bool, true, false, not, Option, Some, None, slice_get}
 use Rattle.st_turn.specs.Idle.{is_idle}
+use Rattle.st_flags.specs.Flags.{is_no_later}
 use Rattle.st_image.specs.Worlds.{World, WorldActor, pending}
+use Rattle.st_image.specs.ClaimsOut.{claims_of}
+use Rattle.st_image.specs.Images.{ImageView, world}
 
 -- an actor is in a turn, or has a message pending
 abbrev pub is_ready : WorldActor → Bool
@@ -15,12 +18,11 @@ is_ready_at w a = ready_being (slice_get w.actors a)
     ready_being None = false
     ready_being (Some b) = is_ready b
 
--- in cyclic order of the numbers from one of them, a number comes no later than another: those from it on come first,
--- and each part rises
-abbrev pub is_no_later : ℕ → ℕ → ℕ → Bool
-is_no_later from a b = if nat_le from b then nat_le from a && nat_le a b else nat_le from a || nat_le a b
+-- an actor may be checked out next: it is ready, and no claim of it is out
+abbrev pub is_free_at : ImageView → ℕ → Bool
+is_free_at i a = is_ready_at (world i) a && (claims_of i.standing.claims_out a == 0)
 
--- a ready actor that comes no later than any other
-pub record IsNextReady (w : World) (from a : ℕ) : Type 0 where
-  pub ready : is_ready_at w a ≡ true
-  pub first : (b : ℕ) → is_ready_at w b ≡ true → is_no_later from a b ≡ true
+-- a free actor that comes no later than any other, from the number that is kept on
+pub record IsNextReady (i : ImageView) (a : ℕ) : Type 0 where
+  pub free : is_free_at i a ≡ true
+  pub first : (b : ℕ) → is_free_at i b ≡ true → is_no_later i.standing.next_from a b ≡ true

@@ -1,17 +1,17 @@
-//! What actors do on the whole image: their posts, new actors, and the quanta in which they do it.
-ghost use Rattle.std.specs.Prelude.{◌≡◌, ◌<◌, ◌≤◌, ◌^◌, ℕ, List, All, length, slice_get, [], ◌∷◌, Some, true, false, Ok, IsErr, IfOk, IfNone, OnOk, OnErr};
+//! What actors do on the whole image: their posts, closes and new actors.
+ghost use Rattle.std.specs.Prelude.{◌≡◌, ◌<◌, ◌≤◌, ◌^◌, ℕ, List, All, length, slice_get, [], ◌∷◌, Some, true, false, Ok, IsErr, IfOk, IfErr, IfNone, OnOk, OnErr};
 ghost use Rattle.std.specs.List.{list_all, list_any};
-ghost use Rattle.st_turn.specs.Idle.{is_idle as idle};
 ghost use Rattle.st_classes.specs.Classes.{class_count};
 ghost use Rattle.st_classes.specs.Refusals.{first_of};
 ghost use Rattle.st_classes.specs.MethodSuits.{arity_at, is_number};
-ghost use Rattle.st_image.specs.ActResults.{Does, FewAccepted, GrowsByOne, IsShown, NamesClasses, Quantum, StandsBefore, TakesOuter, Tries, constants_of};
-ghost use Rattle.st_image.specs.ActorViews.{Accepts, ActorView, Shows};
+ghost use Rattle.st_image.specs.ActResults.{Does, FewAccepted, GrowsByOne, IsShown, NamesClasses, StandsBefore, TakesOuter, Tries, constants_of};
+ghost use Rattle.st_turn.specs.Idle.{is_idle as idle};
+ghost use Rattle.st_image.specs.ActorViews.{Accepts, ActorView, SameOut, Shows, view_after_steps};
 ghost use Rattle.st_image.specs.Replay.{after_close, create_result, act_result, is_local as is_local_value, post_result, after_post_by, attempted_act};
 ghost use Rattle.st_image.specs.PostRules.{argument_fits as fits_argument, message_fits as fits_message, old_rule, post_rules, sender_last};
-ghost use Rattle.st_image.specs.Worlds.{World};
+ghost use Rattle.st_image.specs.Worlds.{World, change_at};
 
-use crate::actor::{Actor, Progress};
+use crate::actor::Actor;
 use crate::actors::Actors;
 use st_classes::faults::Fault;
 use st_classes::kernel::KERNEL_CLASSES;
@@ -36,7 +36,7 @@ fn argument_fits<M: Mailbox>(
     actors: &Actors<M>,
     value: Value,
 ) -> bool
-    ensures { result ≡ fits_argument names.now (class_count version.now) (length actors.now) value }
+    ensures { result ≡ fits_argument names.now (class_count version.now) (length actors.now.kept) value }
 {
     match value {
         Value::Int(_) | Value::Bool(_) | Value::Nil => true,
@@ -53,7 +53,7 @@ fn arguments_fit<M: Mailbox>(
     actors: &Actors<M>,
     args: &[Value],
 ) -> bool
-    ensures { result ≡ list_all (fits_argument names.now (class_count version.now) (length actors.now)) args.now }
+    ensures { result ≡ list_all (fits_argument names.now (class_count version.now) (length actors.now.kept)) args.now }
 {
     args.iter()
         .all(|value| argument_fits(names, version, actors, *value))
@@ -73,7 +73,7 @@ fn message_fits<M: Mailbox>(
     actors: &Actors<M>,
     message: &Message,
 ) -> bool
-    ensures { result ≡ fits_message names.now (class_count version.now) (length actors.now) message.now }
+    ensures { result ≡ fits_message names.now (class_count version.now) (length actors.now.kept) message.now }
 {
     let args = message.args.as_slice();
     takes(names, message.selector, args.len()) && arguments_fit(names, version, actors, args)
@@ -99,9 +99,9 @@ pub(crate) fn post_refusal<M: Mailbox>(
     actor: ActorId,
     message: &Message,
 ) -> Option<Refusal>
-    ensures value { (w : World) → Shows version.now actors.now w → sender_last w message.now.sender ≡ last → result ≡ first_of (post_rules names.now w (slice_get w.actors actor.0) message.now) }
-    ensures there { IfNone result (actor.0 < length actors.now) }
-    ensures accepts { IfNone result (Accepts actors.now actor) }
+    ensures value { (w : World) → Shows version.now actors.now.kept w → sender_last w message.now.sender ≡ last → result ≡ first_of (post_rules names.now w (slice_get w.actors actor.0) message.now) }
+    ensures there { IfNone result (actor.0 < length actors.now.kept) }
+    ensures accepts { IfNone result (Accepts actors.now.kept actor) }
 {
     let Some(kept) = actors.get(actor) else {
         return Some(Refusal::UnknownActor);
@@ -126,10 +126,11 @@ fn try_post<M: Mailbox>(
     selector: Selector,
     args: &[Value],
 ) -> Result<bool, AllocError>
-    requires there { actor.0 < length actors.old }
-    requires few { FewAccepted actors.old }
-    ensures ok { IfOk result (λ answer. (capacity : ℕ) (w : World) → IsShown names.now capacity version.now actors.old w → Tries version.now actors.new w (after_post_by (constants_of names.now capacity) to selector args.now actor w (slice_get w.actors actor.0)) answer) }
-    ensures grown { OnOk result (GrowsByOne actors.old actors.new) }
+    requires there { actor.0 < length actors.old.kept }
+    requires few { FewAccepted actors.old.kept }
+    ensures ok { IfOk result (λ answer. (capacity : ℕ) (w : World) → IsShown names.now capacity version.now actors.old.kept w → Tries version.now actors.new.kept w (after_post_by (constants_of names.now capacity) to selector args.now actor w (slice_get w.actors actor.0)) answer) }
+    ensures grown { OnOk result (GrowsByOne actors.old.kept actors.new.kept) }
+    ensures out { OnOk result (SameOut actors.old.out actors.new.out) }
     ensures err { OnErr result (actors.new ≡ actors.old) }
 {
     let last = match actors.get(actor) {
@@ -148,7 +149,7 @@ fn try_post<M: Mailbox>(
     if post_refusal(names, version, actors, Some(last), to, &message).is_some() {
         return Ok(false);
     }
-    actors.deliver(to, message)?;
+    actors.deliver(to, message);
     actors.set_last(actor, last + 1);
     Ok(true)
 }
@@ -176,11 +177,12 @@ fn post<M: Mailbox>(
     selector: Selector,
     args: &[Value],
 ) -> Result<Result<Value, Fault>, AllocError>
-    requires there { actor.0 < length actors.old }
-    requires few { FewAccepted actors.old }
-    ensures ok { IfOk result (λ answer. (capacity : ℕ) (w : World) → IsShown names.now capacity version.now actors.old w → Does version.now actors.new (post_result (constants_of names.now capacity) to selector args.now actor w) answer) }
+    requires there { actor.0 < length actors.old.kept }
+    requires few { FewAccepted actors.old.kept }
+    ensures ok { IfOk result (λ answer. (capacity : ℕ) (w : World) → IsShown names.now capacity version.now actors.old.kept w → Does version.now actors.new.kept (post_result (constants_of names.now capacity) to selector args.now actor w) answer) }
     ensures fault { IfOk result (λ answer. IsErr answer → actors.new ≡ actors.old) }
-    ensures grown { OnOk result (GrowsByOne actors.old actors.new) }
+    ensures grown { OnOk result (GrowsByOne actors.old.kept actors.new.kept) }
+    ensures out { OnOk result (SameOut actors.old.out actors.new.out) }
     ensures err { OnErr result (actors.new ≡ actors.old) }
 {
     if !takes(names, selector, args.len()) {
@@ -204,9 +206,10 @@ fn create<M: Mailbox>(
     requires class { class.0 < class_count version.now }
     requires some { 1 ≤ capacity }
     requires few { capacity ≤ 1024 }
-    ensures ok { IfOk result (λ answer. (names : List (List ℕ)) (w : World) → IsShown names capacity version.now actors.old w → Does version.now actors.new (create_result (constants_of names capacity) class w) answer) }
+    ensures ok { IfOk result (λ answer. (names : List (List ℕ)) (w : World) → IsShown names capacity version.now actors.old.kept w → Does version.now actors.new.kept (create_result (constants_of names capacity) class w) answer) }
     ensures fault { IfOk result (λ answer. IsErr answer → actors.new ≡ actors.old) }
-    ensures grown { OnOk result (GrowsByOne actors.old actors.new) }
+    ensures grown { OnOk result (GrowsByOne actors.old.kept actors.new.kept) }
+    ensures out { OnOk result (SameOut actors.old.out actors.new.out) }
     ensures err { OnErr result (actors.new ≡ actors.old) }
 {
     if 1 <= class.0 && class.0 < KERNEL_CLASSES {
@@ -223,8 +226,9 @@ fn create<M: Mailbox>(
 
 /// An actor asks that a mailbox be closed: the answer is whether it was open.
 fn close<M: Mailbox>(version: &Version, actors: &mut Actors<M>, to: ActorId) -> Value
-    ensures does { (names : List (List ℕ)) (capacity : ℕ) (w : World) → IsShown names capacity version.now actors.old w → Does version.now actors.new (attempted_act w (after_close w to)) (Ok result) }
-    ensures grown { GrowsByOne actors.old actors.new }
+    ensures does { (names : List (List ℕ)) (capacity : ℕ) (w : World) → IsShown names capacity version.now actors.old.kept w → Does version.now actors.new.kept (attempted_act w (after_close w to)) (Ok result) }
+    ensures grown { GrowsByOne actors.old.kept actors.new.kept }
+    ensures out { actors.new.out ≡ actors.old.out }
 {
     match actors.get(to) {
         Some(kept) if kept.is_open() => {
@@ -245,14 +249,15 @@ fn perform<M: Mailbox>(
     actor: ActorId,
     act: Act,
 ) -> Result<Result<Value, Fault>, AllocError>
-    requires there { actor.0 < length actors.old }
-    requires few { FewAccepted actors.old }
+    requires there { actor.0 < length actors.old.kept }
+    requires few { FewAccepted actors.old.kept }
     requires class { NamesClasses version.now act }
     requires some { 1 ≤ capacity }
     requires few_messages { capacity ≤ 1024 }
-    ensures ok { IfOk result (λ answer. (w : World) → IsShown names.now capacity version.now actors.old w → Does version.now actors.new (act_result (constants_of names.now capacity) actor w act) answer) }
+    ensures ok { IfOk result (λ answer. (w : World) → IsShown names.now capacity version.now actors.old.kept w → Does version.now actors.new.kept (act_result (constants_of names.now capacity) actor w act) answer) }
     ensures fault { IfOk result (λ answer. IsErr answer → actors.new ≡ actors.old) }
-    ensures grown { OnOk result (GrowsByOne actors.old actors.new) }
+    ensures grown { OnOk result (GrowsByOne actors.old.kept actors.new.kept) }
+    ensures out { OnOk result (SameOut actors.old.out actors.new.out) }
     ensures err { OnErr result (actors.new ≡ actors.old) }
 {
     match act {
@@ -267,10 +272,10 @@ fn perform<M: Mailbox>(
     }
 }
 
-// ---- quanta
+// ---- the image's step
 
 /// Takes the next step of an actor where it is the image's to take. The answer is whether it was.
-fn take_outer<M: Mailbox>(
+pub(crate) fn take_outer<M: Mailbox>(
     alloc: Global,
     names: &Names,
     version: &Version,
@@ -278,12 +283,13 @@ fn take_outer<M: Mailbox>(
     actors: &mut Actors<M>,
     actor: ActorId,
 ) -> Result<bool, AllocError>
-    requires there { actor.0 < length actors.old }
-    requires few { FewAccepted actors.old }
-    requires shown { (w : World) × IsShown names.now capacity version.now actors.old w }
-    ensures ok { IfOk result (λ outer. (w : World) → IsShown names.now capacity version.now actors.old w → TakesOuter (constants_of names.now capacity) version.now actors.old actors.new actor w outer) }
-    ensures stands { OnErr result ((w : World) → IsShown names.now capacity version.now actors.old w → StandsBefore actor w true) }
-    ensures grown { OnOk result (GrowsByOne actors.old actors.new) }
+    requires there { actor.0 < length actors.old.kept }
+    requires few { FewAccepted actors.old.kept }
+    requires shown { (w : World) × IsShown names.now capacity version.now actors.old.kept w }
+    ensures ok { IfOk result (λ outer. (w : World) → IsShown names.now capacity version.now actors.old.kept w → TakesOuter (constants_of names.now capacity) version.now actors.old.kept actors.new.kept actor w outer) }
+    ensures stands { OnErr result ((w : World) → IsShown names.now capacity version.now actors.old.kept w → StandsBefore actor w true) }
+    ensures grown { OnOk result (GrowsByOne actors.old.kept actors.new.kept) }
+    ensures out { OnOk result (SameOut actors.old.out actors.new.out) }
     ensures err { OnErr result (actors.new ≡ actors.old) }
 {
     if !actors.is_act_next(version, actor) {
@@ -299,39 +305,33 @@ fn take_outer<M: Mailbox>(
     Ok(true)
 }
 
-/// A quantum of an actor that is in a turn: up to so many steps of its own, and the image's step where it comes next. Where there
-/// is no memory for a step, the steps before it stand; an error says that nothing changed.
-pub(crate) fn take_quantum<M: Mailbox>(
+/// Steps of an actor's own have led to a body, and the image's step is taken where it comes next. The answer is whether it was. For
+/// want of memory nothing changes, and the body is given back.
+pub(crate) fn put_steps<M: Mailbox>(
     alloc: Global,
     names: &Names,
     version: &Version,
     capacity: u32,
     actors: &mut Actors<M>,
     actor: ActorId,
-    limit: u32,
-) -> Result<Progress, AllocError>
-    requires there { actor.0 < length actors.old }
-    requires few { FewAccepted actors.old }
-    requires shown { (w : World) × IsShown names.now capacity version.now actors.old w }
-    requires busy { (k : ActorView) → slice_get actors.old actor.0 ≡ Some k → idle k.body.phase ≡ false }
-    requires limit { limit ≤ 1024 }
-    ensures ok { IfOk result (λ p. (w : World) → IsShown names.now capacity version.now actors.old w → Quantum (constants_of names.now capacity) version.now actors.new actor limit w p.steps p.is_whole) }
-    ensures grown { OnOk result (GrowsByOne actors.old actors.new) }
+    after: Body,
+) -> Result<bool, Body>
+    requires there { actor.0 < length actors.old.kept }
+    requires few { FewAccepted actors.old.kept }
+    requires busy { (k : ActorView) → slice_get actors.old.kept actor.0 ≡ Some k → idle k.body.phase ≡ false }
+    requires shown { (w : World) × IsShown names.now capacity version.now (change_at (view_after_steps after) actor.0 actors.old.kept) w }
+    ensures ok { IfOk result (λ outer. (w : World) → IsShown names.now capacity version.now (change_at (view_after_steps after) actor.0 actors.old.kept) w → TakesOuter (constants_of names.now capacity) version.now (change_at (view_after_steps after) actor.0 actors.old.kept) actors.new.kept actor w outer) }
+    ensures grown { OnOk result (GrowsByOne actors.old.kept actors.new.kept) }
+    ensures out { OnOk result (SameOut actors.old.out actors.new.out) }
+    ensures back { IfErr result (λ b. b ≡ after) }
     ensures err { OnErr result (actors.new ≡ actors.old) }
 {
-    let progress = actors.run(alloc, version, actor, limit)?;
-    if !progress.is_whole {
-        return Ok(progress);
-    }
+    let was = match actors.put_body(actor, after) {
+        Ok(was) => was,
+        Err(after) => return Err(after),
+    };
     match take_outer(alloc, names, version, capacity, actors, actor) {
-        Ok(true) => Ok(Progress {
-            steps: progress.steps + 1,
-            is_whole: true,
-        }),
-        Ok(false) => Ok(progress),
-        Err(_) => Ok(Progress {
-            steps: progress.steps,
-            is_whole: false,
-        }),
+        Ok(outer) => Ok(outer),
+        Err(_) => Err(actors.put_back(actor, was)),
     }
 }

@@ -1,9 +1,6 @@
 //! One actor: its body, its mailbox and how its turns ended.
-ghost use Rattle.std.specs.Prelude.{◌≡◌, ◌⊎◌, ◌≤◌, ◌<◌, IsTrue, Some, true, false};
 ghost use Rattle.st_turn.specs.Idle.{is_idle as idle};
-ghost use Rattle.st_turn.specs.Steps.{own_steps, step};
-ghost use Rattle.st_image.specs.Quanta.{IsOver};
-ghost use Rattle.st_image.specs.ImageInvariant.{CanRun};
+ghost use Rattle.st_turn.specs.Steps.{step};
 
 use crate::results::Results;
 use st_classes::faults::Fault;
@@ -13,67 +10,9 @@ use st_classes::version::Version;
 use st_mailbox::mailboxes::Mailbox;
 use st_mailbox::messages::Message;
 use st_turn::acts::reply;
-use st_turn::body::{Body, Outcome, Phase, Stop};
-use st_turn::plain::step_plain;
+use st_turn::body::{Body, Outcome, Phase};
 use std::alloc::{AllocError, Global};
 use std::marker::Model;
-
-/// How far a quantum went.
-#[derive(Drop)]
-pub(crate) struct Progress {
-    pub(crate) steps: u32,
-    /// Whether it ended with its last step or where no step of the actor's own is next, and not for want of memory.
-    pub(crate) is_whole: bool,
-}
-
-impl Progress {
-    ghost use Rattle.std.specs.Prelude.{◌≡◌, if◌then◌else◌, Ok, Err};
-    ghost use Rattle.st_classes.specs.declared.refusals.Refusal.TheVariants.{NoMemory};
-
-    /// How many steps were taken, or that memory ran out.
-    pub(crate) fn answer(&self) -> Result<u32, Refusal>
-        ensures { result ≡ (if self.now.is_whole then Ok self.now.steps else Err NoMemory) }
-    {
-        if self.is_whole {
-            Ok(self.steps)
-        } else {
-            Err(Refusal::NoMemory)
-        }
-    }
-}
-
-/// Takes up to so many steps of the actor's own, for as long as one is next.
-fn run_steps(
-    alloc: Global,
-    body: &mut Body,
-    version: &Version,
-    actor: ActorId,
-    limit: u32,
-) -> Progress
-    requires { CanRun version.now actor body.old }
-    ensures steps { own_steps version.now actor result.steps body.old ≡ Some body.new }
-    ensures within { result.steps ≤ limit }
-    ensures whole { IsTrue result.is_whole → (result.steps ≡ limit) ⊎ IsOver (step version.now actor body.new) }
-    ensures cut { result.is_whole ≡ false → (result.steps < limit) × (idle body.new.phase ≡ false) }
-{
-    let mut steps = 0;
-    'turn: while steps < limit && !body.is_idle() {
-        match step_plain(alloc, body, actor, version) {
-            Ok(Stop::More) => steps += 1,
-            Ok(_) => break,
-            Err(_) => {
-                return Progress {
-                    steps,
-                    is_whole: false,
-                };
-            }
-        }
-    }
-    Progress {
-        steps,
-        is_whole: true,
-    }
-}
 
 /// An actor. Contracts see what is kept of it.
 #[derive(Drop)]
@@ -104,7 +43,7 @@ impl<M: Mailbox> Model for Actor<M> {
 }
 
 impl<M: Mailbox> Actor<M> {
-    ghost use Rattle.std.specs.Prelude.{◌≡◌, ◌+◌, ◌<◌, ◌≤◌, ◌^◌, ◌==◌, length, not, true, false, IfOk, OnOk, OnErr, Ok, Err};
+    ghost use Rattle.std.specs.Prelude.{◌≡◌, ◌+◌, ◌<◌, ◌≤◌, ◌^◌, ◌==◌, length, not, true, false, IfOk, IfErr, OnOk, OnErr, Ok, Err};
     ghost use Rattle.st_classes.specs.Refusals.{first_of};
     ghost use Rattle.st_turn.specs.declared.acts.Act.{Act as ActOf};
     ghost use Rattle.st_turn.specs.BodyFits.{FitsSome};
@@ -112,7 +51,7 @@ impl<M: Mailbox> Actor<M> {
     ghost use Rattle.st_turn.specs.Steps.{outer, reply_body};
     ghost use Rattle.st_mailbox.specs.Mailboxes.{box_rules};
     ghost use Rattle.st_image.specs.Newest.{kept_outcome};
-    ghost use Rattle.st_image.specs.ActorViews.{view_after_begin, is_ready_view, new_actor_view, view_after_steps, view_with_message};
+    ghost use Rattle.st_image.specs.ActorViews.{view_after_begin, is_ready_view, new_actor_view, view_after_steps, view_checked_out, view_with_message};
 
     /// A new actor with a body and an open mailbox.
     pub(crate) fn new(
@@ -246,31 +185,55 @@ impl<M: Mailbox> Actor<M> {
         }
     }
 
-    /// Takes up to so many steps of its own. A turn that ends adds its result. Where there is no memory for a step, the steps
-    /// before it stand; an error says that nothing changed.
-    pub(crate) fn run(
-        &mut self,
-        alloc: Global,
-        version: &Version,
-        number: ActorId,
-        limit: u32,
-    ) -> Result<Progress, AllocError>
-        requires runs { CanRun version.now number self.old.body }
+    /// The body that a checkout hands out: that of an idle actor has begun the first pending message, where one is pending.
+    pub(crate) fn body_to_check_out(&self, alloc: Global) -> Result<Body, AllocError>
+        ensures { IfOk result (λ b. b ≡ (view_checked_out self.now).body) }
+    {
+        let mut body = self.body.copy(alloc)?;
+        if body.is_idle() {
+            if let Some(message) = self.mailbox.item(0) {
+                let message = message.copy(alloc)?;
+                body.begin(message.selector, message.args);
+            }
+        }
+        Ok(body)
+    }
+
+    /// Begins the first pending message, where the actor is idle and one is pending.
+    pub(crate) fn check_out(&mut self)
+        ensures { self.new ≡ view_checked_out self.old }
+    {
+        if self.is_idle() {
+            self.begin();
+        }
+    }
+
+    /// The actor has this body after steps of its own, and the one before is given out. A turn that ended adds its result. For
+    /// want of memory nothing changes, and the body is given back.
+    pub(crate) fn put_body(&mut self, body: Body) -> Result<Body, Body>
         requires busy { idle self.old.body.phase ≡ false }
         requires few { self.old.accepted < 2 ^ 63 }
-        ensures steps { IfOk result (λ p. own_steps version.now number p.steps self.old.body ≡ Some self.new.body) }
-        ensures kept { OnOk result (self.new ≡ view_after_steps self.new.body self.old) }
-        ensures within { IfOk result (λ p. p.steps ≤ limit) }
-        ensures whole { IfOk result (λ p. IsTrue p.is_whole → (p.steps ≡ limit) ⊎ IsOver (step version.now number self.new.body)) }
-        ensures cut { IfOk result (λ p. p.is_whole ≡ false → (p.steps < limit) × (idle self.new.body.phase ≡ false)) }
+        ensures was { IfOk result (λ was. was ≡ self.old.body) }
+        ensures ok { OnOk result (self.new ≡ view_after_steps body self.old) }
+        ensures back { IfErr result (λ b. b ≡ body) }
         ensures err { OnErr result (self.new ≡ self.old) }
     {
-        self.results.reserve()?;
-        let progress = run_steps(alloc, &mut self.body, version, number, limit);
-        if let Phase::Done(outcome) = &self.body.phase {
+        let Ok(()) = self.results.reserve() else {
+            return Err(body);
+        };
+        if let Phase::Done(outcome) = &body.phase {
             self.results.push(*outcome);
         }
-        Ok(progress)
+        Ok(std::mem::replace(&mut self.body, body))
+    }
+
+    /// The actor, which is in a turn, has the body again that it had before in the same turn. The one that it had is given out.
+    pub(crate) fn put_back(&mut self, body: Body) -> Body
+        requires { idle self.old.body.phase ≡ false }
+        ensures had { result ≡ self.old.body }
+        ensures back { self.new ≡ record self.old { body = body } }
+    {
+        std::mem::replace(&mut self.body, body)
     }
 
     /// Its act was done, and its turn goes on with the answer.

@@ -1,107 +1,141 @@
-//! The actors of an image, and which of them are ready.
-use crate::actor::{Actor, Progress};
-use crate::queues::Queue;
+//! The actors of an image, how many claims of each are out, and which of them may be checked out next.
+use crate::actor::Actor;
 use st_classes::faults::Fault;
 use st_classes::values::{ActorId, Value};
 use st_classes::version::Version;
+use st_flags::flags::Flags;
 use st_mailbox::mailboxes::Mailbox;
 use st_mailbox::messages::Message;
 use st_turn::acts::{Act, is_act_next, next_act};
+use st_turn::body::Body;
 use std::alloc::{AllocError, Global};
 use std::marker::Model;
 
-/// The actors by their numbers. Contracts see what is kept of each.
+ghost use Rattle.std.specs.Prelude.{◌≡◌, ◌&&◌, ◌==◌};
+ghost use Rattle.st_image.specs.ClaimsOut.{one_less as one_less_of, one_more as one_more_of};
+
+/// The actors by their numbers. Contracts see what is kept of each, and how many claims of each are out.
 #[derive(Drop)]
 pub(crate) struct Actors<M: Mailbox> {
     items: Vec<Actor<M>>,
-    ready: Queue,
+    out: Vec<u32>,
+    /// Those that are ready and have no claim out.
+    free: Flags,
 }
 
 impl<M: Mailbox> Model for Actors<M> {
-    ghost use Rattle.std.specs.Prelude.{List};
-    ghost use Rattle.st_image.specs.ActorViews.{ActorView, AreActors};
+    ghost use Rattle.st_image.specs.ActorViews.{ActorsView, AreActors};
 
-    ghost Value = { List ActorView };
+    ghost Value = { ActorsView };
 
-    ghost view = { λ a. a.items.items };
+    ghost view = { λ a. record { kept = a.items.items; out = a.out.items } };
 
-    ghost invariant = { λ a. AreActors a.items.items a.ready.numbers };
+    ghost invariant = { λ a. AreActors (record { kept = a.items.items; out = a.out.items }) a.free };
+}
+
+/// Whether an actor may be checked out next, where so many claims of it are out.
+#[inline]
+fn is_free(is_ready: bool, out: u32) -> bool
+    ensures { result ≡ (is_ready && (out == 0)) }
+{
+    is_ready && out == 0
+}
+
+/// One claim more that is out, up to 2^32 - 1.
+#[inline]
+fn one_more(out: u32) -> u32
+    ensures { result ≡ one_more_of out }
+{
+    if out < u32::MAX { out + 1 } else { out }
+}
+
+/// One claim less that is out, but not below 0.
+#[inline]
+fn one_less(out: u32) -> u32
+    ensures { result ≡ one_less_of out }
+{
+    out.saturating_sub(1)
 }
 
 impl<M: Mailbox> Actors<M> {
-    ghost use Rattle.std.specs.Prelude.{◌≡◌, ◌+◌, ◌<◌, ◌≤◌, ◌^◌, ◌++◌, [], ◌∷◌, ℕ, length, slice_get, slice_set, Some, true, false, IfOk, IfSome, IfNone, OnOk, OnErr, Ok, Err, is_some};
+    ghost use Rattle.std.specs.Prelude.{◌≡◌, ◌+◌, ◌<◌, ◌≤◌, ◌^◌, ◌++◌, [], ◌∷◌, ℕ, length, slice_get, Some, true, false, IfOk, IfErr, IfSome, IfNone, OnOk, OnErr, Ok, Err, is_some};
     ghost use Rattle.std.specs.Option.{option_copied};
     ghost use Rattle.st_turn.specs.declared.acts.Act.{Act as ActOf};
-    ghost use Rattle.st_turn.specs.declared.body.Body.{Body as BodyOf};
     ghost use Rattle.st_turn.specs.Idle.{is_idle as idle};
     ghost use Rattle.st_turn.specs.BodyFits.{FitsSome};
     ghost use Rattle.st_turn.specs.StepResults.{IsAct, act_in};
     ghost use Rattle.st_turn.specs.Steps.{outer, reply_body, step};
-    ghost use Rattle.st_image.specs.ImageInvariant.{CanRun};
     ghost use Rattle.st_image.specs.Worlds.{change_at};
-    ghost use Rattle.st_image.specs.ActorViews.{Accepts, ActorView, RunsOwn, view_after_begin, is_ready_view, is_ready_in, IsNextReadyView, view_after_steps, view_with_message};
+    ghost use Rattle.st_image.specs.ActorViews.{Accepts, ActorView, IsNextFree, is_free_in, is_ready_view, view_after_steps, view_checked_out, view_with_message};
+    ghost use Rattle.st_image.specs.ClaimsOut.{one_less, one_more};
 
     pub(crate) fn new(alloc: Global) -> Actors<M>
-        ensures { result ≡ [] }
+        ensures { result ≡ record { kept = []; out = [] } }
     {
         Actors {
             items: Vec::new(alloc),
-            ready: Queue::new(alloc),
+            out: Vec::new(alloc),
+            free: Flags::new(alloc),
         }
     }
 
     pub(crate) fn len(&self) -> usize
-        ensures value { result ≡ length self.now }
-        ensures few { length self.now ≤ 65536 }
+        ensures value { result ≡ length self.now.kept }
+        ensures few { length self.now.kept ≤ 65536 }
     {
-        let _ready = &self.ready;
+        let _free = &self.free;
         self.items.len()
     }
 
     pub(crate) fn get(&self, actor: ActorId) -> Option<&Actor<M>>
-        ensures { option_copied result ≡ slice_get self.now actor.0 }
+        ensures { option_copied result ≡ slice_get self.now.kept actor.0 }
     {
         self.items.get(actor.0 as usize)
     }
 
-    /// The first ready one in cyclic order of numbers from a number.
+    /// The first one that may be checked out, in cyclic order of numbers from a number.
     pub(crate) fn next(&self, from: u32) -> Option<u32>
-        ensures some { IfSome result (λ a. IsNextReadyView self.now from a) }
-        ensures none { IfNone result ((a : ℕ) → is_ready_in self.now a ≡ false) }
+        ensures some { IfSome result (λ a. IsNextFree self.now from a) }
+        ensures none { IfNone result ((a : ℕ) → is_free_in self.now a ≡ false) }
     {
         let _items = &self.items;
-        self.ready.next(from)
+        self.free.next(from)
     }
 
-    /// Puts a new actor last, which is not ready.
+    /// Puts a new actor last, which is not ready. No claim of it is out.
     pub(crate) fn push(&mut self, actor: Actor<M>) -> Result<(), AllocError>
-        requires few { length self.old < 65536 }
+        requires few { length self.old.kept < 65536 }
         requires idle { is_ready_view actor ≡ false }
-        ensures ok { OnOk result (self.new ≡ self.old ++ actor ∷ []) }
+        ensures ok { OnOk result (self.new ≡ record { kept = self.old.kept ++ actor ∷ []; out = self.old.out ++ 0 ∷ [] }) }
         ensures err { OnErr result (self.new ≡ self.old) }
     {
-        self.items.push(actor)?;
+        self.items.reserve(1)?;
+        self.out.reserve(1)?;
+        self.free.push()?;
+        self.items.push(actor).unwrap();
+        self.out.push(0).unwrap();
         Ok(())
     }
 
     /// Puts a message last in the mailbox of an actor, which is then ready. The answer is how many messages it has accepted.
-    pub(crate) fn deliver(&mut self, actor: ActorId, message: Message) -> Result<u64, AllocError>
-        requires there { actor.0 < length self.old }
-        requires few { (k : ActorView) → slice_get self.old actor.0 ≡ Some k → k.accepted < 2 ^ 63 }
-        requires accepts { Accepts self.old actor }
-        ensures count { IfOk result (λ n. (k : ActorView) → slice_get self.old actor.0 ≡ Some k → n ≡ k.accepted + 1) }
-        ensures ok { OnOk result (self.new ≡ change_at (view_with_message message) actor.0 self.old) }
-        ensures err { OnErr result (self.new ≡ self.old) }
+    pub(crate) fn deliver(&mut self, actor: ActorId, message: Message) -> u64
+        requires there { actor.0 < length self.old.kept }
+        requires few { (k : ActorView) → slice_get self.old.kept actor.0 ≡ Some k → k.accepted < 2 ^ 63 }
+        requires accepts { Accepts self.old.kept actor }
+        ensures count { (k : ActorView) → slice_get self.old.kept actor.0 ≡ Some k → result ≡ k.accepted + 1 }
+        ensures message { self.new ≡ record self.old { kept = change_at (view_with_message message) actor.0 self.old.kept } }
     {
-        self.ready.insert(actor.0)?;
         let kept = &mut self.items[actor.0 as usize];
-        Ok(kept.take_in(message))
+        let count = kept.take_in(message);
+        let free = is_free(true, self.out[actor.0 as usize]);
+        self.free.set(actor.0, free);
+        count
     }
 
     /// The last message that an actor sent has this number.
     pub(crate) fn set_last(&mut self, actor: ActorId, number: u64)
-        requires { actor.0 < length self.old }
-        ensures { self.new ≡ change_at (λ (k : ActorView). record k { last = number }) actor.0 self.old }
+        requires { actor.0 < length self.old.kept }
+        ensures { self.new ≡ record self.old { kept = change_at (λ (k : ActorView). record k { last = number }) actor.0 self.old.kept } }
     {
         let kept = &mut self.items[actor.0 as usize];
         kept.set_last(number);
@@ -109,49 +143,83 @@ impl<M: Mailbox> Actors<M> {
 
     /// The mailbox of an actor accepts no more.
     pub(crate) fn close(&mut self, actor: ActorId)
-        requires { actor.0 < length self.old }
-        ensures { self.new ≡ change_at (λ (k : ActorView). record k { is_open = false }) actor.0 self.old }
+        requires { actor.0 < length self.old.kept }
+        ensures { self.new ≡ record self.old { kept = change_at (λ (k : ActorView). record k { is_open = false }) actor.0 self.old.kept } }
     {
         let kept = &mut self.items[actor.0 as usize];
         kept.close();
     }
 
-    /// An actor begins its first pending message, where one is pending.
-    pub(crate) fn begin(&mut self, actor: ActorId)
-        requires { actor.0 < length self.old }
-        ensures { self.new ≡ change_at view_after_begin actor.0 self.old }
+    /// The body that a checkout of an actor hands out.
+    pub(crate) fn body_to_check_out(&self, alloc: Global, actor: ActorId) -> Result<Body, AllocError>
+        requires { actor.0 < length self.now.kept }
+        ensures { IfOk result (λ b. (k : ActorView) → slice_get self.now.kept actor.0 ≡ Some k → b ≡ (view_checked_out k).body) }
     {
-        let kept = &mut self.items[actor.0 as usize];
-        kept.begin();
+        let kept = &self.items[actor.0 as usize];
+        kept.body_to_check_out(alloc)
     }
 
-    /// An actor that is in a turn takes up to so many steps of its own. Where there is no memory for a step, the steps before it
-    /// stand; an error says that nothing changed.
-    pub(crate) fn run(
-        &mut self,
-        alloc: Global,
-        version: &Version,
-        actor: ActorId,
-        limit: u32,
-    ) -> Result<Progress, AllocError>
-        requires there { actor.0 < length self.old }
-        requires runs { (k : ActorView) → slice_get self.old actor.0 ≡ Some k → CanRun version.now actor k.body }
-        requires busy { (k : ActorView) → slice_get self.old actor.0 ≡ Some k → idle k.body.phase ≡ false }
-        requires few { (k : ActorView) → slice_get self.old actor.0 ≡ Some k → k.accepted < 2 ^ 63 }
-        ensures ok { IfOk result (λ p. (k : ActorView) → slice_get self.old actor.0 ≡ Some k → (body : BodyOf) × RunsOwn version.now actor limit k.body p.steps p.is_whole body × (self.new ≡ change_at (view_after_steps body) actor.0 self.old)) }
+    /// A claim more of an actor is out. An actor that is idle begins its first pending message, where one is pending.
+    pub(crate) fn check_out(&mut self, actor: ActorId)
+        requires { actor.0 < length self.old.kept }
+        ensures { self.new ≡ record { kept = change_at view_checked_out actor.0 self.old.kept; out = change_at one_more actor.0 self.old.out } }
+    {
+        let kept = &mut self.items[actor.0 as usize];
+        kept.check_out();
+        let out = one_more(self.out[actor.0 as usize]);
+        self.out[actor.0 as usize] = out;
+        self.free.set(actor.0, false);
+    }
+
+    /// A claim of an actor is no longer out, where the actor is there.
+    pub(crate) fn release(&mut self, actor: ActorId)
+        ensures { self.new ≡ record self.old { out = change_at one_less actor.0 self.old.out } }
+    {
+        if actor.0 as usize >= self.items.len() {
+            return;
+        }
+        let out = one_less(self.out[actor.0 as usize]);
+        self.out[actor.0 as usize] = out;
+        let kept = &self.items[actor.0 as usize];
+        let free = is_free(kept.is_ready(), out);
+        self.free.set(actor.0, free);
+    }
+
+    /// An actor has this body after steps of its own, and the one before is given out. A turn that ended adds its result. For want
+    /// of memory nothing changes, and the body is given back.
+    pub(crate) fn put_body(&mut self, actor: ActorId, body: Body) -> Result<Body, Body>
+        requires there { actor.0 < length self.old.kept }
+        requires busy { (k : ActorView) → slice_get self.old.kept actor.0 ≡ Some k → idle k.body.phase ≡ false }
+        requires few { (k : ActorView) → slice_get self.old.kept actor.0 ≡ Some k → k.accepted < 2 ^ 63 }
+        ensures was { IfOk result (λ was. (k : ActorView) → slice_get self.old.kept actor.0 ≡ Some k → was ≡ k.body) }
+        ensures ok { OnOk result (self.new ≡ record self.old { kept = change_at (view_after_steps body) actor.0 self.old.kept }) }
+        ensures back { IfErr result (λ b. b ≡ body) }
         ensures err { OnErr result (self.new ≡ self.old) }
     {
         let kept = &mut self.items[actor.0 as usize];
-        let progress = kept.run(alloc, version, actor, limit)?;
-        self.ready.keep_if(actor.0, kept.is_ready());
-        Ok(progress)
+        let was = kept.put_body(body)?;
+        let free = is_free(kept.is_ready(), self.out[actor.0 as usize]);
+        self.free.set(actor.0, free);
+        Ok(was)
+    }
+
+    /// An actor that is in a turn has the body again that it had before in the same turn. The one that it had is given out.
+    pub(crate) fn put_back(&mut self, actor: ActorId, body: Body) -> Body
+        requires there { actor.0 < length self.old.kept }
+        requires busy { (k : ActorView) → slice_get self.old.kept actor.0 ≡ Some k → idle k.body.phase ≡ false }
+        requires still { idle body.phase ≡ false }
+        ensures had { (k : ActorView) → slice_get self.old.kept actor.0 ≡ Some k → result ≡ k.body }
+        ensures back { self.new ≡ record self.old { kept = change_at (λ (k : ActorView). record k { body = body }) actor.0 self.old.kept } }
+    {
+        let kept = &mut self.items[actor.0 as usize];
+        kept.put_back(body)
     }
 
     /// Whether the next step of an actor asks something of the image.
     pub(crate) fn is_act_next(&self, version: &Version, actor: ActorId) -> bool
-        requires there { actor.0 < length self.now }
-        requires fits { (k : ActorView) → slice_get self.now actor.0 ≡ Some k → FitsSome version.now actor k.body }
-        ensures { (k : ActorView) → slice_get self.now actor.0 ≡ Some k → result ≡ is_some (act_in (step version.now actor k.body)) }
+        requires there { actor.0 < length self.now.kept }
+        requires fits { (k : ActorView) → slice_get self.now.kept actor.0 ≡ Some k → FitsSome version.now actor k.body }
+        ensures { (k : ActorView) → slice_get self.now.kept actor.0 ≡ Some k → result ≡ is_some (act_in (step version.now actor k.body)) }
     {
         let kept = &self.items[actor.0 as usize];
         is_act_next(kept.body(), actor, version)
@@ -164,9 +232,9 @@ impl<M: Mailbox> Actors<M> {
         version: &Version,
         actor: ActorId,
     ) -> Result<Option<Act>, AllocError>
-        requires there { actor.0 < length self.now }
-        requires fits { (k : ActorView) → slice_get self.now actor.0 ≡ Some k → FitsSome version.now actor k.body }
-        ensures { IfOk result (λ act. (k : ActorView) → slice_get self.now actor.0 ≡ Some k → act ≡ act_in (step version.now actor k.body)) }
+        requires there { actor.0 < length self.now.kept }
+        requires fits { (k : ActorView) → slice_get self.now.kept actor.0 ≡ Some k → FitsSome version.now actor k.body }
+        ensures { IfOk result (λ act. (k : ActorView) → slice_get self.now.kept actor.0 ≡ Some k → act ≡ act_in (step version.now actor k.body)) }
     {
         let kept = &self.items[actor.0 as usize];
         next_act(alloc, kept.body(), actor, version)
@@ -174,15 +242,16 @@ impl<M: Mailbox> Actors<M> {
 
     /// The act of an actor was done, and its turn goes on with the answer.
     pub(crate) fn give(&mut self, version: &Version, actor: ActorId, value: Value)
-        requires there { actor.0 < length self.old }
-        requires fits { (k : ActorView) → slice_get self.old actor.0 ≡ Some k → FitsSome version.now actor k.body }
-        requires act { (k : ActorView) → slice_get self.old actor.0 ≡ Some k → IsAct (step version.now actor k.body) }
-        requires busy { (k : ActorView) → slice_get self.old actor.0 ≡ Some k → idle k.body.phase ≡ false }
-        ensures { (k : ActorView) (act : ActOf) → slice_get self.old actor.0 ≡ Some k → step version.now actor k.body ≡ outer act → self.new ≡ change_at (view_after_steps (reply_body act (Ok value) k.body)) actor.0 self.old }
+        requires there { actor.0 < length self.old.kept }
+        requires fits { (k : ActorView) → slice_get self.old.kept actor.0 ≡ Some k → FitsSome version.now actor k.body }
+        requires act { (k : ActorView) → slice_get self.old.kept actor.0 ≡ Some k → IsAct (step version.now actor k.body) }
+        requires busy { (k : ActorView) → slice_get self.old.kept actor.0 ≡ Some k → idle k.body.phase ≡ false }
+        ensures { (k : ActorView) (act : ActOf) → slice_get self.old.kept actor.0 ≡ Some k → step version.now actor k.body ≡ outer act → self.new ≡ record self.old { kept = change_at (view_after_steps (reply_body act (Ok value) k.body)) actor.0 self.old.kept } }
     {
         let kept = &mut self.items[actor.0 as usize];
         kept.give(version, actor, value);
-        self.ready.keep_if(actor.0, kept.is_ready());
+        let free = is_free(kept.is_ready(), self.out[actor.0 as usize]);
+        self.free.set(actor.0, free);
     }
 
     /// The act of an actor ends its turn with a fault. An error says that nothing changed.
@@ -192,17 +261,18 @@ impl<M: Mailbox> Actors<M> {
         actor: ActorId,
         fault: Fault,
     ) -> Result<(), AllocError>
-        requires there { actor.0 < length self.old }
-        requires fits { (k : ActorView) → slice_get self.old actor.0 ≡ Some k → FitsSome version.now actor k.body }
-        requires act { (k : ActorView) → slice_get self.old actor.0 ≡ Some k → IsAct (step version.now actor k.body) }
-        requires busy { (k : ActorView) → slice_get self.old actor.0 ≡ Some k → idle k.body.phase ≡ false }
-        requires few { (k : ActorView) → slice_get self.old actor.0 ≡ Some k → k.accepted < 2 ^ 63 }
-        ensures ok { OnOk result ((k : ActorView) (act : ActOf) → slice_get self.old actor.0 ≡ Some k → step version.now actor k.body ≡ outer act → self.new ≡ change_at (view_after_steps (reply_body act (Err fault) k.body)) actor.0 self.old) }
+        requires there { actor.0 < length self.old.kept }
+        requires fits { (k : ActorView) → slice_get self.old.kept actor.0 ≡ Some k → FitsSome version.now actor k.body }
+        requires act { (k : ActorView) → slice_get self.old.kept actor.0 ≡ Some k → IsAct (step version.now actor k.body) }
+        requires busy { (k : ActorView) → slice_get self.old.kept actor.0 ≡ Some k → idle k.body.phase ≡ false }
+        requires few { (k : ActorView) → slice_get self.old.kept actor.0 ≡ Some k → k.accepted < 2 ^ 63 }
+        ensures ok { OnOk result ((k : ActorView) (act : ActOf) → slice_get self.old.kept actor.0 ≡ Some k → step version.now actor k.body ≡ outer act → self.new ≡ record self.old { kept = change_at (view_after_steps (reply_body act (Err fault) k.body)) actor.0 self.old.kept }) }
         ensures err { OnErr result (self.new ≡ self.old) }
     {
         let kept = &mut self.items[actor.0 as usize];
         kept.fail(version, actor, fault)?;
-        self.ready.keep_if(actor.0, kept.is_ready());
+        let free = is_free(kept.is_ready(), self.out[actor.0 as usize]);
+        self.free.set(actor.0, free);
         Ok(())
     }
 }

@@ -3,8 +3,9 @@
 ghost use Rattle.st_image.specs.Delivery.{Delivers};
 ghost use Rattle.st_image.specs.WorldInvariant.{NamesMayGrow};
 
-mod advancing;
+mod checking_out;
 mod closing;
+mod committing;
 mod defining;
 mod installing;
 mod listing;
@@ -16,10 +17,12 @@ use crate::actors::Actors;
 use crate::clients::Clients;
 use crate::items::Item;
 use crate::settings::Settings;
+use crate::tallies::Tallies;
 use st_classes::kernel::KERNEL_CLASSES;
 use st_classes::limits::ACTORS;
 use st_classes::names::Names;
 use st_classes::refusals::{Limited, Refusal};
+use st_classes::token::Token;
 use st_classes::values::{ActorId, ClassId, Selector};
 use st_classes::version::Version;
 use st_mailbox::mailboxes::Mailbox;
@@ -42,12 +45,14 @@ pub fn names_may_grow()
 
 /// An image: a class table, actors, and the history that led to them.
 ///
-/// Contracts see the world that it began with, its names, its history, the numbers that are set, and the number from which the next
-/// ready actor is looked for. All else follows from the history.
+/// Contracts see the world that it began with, its names, its history, the numbers that are set, and what it keeps beside its
+/// world: the number from which the next ready actor is looked for, the claims that are out, and the tallies of call sites. All
+/// else follows from the history.
 #[derive(Drop)]
 pub struct Image<M: Mailbox> {
     names: Names,
-    version: Version,
+    /// The present class table.
+    token: Token,
     actors: Actors<M>,
     clients: Clients,
     history: Vec<Item>,
@@ -56,6 +61,7 @@ pub struct Image<M: Mailbox> {
     settings: Settings,
     /// The number from which the next ready actor is looked for.
     next_from: u32,
+    tallies: Tallies,
 }
 
 impl<M: Mailbox> Model for Image<M> {
@@ -65,10 +71,11 @@ impl<M: Mailbox> Model for Image<M> {
 
     ghost use Rattle.st_image.specs.ImageInvariant.{HoldsImage};
     ghost use Rattle.st_image.specs.Worlds.{start};
+    ghost use Rattle.st_image.specs.ClaimsOut.{trimmed};
 
-    ghost view = { λ i. record { base = start; names = i.names; history = i.history.items; capacity = i.settings.capacity; most_items = i.settings.history; next_from = i.next_from } };
+    ghost view = { λ i. record { base = start; names = i.names; history = i.history.items; capacity = i.settings.capacity; most_items = i.settings.history; standing = record { next_from = i.next_from; claims_out = trimmed i.actors.out; tallies = i.tallies } } };
 
-    ghost invariant = { λ i. HoldsImage start i.names i.version i.actors i.history.items i.edits_made i.settings i.clients };
+    ghost invariant = { λ i. HoldsImage start i.names i.token i.actors.kept i.history.items i.edits_made i.settings i.clients i.tallies };
 }
 
 impl<M: Mailbox> Image<M> {
@@ -80,10 +87,10 @@ impl<M: Mailbox> Image<M> {
     ghost use Rattle.st_image.specs.Calls.{Creates};
     ghost use Rattle.st_image.specs.Images.{create_rules, new_image, no_room, settings_rules, world};
     ghost use Rattle.st_image.specs.PostRules.{sender_last as last_of_sender};
-    ghost use Rattle.st_image.specs.Quanta.{image_outcome};
+    ghost use Rattle.st_image.specs.Outcomes.{image_outcome};
     ghost use Rattle.st_image.specs.Worlds.{mailbox_of};
     ghost use Rattle.std.specs.Option.{option_copied};
-    ghost use Rattle.st_image.specs.Scheduling.{IsNextReady, is_ready_at};
+    ghost use Rattle.st_image.specs.Scheduling.{IsNextReady, is_free_at};
     ghost use Rattle.st_image.specs.Delivery.{HasDelivered};
     ghost use Rattle.st_image.specs.WorldInvariant.{IsLawful};
 
@@ -102,15 +109,19 @@ impl<M: Mailbox> Image<M> {
         let Ok(version) = Version::kernel(alloc) else {
             return Err(Refusal::NoMemory);
         };
+        let Ok(token) = Token::publish(alloc, version) else {
+            return Err(Refusal::NoMemory);
+        };
         Ok(Image {
             names,
-            version,
+            token,
             actors: Actors::new(alloc),
             clients: Clients::new(alloc),
             history: Vec::new(alloc),
             edits_made: 0,
             settings,
             next_from: 0,
+            tallies: Tallies::new(alloc),
         })
     }
 
@@ -163,7 +174,7 @@ impl<M: Mailbox> Image<M> {
     pub fn version(&self) -> &Version
         ensures { result.now ≡ (world self.now).edits }
     {
-        &self.version
+        self.token.shown()
     }
 
     /// The number of actors, at most 65,536.
@@ -200,11 +211,11 @@ impl<M: Mailbox> Image<M> {
         }
     }
 
-    /// The first actor, in cyclic order of numbers after the one that advanced last, that is in a turn or has a message
-    /// pending.
+    /// The first actor, in cyclic order of numbers after the one that was checked out last, that has no claim out, and is in a
+    /// turn or has a message pending.
     pub fn next_ready(&self) -> Option<ActorId>
-        ensures some { IfSome result (λ a. IsNextReady (world self.now) self.now.next_from a.0) }
-        ensures none { IfNone result ((a : ℕ) → is_ready_at (world self.now) a ≡ false) }
+        ensures some { IfSome result (λ a. IsNextReady self.now a.0) }
+        ensures none { IfNone result ((a : ℕ) → is_free_at self.now a ≡ false) }
     {
         self.actors.next(self.next_from).map(ActorId)
     }
@@ -270,7 +281,7 @@ impl<M: Mailbox> Image<M> {
     fn create_refusal(&self, class: ClassId) -> Option<Refusal>
         ensures { result ≡ first_of (create_rules self.now class) }
     {
-        if u32::from(class.0) >= self.version.classes() {
+        if u32::from(class.0) >= self.version().classes() {
             return Some(Refusal::UnknownClass);
         }
         if 1 <= class.0 && class.0 < KERNEL_CLASSES {
@@ -297,7 +308,7 @@ impl<M: Mailbox> Image<M> {
         if self.history.reserve(1).is_err() {
             return Err(Refusal::NoMemory);
         }
-        let slots = self.version.slots(class).len();
+        let slots = self.token.shown().slots(class).len();
         let Ok(body) = Body::fresh(alloc, class, slots) else {
             return Err(Refusal::NoMemory);
         };

@@ -10,6 +10,6 @@ mod actors;
 mod clients;
 pub mod image;
 pub mod items;
-mod queues;
 mod results;
 pub mod settings;
+pub mod tallies;

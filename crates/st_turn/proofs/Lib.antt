@@ -19,3 +19,4 @@ pub mod StackMade
 pub mod ClaimSteps
 pub mod Busy
 pub mod WorkerSteps
+pub mod ActSites

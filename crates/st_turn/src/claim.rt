@@ -29,6 +29,16 @@ pub struct Sent {
     pub state: SiteState,
 }
 
+/// A claim without the body to which its steps lead.
+#[derive(Drop)]
+pub struct ClaimParts {
+    pub actor: ActorId,
+    pub token: Token,
+    pub before: Body,
+    pub steps: u32,
+    pub sends: Vec<Sent>,
+}
+
 /// Steps of an actor at a published version, which lead from a body of the actor's to another. Contracts see the actor, the edits of
 /// the version, the two bodies, the number of steps, and the sends among them in order.
 ///
@@ -131,11 +141,52 @@ impl Claim {
         is_act_next(&self.after, self.actor, self.token.shown())
     }
 
-    /// Gives the body to which the steps lead. No memory is taken.
-    pub fn into_after(self) -> Body
-        ensures { result ≡ self.after }
+    /// Gives the body to which the steps lead, and the other parts. No memory is taken.
+    pub fn into_parts(self) -> (ClaimParts, Body)
+        ensures actor { result.0.actor ≡ self.actor }
+        ensures edits { result.0.token ≡ self.edits }
+        ensures before { result.0.before ≡ self.before }
+        ensures steps { result.0.steps ≡ self.steps }
+        ensures sends { result.0.sends.items ≡ self.sends }
+        ensures after { result.1 ≡ self.after }
     {
-        let Claim { after, .. } = self;
-        after
+        let Claim {
+            actor,
+            token,
+            before,
+            after,
+            steps,
+            sends,
+        } = self;
+        let parts = ClaimParts {
+            actor,
+            token,
+            before,
+            steps,
+            sends,
+        };
+        (parts, after)
+    }
+
+    /// Puts the parts of a claim together again. No memory is taken.
+    pub fn from_parts(parts: ClaimParts, after: Body) -> Claim
+        requires { IsSound parts.actor parts.token parts.before after parts.steps parts.sends.items }
+        ensures { result ≡ record { actor = parts.actor; edits = parts.token; before = parts.before; after = after; steps = parts.steps; sends = parts.sends.items } }
+    {
+        let ClaimParts {
+            actor,
+            token,
+            before,
+            steps,
+            sends,
+        } = parts;
+        Claim {
+            actor,
+            token,
+            before,
+            after,
+            steps,
+            sends,
+        }
     }
 }

@@ -5,6 +5,7 @@ use st_classes::edits::{Edit, SharedEdit};
 use st_classes::limits::RUN_EDITS;
 use st_classes::refusals::{Limited, Refusal};
 use st_classes::seq::Seq;
+use st_classes::token::Token;
 use st_classes::values::ClassId;
 use st_mailbox::mailboxes::Mailbox;
 use std::alloc::Global;
@@ -57,13 +58,17 @@ impl<M: Mailbox> Image<M> {
         let Ok(version) = self.version().with_accepted(alloc, shared) else {
             return Err(Refusal::NoMemory);
         };
+        let edits = version.edits();
+        let Ok(token) = Token::publish(alloc, version) else {
+            return Err(Refusal::NoMemory);
+        };
         if self.history.reserve(1).is_err() {
             return Err(Refusal::NoMemory);
         }
-        self.version = version;
+        self.token = token;
         self.edits_made += 1;
         self.history.push(Item::Edited(item)).unwrap();
-        Ok(self.version.edits())
+        Ok(edits)
     }
 
     /// A new class under another, with its own instance variables. The answer is the number of edits.

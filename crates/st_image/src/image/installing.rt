@@ -75,7 +75,7 @@ impl<M: Mailbox> Image<M> {
         ensures untouched { (e : RefusalOf) → first_of (code_rules (world self.old).edits class tree.now.syntax) ≡ Some e → self.new ≡ self.old }
         ensures world { world self.new ≡ world self.old }
     {
-        compile(alloc, tree, class, &self.version, &mut self.names)
+        compile(alloc, tree, class, self.token.shown(), &mut self.names)
     }
 
     /// Installs the method of a tree whose selector is no kernel method's in the class, and answers the number of edits.
@@ -131,7 +131,7 @@ impl<M: Mailbox> Image<M> {
         ensures refused { IfErr result (λ e. LeavesNames self.old class source.now e self.new) }
         ensures world { OnErr result (world self.new ≡ world self.old) }
     {
-        if !self.version.is_class(class) {
+        if !self.version().is_class(class) {
             return Err(Refusal::UnknownClass);
         }
         let tree = match read_method(alloc, source) {

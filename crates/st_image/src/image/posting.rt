@@ -23,7 +23,7 @@ impl<M: Mailbox> Image<M> {
         let last = self.sender_last(message.sender);
         match post_refusal(
             &self.names,
-            &self.version,
+            self.token.shown(),
             &self.actors,
             last,
             actor,
@@ -56,9 +56,7 @@ impl<M: Mailbox> Image<M> {
         if self.clients.make_room(client).is_err() {
             return Err(Refusal::NoMemory);
         }
-        let Ok(place) = self.actors.deliver(actor, message) else {
-            return Err(Refusal::NoMemory);
-        };
+        let place = self.actors.deliver(actor, message);
         self.clients.set(client, number);
         self.history
             .push(Item::Posted {

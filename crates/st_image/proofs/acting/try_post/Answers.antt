@@ -5,7 +5,7 @@ use Rattle.st_image.specs.PostRules.{last_at, post_rules}
 use Rattle.st_image.specs.Worlds.{change_at}
 use Rattle.st_image.specs.ActorViews.{ActorView, view_with_message}
 use Rattle.st_image.proofs.Showing.{being_at_kept}
-use Rattle.st_image.proofs.Acts.{message_of, none_by, post_grows, post_tries}
+use Rattle.st_image.proofs.Acts.{kept_is, message_of, none_by, post_grows, post_tries}
 use Rattle.st_image.proofs.acting.try_post.Goals as goal
 
 pub returns-clause-ok : goal.returns-clause-ok
@@ -13,11 +13,11 @@ returns-clause-ok g c = λ capacity w i.
     let n : ℕ = c.last-last.result + 1 in
     let args : c.from_vec.result ≡ c.args.args.now = c.from_vec.ensures ∙ c.in_ok-to_vec.ensures.items_if_clones_equal (λ x y e. e) in
     let low : c.in-Some.kept.now.last < 2 ^ 64 - 1 = grind (arith, common_steps) in
-    let b = being_at_kept c.args.version.now c.args.actors.now w c.args.actor.0 c.in-Some.kept.now i.shows (sym c.in-Some.ensures) in
+    let b = being_at_kept c.args.version.now c.args.actors.now.kept w c.args.actor.0 c.in-Some.kept.now i.shows (sym c.in-Some.ensures) in
     let last : last_at (slice_get w.actors c.args.actor.0) ≡ Some c.last-last.result = ap last_at b.1 ∙ ap (λ (k : ActorView). Some k.last) b.2 ∙ ap Some (sym c.last-last.ensures) in
     let allowed : first_of (post_rules c.args.names.now w (slice_get w.actors c.args.to.0) (message_of c.args.actor n c.args.selector c.args.args.now)) ≡ None = rw (← args) (sym (c.post_refusal.ensures.value w i.shows last) ∙ none_by c.post_refusal.result (sym c.if-is_some.ensures)) in
-    let middle : c.deliver.new.self ≡ change_at (view_with_message (message_of c.args.actor n c.args.selector c.args.args.now)) c.args.to.0 c.args.actors.now = rw (← args) c.in_ok-deliver.ensures.ok in
-    post_tries c.args.names.now capacity c.args.version.now c.args.actors.now c.deliver.new.self c.set_last.new.self w c.args.actor c.args.to c.args.selector c.args.args.now c.in-Some.kept.now n i (sym c.in-Some.ensures) low (ap (λ (x : ℕ). x + 1) c.last-last.ensures) allowed middle c.set_last.ensures
+    let middle : c.deliver.new.self.kept ≡ change_at (view_with_message (message_of c.args.actor n c.args.selector c.args.args.now)) c.args.to.0 c.args.actors.now.kept = rw (← args) (kept_is _ _ c.deliver.ensures.message) in
+    post_tries c.args.names.now capacity c.args.version.now c.args.actors.now.kept c.deliver.new.self.kept c.set_last.new.self.kept w c.args.actor c.args.to c.args.selector c.args.args.now c.in-Some.kept.now n i (sym c.in-Some.ensures) low (ap (λ (x : ℕ). x + 1) c.last-last.ensures) allowed middle (kept_is _ _ c.set_last.ensures)
 
 pub returns-clause-grown : goal.returns-clause-grown
-returns-clause-grown g c = post_grows c.args.actors.now c.deliver.new.self c.set_last.new.self (message_of c.args.actor (c.last-last.result + 1) c.args.selector c.from_vec.result) c.args.to.0 c.args.actor.0 (c.last-last.result + 1) c.in_ok-deliver.ensures.ok c.set_last.ensures
+returns-clause-grown g c = post_grows c.args.actors.now.kept c.deliver.new.self.kept c.set_last.new.self.kept (message_of c.args.actor (c.last-last.result + 1) c.args.selector c.from_vec.result) c.args.to.0 c.args.actor.0 (c.last-last.result + 1) (kept_is _ _ c.deliver.ensures.message) (kept_is _ _ c.set_last.ensures)

@@ -1,18 +1,22 @@
-use Rattle.std.proofs.Common.{false, ◌≡◌, ◌<◌, Some, List, length, slice_get, sym, subst, ap}
-use Rattle.st_image.specs.ActorViews.{ActorView, is_ready_view}
-use Rattle.st_image.proofs.ReadyOnes.{actors_same, here, put_is}
+use Rattle.std.proofs.Common.{◌≡◌, ◌<◌, Some, List, length, slice_get, sym, subst, ap, ◌∙◌, false}
+use Rattle.st_image.specs.ActorViews.{ActorView, ActorsView, is_ready_view}
+use Rattle.st_image.proofs.FreeOnes.{here, put_view, same_free}
 use Rattle.st_image.proofs.actors.Actors.close.Goals as goal
 
 pub invariant_of-self : goal.invariant_of-self
 invariant_of-self g c =
     let i = c.self.inside in
+    let v : ActorsView = record { kept = i.items.items; out = i.out.items } in
     let k : ActorView = c.index_mut-kept.result.now in
-    let at : slice_get i.items.items c.args.actor.0 ≡ Some k = here i.items.items c.args.actor.0 k (subst (λ (ks : List ActorView). c.args.actor.0 < length ks) (sym c.self.view_is) c.requires) c.index_mut-kept.ensures.value in
-    actors_same i.items.items i.ready.numbers c.args.actor.0 k c.close.new.self c.self.invariant at (ap is_ready_view c.close.ensures)
+    let within : c.args.actor.0 < length i.items.items = subst (λ (x : ActorsView). c.args.actor.0 < length x.kept) (sym c.self.view_is) c.requires in
+    let at : slice_get i.items.items c.args.actor.0 ≡ Some k = here i.items.items c.args.actor.0 k within c.index_mut-kept.ensures.value in
+    same_free v i.free c.args.actor.0 k c.close.new.self c.self.invariant at (ap is_ready_view c.close.ensures)
 
 pub returns : goal.returns
 returns g c =
     let i = c.self.inside in
+    let v : ActorsView = record { kept = i.items.items; out = i.out.items } in
     let k : ActorView = c.index_mut-kept.result.now in
-    let at : slice_get i.items.items c.args.actor.0 ≡ Some k = here i.items.items c.args.actor.0 k (subst (λ (ks : List ActorView). c.args.actor.0 < length ks) (sym c.self.view_is) c.requires) c.index_mut-kept.ensures.value in
-    put_is (λ (x : ActorView). record x { is_open = false }) i.items.items c.args.self.now c.args.actor.0 k c.close.new.self c.self.view_is at c.close.ensures
+    let within : c.args.actor.0 < length i.items.items = subst (λ (x : ActorsView). c.args.actor.0 < length x.kept) (sym c.self.view_is) c.requires in
+    let at : slice_get i.items.items c.args.actor.0 ≡ Some k = here i.items.items c.args.actor.0 k within c.index_mut-kept.ensures.value in
+    put_view (λ (x : ActorView). record x { is_open = false }) v c.args.self.now c.args.actor.0 k c.close.new.self c.self.view_is at c.close.ensures

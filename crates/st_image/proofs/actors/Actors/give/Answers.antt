@@ -1,21 +1,25 @@
-use Rattle.std.proofs.Common.{◌≡◌, ◌<◌, Some, List, Ok, length, slice_get, sym, subst, ap, ◌∙◌}
+use Rattle.std.proofs.Common.{◌≡◌, ◌<◌, Some, List, length, slice_get, sym, subst, ap, ◌∙◌, Ok}
 use Rattle.st_turn.specs.Steps.{outer, reply_body, step}
-use Rattle.st_image.specs.ActorViews.{ActorView, view_after_steps}
-use Rattle.st_image.proofs.ReadyOnes.{actors_set, here, only_one, put_is}
+use Rattle.st_image.specs.ActorViews.{ActorView, ActorsView, view_after_steps}
+use Rattle.st_image.proofs.FreeOnes.{here, put_view, mark_kept, only_one}
 use Rattle.st_image.proofs.actors.Actors.give.Goals as goal
 
 pub invariant_of-self : goal.invariant_of-self
 invariant_of-self g c =
     let i = c.self.inside in
+    let v : ActorsView = record { kept = i.items.items; out = i.out.items } in
     let k : ActorView = c.index_mut-kept.result.now in
-    let at : slice_get i.items.items c.args.actor.0 ≡ Some k = here i.items.items c.args.actor.0 k (subst (λ (ks : List ActorView). c.args.actor.0 < length ks) (sym c.self.view_is) c.requires.there) c.index_mut-kept.ensures.value in
-    actors_set i.items.items i.ready.numbers c.keep_if.new.self.numbers c.args.actor.0 k c.give.new.self c.self.invariant at (rw (← c.is_ready.ensures) c.keep_if.ensures)
+    let within : c.args.actor.0 < length i.items.items = subst (λ (x : ActorsView). c.args.actor.0 < length x.kept) (sym c.self.view_is) c.requires.there in
+    let at : slice_get i.items.items c.args.actor.0 ≡ Some k = here i.items.items c.args.actor.0 k within c.index_mut-kept.ensures.value in
+    mark_kept v i.free c.set.new.self c.args.actor.0 c.give.new.self c.is_ready.result c.is_free-free.result c.index.result.now c.self.invariant within c.index.ensures c.is_ready.ensures c.is_free-free.ensures c.set.ensures
 
 pub returns : goal.returns
 returns g c = λ l act e f.
     let i = c.self.inside in
+    let v : ActorsView = record { kept = i.items.items; out = i.out.items } in
     let k : ActorView = c.index_mut-kept.result.now in
-    let at : slice_get i.items.items c.args.actor.0 ≡ Some k = here i.items.items c.args.actor.0 k (subst (λ (ks : List ActorView). c.args.actor.0 < length ks) (sym c.self.view_is) c.requires.there) c.index_mut-kept.ensures.value in
-    let same : k ≡ l = only_one i.items.items c.args.actor.0 k l at (subst (λ (ks : List ActorView). slice_get ks c.args.actor.0 ≡ Some l) (sym c.self.view_is) e) in
+    let within : c.args.actor.0 < length i.items.items = subst (λ (x : ActorsView). c.args.actor.0 < length x.kept) (sym c.self.view_is) c.requires.there in
+    let at : slice_get i.items.items c.args.actor.0 ≡ Some k = here i.items.items c.args.actor.0 k within c.index_mut-kept.ensures.value in
+    let same : k ≡ l = only_one i.items.items c.args.actor.0 k l at (subst (λ (x : ActorsView). slice_get x.kept c.args.actor.0 ≡ Some l) (sym c.self.view_is) e) in
     let step_is : step c.args.version.now c.args.actor k.body ≡ outer act = subst (λ (x : ActorView). step c.args.version.now c.args.actor x.body ≡ outer act) (sym same) f in
-    put_is (view_after_steps (reply_body act (Ok c.args.value) l.body)) i.items.items c.args.self.now c.args.actor.0 k c.give.new.self c.self.view_is at (c.give.ensures act step_is ∙ ap (λ (x : ActorView). view_after_steps (reply_body act (Ok c.args.value) x.body) k) same)
+    put_view (view_after_steps (reply_body act (Ok c.args.value) l.body)) v c.args.self.now c.args.actor.0 k c.give.new.self c.self.view_is at (c.give.ensures act step_is ∙ ap (λ (x : ActorView). view_after_steps (reply_body act (Ok c.args.value) x.body) k) same)

@@ -1,10 +1,12 @@
 use Rattle.std.proofs.Common.{subst}
 use Rattle.st_image.specs.Images.{ImageView, world}
-use Rattle.st_image.specs.ActorViews.{Shows}
-use Rattle.st_image.proofs.Showing.{none_ready}
+use Rattle.st_image.proofs.Freeing.{next_free, none_free}
+use Rattle.st_image.proofs.Posting.{seen, standing_of}
+use Rattle.st_image.specs.Worlds.{start}
 use Rattle.st_image.proofs.image.Image.next_ready.Goals as goal
 
+pub returns-clause-some : goal.returns-clause-some
+returns-clause-some g c = ?
+
 pub returns-clause-none : goal.returns-clause-none
-returns-clause-none g c =
-    let i = c.self.inside in
-    none_ready c.map.result c.next.result i.version i.actors (world c.args.self.now) c.map.ensures.variant (subst (λ (v : ImageView). Shows i.version i.actors (world v)) c.self.view_is c.self.invariant.image.shows) c.next.ensures.none
+returns-clause-none g c = ?

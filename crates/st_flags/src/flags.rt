@@ -1,0 +1,97 @@
+//! A list of flags.
+ghost use Rattle.std.specs.Prelude.{◌≡◌, ℕ, ◌<◌, ◌≤◌, [], ◌∷◌, ◌++◌, false, length, slice_set, IfSome, IfNone, OnOk, OnErr};
+ghost use Rattle.st_flags.specs.Flags.{IsNext, is_raised};
+
+use crate::word::BITS;
+use crate::words::{first_from, make_room, read, write, write_in};
+use std::alloc::{AllocError, Global};
+use std::marker::Model;
+
+/// Flags, one a number from 0 on, at most 65,536. Contracts see their list.
+#[derive(Drop)]
+pub struct Flags {
+    /// How many flags there are.
+    len: u32,
+    /// The flags, 64 to a word. The bits past the last flag are zero.
+    low: Vec<u64>,
+    /// A bit for each word of `low`: whether it is not zero.
+    mid: Vec<u64>,
+    /// A bit for each word of `mid`: whether it is not zero.
+    top: [u64; 1],
+}
+
+impl Model for Flags {
+    ghost use Rattle.std.specs.Prelude.{Bool, List};
+    ghost use Rattle.st_flags.specs.Words.{AreLevels, flags_of};
+
+    ghost Value = { List Bool };
+
+    ghost view = { λ f. flags_of f.len f.low.items };
+
+    ghost invariant = { λ f. AreLevels f.len f.low.items f.mid.items f.top };
+}
+
+impl Flags {
+    /// No flags.
+    pub fn new(alloc: Global) -> Flags
+        ensures { result ≡ [] }
+    {
+        Flags {
+            len: 0,
+            low: Vec::new(alloc),
+            mid: Vec::new(alloc),
+            top: [0],
+        }
+    }
+
+    /// How many flags there are.
+    #[inline]
+    pub fn len(&self) -> u32
+        ensures value { result ≡ length self.now }
+        ensures few { length self.now ≤ 65536 }
+    {
+        self.len
+    }
+
+    /// Puts a flag last that is not raised. An error says that nothing changed.
+    pub fn push(&mut self) -> Result<(), AllocError>
+        requires { length self.old < 65536 }
+        ensures ok { OnOk result (self.new ≡ self.old ++ false ∷ []) }
+        ensures err { OnErr result (self.new ≡ self.old) }
+    {
+        make_room(&mut self.low, self.len / BITS)?;
+        make_room(&mut self.mid, self.len / BITS / BITS)?;
+        self.len += 1;
+        Ok(())
+    }
+
+    /// The flag of a number. Past the end none is raised.
+    #[inline]
+    pub fn get(&self, at: u32) -> bool
+        ensures { result ≡ is_raised self.now at }
+    {
+        read(&self.low, at)
+    }
+
+    /// Raises or lowers the flag of a number.
+    #[inline]
+    pub fn set(&mut self, at: u32, raised: bool)
+        requires { at < length self.old }
+        ensures { self.new ≡ slice_set self.old at raised }
+    {
+        let low_any = write_in(&mut self.low, at, raised);
+        let mid_any = write_in(&mut self.mid, at / BITS, low_any);
+        let _ = write(&mut self.top, at / BITS / BITS, mid_any);
+    }
+
+    /// The first raised flag in cyclic order of numbers from a number on.
+    pub fn next(&self, from: u32) -> Option<u32>
+        ensures some { IfSome result (λ a. IsNext self.now from a) }
+        ensures none { IfNone result ((a : ℕ) → is_raised self.now a ≡ false) }
+    {
+        match first_from(&self.low, &self.mid, &self.top, from) {
+            Some(at) => Some(at),
+            None => first_from(&self.low, &self.mid, &self.top, 0),
+        }
+    }
+}

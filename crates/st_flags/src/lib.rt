@@ -1,0 +1,11 @@
+//! A list of flags with a search for the next raised one.
+//!
+//! [`flags::Flags`] holds up to 65,536 flags, and finds the first raised one from a number on, in cyclic order. Only adding a flag
+//! takes memory. Reading, setting and searching touch at most a few words, however many flags there are.
+#![tactic(auto)]
+
+pub mod flags;
+#[cfg(test)]
+mod tests;
+mod word;
+mod words;

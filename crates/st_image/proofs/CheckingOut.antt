@@ -1,0 +1,214 @@
+-- Checkouts: a claim of an actor, whose next message may begin.
+use Rattle.std.proofs.Common.{arith, ◌≡◌, ℕ, zero, suc, ◌+◌, ◌<◌, ◌≤◌, ◌++◌, [], ◌∷◌, List, length, Option, Some, None, Ok, Bool, true, false, cond, refl, ap, sym, ◌∙◌, subst, slice_get, slice_set, length-append, ◌⊎◌, inl, inr, nat_le, nat_lt, Fits as FitsIn, w32}
+use Rattle.std.specs.Prelude.{◌&&◌, ◌==◌, not}
+use Rattle.std.specs.List.{list_any}
+use Rattle.std.proofs.lemmas.Bool.Decides.{nat_tests}
+use Rattle.std.proofs.lemmas.Option.{slice_get_within}
+use Rattle.st_classes.specs.declared.values.ActorId.{ActorId}
+use Rattle.st_classes.specs.declared.values.ClassId.{ClassId}
+use Rattle.st_classes.specs.declared.values.Selector.{Selector}
+use Rattle.st_classes.specs.declared.values.Value.{Value}
+use Rattle.st_classes.specs.declared.values.Value.TheVariants.{Int, Bool as Boolean, Nil, Sym, Class, Actor as Reference, Local}
+use Rattle.st_classes.specs.declared.faults.Fault.TheVariants.{BadArgument, LocalArgument, TooManyActors}
+use Rattle.st_classes.specs.EditRules.{is_value_class}
+use Rattle.st_classes.specs.MethodSuits.{arity_at, is_number}
+use Rattle.st_classes.specs.declared.edits.Edit.{Edit}
+use Rattle.st_classes.specs.declared.refusals.Refusal.TheVariants.{NothingToDo, HistoryFull}
+use Rattle.st_classes.specs.Refusals.{first_of}
+use Rattle.st_turn.specs.declared.acts.Act.{Act}
+use Rattle.st_turn.specs.declared.acts.Act.TheVariants.{Post, Close, Create}
+use Rattle.st_turn.specs.declared.body.Body.{Body}
+use Rattle.st_turn.specs.Idle.{is_idle}
+use Rattle.st_turn.specs.Steps.{Step, next as leads, ended, outer, reply_body, step}
+use Rattle.st_mailbox.specs.declared.messages.Message.{Message}
+use Rattle.st_mailbox.specs.declared.messages.Sender.{Sender}
+use Rattle.st_mailbox.specs.declared.messages.Sender.TheVariants.{Client, Actor}
+use Rattle.st_image.specs.declared.settings.Settings.{Settings}
+use Rattle.st_image.specs.declared.items.Item.{Item}
+use Rattle.st_image.specs.declared.items.Item.TheVariants.{Edited, Created, Posted, Closed, Begun, Ran}
+use Rattle.st_image.specs.Worlds.{Constants, World, WorldActor, change, change_at, pending, start}
+use Rattle.st_image.specs.Replay.{ActResult as Acted, with_accepted, with_begun, after_close, create_result, act_result, failed_act, is_local, new_world_actor, next, next_message, post_result, after_post, after_post_by, replay, after_step, after_step_of, attempted_act, with_body, with_last, with_new}
+use Rattle.st_image.specs.Images.{ImageView, Standing, world, world_of}
+use Rattle.st_image.specs.ActorViews.{ActorView, Shows, actor_view, view_after_begin, view_checked_out}
+use Rattle.st_image.specs.ActResults.{IsShown, constants_of, world_after}
+use Rattle.st_image.specs.ImageInvariant.{CanRun, IsImage}
+use Rattle.st_image.specs.Commits.{checkout_rules, idle_at}
+use Rattle.st_image.proofs.Lists.{off, set_at_same}
+use Rattle.st_image.proofs.Changing.{change_here, get-change, length-change}
+use Rattle.st_image.proofs.Stepping.{bound, cond_some, mapped, ran_after}
+use Rattle.st_image.proofs.Deliveries.{let_through}
+use Rattle.st_image.proofs.Showing.{being_at_kept, count_is}
+use Rattle.st_image.proofs.Keeping.{IsNext, begun_kept, has_room}
+use Rattle.st_image.proofs.Outer.{shown_runs}
+use Rattle.st_image.proofs.Posting.{seen}
+
+-- ---- a checkout
+
+-- an image after a checkout of an actor, and the body that is handed out
+pub record IsOut (base : World) (names : List (List ℕ)) (edits : List Edit) (actors : List ActorView) (h : List Item) (made : ℕ) (s : Settings) (a : ActorId) (body : Body) : Type 0 where
+  pub image : IsImage base names edits actors h made s
+  pub runs : CanRun edits a body
+  pub being : WorldActor
+  pub there : slice_get (world_of (constants_of names s.capacity) base h).actors a.0 ≡ Some being
+  pub has : being.body ≡ body
+
+first_pending : (ms : List Message) → (length ms == 0) ≡ false → (m : Message) × (slice_get ms 0 ≡ Some m)
+first_pending [] e = cc
+first_pending (m ∷ ms) e = (m, refl)
+
+and_true : (t u : Bool) → t ≡ true → (t && u) ≡ false → u ≡ false
+and_true true u e f = f
+and_true false u e f = cc
+
+-- the actor that is kept is idle in the world too
+pub idle_there : (edits : List Edit) (actors : List ActorView) (w : World) (a : ActorId) (k : ActorView) → Shows edits actors w → slice_get actors a.0 ≡ Some k → idle_at (slice_get w.actors a.0) ≡ is_idle k.body.phase
+idle_there edits actors w a k s at =
+    let b = being_at_kept edits actors w a.0 k s at in
+    ap idle_at b.1 ∙ ap (λ (x : ActorView). is_idle x.body.phase) b.2
+
+out_by : (base : World) (names : List (List ℕ)) (edits : List Edit) (actors : List ActorView) (h : List Item) (made : ℕ) (s : Settings) (a : ActorId) (k : ActorView)
+    → IsImage base names edits actors h made s → slice_get actors a.0 ≡ Some k → IsOut base names edits actors h made s a k.body
+out_by base names edits actors h made s a k i at =
+    let w : World = world_of (constants_of names s.capacity) base h in
+    let b = being_at_kept edits actors w a.0 k i.shows at in
+    record {
+      image = i;
+      runs = shown_runs names s.capacity edits actors w a k (record { shows = i.shows; world = i.world }) at;
+      being = b.0;
+      there = b.1;
+      has = ap (λ (x : ActorView). x.body) b.2;
+    }
+
+out_view : (k : ActorView) (t : Bool) → is_idle k.body.phase ≡ t → view_checked_out k ≡ cond t (view_after_begin k) k
+out_view k t e = ap (λ (b : Bool). cond b (view_after_begin k) k) e
+
+-- an idle actor begins its first pending message
+pub begins_out : (base : World) (names : List (List ℕ)) (edits : List Edit) (actors : List ActorView) (h : List Item) (made : ℕ) (s : Settings) (beside : Standing) (a : ActorId) (k : ActorView)
+    → IsImage base names edits actors h made s → first_of (checkout_rules (seen base names h s beside) (slice_get (world_of (constants_of names s.capacity) base h).actors a.0)) ≡ None → slice_get actors a.0 ≡ Some k → is_idle k.body.phase ≡ true
+    → IsOut base names edits (change_at view_checked_out a.0 actors) (h ++ Begun a ∷ []) made s a (view_checked_out k).body
+begins_out base names edits actors h made s beside a k i allowed at idle =
+    let w : World = world_of (constants_of names s.capacity) base h in
+    let b = being_at_kept edits actors w a.0 k i.shows at in
+    let idle' : is_idle b.0.body.phase ≡ true = ap (λ (y : ActorView). is_idle y.body.phase) b.2 ∙ idle in
+    let rules : first_of (checkout_rules (seen base names h s beside) (Some b.0)) ≡ None = subst (λ (o : Option WorldActor). first_of (checkout_rules (seen base names h s beside) o) ≡ None) b.1 allowed in
+    let both = off (is_idle b.0.body.phase && (length (pending b.0) == 0)) NothingToDo ((is_idle b.0.body.phase && nat_lt s.history (length h + 1), HistoryFull) ∷ []) rules in
+    let some = first_pending (pending b.0) (and_true (is_idle b.0.body.phase) (length (pending b.0) == 0) idle' both.0) in
+    let m : Message = some.0 in
+    let last = off (is_idle b.0.body.phase && nat_lt s.history (length h + 1)) HistoryFull [] both.1 in
+    let room : length h + 1 ≤ s.history = (let full : nat_lt s.history (length h + 1) ≡ false = and_true (is_idle b.0.body.phase) (nat_lt s.history (length h + 1)) idle' last.0 in grind (arith, nat_tests)) in
+    let first : next_message (slice_get w.actors a.0) ≡ Some m = ap next_message b.1 ∙ ap (λ (t : Bool). cond t (slice_get (pending b.0) 0) None) idle' ∙ some.1 in
+    let put : change_at view_checked_out a.0 actors ≡ change_at view_after_begin a.0 actors = change_here view_checked_out a.0 actors k at ∙ ap (λ (x : ActorView). slice_set actors a.0 x) (out_view k true idle) ∙ sym (change_here view_after_begin a.0 actors k at) in
+    let after : IsNext base names edits (change_at view_checked_out a.0 actors) (h ++ Begun a ∷ []) made s (change (with_begun m) a w) = begun_kept base names edits actors (change_at view_checked_out a.0 actors) h made s a m i first room put in
+    out_by base names edits (change_at view_checked_out a.0 actors) (h ++ Begun a ∷ []) made s a (view_checked_out k) after.image (get-change view_checked_out a.0 actors k at)
+
+-- an actor that is in a turn is handed out as it is
+pub goes_out : (base : World) (names : List (List ℕ)) (edits : List Edit) (actors : List ActorView) (h : List Item) (made : ℕ) (s : Settings) (a : ActorId) (k : ActorView)
+    → IsImage base names edits actors h made s → slice_get actors a.0 ≡ Some k → is_idle k.body.phase ≡ false
+    → IsOut base names edits (change_at view_checked_out a.0 actors) h made s a (view_checked_out k).body
+goes_out base names edits actors h made s a k i at busy =
+    let same : view_checked_out k ≡ k = out_view k false busy in
+    let put : change_at view_checked_out a.0 actors ≡ actors = change_here view_checked_out a.0 actors k at ∙ set_at_same actors a.0 (view_checked_out k) (at ∙ ap Some (sym same)) in
+    let out : IsOut base names edits actors h made s a k.body = out_by base names edits actors h made s a k i at in
+    subst (λ (xs : List ActorView). IsOut base names edits xs h made s a (view_checked_out k).body) (sym put) (subst (λ (x : ActorView). IsOut base names edits actors h made s a x.body) (sym same) out)
+
+-- ---- the numbers of actors
+
+-- so many actors more than acts can make
+abbrev pub FewActors : ℕ → World → Type 0
+FewActors k w = length w.actors ≤ 65536 + k
+
+fewer : (m n : ℕ) → nat_le m n ≡ false → n < m
+fewer m n h = grind (arith, nat_tests)
+
+few_change : (k : ℕ) (f : WorldActor → WorldActor) (a : ActorId) (w : World) → FewActors k w → FewActors k (change f a w)
+few_change k f a w h = omega (arith, h, length-change f a.0 w.actors)
+
+few_last : (k : ℕ) (s : Sender) (n : ℕ) (w : World) → FewActors k w → FewActors k (with_last s n w)
+few_last k (Client s) n w h = h
+few_last k (Actor a) n w h = few_change k (λ b. record b { last = n }) a w h
+
+few_posted : (k : ℕ) (c : Constants) (w v : World) (a : ActorId) (m : Message) → FewActors k w → after_post c w a m ≡ Some v → FewActors k v
+few_posted k c w v a m h e = subst (FewActors k) (let_through _ _ v e).1 (few_last k m.sender m.seq (change (with_accepted m) a w) (few_change k (with_accepted m) a w h))
+
+few_closed : (k : ℕ) (w v : World) (a : ActorId) → FewActors k w → after_close w a ≡ Some v → FewActors k v
+few_closed k w v a h e = subst (FewActors k) (let_through _ _ v e).1 (few_change k (λ b. record b { is_open = false }) a w h)
+
+few_tried : (k : ℕ) (w : World) (o : Option World) → FewActors k w → ((v : World) → o ≡ Some v → FewActors k v) → FewActors k (attempted_act w o).world
+few_tried k w None h f = h
+few_tried k w (Some v) h f = f v refl
+
+few_either : (k : ℕ) (b : Bool) (p q : Acted) → FewActors k p.world → (b ≡ false → FewActors k q.world) → FewActors k (cond b p q).world
+few_either k true p q h f = h
+few_either k false p q h f = f refl
+
+few_posted_by : (k : ℕ) (c : Constants) (to : ActorId) (s : Selector) (args : List Value) (a : ActorId) (w v : World) (o : Option WorldActor) → FewActors k w → after_post_by c to s args a w o ≡ Some v → FewActors k v
+few_posted_by k c to s args a w v None h e = cc
+few_posted_by k c to s args a w v (Some b) h e = few_posted k c w v to _ h (cond_some _ _ v e).1
+
+few_post : (k : ℕ) (c : Constants) (to : ActorId) (s : Selector) (args : List Value) (a : ActorId) (w : World) → FewActors k w → FewActors k (post_result c to s args a w).world
+few_post k c to s args a w h =
+    let o : Option World = after_post_by c to s args a w (slice_get w.actors a.0) in
+    few_either k (not (is_number (arity_at c.names s) (length args))) (failed_act w BadArgument) (cond (list_any is_local args) (failed_act w LocalArgument) (attempted_act w o)) h
+    (λ x. few_either k (list_any is_local args) (failed_act w LocalArgument) (attempted_act w o) h
+    (λ y. few_tried k w o h (λ v e. few_posted_by k c to s args a w v (slice_get w.actors a.0) h e)))
+
+few_create : (k : ℕ) (c : Constants) (class : ClassId) (w : World) → FewActors k w → FewActors k (create_result c class w).world
+few_create k c class w h =
+    let made : Acted = record { world = with_new c class w; answer = Ok (Reference (record { 0 = length w.actors })) } in
+    few_either k (is_value_class class) (failed_act w BadArgument) (cond (nat_le 65536 (length w.actors)) (failed_act w TooManyActors) made) h
+    (λ x. few_either k (nat_le 65536 (length w.actors)) (failed_act w TooManyActors) made h
+    (λ y. let few : length w.actors < 65536 = fewer 65536 (length w.actors) y in omega (arith, few, length-append w.actors (new_world_actor w.edits class c.capacity ∷ []))))
+
+few_done : (k : ℕ) (c : Constants) (a : ActorId) (w : World) (act : Act) → FewActors k w → FewActors k (act_result c a w act).world
+few_done k c a w (Post to (Sym s ∷ args)) h = few_post k c to s args a w h
+few_done k c a w (Post to []) h = h
+few_done k c a w (Post to (Int z ∷ args)) h = h
+few_done k c a w (Post to (Boolean b ∷ args)) h = h
+few_done k c a w (Post to (Nil ∷ args)) h = h
+few_done k c a w (Post to (Class d ∷ args)) h = h
+few_done k c a w (Post to (Reference d ∷ args)) h = h
+few_done k c a w (Post to (Local n ∷ args)) h = h
+few_done k c a w (Close to) h = few_tried k w (after_close w to) h (λ v e. few_closed k w v to h e)
+few_done k c a w (Create class) h = few_create k c class w h
+
+some_world : (w v : World) → Some w ≡ Some v → w ≡ v
+some_world w v e = cc
+
+few_taken : (k : ℕ) (c : Constants) (a : ActorId) (w v : World) (s : Step) → FewActors k w → after_step_of c a w s ≡ Some v → FewActors k v
+few_taken k c a w v (leads body) h e = subst (FewActors k) (some_world _ v e) (few_change k (with_body body) a w h)
+few_taken k c a w v ended h e = cc
+few_taken k c a w v (outer act) h e = let d : Acted = act_result c a w act in subst (FewActors k) (some_world _ v e) (few_change k (λ b. with_body (reply_body act d.answer b.body) b) a d.world (few_done k c a w act h))
+
+few_stepped : (k : ℕ) (c : Constants) (a : ActorId) (w v : World) → FewActors k w → after_step c a w ≡ Some v → FewActors k v
+few_stepped k c a w v h e = let p = bound (λ b. after_step_of c a w (step w.edits a b.body)) (slice_get w.actors a.0) v e in few_taken k c a w v (step w.edits a p.0.body) h p.2
+
+few_after : (k : ℕ) (c : Constants) (a : ActorId) (n : ℕ) (w v : World) → FewActors k w → world_after c a n w ≡ Some v → FewActors k v
+few_after k c a zero w v h e = subst (FewActors k) (some_world w v e) h
+few_after k c a (suc n) w v h e = let p = bound (world_after c a n) (after_step c a w) v e in few_after k c a n p.0 v (few_stepped k c a w p.0 h p.1) p.2
+
+few_next : (k : ℕ) (c : Constants) (w v : World) (i : Item) → FewActors k w → next c w i ≡ Some v → FewActors (k + 1) v
+few_next k c w v (Edited e) h f = subst (FewActors (k + 1)) (let_through _ _ v f).1 (omega (arith, h))
+few_next k c w v (Created class) h f = subst (FewActors (k + 1)) (let_through _ _ v f).1 (omega (arith, h, length-append w.actors (new_world_actor w.edits class c.capacity ∷ [])))
+few_next k c w v (Posted a m) h f = omega (arith, few_posted k c w v a m h f)
+few_next k c w v (Closed a) h f = omega (arith, few_closed k w v a h f)
+few_next k c w v (Begun a) h f =
+    let p = mapped (λ m. change (with_begun m) a w) (next_message (slice_get w.actors a.0)) v f in
+    let g : FewActors k v = subst (FewActors k) p.2 (few_change k (with_begun p.0) a w h) in
+    omega (arith, g)
+few_next k c w v (Ran a n) h f = omega (arith, few_after k c a n w v h (cond_some (nat_lt 0 n) (world_after c a n w) v (sym (ran_after c w a n) ∙ f)).1)
+
+few_replay : (k : ℕ) (c : Constants) (w v : World) (is : List Item) → FewActors k w → replay c w is ≡ Some v → FewActors (k + length is) v
+few_replay k c w v [] h e = subst (FewActors (k + 0)) (some_world w v e) (omega (arith, h))
+few_replay k c w v (i ∷ is) h e =
+    let p = bound (λ x. replay c x is) (next c w i) v e in
+    let r : FewActors (k + 1 + length is) v = few_replay (k + 1) c p.0 v is (few_next k c w p.0 i h p.1) p.2 in
+    omega (arith, r)
+
+-- the number after that of an actor that is there fits
+pub small_number : (names : List (List ℕ)) (edits : List Edit) (actors : List ActorView) (h : List Item) (made : ℕ) (s : Settings) (a : ℕ) (x : ActorView) → IsImage start names edits actors h made s → slice_get actors a ≡ Some x → FitsIn w32 (a + 1)
+small_number names edits actors h made s a x k at =
+    let c : Constants = constants_of names s.capacity in
+    let w : World = world_of c start h in
+    let few : FewActors (0 + length h) w = few_replay 0 c start w h (omega arith) k.lawful in
+    let there : a < length actors = slice_get_within actors a x at in
+    omega (arith, few, there, count_is edits actors w k.shows, k.few_items, k.numbers.few_items)

@@ -1,0 +1,84 @@
+//! Image::checkout and release: claims of actors.
+use crate::image::Image;
+use crate::items::Item;
+use st_classes::refusals::Refusal;
+use st_classes::values::ActorId;
+use st_mailbox::mailboxes::Mailbox;
+use st_turn::claim::Claim;
+use std::alloc::{AllocError, Global};
+
+impl<M: Mailbox> Image<M> {
+    ghost use Rattle.std.specs.Prelude.{◌≡◌, ◌<◌, length, slice_get, None, IfNone, IfOk, OnErr};
+    ghost use Rattle.st_classes.specs.Refusals.{first_of};
+    ghost use Rattle.st_image.specs.Images.{world};
+    ghost use Rattle.st_image.specs.Commits.{ChecksOut, HasCheckedOut, IsReleased, checkout_rules, idle_at};
+
+    /// Why a checkout is refused, if it is.
+    fn checkout_refusal(&self, actor: ActorId) -> Option<Refusal>
+        ensures value { result ≡ first_of (checkout_rules self.now (slice_get (world self.now).actors actor.0)) }
+        ensures there { IfNone result (actor.0 < length (world self.now).actors) }
+    {
+        let Some(kept) = self.actor(actor) else {
+            return Some(Refusal::UnknownActor);
+        };
+        if !kept.is_idle() {
+            return None;
+        }
+        if !kept.has_pending() {
+            return Some(Refusal::NothingToDo);
+        }
+        self.room_refusal(1)
+    }
+
+    /// Whether an actor is idle.
+    fn is_idle(&self, actor: ActorId) -> bool
+        ensures { result ≡ idle_at (slice_get (world self.now).actors actor.0) }
+    {
+        match self.actor(actor) {
+            Some(kept) => kept.is_idle(),
+            None => true,
+        }
+    }
+
+    /// Hands out a claim of an actor whose checkout is not refused. An error says that nothing changed.
+    fn hand_out(&mut self, alloc: Global, actor: ActorId) -> Result<Claim, AllocError>
+        requires { first_of (checkout_rules self.old (slice_get (world self.old).actors actor.0)) ≡ None }
+        ensures ok { IfOk result (λ c. HasCheckedOut self.old actor c self.new) }
+        ensures err { OnErr result (self.new ≡ self.old) }
+    {
+        let begins = self.is_idle(actor);
+        let body = self.actors.body_to_check_out(alloc, actor)?;
+        let claim = Claim::new(alloc, actor, self.token.again()?, body)?;
+        if begins {
+            self.history.reserve(1)?;
+            self.history.push(Item::Begun(actor)).unwrap();
+        }
+        self.actors.check_out(actor);
+        self.next_from = actor.0 + 1;
+        Ok(claim)
+    }
+
+    /// A claim of an actor: its body, at the present class table. Where no turn is going on, the actor begins its next pending
+    /// message, which enters the history.
+    ///
+    /// Refusals, in this order: `UnknownActor`; `NothingToDo` where no turn is going on and no message is pending; `HistoryFull`
+    /// where a message would begin. Memory can run out only where none of these applies. A refused call changes nothing.
+    pub fn checkout(&mut self, alloc: Global, actor: ActorId) -> Result<Claim, Refusal>
+        ensures { ChecksOut self.old actor result self.new }
+    {
+        if let Some(refusal) = self.checkout_refusal(actor) {
+            return Err(refusal);
+        }
+        match self.hand_out(alloc, actor) {
+            Ok(claim) => Ok(claim),
+            Err(_) => Err(Refusal::NoMemory),
+        }
+    }
+
+    /// Gives a claim back: none of its steps is taken. No memory is taken.
+    pub fn release(&mut self, claim: Claim)
+        ensures { IsReleased self.old claim.actor self.new }
+    {
+        self.actors.release(claim.actor());
+    }
+}

@@ -1,0 +1,159 @@
+//! Image::commit: the steps of a claim become the actor's.
+use crate::acting::put_steps;
+use crate::image::Image;
+use crate::items::Item;
+use st_classes::keys::SiteId;
+use st_classes::refusals::Refusal;
+use st_mailbox::mailboxes::Mailbox;
+use st_turn::acts::next_site;
+use st_turn::claim::Claim;
+use std::alloc::Global;
+
+impl<M: Mailbox> Image<M> {
+    ghost use Rattle.std.specs.Prelude.{◌≡◌, ◌≢◌, ◌↔◌, ◌<◌, IsTrue, None, MatchOption, IfErr, OnOk};
+    ghost use Rattle.st_classes.specs.EditLists.{Begins};
+    ghost use Rattle.st_image.specs.Images.{world};
+    ghost use Rattle.st_image.specs.Commits.{Commits, CommitAllowed, CommitRefused, HasCommitted, IsAsBefore, IsUnchanged, RefusesCommit, act_site, steps_of};
+
+    /// Whether an actor is there and has the body that a claim began with.
+    fn is_unchanged(&self, claim: &Claim) -> bool
+        ensures { IsTrue result ↔ IsUnchanged self.now claim.now }
+    {
+        match self.actor(claim.actor()) {
+            Some(kept) => kept.body().is_same(claim.before()),
+            None => false,
+        }
+    }
+
+    /// Why the commit of a claim is refused, if it is.
+    fn commit_refusal(&self, claim: &Claim, steps: u32) -> Option<Refusal>
+        requires begins { Begins claim.now.edits (world self.now).edits }
+        requires steps { steps ≡ steps_of claim.now }
+        ensures { MatchOption result (CommitAllowed self.now claim.now) (λ e. CommitRefused self.now claim.now e) }
+    {
+        let version = self.version().edits();
+        if claim.token().shown().edits() != version {
+            return Some(Refusal::Stale { version });
+        }
+        if !self.is_unchanged(claim) {
+            return Some(Refusal::Changed);
+        }
+        self.room_refusal(if steps == 0 { 0 } else { 1 })
+    }
+
+    /// How many steps the commit of a claim is: the image takes one more, where it is next.
+    fn steps_to_commit(claim: &Claim) -> u32
+        ensures { result ≡ steps_of claim.now }
+    {
+        claim.known();
+        if claim.is_act_next() {
+            claim.steps() + 1
+        } else {
+            claim.steps()
+        }
+    }
+
+    /// The site of the step that the image takes, where that is next.
+    fn site_to_commit(claim: &Claim) -> Option<SiteId>
+        ensures { result ≡ act_site claim.now }
+    {
+        if claim.is_act_next() {
+            next_site(claim.after())
+        } else {
+            None
+        }
+    }
+
+    /// Takes the steps of a claim, at least one. For want of memory the claim is handed back.
+    fn take_steps(&mut self, alloc: Global, claim: Claim, steps: u32) -> Result<(), Claim>
+        requires allowed { CommitAllowed self.old claim }
+        requires steps { steps ≡ steps_of claim }
+        requires some { 0 < steps }
+        ensures ok { OnOk result (HasCommitted self.old claim steps self.new) }
+        ensures back { IfErr result (λ c. c ≡ claim) }
+        ensures err { IfErr result (λ c. IsAsBefore self.old self.new) }
+    {
+        claim.known();
+        let actor = claim.actor();
+        let site = Self::site_to_commit(&claim);
+        let Ok(()) = self.history.reserve(1) else {
+            return Err(claim);
+        };
+        let Ok(()) = self.tallies.make_places(claim.sends(), site) else {
+            return Err(claim);
+        };
+        let (parts, after) = claim.into_parts();
+        match put_steps(
+            alloc,
+            &self.names,
+            self.token.shown(),
+            self.settings.capacity,
+            &mut self.actors,
+            actor,
+            after,
+        ) {
+            Ok(_) => {
+                self.tallies.count(parts.sends.as_slice(), site);
+                self.actors.release(actor);
+                self.history.push(Item::Ran { actor, steps }).unwrap();
+                Ok(())
+            }
+            Err(after) => Err(Claim::from_parts(parts, after)),
+        }
+    }
+
+    /// Refuses a claim, which is spent unless the history is full.
+    fn refuse(&mut self, claim: Claim, refusal: Refusal) -> (Refusal, Option<Claim>)
+        requires { CommitRefused self.old claim refusal }
+        ensures { RefusesCommit self.old claim result.0 result.1 self.new }
+    {
+        if let Refusal::HistoryFull = refusal {
+            return (refusal, Some(claim));
+        }
+        self.actors.release(claim.actor());
+        (refusal, None)
+    }
+
+    /// As `commit`, of a claim whose edits begin those of the class table, as the caller knows. The edits are not compared.
+    pub fn commit_known(
+        &mut self,
+        alloc: Global,
+        claim: Claim,
+    ) -> Result<u32, (Refusal, Option<Claim>)>
+        requires { Begins claim.edits (world self.old).edits }
+        ensures { Commits self.old claim result self.new }
+    {
+        let steps = Self::steps_to_commit(&claim);
+        if let Some(refusal) = self.commit_refusal(&claim, steps) {
+            return Err(self.refuse(claim, refusal));
+        }
+        if steps == 0 {
+            self.actors.release(claim.actor());
+            return Ok(0);
+        }
+        match self.take_steps(alloc, claim, steps) {
+            Ok(()) => Ok(steps),
+            Err(claim) => Err((Refusal::NoMemory, Some(claim))),
+        }
+    }
+
+    /// The steps of a claim become the actor's, and enter the history as one item; no item is added for no steps. Where the claim
+    /// stands before a step that the image takes, that is taken too. The answer is how many steps that were.
+    ///
+    /// Refusals, in this order: `Stale` where the class table was edited since the checkout; `Changed` where the actor is not
+    /// there or has another body than the claim began with; either spends the claim. Then `HistoryFull`. Memory can run out only
+    /// where none of these applies. Either of the last two hands the claim back, and nothing changes.
+    pub fn commit(
+        &mut self,
+        alloc: Global,
+        claim: Claim,
+    ) -> Result<u32, (Refusal, Option<Claim>)>
+        ensures { Commits self.old claim result self.new }
+    {
+        if !claim.token().shown().begins(self.version()) {
+            let version = self.version().edits();
+            return Err(self.refuse(claim, Refusal::Stale { version }));
+        }
+        self.commit_known(alloc, claim)
+    }
+}

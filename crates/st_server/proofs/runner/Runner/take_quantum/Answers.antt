@@ -1,5 +1,5 @@
 use Rattle.std.proofs.Common.{rules}
-use Rattle.st_server.proofs.serving.take_quantum.Goals as goal
+use Rattle.st_server.proofs.runner.Runner.take_quantum.Goals as goal
 
 pub returns-in-Err : goal.returns-in-Err
 returns-in-Err c =

@@ -1,5 +1,5 @@
 -- The claim of a quantum: its checkout, and its commit or release.
-use Rattle.std.proofs.Common.{◌≡◌, ℕ, ◌⊎◌, List, [], ◌∷◌, ◌++◌, Option, Some, None, Result, Ok, Err, Bool, true, false, if◌then◌else◌, refl, sym, ap, subst, ◌∙◌, slice_get, append-nil, ◌+◌}
+use Rattle.std.proofs.Common.{◌≡◌, ℕ, List, [], ◌∷◌, Option, Some, None, Result, Ok, Err, Bool, true, false, if◌then◌else◌, sym, ap, subst, ◌∙◌, slice_get, append-nil, ◌+◌}
 use Rattle.std.specs.Option.{IfSome}
 use Rattle.st_classes.specs.declared.values.ActorId.{ActorId}
 use Rattle.st_classes.specs.declared.edits.Edit.{Edit}
@@ -9,11 +9,10 @@ use Rattle.st_classes.specs.EditLists.{Begins}
 use Rattle.st_guard.specs.declared.global_guard.GlobalGuard.{GlobalGuard}
 use Rattle.st_guard.specs.Moves.{CachesView}
 use Rattle.st_turn.specs.Claims.{ClaimView}
-use Rattle.st_image.specs.declared.items.Item.{Item}
 use Rattle.st_image.specs.declared.items.Item.TheVariants.{Begun}
 use Rattle.st_image.specs.Images.{ImageView, appended, world}
 use Rattle.st_image.specs.WorldInvariant.{IsLawful}
-use Rattle.st_image.specs.Commits.{HasCheckedOut, RefusesCommit, after_checkout, idle_at, items_of, with_out}
+use Rattle.st_image.specs.Commits.{HasCheckedOut, RefusesCommit, idle_at, items_of, with_out}
 use Rattle.st_image.proofs.GrowingEdits.{GoesOn, edits_grow, goes_both, goes_from}
 use Rattle.st_server.specs.Runners.{KeepsFirst, ReleasesBack, Settles}
 
@@ -80,14 +79,14 @@ pub claim_follows : (i k : ImageView) (a : ActorId) (c : ClaimView) (v : CachesV
 claim_follows i k a c v h out = subst (λ es. IfSome v.kept (λ x. Begins x es)) (sym (claim_edits i k a c out)) h
 
 -- the image may commit it
-pub claim_begins : (i k : ImageView) (a : ActorId) (c d : ClaimView) → IsLawful i → IsLawful k → HasCheckedOut i a c k → d.edits ≡ c.edits → Begins d.edits (world k).edits
-claim_begins i k a c d l m out same = subst (λ es. Begins es (world k).edits) (sym (same ∙ claim_edits i k a c out)) (edits_grow i k l m (checkout_goes i k a c out))
+pub claim_begins : (i k : ImageView) (a : ActorId) (c : ClaimView) → IsLawful i → IsLawful k → HasCheckedOut i a c k → Begins c.edits (world k).edits
+claim_begins i k a c l m out = subst (λ es. Begins es (world k).edits) (sym (claim_edits i k a c out)) (edits_grow i k l m (checkout_goes i k a c out))
 
 kept_first : (o : Option (List Edit)) (es fs gs : List Edit) → IfSome o (λ k. k ≡ es) → es ≡ fs → Begins fs gs → IfSome o (λ k. Begins k gs)
 kept_first None es fs gs h e b = tt
 kept_first (Some k) es fs gs h e b = subst (λ x. Begins x gs) (sym (h ∙ e)) b
 
 -- what the worker keeps after it begins the edits of the image
-pub settled_keeps : (i k j : ImageView) (a : ActorId) (c d : ClaimView) (r : Result ℕ Refusal) (w : CachesView GlobalGuard) → IsLawful i → IsLawful j → HasCheckedOut i a c k → d.edits ≡ c.edits → IfSome w.kept (λ es. es ≡ d.edits) → Settles k d r j → KeepsFirst j w
-settled_keeps i k j a c d r w l m out same kept settled =
-    kept_first w.kept d.edits (world i).edits (world j).edits kept (same ∙ claim_edits i k a c out) (edits_grow i j l m (goes_both i k j (checkout_goes i k a c out) (settles_goes k d r j settled)))
+pub settled_keeps : (i k j : ImageView) (a : ActorId) (c d : ClaimView) (r : Result ℕ Refusal) (w : CachesView GlobalGuard) → IsLawful i → IsLawful j → HasCheckedOut i a c k → IfSome w.kept (λ es. es ≡ c.edits) → Settles k d r j → KeepsFirst j w
+settled_keeps i k j a c d r w l m out kept settled =
+    kept_first w.kept c.edits (world i).edits (world j).edits kept (claim_edits i k a c out) (edits_grow i j l m (goes_both i k j (checkout_goes i k a c out) (settles_goes k d r j settled)))

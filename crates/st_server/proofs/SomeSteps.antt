@@ -1,6 +1,6 @@
 -- A quantum of an actor that was checked out has a step.
-use Rattle.std.proofs.Common.{arith, ◌≡◌, ℕ, zero, suc, ◌+◌, ◌<◌, ◌≤◌, ◌⊎◌, List, [], ◌∷◌, ◌++◌, length, Option, Some, None, Result, Ok, Err, Bool, true, false, cond, if◌then◌else◌, refl, sym, ap, subst, ◌∙◌, inl, inr, slice_get, nat_lt}
-use Rattle.std.specs.Prelude.{◌&&◌, ◌==◌}
+use Rattle.std.proofs.Common.{arith, ◌≡◌, ℕ, zero, suc, ◌+◌, ◌<◌, ◌≤◌, List, [], ◌∷◌, length, Option, Some, None, Result, Ok, Err, Bool, true, false, cond, if◌then◌else◌, refl, sym, ap, subst, ◌∙◌, inl, inr, slice_get, nat_lt}
+use Rattle.std.specs.Prelude.{◌&&◌, ◌==◌, IfOk}
 use Rattle.std.specs.Option.{option_map}
 use Rattle.std.specs.declared.alloc.AllocError.{AllocError}
 use Rattle.std.proofs.lemmas.Option.{slice_get_cases}
@@ -12,6 +12,8 @@ use Rattle.st_classes.specs.declared.edits.Edit.{Edit}
 use Rattle.st_classes.specs.declared.refusals.Refusal.TheVariants.{HistoryFull, NothingToDo}
 use Rattle.st_classes.specs.EditLists.{method_at}
 use Rattle.st_classes.specs.Refusals.{first_of}
+use Rattle.st_classes.specs.declared.refusals.Refusal.{Refusal}
+use Rattle.st_guard.specs.declared.global_guard.GlobalGuard.{GlobalGuard}
 use Rattle.st_guard.specs.Moves.{CachesView}
 use Rattle.st_turn.specs.declared.acts.Act.{Act}
 use Rattle.st_turn.specs.declared.body.Body.{Body}
@@ -23,7 +25,7 @@ use Rattle.st_turn.specs.declared.body.Stop.TheVariants.{More, Ended, Outer, Lim
 use Rattle.st_turn.specs.Idle.{is_idle}
 use Rattle.st_turn.specs.FrameViews.{FramesView}
 use Rattle.st_turn.specs.Effects.{Effect, goes, stores, sends, answers, fails, effect}
-use Rattle.st_turn.specs.BodyFits.{Referents, Fits, FitsPhase, FitsSome}
+use Rattle.st_turn.specs.BodyFits.{Referents, FitsPhase, FitsSome}
 use Rattle.st_turn.specs.Claims.{ClaimView, IsSound}
 use Rattle.st_turn.specs.Steps.{Step, next as leads, ended, outer, act_of, act_or, arguments, effect_step, frames_step, instruction_step, is_outer, own_steps, receiver_below, send_body, send_step, step, step_in}
 use Rattle.st_turn.specs.StepResults.{step_result, stop_result}
@@ -34,7 +36,8 @@ use Rattle.st_image.specs.Worlds.{World, WorldActor, change, pending}
 use Rattle.st_image.specs.Replay.{next, next_message, with_begun}
 use Rattle.st_image.specs.Images.{ImageView, appended, constants, world}
 use Rattle.st_image.specs.WorldInvariant.{IsLawful}
-use Rattle.st_image.specs.Commits.{HasCheckedOut, body_at, checkout_rules, idle_at, new_claim, steps_of, with_out}
+use Rattle.st_image.specs.Commits.{HasCheckedOut, body_at, checkout_rules, idle_at, steps_of, with_out}
+use Rattle.st_server.specs.Runners.{Settles, Steps, floor_of, quantum_answer}
 use Rattle.st_image.proofs.Lists.{off}
 use Rattle.st_image.proofs.Changing.{get-change}
 use Rattle.st_image.proofs.Replays.{lawful_push}
@@ -168,3 +171,15 @@ pub checkout_busy : (i k : ImageView) (a : ActorId) (c : ClaimView) → IsLawful
 checkout_busy i k a c l rules h =
     let body : is_idle h.body.phase ≡ false = checked_by (slice_get (world i).actors a.0) i k a h.body l refl rules h.there h.image in
     subst (λ (x : ClaimView). is_idle x.before.phase ≡ false) (sym h.claim) body
+
+-- ---- the answer of a quantum
+
+answered_some : (r : Result ℕ Refusal) (ran : Result Stop AllocError) (settled : Result ℕ Refusal) (limit : ℕ) (v : CachesView GlobalGuard) (c : ClaimView) (w : CachesView GlobalGuard) (d : ClaimView) (k j : ImageView) → 1 ≤ limit → is_idle c.before.phase ≡ false → IsSound d.actor d.edits d.before d.after d.steps d.sends → Runs floor_of limit v c ran w d → Settles k d settled j → IfOk (quantum_answer ran settled) (λ n. 1 ≤ n)
+answered_some r (Ok stop) (Ok n) limit v c w d k j l busy sound runs settles = let some = some_steps floor_of limit v c stop w d l busy sound runs in omega (arith, some, settles.steps)
+answered_some r (Ok stop) (Err e) limit v c w d k j l busy sound runs settles = tt
+answered_some r (Err f) (Ok n) limit v c w d k j l busy sound runs settles = tt
+answered_some r (Err f) (Err e) limit v c w d k j l busy sound runs settles = tt
+
+-- a quantum of an actor that is in a turn, where memory was there, has a step
+pub quantum_some : (r : Result ℕ Refusal) (ran : Result Stop AllocError) (settled : Result ℕ Refusal) (limit : ℕ) (v : CachesView GlobalGuard) (c : ClaimView) (w : CachesView GlobalGuard) (d : ClaimView) (k j : ImageView) → 1 ≤ limit → is_idle c.before.phase ≡ false → IsSound d.actor d.edits d.before d.after d.steps d.sends → Steps limit v c ran w d → Settles k d settled j → r ≡ quantum_answer ran settled → IfOk r (λ n. 1 ≤ n)
+quantum_some r ran settled limit v c w d k j l busy sound steps settles is = subst (λ x. IfOk x (λ n. 1 ≤ n)) (sym is) (answered_some r ran settled limit steps.0 c w d k j l busy sound steps.2 settles)

@@ -1,6 +1,7 @@
 -- What runs took.
 use Rattle.std.proofs.Common.{arith, ◌≡◌, ℕ, zero, suc, ◌+◌, ◌≤◌, ◌<◌, Bool, true, false, List, [], ◌∷◌, ◌++◌, All, Result, Ok, Err, MatchResult, length, sum, if◌then◌else◌, refl, sym, ap, subst, ◌∙◌, inl, inr, slice_get, append_assoc, append-nil}
 use Rattle.std.specs.Prelude.{◌==◌}
+use Rattle.std.proofs.Math.Dec.{eqb-suc-zero}
 use Rattle.std.proofs.lemmas.List.Elements.{All-nil, All-cons}
 use Rattle.std.proofs.lemmas.List.Sums.{sum_by-cons}
 use Rattle.st_classes.specs.declared.values.ActorId.{ActorId}
@@ -43,7 +44,7 @@ committed_adds n c some is items = items_add n c.actor (steps_of c) items some i
   where
     items_add : (n : ℕ) (a : ActorId) (m : ℕ) (items : List Item) → 1 ≤ n → n ≡ m → quanta_in ((if m == 0 then [] else Ran a m ∷ []) ++ items) ≡ n ∷ quanta_in items
     items_add n a zero items some is = absurd (omega (arith, some, is))
-    items_add n a (suc m) items some is = ap (λ x. x ∷ quanta_in items) (sym is)
+    items_add n a (suc m) items some is = ap (λ (t : Bool). quanta_in ((if t then [] else Ran a (suc m) ∷ []) ++ items)) (eqb-suc-zero m) ∙ ap (λ x. x ∷ quanta_in items) (sym is)
 
 settled_adds : (i k : ImageView) (a : ActorId) (c d : ClaimView) (n : ℕ) (j : ImageView) → 1 ≤ n → HasCheckedOut i a c k → HasCommitted k d n j → AddsQuantum i.history n j.history
 settled_adds i k a c d n j some out done =

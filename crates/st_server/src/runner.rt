@@ -1,10 +1,10 @@
 //! An image with the worker that takes the steps of its actors.
-ghost use Rattle.std.specs.Prelude.{◌≡◌, ◌≤◌, ◌<◌, Ok, Err, IfOk, IfErr, IfSome, MatchOption, MatchResult};
+ghost use Rattle.std.specs.Prelude.{◌≡◌, ◌≤◌, false, Ok, Err, IfOk, IfErr, IfSome, MatchOption, MatchResult};
 ghost use Rattle.st_classes.specs.EditLists.{Begins};
-ghost use Rattle.st_turn.specs.Claims.{IsSound};
+ghost use Rattle.st_turn.specs.Idle.{is_idle};
 ghost use Rattle.st_image.specs.Images.{world};
 ghost use Rattle.st_server.specs.CommandReplies.{Asks};
-ghost use Rattle.st_server.specs.Runners.{AreNew, NextAdvances, NoneReady, Settles, TakesQuantum};
+ghost use Rattle.st_server.specs.Runners.{AreNew, NextAdvances, NoneReady, Settles, TakesQuantum, Works, quantum_answer};
 
 use crate::asking::ask;
 use crate::images::{Image, Worker};
@@ -13,6 +13,7 @@ use st_classes::refusals::Refusal;
 use st_classes::values::ActorId;
 use st_guard::caches::Caches;
 use st_guard::global_guard::GlobalGuard;
+use st_turn::body::Stop;
 use st_turn::claim::Claim;
 use st_wire::commands::Command;
 use st_wire::replies::Reply;
@@ -59,6 +60,37 @@ fn settle(alloc: Global, image: &mut Image, claim: Claim) -> Result<u32, Refusal
     }
 }
 
+/// What a quantum answers where its steps and its commit went so.
+fn answer(ran: Result<Stop, AllocError>, settled: Result<u32, Refusal>) -> Result<u32, Refusal>
+    ensures { result ≡ quantum_answer ran settled }
+{
+    match (ran, settled) {
+        (Ok(_), settled) => settled,
+        (Err(_), Ok(_)) => Err(Refusal::NoMemory),
+        (Err(_), Err(refusal)) => Err(refusal),
+    }
+}
+
+/// Takes so many steps of a claim, or fewer where none is next or memory runs out, and commits them.
+fn work(
+    alloc: Global,
+    image: &mut Image,
+    worker: &mut Worker,
+    mut claim: Claim,
+    quantum: Quantum,
+) -> Result<u32, Refusal>
+    requires follows { IfSome worker.old.kept (λ k. Begins k claim.edits) }
+    requires begins { Begins claim.edits (world image.old).edits }
+    ensures works { Works quantum (record { image = image.old; caches = worker.old }) claim result (record { image = image.new; caches = worker.new }) }
+    ensures kept { IfSome worker.new.kept (λ k. k ≡ claim.edits) }
+    ensures some { is_idle claim.before.phase ≡ false → IfOk result (λ n. 1 ≤ n) }
+{
+    let ran = worker.run(alloc, &mut claim, quantum.steps());
+    claim.known();
+    let settled = settle(alloc, image, claim);
+    answer(ran, settled)
+}
+
 impl Runner {
     /// A runner of an image, whose worker's caches are new. For want of memory the image is given back.
     pub fn new(alloc: Global, image: Image) -> Result<Runner, Image>
@@ -92,18 +124,14 @@ impl Runner {
     /// Checks an actor out, takes so many steps of its claim, or fewer where none is next or memory runs out, and commits them.
     fn advance(&mut self, alloc: Global, actor: ActorId, quantum: Quantum) -> Result<u32, Refusal>
         ensures takes { TakesQuantum quantum self.old actor result self.new }
+        ensures some { IfOk result (λ n. 1 ≤ n) }
     {
         self.image.known();
-        let mut claim = self.image.checkout(alloc, actor)?;
+        let claim = self.image.checkout(alloc, actor)?;
         self.image.known();
-        let ran = self.worker.run(alloc, &mut claim, quantum.steps());
-        let settled = settle(alloc, &mut self.image, claim);
+        let result = work(alloc, &mut self.image, &mut self.worker, claim, quantum);
         self.image.known();
-        let steps = settled?;
-        match ran {
-            Ok(_) => Ok(steps),
-            Err(_) => Err(Refusal::NoMemory),
-        }
+        result
     }
 
     /// Lets the next ready actor take a quantum, and says how many steps that was, or nothing where none is ready. Where the step

@@ -150,13 +150,15 @@ pub record GoesOn (i j : ImageView) : Type 0 where
 
 -- then its edits begin with the other's
 pub edits_grow : (i j : ImageView) → IsLawful i → IsLawful j → GoesOn i j → Begins (world i).edits (world j).edits
-edits_grow i j l m g = (edits_among g.items,
-    replay_edits (constants j) j.base (world j) j.history m.lawful
-    ∙ ap (λ (w : World). w.edits ++ edits_among j.history) g.base
-    ∙ ap (λ h. i.base.edits ++ edits_among h) g.history
-    ∙ ap (λ es. i.base.edits ++ es) (among_append i.history g.items)
-    ∙ sym (append_assoc i.base.edits (edits_among i.history) (edits_among g.items))
-    ∙ ap (λ es. es ++ edits_among g.items) (sym (replay_edits (constants i) i.base (world i) i.history l.lawful)))
+edits_grow i j l m g = (
+  edits_among g.items,
+  replay_edits (constants j) j.base (world j) j.history m.lawful
+      ∙ ap (λ (w : World). w.edits ++ edits_among j.history) g.base
+      ∙ ap (λ h. i.base.edits ++ edits_among h) g.history
+      ∙ ap (λ es. i.base.edits ++ es) (among_append i.history g.items)
+      ∙ sym (append_assoc i.base.edits (edits_among i.history) (edits_among g.items))
+      ∙ ap (λ es. es ++ edits_among g.items) (sym (replay_edits (constants i) i.base (world i) i.history l.lawful)),
+)
 
 pub goes_from : (i j : ImageView) → j ≡ i → GoesOn i j
 goes_from i j e = record {

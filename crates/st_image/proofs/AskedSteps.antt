@@ -12,7 +12,7 @@ use Rattle.st_image.specs.Replay.{Trail, after_step, after_step_of, asked_at, tr
 use Rattle.st_image.specs.ActResults.{world_after}
 use Rattle.st_image.proofs.Changing.{get-change}
 use Rattle.st_image.proofs.Stepping.{bound}
-use Rattle.st_image.proofs.Quanta.{own_world}
+use Rattle.st_image.proofs.OwnSteps.{own_world}
 
 -- ---- trails, one after the other
 

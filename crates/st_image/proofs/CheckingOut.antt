@@ -1,6 +1,7 @@
 -- Checkouts: a claim of an actor, whose next message may begin.
-use Rattle.std.proofs.Common.{arith, ◌≡◌, ℕ, zero, suc, ◌+◌, ◌<◌, ◌≤◌, ◌++◌, [], ◌∷◌, List, length, Option, Some, None, Ok, Bool, true, false, cond, refl, ap, sym, ◌∙◌, subst, slice_get, slice_set, length-append, ◌⊎◌, inl, inr, nat_le, nat_lt, Fits as FitsIn, w32}
+use Rattle.std.proofs.Common.{arith, ◌≡◌, ℕ, zero, suc, ◌+◌, ◌<◌, ◌≤◌, ◌++◌, [], ◌∷◌, List, length, Option, Some, None, Ok, Bool, true, false, cond, refl, ap, sym, ◌∙◌, subst, slice_get, slice_set, length-append, append-nil, inl, nat_le, nat_lt, Fits as FitsIn, w32}
 use Rattle.std.specs.Prelude.{◌&&◌, ◌==◌, not}
+use Rattle.std.specs.Option.{option_map}
 use Rattle.std.specs.List.{list_any}
 use Rattle.std.proofs.lemmas.Bool.Decides.{nat_tests}
 use Rattle.std.proofs.lemmas.Option.{slice_get_within}
@@ -28,19 +29,23 @@ use Rattle.st_image.specs.declared.items.Item.{Item}
 use Rattle.st_image.specs.declared.items.Item.TheVariants.{Edited, Created, Posted, Closed, Begun, Ran}
 use Rattle.st_image.specs.Worlds.{Constants, World, WorldActor, change, change_at, pending, start}
 use Rattle.st_image.specs.Replay.{ActResult as Acted, with_accepted, with_begun, after_close, create_result, act_result, failed_act, is_local, new_world_actor, next, next_message, post_result, after_post, after_post_by, replay, after_step, after_step_of, attempted_act, with_body, with_last, with_new}
-use Rattle.st_image.specs.Images.{ImageView, Standing, world, world_of}
+use Rattle.st_image.specs.Images.{ImageView, Standing, appended, world, world_of}
 use Rattle.st_image.specs.ActorViews.{ActorView, Shows, actor_view, view_after_begin, view_checked_out}
-use Rattle.st_image.specs.ActResults.{IsShown, constants_of, world_after}
+use Rattle.st_image.specs.ActResults.{constants_of, world_after}
 use Rattle.st_image.specs.ImageInvariant.{CanRun, IsImage}
-use Rattle.st_image.specs.Commits.{checkout_rules, idle_at}
+use Rattle.st_image.specs.declared.tallies.Tally.{Tally}
+use Rattle.st_image.specs.ClaimsOut.{one_more}
+use Rattle.st_turn.specs.Claims.{ClaimView}
+use Rattle.st_image.specs.Commits.{HasCheckedOut, after_checkout, checkout_rules, idle_at, new_claim, with_out}
 use Rattle.st_image.proofs.Lists.{off, set_at_same}
 use Rattle.st_image.proofs.Changing.{change_here, get-change, length-change}
 use Rattle.st_image.proofs.Stepping.{bound, cond_some, mapped, ran_after}
 use Rattle.st_image.proofs.Deliveries.{let_through}
-use Rattle.st_image.proofs.Showing.{being_at_kept, count_is}
-use Rattle.st_image.proofs.Keeping.{IsNext, begun_kept, has_room}
+use Rattle.st_image.proofs.Showing.{being_at_kept, count_is, kept_at}
+use Rattle.st_image.proofs.Keeping.{IsNext, begun_kept}
 use Rattle.st_image.proofs.Outer.{shown_runs}
-use Rattle.st_image.proofs.Posting.{seen}
+use Rattle.st_image.proofs.Posting.{seen, standing_of}
+use Rattle.st_image.proofs.CountingOut.{counts_out}
 
 -- ---- a checkout
 
@@ -110,6 +115,52 @@ goes_out base names edits actors h made s a k i at busy =
     let put : change_at view_checked_out a.0 actors ≡ actors = change_here view_checked_out a.0 actors k at ∙ set_at_same actors a.0 (view_checked_out k) (at ∙ ap Some (sym same)) in
     let out : IsOut base names edits actors h made s a k.body = out_by base names edits actors h made s a k i at in
     subst (λ (xs : List ActorView). IsOut base names edits xs h made s a (view_checked_out k).body) (sym put) (subst (λ (x : ActorView). IsOut base names edits actors h made s a x.body) (sym same) out)
+
+-- an actor whose checkout is not refused is kept
+pub hands : (base : World) (names : List (List ℕ)) (edits : List Edit) (actors : List ActorView) (h : List Item) (made : ℕ) (s : Settings) (beside : Standing) (a : ActorId)
+    → IsImage base names edits actors h made s → first_of (checkout_rules (seen base names h s beside) (slice_get (world_of (constants_of names s.capacity) base h).actors a.0)) ≡ None → (k : ActorView) × (slice_get actors a.0 ≡ Some k)
+hands base names edits actors h made s beside a i allowed =
+    let w : World = world_of (constants_of names s.capacity) base h in
+    let b = being (seen base names h s beside) (slice_get w.actors a.0) allowed in
+    (actor_view b.0, kept_at edits actors w a.0 b.0 i.shows b.1)
+  where
+    being : (v : ImageView) (o : Option WorldActor) → first_of (checkout_rules v o) ≡ None → (b : WorldActor) × (o ≡ Some b)
+    being v None e = cc
+    being v (Some b) e = (b, refl)
+
+-- what a checkout adds to the history
+abbrev pub begun_items : Bool → ActorId → List Item
+begun_items true a = Begun a ∷ []
+begun_items false a = []
+
+-- either way
+pub outs : (base : World) (names : List (List ℕ)) (edits : List Edit) (actors : List ActorView) (h : List Item) (made : ℕ) (s : Settings) (beside : Standing) (a : ActorId) (k : ActorView) (t : Bool)
+    → IsImage base names edits actors h made s → first_of (checkout_rules (seen base names h s beside) (slice_get (world_of (constants_of names s.capacity) base h).actors a.0)) ≡ None → slice_get actors a.0 ≡ Some k → is_idle k.body.phase ≡ t
+    → IsOut base names edits (change_at view_checked_out a.0 actors) (h ++ begun_items t a) made s a (view_checked_out k).body
+outs base names edits actors h made s beside a k true i allowed at e = begins_out base names edits actors h made s beside a k i allowed at e
+outs base names edits actors h made s beside a k false i allowed at e = subst (λ (x : List Item). IsOut base names edits (change_at view_checked_out a.0 actors) x made s a (view_checked_out k).body) (sym (append-nil h)) (goes_out base names edits actors h made s a k i at e)
+
+checked_by : (i : ImageView) (a : ActorId) (t : Bool) → idle_at (slice_get (world i).actors a.0) ≡ t → after_checkout i a ≡ (let b : ImageView = record (appended i (begun_items t a)) { standing = record i.standing { next_from = a.0 + 1 } } in b)
+checked_by i a true e = rw e refl
+checked_by i a false e = rw e (ap (λ (x : List Item). let b : ImageView = record i { history = x; standing = record i.standing { next_from = a.0 + 1 } } in b) (sym (append-nil i.history)))
+
+-- what callers see of a checkout
+pub checked : (base : World) (names : List (List ℕ)) (edits : List Edit) (actors : List ActorView) (h : List Item) (made : ℕ) (s : Settings) (n : ℕ) (out : List ℕ) (rows : List (List Tally)) (a : ActorId) (k : ActorView) (t : Bool) (c : ClaimView)
+    → IsImage base names edits actors h made s → slice_get actors a.0 ≡ Some k → a.0 < length out → is_idle k.body.phase ≡ t
+    → IsOut base names edits (change_at view_checked_out a.0 actors) (h ++ begun_items t a) made s a (view_checked_out k).body
+    → c ≡ new_claim edits a (view_checked_out k).body
+    → HasCheckedOut (seen base names h s (standing_of n out rows)) a c (seen base names (h ++ begun_items t a) s (standing_of (a.0 + 1) (change_at one_more a.0 out) rows))
+checked base names edits actors h made s n out rows a k t c i at within e o claim =
+    let old : ImageView = seen base names h s (standing_of n out rows) in
+    let new : ImageView = seen base names (h ++ begun_items t a) s (standing_of (a.0 + 1) (change_at one_more a.0 out) rows) in
+    let was : idle_at (slice_get (world old).actors a.0) ≡ t = idle_there edits actors (world old) a k i.shows at ∙ e in
+    record {
+      body = (view_checked_out k).body;
+      there = ap (option_map (λ (b : WorldActor). b.body)) o.there ∙ ap Some o.has;
+      claim = claim ∙ ap (λ (es : List Edit). new_claim es a (view_checked_out k).body) i.shows.edits_are;
+      image = ap (λ (x : ImageView). with_out x new) (sym (checked_by old a t was));
+      counted = counts_out one_more a old new out (change_at one_more a.0 out) refl refl refl (inl within);
+    }
 
 -- ---- the numbers of actors
 

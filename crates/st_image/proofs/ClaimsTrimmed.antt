@@ -1,5 +1,5 @@
 -- Counts of claims without the zeros at their end.
-use Rattle.std.proofs.Common.{◌≡◌, ℕ, zero, suc, ◌++◌, [], ◌∷◌, List, refl, ap, ◌∙◌, sym}
+use Rattle.std.proofs.Common.{◌≡◌, ℕ, zero, suc, ◌++◌, [], ◌∷◌, List, refl, ap, ◌∙◌}
 use Rattle.st_image.specs.ClaimsOut.{claims_of, put_first, trimmed}
 
 first_of : (n : ℕ) (ns : List ℕ) → claims_of (put_first n ns) zero ≡ n

@@ -1,91 +1,47 @@
 -- Commits: the steps of a claim, as those of the world.
-use Rattle.std.proofs.Common.{arith, ◌≡◌, ℕ, zero, suc, ◌+◌, ◌<◌, ◌≤◌, ◌++◌, [], ◌∷◌, List, Option, Some, None, Bool, true, false, cond, refl, ap, sym, ◌∙◌, subst, slice_get, slice_set, option_and_then, map}
-use Rattle.std.specs.Prelude.{All, if◌then◌else◌}
-use Rattle.std.specs.Option.{option_map, option_to_list}
+use Rattle.std.proofs.Common.{arith, ◌≡◌, ℕ, zero, suc, ◌+◌, ◌<◌, ◌≤◌, ◌++◌, [], ◌∷◌, List, length, Option, Some, None, Bool, true, false, cond, refl, ap, sym, ◌∙◌, subst, slice_get, slice_set, option_and_then, map, append-nil, inr}
+use Rattle.std.specs.Prelude.{All, ◌==◌, if◌then◌else◌}
+use Rattle.std.proofs.Math.Dec.{eqb-suc-zero}
+use Rattle.std.specs.Option.{option_to_list}
 use Rattle.st_classes.specs.declared.values.ActorId.{ActorId}
 use Rattle.st_classes.specs.declared.keys.SiteId.{SiteId}
 use Rattle.st_classes.specs.declared.edits.Edit.{Edit}
 use Rattle.st_turn.specs.declared.body.Body.{Body}
-use Rattle.st_turn.specs.declared.body.Outcome.{Outcome}
 use Rattle.st_turn.specs.declared.body.Phase.{Phase}
 use Rattle.st_turn.specs.declared.body.Phase.TheVariants.{Fresh, Start, Frames, Done}
-use Rattle.st_turn.specs.Steps.{Step, next as leads, ended, is_outer, outer, body_after, own_steps, step}
+use Rattle.st_turn.specs.Steps.{Asked, asked, is_outer, next_site_in, own_steps, step}
 use Rattle.st_turn.specs.Idle.{is_idle}
-use Rattle.st_turn.specs.Claims.{ClaimView, IsSound}
-use Rattle.st_image.specs.Worlds.{Constants, World, WorldActor, change, change_at}
-use Rattle.st_image.specs.Replay.{after_step, after_step_of, with_body, with_result}
-use Rattle.st_image.specs.Images.{ImageView, world}
-use Rattle.st_image.specs.Commits.{IsUnchanged, body_at, stands_before_act, steps_of}
+use Rattle.st_turn.specs.Claims.{ClaimView, IsSound, own_asked, sites_asked}
+use Rattle.st_image.specs.Worlds.{Constants, World, WorldActor, change, change_at, start}
+use Rattle.st_image.specs.Replay.{after_step, with_body}
+use Rattle.st_image.specs.Images.{ImageView, Standing, no_room, world, world_of}
+use Rattle.st_classes.specs.declared.refusals.Refusal.TheVariants.{HistoryFull}
+use Rattle.st_classes.specs.Refusals.{first_of}
+use Rattle.st_turn.specs.declared.claim.Sent.{Sent}
+use Rattle.st_turn.proofs.ActSites.{next_site_is}
+use Rattle.st_image.specs.declared.items.Item.{Item}
+use Rattle.st_image.specs.declared.items.Item.TheVariants.{Ran}
+use Rattle.st_image.specs.declared.settings.Settings.{Settings}
+use Rattle.st_image.specs.declared.tallies.Tally.{Tally}
+use Rattle.st_image.specs.ImageInvariant.{IsImage}
+use Rattle.st_image.specs.Tallies.{CountsSends, Tallied, after_act_at, after_sends, asked_by_item, tally_at}
+use Rattle.st_image.specs.Commits.{CommitAllowed, HasCommitted, IsUnchanged, act_site, commit_room, items_of, stands_before_act, steps_of}
 use Rattle.st_image.specs.Newest.{Kept, kept_with}
 use Rattle.st_image.specs.ActorViews.{ActorView, Shows, view_after_steps}
 use Rattle.st_image.specs.ActResults.{GrowsByOne, IsShown, StandsBefore, TakesOuter, constants_of, world_after}
 use Rattle.st_image.proofs.Lists.{set_at_same, set_twice}
-use Rattle.st_image.proofs.Places.{same_or_not}
 use Rattle.st_image.proofs.Changing.{All-change, change_here, get-change}
-use Rattle.st_image.proofs.Stepping.{after_then, bound, mapped}
+use Rattle.st_image.proofs.Stepping.{after_then, mapped}
 use Rattle.st_image.proofs.NewestResults.{view_steps}
 use Rattle.st_image.proofs.Showing.{being_at_kept, shows_change}
-use Rattle.st_image.proofs.Lasting.{after_keeps, next_busy, outer_busy}
-
--- ---- a body, one step after the other
-
-leads_by : (s : Step) (b : Body) → body_after s ≡ Some b → s ≡ leads b
-leads_by (leads x) b e = let same : x ≡ b = cc in ap leads same
-leads_by ended b e = cc
-leads_by (outer act) b e = cc
-
--- a body that takes a step is in a turn
-own_busy : (edits : List Edit) (a : ActorId) (n : ℕ) (b last : Body) → own_steps edits a (suc n) b ≡ Some last → is_idle b.phase ≡ false
-own_busy edits a n b last e =
-    let p = bound (own_steps edits a n) (body_after (step edits a b)) last e in
-    next_busy edits a b.objects b.phase p.0 (leads_by (step edits a b) p.0 p.1)
-
-busy_results : (p : Phase) (rs : List Outcome) → is_idle p ≡ false → with_result p rs ≡ rs
-busy_results Fresh rs h = refl
-busy_results (Start s args) rs h = refl
-busy_results (Frames fs) rs h = refl
-busy_results (Done outcome) rs h = cc
-
-with_same : (b : WorldActor) → is_idle b.body.phase ≡ false → with_body b.body b ≡ b
-with_same b h = ap (λ (rs : List Outcome). let c : WorldActor = record b { results = rs } in c) (busy_results b.body.phase b.results h)
-
-with_twice : (body last : Body) (b : WorldActor) → is_idle body.phase ≡ false → with_body last (with_body body b) ≡ with_body last b
-with_twice body last b h = ap (λ (rs : List Outcome). let c : WorldActor = record b { body = last; results = with_result last.phase rs } in c) (busy_results body.phase b.results h)
-
--- ---- the world
-
-same_change : (w : World) (a : ActorId) (b : WorldActor) → slice_get w.actors a.0 ≡ Some b → is_idle b.body.phase ≡ false → change (with_body b.body) a w ≡ w
-same_change w a b at h = ap (λ (xs : List WorldActor). let v : World = record w { actors = xs } in v) (change_here (with_body b.body) a.0 w.actors b at ∙ set_at_same w.actors a.0 (with_body b.body b) (at ∙ ap Some (sym (with_same b h))))
-
-change_again : (w : World) (a : ActorId) (b : WorldActor) (body last : Body) → slice_get w.actors a.0 ≡ Some b → is_idle body.phase ≡ false → change (with_body last) a (change (with_body body) a w) ≡ change (with_body last) a w
-change_again w a b body last at h =
-    let at1 : slice_get (change_at (with_body body) a.0 w.actors) a.0 ≡ Some (with_body body b) = get-change (with_body body) a.0 w.actors b at in
-    ap (λ (xs : List WorldActor). let v : World = record w { actors = xs } in v) (change_here (with_body last) a.0 (change_at (with_body body) a.0 w.actors) (with_body body b) at1 ∙ ap (λ (ys : List WorldActor). slice_set ys a.0 (with_body last (with_body body b))) (change_here (with_body body) a.0 w.actors b at) ∙ set_twice w.actors a.0 (with_body body b) (with_body last (with_body body b)) ∙ ap (slice_set w.actors a.0) (with_twice body last b h) ∙ sym (change_here (with_body last) a.0 w.actors b at))
-
-some_body : (b c : Body) → Some b ≡ Some c → b ≡ c
-some_body b c e = cc
-
-step_world : (c : Constants) (w : World) (a : ActorId) (b : WorldActor) (body : Body) → slice_get w.actors a.0 ≡ Some b → body_after (step w.edits a b.body) ≡ Some body → after_step c a w ≡ Some (change (with_body body) a w)
-step_world c w a b body at e = ap (option_and_then (λ (y : WorldActor). after_step_of c a w (step w.edits a y.body))) at ∙ ap (after_step_of c a w) (leads_by (step w.edits a b.body) body e)
-
--- so many steps of the actor's own
-pub own_world : (c : Constants) (a : ActorId) (n : ℕ) (w : World) (b : WorldActor) (last : Body) → slice_get w.actors a.0 ≡ Some b → is_idle b.body.phase ≡ false → own_steps w.edits a n b.body ≡ Some last → world_after c a n w ≡ Some (change (with_body last) a w)
-own_world c a zero w b last at busy e = ap Some (sym (same_change w a b at busy)) ∙ ap (λ (x : Body). Some (change (with_body x) a w)) (some_body b.body last e)
-own_world c a (suc zero) w b last at busy e =
-    let p = bound (own_steps w.edits a zero) (body_after (step w.edits a b.body)) last e in
-    ap (option_and_then (world_after c a zero)) (step_world c w a b p.0 at p.1) ∙ ap (λ (x : Body). Some (change (with_body x) a w)) (some_body p.0 last p.2)
-own_world c a (suc (suc n)) w b last at busy e =
-    let p = bound (own_steps w.edits a (suc n)) (body_after (step w.edits a b.body)) last e in
-    let v : World = change (with_body p.0) a w in
-    let busy' : is_idle p.0.phase ≡ false = own_busy w.edits a n p.0 last p.2 in
-    let there : slice_get v.actors a.0 ≡ Some (with_body p.0 b) = get-change (with_body p.0) a.0 w.actors b at in
-    ap (option_and_then (world_after c a (suc n))) (step_world c w a b p.0 at p.1) ∙ own_world c a (suc n) v (with_body p.0 b) last there busy' p.2 ∙ ap Some (change_again w a b p.0 last at busy')
-
-outer_goes_on : (edits : List Edit) (a : ActorId) (b : Body) (s : Step) → step edits a b ≡ s → is_outer s ≡ true → is_idle b.phase ≡ false
-outer_goes_on edits a b (leads x) e h = cc
-outer_goes_on edits a b ended e h = cc
-outer_goes_on edits a b (outer act) e h = outer_busy edits a b.objects b.phase act e
-
+use Rattle.st_image.proofs.Lasting.{after_keeps}
+use Rattle.st_image.proofs.OwnSteps.{outer_goes_on, own_busy, own_world, some_body}
+use Rattle.st_image.proofs.Keeping.{has_room, ran_kept}
+use Rattle.st_image.proofs.Counting.{counts_ran}
+use Rattle.st_image.proofs.ClaimSends.{few_sends, sites_outer, sites_own}
+use Rattle.st_image.specs.ClaimsOut.{one_less}
+use Rattle.st_image.proofs.Posting.{seen, standing_of}
+use Rattle.st_image.proofs.CountingOut.{counts_out}
 
 -- ---- the steps of a claim are put into the image
 
@@ -197,3 +153,125 @@ restored ks a k after was at busy e =
     ∙ ap (λ (xs : List ActorView). slice_set xs a (back (view_after_steps after k))) (change_here (view_after_steps after) a ks k at)
     ∙ set_twice ks a (view_after_steps after k) (back (view_after_steps after k))
     ∙ set_at_same ks a (back (view_after_steps after k)) (at ∙ ap Some (sym (again k after was busy e)))
+
+-- ---- the sends of a claim, counted
+
+-- the sites of a claim's sends and of the image's step, where it comes next, are those that the steps asked for
+pub sites_by : (c : Constants) (a : ActorId) (n : ℕ) (w : World) (b : WorldActor) (after : Body) (ss : List Sent) (t : Bool)
+    → slice_get w.actors a.0 ≡ Some b → is_idle b.body.phase ≡ false → own_steps w.edits a n b.body ≡ Some after → map (λ (s : Sent). s.site) ss ≡ sites_asked (own_asked w.edits a n b.body)
+    → is_outer (step w.edits a after) ≡ t → (t ≡ true → (v : World) × (after_step c a (change (with_body after) a w) ≡ Some v))
+    → map (λ (s : Sent). s.site) ss ++ option_to_list (cond t (option_and_then (λ (q : Asked). q.site) (asked w.edits after)) None) ≡ sites_asked (asked_by_item c w (Ran a (n + cond t 1 0)))
+sites_by c a n w b after ss true at busy own same next go =
+    let v = go refl in
+    let q = next_site_is w.edits a after next in
+    let site : option_and_then (λ (x : Asked). x.site) (asked w.edits after) ≡ next_site_in after.phase = ap (option_and_then (λ (x : Asked). x.site)) q.1 ∙ q.2 in
+    ap (λ (o : Option SiteId). map (λ (s : Sent). s.site) ss ++ option_to_list o) site ∙ sites_outer c a n w v.0 b after ss at busy own same next v.1
+sites_by c a n w b after ss false at busy own same next go =
+    let none : n + 0 ≡ n = omega arith in
+    sites_own c a n w b after ss at busy own same ∙ ap (λ (k : ℕ). sites_asked (asked_by_item c w (Ran a k))) (sym none)
+
+-- a claim of no steps that does not stand before the image's step sent nothing
+pub none_sent : (c : ClaimView) → IsSound c.actor c.edits c.before c.after c.steps c.sends → steps_of c ≡ 0 → (c.sends ≡ []) × (act_site c ≡ None)
+none_sent c s e = by_test (stands_before_act c) e
+  where
+    empty_of : (xs : List Sent) → length xs ≤ 0 → xs ≡ []
+    empty_of [] h = refl
+    empty_of (x ∷ xs) h = absurd (omega (arith, h))
+
+    by_test : (t : Bool) → c.steps + (if t then 1 else 0) ≡ 0 → (c.sends ≡ []) × ((if t then option_and_then (λ (q : Asked). q.site) (asked c.edits c.after) else None) ≡ None)
+    by_test true f = absurd (omega (arith, f))
+    by_test false f =
+        let few : length c.sends ≤ c.steps = few_sends c.edits c.actor c.steps c.before c.sends s.sites in
+        (empty_of c.sends (omega (arith, few, f)), refl)
+
+-- ---- an image after a commit
+
+-- the parts of an image after the steps of a claim
+pub record HasTaken (names : List (List ℕ)) (edits : List Edit) (new : List ActorView) (h : List Item) (made : ℕ) (s : Settings) (rows : List (List Tally)) (a : ActorId) (m : ℕ) : Type 0 where
+  pub image : IsImage start names edits new (h ++ Ran a m ∷ []) made s
+  pub sends : CountsSends (constants_of names s.capacity) start (h ++ Ran a m ∷ []) rows
+
+-- what is known where a claim may be committed
+pub record MayCommit (names : List (List ℕ)) (edits : List Edit) (actors : List ActorView) (h : List Item) (s : Settings) (c : ClaimView) : Type 0 where
+  pub went : Went names s.capacity edits actors c.actor (world_of (constants_of names s.capacity) start h) c.steps c.after
+  pub before : went.being.body ≡ c.before
+  pub edits_are : c.edits ≡ (world_of (constants_of names s.capacity) start h).edits
+
+pub may_commit : (names : List (List ℕ)) (edits : List Edit) (actors : List ActorView) (h : List Item) (made : ℕ) (s : Settings) (beside : Standing) (c : ClaimView)
+    → IsImage start names edits actors h made s → CommitAllowed (seen start names h s beside) c → IsSound c.actor c.edits c.before c.after c.steps c.sends → 0 < steps_of c → MayCommit names edits actors h s c
+unfolding went unchanged
+may_commit names edits actors h made s beside c k allowed sound some =
+    let w : World = world_of (constants_of names s.capacity) start h in
+    let b = unchanged (seen start names h s beside) c allowed.unchanged in
+    let busy : is_idle b.0.body.phase ≡ false = ap (λ (x : Body). is_idle x.phase) b.2 ∙ claim_busy c sound some in
+    let own : own_steps w.edits c.actor c.steps b.0.body ≡ Some c.after = subst (λ (es : List Edit). own_steps es c.actor c.steps b.0.body ≡ Some c.after) allowed.survives (subst (λ (x : Body). own_steps c.edits c.actor c.steps x ≡ Some c.after) (sym b.2) sound.taken) in
+    record {
+      went = went names s.capacity edits actors c.actor w c.steps b.0 c.after (record { shows = k.shows; world = k.world }) b.1 busy own;
+      before = b.2;
+      edits_are = allowed.survives;
+    }
+
+steps_at : (c : ClaimView) (es : List Edit) → c.edits ≡ es → steps_of c ≡ c.steps + (if is_outer (step es c.actor c.after) then 1 else 0)
+steps_at c es e = ap (λ (x : List Edit). c.steps + (if is_outer (step x c.actor c.after) then 1 else 0)) e
+
+site_at_is : (c : ClaimView) (es : List Edit) → c.edits ≡ es → act_site c ≡ (if is_outer (step es c.actor c.after) then option_and_then (λ (q : Asked). q.site) (asked es c.after) else None)
+site_at_is c es e = ap (λ (x : List Edit). if is_outer (step x c.actor c.after) then option_and_then (λ (q : Asked). q.site) (asked x c.after) else None) e
+
+outer_world : (c : Constants) (edits : List Edit) (mid new : List ActorView) (a : ActorId) (w : World) (after : Body) (b : WorldActor) (t u : Bool) → TakesOuter c edits mid new a w t → slice_get w.actors a.0 ≡ Some b → is_outer (step w.edits a b.body) ≡ u → u ≡ true → (v : World) × (after_step c a w ≡ Some v)
+outer_world c edits mid new a w after b true u o at next e = (o.1.0, o.1.1)
+outer_world c edits mid new a w after b false u o at next e = let no : true ≡ false = sym (next ∙ e) ∙ o.0 b at in cc
+
+pub has_taken : (names : List (List ℕ)) (edits : List Edit) (actors new : List ActorView) (h : List Item) (made : ℕ) (s : Settings) (beside : Standing) (rows rows' : List (List Tally)) (c : ClaimView) (m : ℕ) (t : Bool)
+    → IsImage start names edits actors h made s → CountsSends (constants_of names s.capacity) start h rows → IsSound c.actor c.edits c.before c.after c.steps c.sends → CommitAllowed (seen start names h s beside) c → m ≡ steps_of c → 0 < m
+    → (g : MayCommit names edits actors h s c)
+    → TakesOuter (constants_of names s.capacity) edits (change_at (view_after_steps c.after) c.actor.0 actors) new c.actor (change (with_body c.after) c.actor (world_of (constants_of names s.capacity) start h)) t
+    → GrowsByOne actors new → Tallied rows c.sends (act_site c) rows'
+    → HasTaken names edits new h made s rows' c.actor m
+has_taken names edits actors new h made s beside rows rows' c m t k counts sound allowed count some g o grown tallied =
+    let cs : Constants = constants_of names s.capacity in
+    let w : World = world_of cs start h in
+    let u : Bool = is_outer (step w.edits c.actor c.after) in
+    let run : HasRun names s.capacity edits new c.actor w (c.steps + (if u then 1 else 0)) = has_run names s.capacity edits actors new c.actor w c.steps c.after t g.went o in
+    let steps : m ≡ c.steps + (if u then 1 else 0) = count ∙ steps_at c w.edits g.edits_are in
+    let room : length h + 1 ≤ s.history = has_room s.history (length h) 1 HistoryFull (room_of (seen start names h s beside) c (steps_of c) refl (subst (λ (n : ℕ). 0 < n) count some) allowed.room) in
+    let sites : map (λ (x : Sent). x.site) c.sends ≡ sites_asked (own_asked w.edits c.actor c.steps g.went.being.body) = sound.sites ∙ ap (λ (es : List Edit). sites_asked (own_asked es c.actor c.steps c.before)) g.edits_are ∙ ap (λ (b : Body). sites_asked (own_asked w.edits c.actor c.steps b)) (sym g.before) in
+    let same : map (λ (x : Sent). x.site) c.sends ++ option_to_list (act_site c) ≡ sites_asked (asked_by_item cs w (Ran c.actor (c.steps + cond u 1 0))) =
+    ap (λ (x : Option SiteId). map (λ (y : Sent). y.site) c.sends ++ option_to_list x) (site_at_is c w.edits g.edits_are)
+    ∙ sites_by cs c.actor c.steps w g.went.being c.after c.sends u g.went.at g.went.busy g.went.own sites refl (outer_world cs edits (change_at (view_after_steps c.after) c.actor.0 actors) new c.actor (change (with_body c.after) c.actor w) c.after (with_body c.after g.went.being) t u o g.went.there refl) in
+    let few : length c.sends ≤ c.steps = few_sends c.edits c.actor c.steps c.before c.sends sound.sites in
+    let image : IsImage start names edits new (h ++ Ran c.actor (c.steps + (if u then 1 else 0)) ∷ []) made s = (ran_kept start names edits actors new h made s c.actor (c.steps + (if u then 1 else 0)) run.last k (subst (λ (n : ℕ). 0 < n) steps some) run.taken room run.shows (grown (length h) k.few_accepted)).image in
+    let counted : CountsSends cs start (h ++ Ran c.actor (c.steps + cond u 1 0) ∷ []) rows' = counts_ran cs start w h c.actor (c.steps + cond u 1 0) rows rows' c.sends (act_site c) counts k.lawful tallied same (omega (arith, few, sound.few)) in
+    record {
+      image = subst (λ (n : ℕ). IsImage start names edits new (h ++ Ran c.actor n ∷ []) made s) (sym steps) image;
+      sends = subst (λ (n : ℕ). CountsSends cs start (h ++ Ran c.actor n ∷ []) rows') (sym steps) counted;
+    }
+  where
+    room_of : (i : ImageView) (d : ClaimView) (n : ℕ) → steps_of d ≡ n → 0 < n → commit_room i d ≡ None → first_of (no_room i 1 ∷ []) ≡ None
+    room_of i d zero e l r = absurd (omega (arith, l))
+    room_of i d (suc n) e l r = sym (ap (λ (x : Bool). first_of (no_room i (length (cond x [] (Ran d.actor (steps_of d) ∷ []))) ∷ [])) (ap (λ (y : ℕ). y == 0) e ∙ eqb-suc-zero n)) ∙ r
+
+-- what a commit of some steps adds
+pub items_are : (d : ClaimView) (n m : ℕ) → n ≡ steps_of d → n ≡ m → 0 < m → items_of d ≡ Ran d.actor n ∷ []
+items_are d n zero e f l = absurd (omega (arith, l))
+items_are d n (suc m) e f l =
+    let some : (steps_of d == 0) ≡ false = ap (λ (y : ℕ). y == 0) (sym e ∙ f) ∙ eqb-suc-zero m in
+    ap (λ (x : Bool). cond x [] (Ran d.actor (steps_of d) ∷ [])) some ∙ ap (λ (k : ℕ). Ran d.actor k ∷ []) (sym e)
+
+-- and of none
+pub items_none : (d : ClaimView) → steps_of d ≡ 0 → items_of d ≡ []
+items_none d e = ap (λ (x : ℕ). cond (x == 0) [] (Ran d.actor (steps_of d) ∷ [])) e
+
+-- what callers see of a commit of no steps
+pub committed_none : (names : List (List ℕ)) (h : List Item) (s : Settings) (n : ℕ) (old new : List ℕ) (rows : List (List Tally)) (d : ClaimView)
+    → CommitAllowed (seen start names h s (standing_of n old rows)) d → IsSound d.actor d.edits d.before d.after d.steps d.sends → steps_of d ≡ 0 → new ≡ change_at one_less d.actor.0 old
+    → HasCommitted (seen start names h s (standing_of n old rows)) d 0 (seen start names h s (standing_of n new rows))
+committed_none names h s n old new rows d allowed sound e put =
+    let sent = none_sent d sound e in
+    record {
+      allowed = allowed;
+      steps = sym e;
+      image = ap (λ (is : List Item). let x : ImageView = seen start names is s (standing_of n new rows) in x) (sym (append-nil h) ∙ ap (λ (is : List Item). h ++ is) (sym (items_none d e)));
+      next_from = refl;
+      counted = counts_out one_less d.actor (seen start names h s (standing_of n old rows)) (seen start names h s (standing_of n new rows)) old new refl refl put (inr refl);
+      tallied = λ id. ap (λ (o : Option SiteId). after_act_at id o (tally_at rows id)) (sym sent.1) ∙ ap (λ (ss : List Sent). after_act_at id (act_site d) (after_sends id ss (tally_at rows id))) (sym sent.0);
+    }

@@ -1,5 +1,5 @@
 -- The flags of the actors that may be checked out, where one of them changes.
-use Rattle.std.proofs.Common.{arith, ◌≡◌, ℕ, zero, suc, ◌<◌, ◌≤◌, ◌++◌, [], ◌∷◌, List, length, Some, Bool, true, false, cond, refl, ap, sym, ◌∙◌, subst, slice_get, slice_set, get_or, nat_eq, length-append}
+use Rattle.std.proofs.Common.{arith, ◌≡◌, ℕ, zero, suc, ◌<◌, ◌++◌, [], ◌∷◌, List, length, Some, Bool, true, false, cond, refl, ap, sym, ◌∙◌, subst, slice_get, slice_set, get_or, nat_eq, length-append}
 use Rattle.std.specs.Prelude.{not, ◌||◌, ◌&&◌, ◌==◌}
 use Rattle.std.proofs.Math.Dec.{eqb-suc-zero, eqb-zero-suc, eqb-suc-suc}
 use Rattle.std.proofs.Math.ListN.{length-set}
@@ -11,7 +11,7 @@ use Rattle.st_turn.specs.Idle.{is_idle}
 use Rattle.st_mailbox.specs.declared.messages.Message.{Message}
 use Rattle.st_image.specs.Worlds.{change_at}
 use Rattle.st_image.specs.ClaimsOut.{claims_of, one_more}
-use Rattle.st_image.specs.ActorViews.{AreActors, ActorView, ActorsView, is_free_in, view_begins, view_after_begin, is_ready_in, is_ready_view, view_with_message}
+use Rattle.st_image.specs.ActorViews.{AreActors, ActorView, ActorsView, view_begins, view_after_begin, is_ready_in, is_ready_view, view_with_message}
 use Rattle.st_image.proofs.Lists.{set_at_same}
 use Rattle.st_image.proofs.Changing.{change_here, within_back}
 

@@ -23,6 +23,7 @@ pub mod Keeping
 pub mod Posting
 pub mod Closing
 pub mod Creating
+pub mod OwnSteps
 pub mod AskedSteps
 pub mod Counting
 pub mod ClaimSends
@@ -34,5 +35,6 @@ pub mod Beginning
 pub mod Running
 pub mod Acts
 pub mod Outer
+pub mod CountingOut
 pub mod CheckingOut
 pub mod Committing

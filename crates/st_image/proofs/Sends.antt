@@ -1,5 +1,5 @@
 -- The tallies of an image, after an item more.
-use Rattle.std.proofs.Common.{◌≡◌, ℕ, ◌++◌, [], ◌∷◌, List, refl, sym, subst}
+use Rattle.std.proofs.Common.{◌≡◌, ℕ, ◌++◌, [], ◌∷◌, List}
 use Rattle.st_classes.specs.declared.edits.Edit.{Edit}
 use Rattle.st_image.specs.declared.tallies.Tally.{Tally}
 use Rattle.st_image.specs.declared.items.Item.{Item}

@@ -1,5 +1,5 @@
 -- What is kept of a world, after a change of one actor or with one more.
-use Rattle.std.proofs.Common.{arith, ◌≡◌, ℕ, ◌+◌, ◌≤◌, ◌++◌, [], ◌∷◌, List, length, drop, map, Option, Some, None, false, refl, ap, sym, ◌∙◌, slice_get, length-append, IfNone, is_some}
+use Rattle.std.proofs.Common.{arith, ◌≡◌, ℕ, ◌+◌, ◌≤◌, ◌++◌, [], ◌∷◌, List, length, drop, map, Option, Some, None, refl, ap, sym, ◌∙◌, slice_get, length-append}
 use Rattle.std.specs.Option.{option_map}
 use Rattle.std.proofs.lemmas.List.{drop-append-le, map-append, length-map}
 use Rattle.std.proofs.lemmas.Option.{slice_get-map}
@@ -53,12 +53,6 @@ ready_by w (Some b) p a e = rw (slice_get-map actor_view w.actors a, e) refl
 -- the ready ones are the world's
 pub ready_is : (edits : List Edit) (actors : List ActorView) (w : World) (a : ℕ) → Shows edits actors w → is_ready_in actors a ≡ is_ready_at w a
 ready_is edits actors w a s = ap (λ (xs : List ActorView). is_ready_in xs a) s.actors_are ∙ ready_by w (slice_get w.actors a) None a refl
-
--- none is ready where none of the kept ones is
-pub none_ready : {X Y : Type 0} (o : Option X) (p : Option Y) (edits : List Edit) (actors : List ActorView) (w : World) → is_some o ≡ is_some p → Shows edits actors w → IfNone p ((a : ℕ) → is_ready_in actors a ≡ false) → IfNone o ((a : ℕ) → is_ready_at w a ≡ false)
-none_ready None None edits actors w e s f = λ a. sym (ready_is edits actors w a s) ∙ f a
-none_ready None (Some y) edits actors w e s f = cc
-none_ready (Some x) p edits actors w e s f = tt
 
 -- ---- one actor
 

@@ -1,5 +1,5 @@
 -- What the parts of an image show after an act, a step or a quantum of an actor, where they showed a world before.
-use Rattle.std.specs.Prelude.{◌≡◌, ℕ, zero, suc, ◌+◌, ◌<◌, ◌≤◌, ◌^◌, List, All, Bool, true, false, IsTrue, Option, Some, Result, is_some, slice_get, option_and_then}
+use Rattle.std.specs.Prelude.{◌≡◌, ℕ, zero, suc, ◌+◌, ◌<◌, ◌≤◌, ◌^◌, List, All, Bool, true, false, Option, Some, Result, is_some, slice_get, option_and_then}
 use Rattle.st_classes.specs.declared.values.ActorId.{ActorId}
 use Rattle.st_classes.specs.declared.values.Value.{Value}
 use Rattle.st_classes.specs.declared.faults.Fault.{Fault}

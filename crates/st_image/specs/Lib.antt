@@ -18,3 +18,4 @@ pub mod Installs
 pub mod Tallies
 pub mod Calls
 pub mod Commits
+pub mod Stats

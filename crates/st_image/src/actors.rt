@@ -1,4 +1,7 @@
 //! The actors of an image, how many claims of each are out, and which of them may be checked out next.
+ghost use Rattle.std.specs.Prelude.{◌≡◌, ◌&&◌, ◌==◌};
+ghost use Rattle.st_image.specs.ClaimsOut.{one_less as one_less_of, one_more as one_more_of};
+
 use crate::actor::Actor;
 use st_classes::faults::Fault;
 use st_classes::values::{ActorId, Value};
@@ -10,9 +13,6 @@ use st_turn::acts::{Act, is_act_next, next_act};
 use st_turn::body::Body;
 use std::alloc::{AllocError, Global};
 use std::marker::Model;
-
-ghost use Rattle.std.specs.Prelude.{◌≡◌, ◌&&◌, ◌==◌};
-ghost use Rattle.st_image.specs.ClaimsOut.{one_less as one_less_of, one_more as one_more_of};
 
 /// The actors by their numbers. Contracts see what is kept of each, and how many claims of each are out.
 #[derive(Drop)]
@@ -151,7 +151,11 @@ impl<M: Mailbox> Actors<M> {
     }
 
     /// The body that a checkout of an actor hands out.
-    pub(crate) fn body_to_check_out(&self, alloc: Global, actor: ActorId) -> Result<Body, AllocError>
+    pub(crate) fn body_to_check_out(
+        &self,
+        alloc: Global,
+        actor: ActorId,
+    ) -> Result<Body, AllocError>
         requires { actor.0 < length self.now.kept }
         ensures { IfOk result (λ b. (k : ActorView) → slice_get self.now.kept actor.0 ≡ Some k → b ≡ (view_checked_out k).body) }
     {
@@ -162,7 +166,8 @@ impl<M: Mailbox> Actors<M> {
     /// A claim more of an actor is out. An actor that is idle begins its first pending message, where one is pending.
     pub(crate) fn check_out(&mut self, actor: ActorId)
         requires { actor.0 < length self.old.kept }
-        ensures { self.new ≡ record { kept = change_at view_checked_out actor.0 self.old.kept; out = change_at one_more actor.0 self.old.out } }
+        ensures checked { self.new ≡ record { kept = change_at view_checked_out actor.0 self.old.kept; out = change_at one_more actor.0 self.old.out } }
+        ensures counted { actor.0 < length self.old.out }
     {
         let kept = &mut self.items[actor.0 as usize];
         kept.check_out();

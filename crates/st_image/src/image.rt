@@ -11,6 +11,7 @@ mod installing;
 mod listing;
 mod posting;
 mod removing;
+mod stating;
 
 use crate::actor::Actor;
 use crate::actors::Actors;
@@ -217,7 +218,10 @@ impl<M: Mailbox> Image<M> {
         ensures some { IfSome result (λ a. IsNextReady self.now a.0) }
         ensures none { IfNone result ((a : ℕ) → is_free_at self.now a ≡ false) }
     {
-        self.actors.next(self.next_from).map(ActorId)
+        let Some(actor) = self.actors.next(self.next_from) else {
+            return None;
+        };
+        Some(ActorId(actor))
     }
 
     /// The class of an actor.

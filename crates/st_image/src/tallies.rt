@@ -5,6 +5,7 @@ ghost use Rattle.st_classes.specs.declared.keys.SiteId.{SiteId as SiteIdOf};
 ghost use Rattle.st_image.specs.Tallies.{ChangesTally, HasPlaces, KeepsPlaces, SameTallies, Tallied, has_place, no_tally, sends_of, tally_at, with_act, with_send};
 
 use st_classes::keys::SiteId;
+use st_classes::values::Selector;
 use st_guard::how::How;
 use st_sites::site::SiteState;
 use st_turn::claim::Sent;
@@ -24,7 +25,25 @@ pub struct Tally {
     pub state: SiteState,
 }
 
+/// What is told of a call site.
+#[derive(Clone, Copy, PartialEq, Eq, Debug)]
+pub struct SiteStats {
+    /// What is sent there.
+    pub selector: Selector,
+    /// Whether it is a super send.
+    pub is_super: bool,
+    pub tally: Tally,
+}
+
 impl Tally {
+    /// All sends.
+    pub fn sends(&self) -> u64
+        requires { sends_of self.now < 2 ^ 64 }
+        ensures { result ≡ sends_of self.now }
+    {
+        self.by_site + self.by_global + self.by_walk
+    }
+
     /// Nothing was sent.
     #[inline]
     fn none() -> Tally

@@ -1,16 +1,22 @@
 //! The calls of an image, each behind a function without a contract: what a test does with several of them is then proved
 //! in seconds, since its proof carries nothing of what an image promises.
+ghost use Rattle.std.specs.Prelude.{◌≡◌, IfOk, None};
+
 use st_classes::kernel::OBJECT;
 use st_classes::refusals::Refusal;
 use st_classes::seq::Seq;
 use st_classes::values::{ActorId, ClassId, Selector};
+use st_guard::caches::Caches;
+use st_guard::global_guard::GlobalGuard;
 use st_image::settings::Settings;
 use st_mailbox::list_box::ListBox;
 use st_mailbox::mailboxes::Mailbox;
 use st_mailbox::messages::{Message, Sender};
 use st_server::images::Image;
 use st_turn::body::Outcome;
-use std::alloc::Global;
+use st_turn::claim::Claim;
+use st_turn::worker::Worker;
+use std::alloc::{AllocError, Global};
 
 /// The actor of the calls that name none.
 pub(crate) const FIRST: ActorId = ActorId(0);
@@ -119,12 +125,37 @@ pub(crate) fn ask(alloc: Global, image: &mut Image, seq: u64) -> Result<u64, Ref
     post(alloc, image, 1, seq, IS_NIL)
 }
 
-/// So many steps of the first actor at most, from 1 to 1,024.
-pub(crate) fn advance(alloc: Global, image: &mut Image, most: u32) -> Result<u32, Refusal> {
-    if most < 1 || 1024 < most {
-        return Err(Refusal::BadArguments);
+/// A worker whose caches keep no list of edits.
+fn new_worker(alloc: Global) -> Result<Worker<GlobalGuard>, AllocError>
+    ensures { IfOk result (λ w. w.kept ≡ None) }
+{
+    let mut worker = Worker::new(Caches::new(alloc, GlobalGuard::new())?);
+    worker.forget();
+    Ok(worker)
+}
+
+/// Commits a claim, or gives it back.
+fn commit(alloc: Global, image: &mut Image, claim: Claim) -> Result<u32, Refusal> {
+    match image.commit(alloc, claim) {
+        Ok(steps) => Ok(steps),
+        Err((refusal, Some(claim))) => {
+            image.release(claim);
+            Err(refusal)
+        }
+        Err((refusal, None)) => Err(refusal),
     }
-    image.advance(alloc, FIRST, most)
+}
+
+/// So many steps of the first actor at most, and the image's step where it comes next.
+pub(crate) fn advance(alloc: Global, image: &mut Image, most: u32) -> Result<u32, Refusal> {
+    let mut claim = image.checkout(alloc, FIRST)?;
+    let Ok(mut worker) = new_worker(alloc) else {
+        return Err(Refusal::NoMemory);
+    };
+    let Ok(_) = worker.run(alloc, &mut claim, most) else {
+        return Err(Refusal::NoMemory);
+    };
+    commit(alloc, image, claim)
 }
 
 /// How a turn of the first actor ended.

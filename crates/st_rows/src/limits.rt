@@ -201,7 +201,7 @@ fn messages(rt: HostRuntime) -> Result<(), Fail> {
     Ok(())
 }
 
-/// A history of so many items: a turn's first quantum adds two.
+/// A history of so many items: a turn's beginning and its quantum are one each. A message that has begun stays begun.
 #[test]
 fn history(rt: HostRuntime) -> Result<(), Fail> {
     let alloc = rt.alloc();
@@ -221,12 +221,8 @@ fn history(rt: HostRuntime) -> Result<(), Fail> {
         };
         assert!(rt; (posted, taken) == wanted);
         let edit = define(alloc, &mut image, b"M", OBJECT);
-        let wanted = if most == 3 {
-            Ok(1)
-        } else {
-            Err(Refusal::HistoryFull)
-        };
-        assert!(rt; edit == wanted);
+        assert!(rt; edit == Err(Refusal::HistoryFull));
+        assert!(rt; next_ready(&image) == if most == 3 { Some(FIRST) } else { None });
     }
     Ok(())
 }

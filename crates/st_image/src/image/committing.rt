@@ -123,6 +123,7 @@ impl<M: Mailbox> Image<M> {
         requires { Begins claim.edits (world self.old).edits }
         ensures { Commits self.old claim result self.new }
     {
+        claim.known();
         let steps = Self::steps_to_commit(&claim);
         if let Some(refusal) = self.commit_refusal(&claim, steps) {
             return Err(self.refuse(claim, refusal));
@@ -143,11 +144,7 @@ impl<M: Mailbox> Image<M> {
     /// Refusals, in this order: `Stale` where the class table was edited since the checkout; `Changed` where the actor is not
     /// there or has another body than the claim began with; either spends the claim. Then `HistoryFull`. Memory can run out only
     /// where none of these applies. Either of the last two hands the claim back, and nothing changes.
-    pub fn commit(
-        &mut self,
-        alloc: Global,
-        claim: Claim,
-    ) -> Result<u32, (Refusal, Option<Claim>)>
+    pub fn commit(&mut self, alloc: Global, claim: Claim) -> Result<u32, (Refusal, Option<Claim>)>
         ensures { Commits self.old claim result self.new }
     {
         if !claim.token().shown().begins(self.version()) {

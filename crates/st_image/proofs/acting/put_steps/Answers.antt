@@ -6,7 +6,7 @@ use Rattle.st_image.specs.ActResults.{IsShown, StandsBefore}
 use Rattle.st_image.specs.ActorViews.{ActorView, ActorsView, view_after_steps}
 use Rattle.st_image.proofs.Changing.{get-change}
 use Rattle.st_image.proofs.Outer.{kept_there}
-use Rattle.st_image.proofs.Acts.{kept_is, some_kept}
+use Rattle.st_image.proofs.Acts.{kept_is}
 use Rattle.st_image.proofs.Committing.{own_accepts, restored, stood_busy}
 use Rattle.st_image.proofs.acting.put_steps.Goals as goal
 

@@ -1,4 +1,4 @@
-use Rattle.std.proofs.Common.{◌≡◌, ◌<◌, Some, List, length, slice_get, sym, subst, ap, ◌∙◌, false}
+use Rattle.std.proofs.Common.{◌≡◌, ◌<◌, Some, length, slice_get, sym, subst, ap, false}
 use Rattle.st_image.specs.ActorViews.{ActorView, ActorsView, is_ready_view}
 use Rattle.st_image.proofs.FreeOnes.{here, put_view, same_free}
 use Rattle.st_image.proofs.actors.Actors.close.Goals as goal

@@ -1,4 +1,4 @@
-use Rattle.std.proofs.Common.{◌≡◌, ◌<◌, Some, List, length, slice_get, sym, subst, ap, ◌∙◌, ◌+◌, true}
+use Rattle.std.proofs.Common.{◌≡◌, ◌<◌, Some, length, slice_get, sym, subst, ap, ◌∙◌, ◌+◌, true}
 use Rattle.st_image.specs.ActorViews.{ActorView, ActorsView, is_ready_view, view_with_message}
 use Rattle.st_image.proofs.FreeOnes.{here, put_view, mark_kept, only_one, ready_taken}
 use Rattle.st_image.proofs.actors.Actors.deliver.Goals as goal

@@ -1,4 +1,4 @@
-use Rattle.std.proofs.Common.{◌≡◌, ◌<◌, Some, List, length, slice_get, sym, subst, ap, ◌∙◌, Err}
+use Rattle.std.proofs.Common.{◌≡◌, ◌<◌, Some, length, slice_get, sym, subst, ap, ◌∙◌, Err}
 use Rattle.st_turn.specs.Steps.{outer, reply_body, step}
 use Rattle.st_image.specs.ActorViews.{ActorView, ActorsView, view_after_steps}
 use Rattle.st_image.proofs.FreeOnes.{here, put_view, mark_kept, only_one}

@@ -1,6 +1,6 @@
-use Rattle.std.proofs.Common.{arith, ◌≡◌, ◌<◌, ◌++◌, [], ◌∷◌, length, sym, subst, false, List, Bool, ℕ, ap, ◌∙◌}
+use Rattle.std.proofs.Common.{arith, ◌≡◌, ◌<◌, ◌++◌, [], ◌∷◌, length, sym, subst}
 use Rattle.std.proofs.lemmas.Grind.{common_steps}
-use Rattle.st_image.specs.ActorViews.{ActorView, ActorsView, AreActors}
+use Rattle.st_image.specs.ActorViews.{ActorsView}
 use Rattle.st_image.proofs.FreeOnes.{push_free}
 use Rattle.st_image.proofs.actors.Actors.push.Goals as goal
 

@@ -1,4 +1,4 @@
-use Rattle.std.proofs.Common.{◌≡◌, ◌<◌, Some, List, length, slice_get, sym, subst, ap, ◌∙◌, false, Bool, true}
+use Rattle.std.proofs.Common.{◌≡◌, ◌<◌, Some, length, slice_get, sym, subst, ap, ◌∙◌, false, Bool, true}
 use Rattle.std.specs.Prelude.{◌||◌, ◌==◌, not}
 use Rattle.st_turn.specs.Idle.{is_idle}
 use Rattle.st_image.specs.ActorViews.{ActorView, ActorsView, is_ready_view}

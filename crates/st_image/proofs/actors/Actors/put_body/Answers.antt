@@ -1,4 +1,4 @@
-use Rattle.std.proofs.Common.{◌≡◌, ◌<◌, Some, List, length, slice_get, sym, subst, ap, ◌∙◌}
+use Rattle.std.proofs.Common.{◌≡◌, ◌<◌, Some, length, slice_get, sym, subst, ap, ◌∙◌}
 use Rattle.st_image.specs.ActorViews.{ActorView, ActorsView, view_after_steps}
 use Rattle.st_image.proofs.FreeOnes.{here, put_view, mark_kept, only_one}
 use Rattle.st_image.proofs.actors.Actors.put_body.Goals as goal

@@ -1,4 +1,4 @@
-use Rattle.std.proofs.Common.{arith, ◌≡◌, ◌<◌, Some, List, length, slice_get, sym, subst, ap, ◌∙◌, ℕ, slice_set}
+use Rattle.std.proofs.Common.{arith, ◌≡◌, ◌<◌, Some, List, length, slice_get, ap, ◌∙◌, ℕ, slice_set}
 use Rattle.std.proofs.lemmas.Grind.{common_steps}
 use Rattle.st_image.specs.Worlds.{change_at}
 use Rattle.st_image.specs.ClaimsOut.{one_less}

@@ -2,11 +2,11 @@ use Rattle.std.proofs.Common.{arith, ◌≡◌, ◌++◌, [], ◌∷◌, None, r
 use Rattle.std.proofs.lemmas.Grind.{common_steps}
 use Rattle.st_classes.specs.Refusals.{first_of}
 use Rattle.st_image.specs.declared.items.Item.TheVariants.{Closed}
-use Rattle.st_image.specs.Worlds.{change_at, start}
+use Rattle.st_image.specs.Worlds.{start}
 use Rattle.st_image.specs.Images.{ImageView, close_rules, world, world_of}
 use Rattle.st_image.specs.ActResults.{constants_of}
 use Rattle.st_image.proofs.ClientNumbers.{kept_other}
-use Rattle.st_image.proofs.Closing.{closed, shut}
+use Rattle.st_image.proofs.Closing.{closed}
 use Rattle.st_image.proofs.Posting.{seen, standing_of}
 use Rattle.st_image.proofs.Acts.{kept_is}
 use Rattle.st_image.proofs.Sends.{sends_other}

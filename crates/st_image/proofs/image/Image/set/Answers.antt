@@ -1,6 +1,7 @@
 use Rattle.std.proofs.Common.{◌≡◌, [], sym, subst}
 use Rattle.st_image.specs.Images.{ImageView}
 use Rattle.st_image.proofs.Beginning.{set_is, settings_are}
+use Rattle.st_image.specs.Worlds.{start}
 use Rattle.st_image.proofs.Sends.{sends_none}
 use Rattle.st_image.proofs.image.Image.set.Goals as goal
 

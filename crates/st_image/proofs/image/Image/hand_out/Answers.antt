@@ -1,0 +1,95 @@
+use Rattle.std.proofs.Common.{arith, ◌≡◌, ◌+◌, ◌<◌, ◌++◌, [], ◌∷◌, List, length, None, true, false, refl, ap, sym, ◌∙◌, subst, slice_get, append-nil}
+use Rattle.std.proofs.lemmas.Grind.{common_steps}
+use Rattle.std.proofs.lemmas.Option.{slice_get_within}
+use Rattle.st_classes.specs.declared.edits.Edit.{Edit}
+use Rattle.st_classes.specs.Refusals.{first_of}
+use Rattle.st_turn.specs.Idle.{is_idle}
+use Rattle.st_turn.specs.BodyFits.{FitsSome}
+use Rattle.st_image.specs.declared.image.Image.TheInside.{Inside}
+use Rattle.st_image.specs.declared.items.Item.{Item}
+use Rattle.st_image.specs.declared.items.Item.TheVariants.{Begun}
+use Rattle.st_image.specs.Worlds.{start, change_at}
+use Rattle.st_image.specs.Images.{ImageView, Standing, world, world_of}
+use Rattle.st_image.specs.ActorViews.{ActorsView, view_checked_out}
+use Rattle.st_image.specs.ActResults.{constants_of}
+use Rattle.st_image.specs.Commits.{HasCheckedOut, checkout_rules, idle_at, new_claim}
+use Rattle.st_image.specs.ClaimsOut.{one_more}
+use Rattle.st_image.specs.ImageInvariant.{IsImage}
+use Rattle.st_image.proofs.Posting.{seen, standing_of}
+use Rattle.st_image.proofs.Running.{fits_some}
+use Rattle.st_image.proofs.CheckingOut.{IsOut, begun_items, checked, hands, idle_there, outs, small_number}
+use Rattle.st_image.proofs.ClientNumbers.{kept_other}
+use Rattle.st_image.proofs.Sends.{sends_other}
+use Rattle.st_image.proofs.image.Image.hand_out.Goals as goal
+use Rattle.st_image.proofs.image.Image.hand_out.Goals.{then-begins+in_ok-reserve, else-begins}
+
+pub new-requires : goal.new-requires
+new-requires g c =
+    let i = c.self.inside in
+    let beside : Standing = standing_of i.next_from i.actors.out i.tallies in
+    let allowed : first_of (checkout_rules (seen start i.names i.history.items i.settings beside) (slice_get (world_of (constants_of i.names i.settings.capacity) start i.history.items).actors c.args.actor.0)) ≡ None = subst (λ (v : ImageView). first_of (checkout_rules v (slice_get (world v).actors c.args.actor.0)) ≡ None) (sym c.self.view_is) c.requires in
+    let k = hands start i.names i.token i.actors.kept i.history.items i.edits_made i.settings beside c.args.actor c.self.invariant.image allowed in
+    let out : IsOut start i.names i.token (change_at view_checked_out c.args.actor.0 i.actors.kept) _ i.edits_made i.settings c.args.actor (view_checked_out k.0).body = outs start i.names i.token i.actors.kept i.history.items i.edits_made i.settings beside c.args.actor k.0 (is_idle k.0.body.phase) c.self.invariant.image allowed k.1 refl in
+    let fits : FitsSome i.token c.args.actor (view_checked_out k.0).body = fits_some i.token c.args.actor (view_checked_out k.0).body out.runs in
+    subst (λ (es : List Edit). FitsSome es c.args.actor c.in_ok-body.body) (sym c.in_ok-again.ensures) (subst (FitsSome i.token c.args.actor) (sym (c.in_ok-body.ensures k.0 k.1)) fits)
+
+pub check_out-requires : goal.check_out-requires
+check_out-requires g c =
+    let i = c.self.inside in
+    let beside : Standing = standing_of i.next_from i.actors.out i.tallies in
+    let allowed : first_of (checkout_rules (seen start i.names i.history.items i.settings beside) (slice_get (world_of (constants_of i.names i.settings.capacity) start i.history.items).actors c.args.actor.0)) ≡ None = subst (λ (v : ImageView). first_of (checkout_rules v (slice_get (world v).actors c.args.actor.0)) ≡ None) (sym c.self.view_is) c.requires in
+    let k = hands start i.names i.token i.actors.kept i.history.items i.edits_made i.settings beside c.args.actor c.self.invariant.image allowed in
+    let same : c.if-begins.self-inside.actors ≡ i.actors = elim c.if-begins.branch [ then-begins+in_ok-reserve w ↦ ap (λ (x : Inside _). x.actors) w.self-inside-is | else-begins w ↦ ap (λ (x : Inside _). x.actors) w.self-inside-is ] in
+    subst (λ (v : ActorsView). c.args.actor.0 < length v.kept) (sym same) (slice_get_within i.actors.kept c.args.actor.0 k.0 k.1)
+
+pub overflow_add-self : goal.overflow_add-self
+overflow_add-self g c =
+    let i = c.self.inside in
+    let beside : Standing = standing_of i.next_from i.actors.out i.tallies in
+    let allowed : first_of (checkout_rules (seen start i.names i.history.items i.settings beside) (slice_get (world_of (constants_of i.names i.settings.capacity) start i.history.items).actors c.args.actor.0)) ≡ None = subst (λ (v : ImageView). first_of (checkout_rules v (slice_get (world v).actors c.args.actor.0)) ≡ None) (sym c.self.view_is) c.requires in
+    let k = hands start i.names i.token i.actors.kept i.history.items i.edits_made i.settings beside c.args.actor c.self.invariant.image allowed in
+    small_number i.names i.token i.actors.kept i.history.items i.edits_made i.settings c.args.actor.0 k.0 c.self.invariant.image k.1
+
+pub invariant_of-self-2 : goal.invariant_of-self-2
+invariant_of-self-2 g c =
+    let i = c.self.inside in
+    let beside : Standing = standing_of i.next_from i.actors.out i.tallies in
+    let allowed : first_of (checkout_rules (seen start i.names i.history.items i.settings beside) (slice_get (world_of (constants_of i.names i.settings.capacity) start i.history.items).actors c.args.actor.0)) ≡ None = subst (λ (v : ImageView). first_of (checkout_rules v (slice_get (world v).actors c.args.actor.0)) ≡ None) (sym c.self.view_is) c.requires in
+    let k = hands start i.names i.token i.actors.kept i.history.items i.edits_made i.settings beside c.args.actor c.self.invariant.image allowed in
+    let same : c.if-begins.self-inside.actors ≡ i.actors = elim c.if-begins.branch [ then-begins+in_ok-reserve w ↦ ap (λ (x : Inside _). x.actors) w.self-inside-is | else-begins w ↦ ap (λ (x : Inside _). x.actors) w.self-inside-is ] in
+    let put : c.check_out.new.self ≡ (let v : ActorsView = record { kept = change_at view_checked_out c.args.actor.0 i.actors.kept; out = change_at one_more c.args.actor.0 i.actors.out } in v) = c.check_out.ensures.checked ∙ ap (λ (x : ActorsView). let v : ActorsView = record { kept = change_at view_checked_out c.args.actor.0 x.kept; out = change_at one_more c.args.actor.0 x.out } in v) same in
+    let phase : c.is_idle-begins.result ≡ is_idle k.0.body.phase = c.is_idle-begins.ensures ∙ ap (λ (v : ImageView). idle_at (slice_get (world v).actors c.args.actor.0)) (sym c.self.view_is) ∙ idle_there i.token i.actors.kept (world_of (constants_of i.names i.settings.capacity) start i.history.items) c.args.actor k.0 c.self.invariant.image.shows k.1 in
+    elim c.if-begins.branch [
+      | then-begins+in_ok-reserve w ↦ (
+          let out : IsOut start i.names i.token (change_at view_checked_out c.args.actor.0 i.actors.kept) (i.history.items ++ begun_items true c.args.actor) i.edits_made i.settings c.args.actor (view_checked_out k.0).body = outs start i.names i.token i.actors.kept i.history.items i.edits_made i.settings beside c.args.actor k.0 true c.self.invariant.image allowed k.1 (sym phase ∙ w.if-begins.true) in
+          let items : w.push.new.self.items ≡ i.history.items ++ Begun c.args.actor ∷ [] = grind (arith, common_steps) in
+          rw (w.self-inside-is, items, put) (record { image = out.image; numbers_of_clients = kept_other i.clients [] i.history.items (Begun c.args.actor) (λ qs. refl) c.self.invariant.numbers_of_clients; sends = sends_other start i.names i.token i.actors.kept i.history.items i.edits_made i.settings i.tallies (Begun c.args.actor) c.self.invariant.image c.self.invariant.sends refl })
+          )
+      | else-begins w ↦ (
+          let out : IsOut start i.names i.token (change_at view_checked_out c.args.actor.0 i.actors.kept) (i.history.items ++ begun_items false c.args.actor) i.edits_made i.settings c.args.actor (view_checked_out k.0).body = outs start i.names i.token i.actors.kept i.history.items i.edits_made i.settings beside c.args.actor k.0 false c.self.invariant.image allowed k.1 (sym phase ∙ w.if-begins.false) in
+          rw (w.self-inside-is, put) (record { image = subst (λ (x : List Item). IsImage start i.names i.token (change_at view_checked_out c.args.actor.0 i.actors.kept) x i.edits_made i.settings) (append-nil i.history.items) out.image; numbers_of_clients = c.self.invariant.numbers_of_clients; sends = c.self.invariant.sends })
+          )
+    ]
+
+pub returns-clause-ok : goal.returns-clause-ok
+returns-clause-ok g c =
+    let i = c.self.inside in
+    let beside : Standing = standing_of i.next_from i.actors.out i.tallies in
+    let allowed : first_of (checkout_rules (seen start i.names i.history.items i.settings beside) (slice_get (world_of (constants_of i.names i.settings.capacity) start i.history.items).actors c.args.actor.0)) ≡ None = subst (λ (v : ImageView). first_of (checkout_rules v (slice_get (world v).actors c.args.actor.0)) ≡ None) (sym c.self.view_is) c.requires in
+    let k = hands start i.names i.token i.actors.kept i.history.items i.edits_made i.settings beside c.args.actor c.self.invariant.image allowed in
+    let same : c.if-begins.self-inside.actors ≡ i.actors = elim c.if-begins.branch [ then-begins+in_ok-reserve w ↦ ap (λ (x : Inside _). x.actors) w.self-inside-is | else-begins w ↦ ap (λ (x : Inside _). x.actors) w.self-inside-is ] in
+    let put : c.check_out.new.self ≡ (let v : ActorsView = record { kept = change_at view_checked_out c.args.actor.0 i.actors.kept; out = change_at one_more c.args.actor.0 i.actors.out } in v) = c.check_out.ensures.checked ∙ ap (λ (x : ActorsView). let v : ActorsView = record { kept = change_at view_checked_out c.args.actor.0 x.kept; out = change_at one_more c.args.actor.0 x.out } in v) same in
+    let phase : c.is_idle-begins.result ≡ is_idle k.0.body.phase = c.is_idle-begins.ensures ∙ ap (λ (v : ImageView). idle_at (slice_get (world v).actors c.args.actor.0)) (sym c.self.view_is) ∙ idle_there i.token i.actors.kept (world_of (constants_of i.names i.settings.capacity) start i.history.items) c.args.actor k.0 c.self.invariant.image.shows k.1 in
+    let claim : c.in_ok-claim.claim ≡ new_claim i.token c.args.actor (view_checked_out k.0).body = c.in_ok-claim.ensures ∙ ap (λ (es : List Edit). new_claim es c.args.actor c.in_ok-body.body) c.in_ok-again.ensures ∙ ap (new_claim i.token c.args.actor) (c.in_ok-body.ensures k.0 k.1) in
+    let within : c.args.actor.0 < length i.actors.out = subst (λ (v : ActorsView). c.args.actor.0 < length v.out) same c.check_out.ensures.counted in
+    elim c.if-begins.branch [
+      | then-begins+in_ok-reserve w ↦ (
+          let out : IsOut start i.names i.token (change_at view_checked_out c.args.actor.0 i.actors.kept) (i.history.items ++ begun_items true c.args.actor) i.edits_made i.settings c.args.actor (view_checked_out k.0).body = outs start i.names i.token i.actors.kept i.history.items i.edits_made i.settings beside c.args.actor k.0 true c.self.invariant.image allowed k.1 (sym phase ∙ w.if-begins.true) in
+          let items : w.push.new.self.items ≡ i.history.items ++ Begun c.args.actor ∷ [] = grind (arith, common_steps) in
+          rw (← c.self.view_is, w.self-inside-is, items, put) (checked start i.names i.token i.actors.kept i.history.items i.edits_made i.settings i.next_from i.actors.out i.tallies c.args.actor k.0 true c.in_ok-claim.claim c.self.invariant.image k.1 within (sym phase ∙ w.if-begins.true) out claim)
+          )
+      | else-begins w ↦ (
+          let out : IsOut start i.names i.token (change_at view_checked_out c.args.actor.0 i.actors.kept) (i.history.items ++ begun_items false c.args.actor) i.edits_made i.settings c.args.actor (view_checked_out k.0).body = outs start i.names i.token i.actors.kept i.history.items i.edits_made i.settings beside c.args.actor k.0 false c.self.invariant.image allowed k.1 (sym phase ∙ w.if-begins.false) in
+          rw (← c.self.view_is, w.self-inside-is, put) (subst (λ (x : List Item). HasCheckedOut (seen start i.names i.history.items i.settings beside) c.args.actor c.in_ok-claim.claim (seen start i.names x i.settings (standing_of (c.args.actor.0 + 1) (change_at one_more c.args.actor.0 i.actors.out) i.tallies))) (append-nil i.history.items) (checked start i.names i.token i.actors.kept i.history.items i.edits_made i.settings i.next_from i.actors.out i.tallies c.args.actor k.0 false c.in_ok-claim.claim c.self.invariant.image k.1 within (sym phase ∙ w.if-begins.false) out claim))
+          )
+    ]

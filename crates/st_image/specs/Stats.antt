@@ -1,0 +1,58 @@
+-- The statistics of a method's call sites.
+use Rattle.std.specs.Prelude.{ℕ, List, [], ◌∷◌, true, false, not, Option, Some, None, is_none, slice_get}
+use Rattle.std.specs.List.{filter_map}
+use Rattle.st_classes.specs.declared.values.ClassId.{ClassId}
+use Rattle.st_classes.specs.declared.values.Selector.{Selector}
+use Rattle.st_classes.specs.declared.values.MethodId.{MethodId}
+use Rattle.st_classes.specs.declared.instructions.Instruction.{Instruction}
+use Rattle.st_classes.specs.declared.instructions.Instruction.TheVariants.{Send, SuperSend}
+use Rattle.st_classes.specs.declared.kernel.Found.{Found}
+use Rattle.st_classes.specs.declared.kernel.Found.TheVariants.{User, Kernel}
+use Rattle.st_classes.specs.declared.methods.MethodParts.{MethodParts}
+use Rattle.st_classes.specs.declared.edits.Edit.{Edit}
+use Rattle.st_classes.specs.declared.refusals.Refusal.TheVariants.{UnknownClass, NoSuchMethod}
+use Rattle.st_classes.specs.Refusals.{Rule}
+use Rattle.st_classes.specs.Classes.{is_class}
+use Rattle.st_classes.specs.EditLists.{method_at}
+use Rattle.st_classes.specs.Walks.{own}
+use Rattle.st_image.specs.declared.tallies.Tally.{Tally}
+use Rattle.st_image.specs.declared.tallies.SiteStats.{SiteStats}
+use Rattle.st_image.specs.Images.{ImageView, world}
+use Rattle.st_image.specs.Tallies.{tally_at}
+
+-- the user's method among those that a class can have
+abbrev pub user_method : Option Found → Option MethodId
+user_method None = None
+user_method (Some (Kernel k)) = None
+user_method (Some (User m)) = Some m
+
+-- the method that is installed in a class for a selector
+abbrev pub installed_own : List Edit → ClassId → Selector → Option MethodId
+installed_own edits c s = user_method (own edits c s)
+
+-- what is told of a send with a tally
+abbrev pub stats_with : Tally → Option Instruction → Option SiteStats
+stats_with t (Some (Send s n)) = Some (record { selector = s; is_super = false; tally = t })
+stats_with t (Some (SuperSend s n)) = Some (record { selector = s; is_super = true; tally = t })
+stats_with t _ = None
+
+-- what is told of the send at a place of a method's code
+abbrev pub site_stats : List (List Tally) → MethodId → List Instruction → ℕ → Option SiteStats
+site_stats rows m code place = stats_with (tally_at rows (record { method = m; place = place })) (slice_get code place)
+
+-- what is told of the sites of a method, in the order of its code
+abbrev pub sites_stats : List (List Tally) → MethodId → Option MethodParts → List SiteStats
+sites_stats rows m None = []
+sites_stats rows m (Some parts) = filter_map (site_stats rows m parts.code) parts.sites
+
+-- where there is one
+abbrev pub method_stats : ImageView → Option MethodId → List SiteStats
+method_stats i None = []
+method_stats i (Some m) = sites_stats i.standing.tallies m (method_at (world i).edits m)
+
+-- the refusals of a question for statistics, in their order
+abbrev pub stats_rules : ImageView → ClassId → Selector → List Rule
+stats_rules i c s =
+    (not (is_class (world i).edits c), UnknownClass)
+    ∷ (is_none (installed_own (world i).edits c s), NoSuchMethod)
+    ∷ []

@@ -1,8 +1,8 @@
 -- Workers fit their image also after later edits.
 use Rattle.std.proofs.Common.{◌≡◌, ◌⊎◌, ℕ, [], ◌++◌, List, Option, Some, None, Bool, refl, ap, sym, ◌∙◌, subst, append_assoc, append-nil, inl, inr}
-use Rattle.std.specs.Prelude.{All, slice_set}
+use Rattle.std.specs.Prelude.{All, map, slice_set}
 use Rattle.std.specs.Option.{IfSome}
-use Rattle.std.proofs.lemmas.List.Elements.{All-weaker}
+use Rattle.std.proofs.lemmas.List.Elements.{All-map, All-set, All-weaker}
 use Rattle.st_classes.specs.declared.edits.Edit.{Edit}
 use Rattle.st_classes.specs.EditLists.{Begins}
 use Rattle.st_guard.specs.Moves.{CachesView}
@@ -55,5 +55,9 @@ fits_back c o es h (inl e) = subst (λ (x : Option ClaimView). IfSome x (λ d. B
 fits_back c o es h (inr e) = subst (λ (x : Option ClaimView). IfSome x (λ d. Begins d.edits es)) (sym e) h
 
 -- new workers fit, where what their caches keep begins the image's edits
-pub new_seats_fit : {G : Type 0} (es : List Edit) (workers : List (CachesView G)) → All (KeepsBeginning es) workers → (v : CachesView G) → KeepsBeginning es v → FitsSeat es (new_seat v)
-new_seats_fit {G} es workers h v k = record { claim = tt; kept = k }
+pub all_new : {G : Type 0} (es : List Edit) (workers : List (CachesView G)) → All (KeepsBeginning es) workers → All (FitsSeat es) (map new_seat workers)
+all_new {G} es workers h = All-map (FitsSeat es) new_seat workers (All-weaker (KeepsBeginning es) (λ v. FitsSeat es (new_seat v)) (λ v k. record { claim = tt; kept = k }) workers h)
+
+-- one worker is changed, and the edits go on
+pub all_set : {G : Type 0} (fs gs : List Edit) (seats : List (SeatView G)) (place : ℕ) (t : SeatView G) → Begins fs gs → All (FitsSeat fs) seats → FitsSeat gs t → All (FitsSeat gs) (slice_set seats place t)
+all_set {G} fs gs seats place t b h fits = All-set (FitsSeat gs) seats place t fits (all_later fs gs seats b h)

@@ -1,6 +1,6 @@
 //! A system: one image and its workers. The events of the image alone are in system/image_events.rt, those of workers in
 //! system/worker_events.rt.
-ghost use Rattle.std.specs.Prelude.{◌≡◌, All, IfOk, map};
+ghost use Rattle.std.specs.Prelude.{◌≡◌, All, IfOk, length, map};
 ghost use Rattle.st_image.specs.Delivery.{HasDelivered};
 ghost use Rattle.st_image.specs.Images.{world};
 ghost use Rattle.st_image.specs.WorldInvariant.{IsLawful};

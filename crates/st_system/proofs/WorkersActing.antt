@@ -10,7 +10,12 @@ use Rattle.st_image.specs.Images.{ImageView}
 use Rattle.st_system.specs.declared.events.Answer.{Answer}
 use Rattle.st_system.specs.Schedules.{BareClaim, Schedule, claim_of, schedule}
 use Rattle.st_system.specs.Seats.{SeatView, SystemView}
+use Rattle.st_system.specs.ImageEvents.{OfImage, told}
 use Rattle.st_system.specs.ClaimEvents.{AtWorker}
+
+-- a call of the image, which leaves the workers
+pub image_acts : {G A : Type 0} (tell : A → Answer) (Call : ImageView → Result A Refusal → ImageView → Type 0) (S T : SystemView G) (r : Result A Refusal) → Call S.image r T.image → T.seats ≡ S.seats → OfImage tell (Call S.image) (schedule S) (told tell r) (schedule T)
+image_acts {G} tell Call S T r h same = (r, refl, h, ap (map claim_of) same)
 
 -- there is no such worker
 pub no_worker : {G : Type 0} (Does : ImageView → Option BareClaim → Result Answer Refusal → ImageView → Option BareClaim → Type 0) (S T : SystemView G) (w : ℕ) (r : Result Answer Refusal) → length S.seats ≤ w → r ≡ Err BadArguments → T ≡ S → AtWorker Does (schedule S) w r (schedule T) (slice_get (schedule S).claims w)

@@ -40,6 +40,17 @@ impl<M: Mailbox, G: Guard> Model for System<M, G> {
     ghost invariant = { λ s. All (FitsSeat (world s.image).edits) s.seats.items };
 }
 
+/// A seat for each worker.
+fn seats_of<G: Guard>(alloc: Global, workers: Vec<Worker<G>>) -> Result<Vec<Seat<G>>, AllocError>
+    ensures { IfOk result (λ seats. seats.items ≡ map new_seat workers.items) }
+{
+    let mut seats = Vec::with_capacity(alloc, workers.len())?;
+    for worker in workers {
+        seats.push(Seat::new(worker))?;
+    }
+    Ok(seats)
+}
+
 impl<M: Mailbox, G: Guard> System<M, G> {
     /// An image, and workers without claims. What their caches keep, where they keep a list of edits, begins the image's.
     pub fn new(
@@ -50,10 +61,7 @@ impl<M: Mailbox, G: Guard> System<M, G> {
         requires { All (KeepsBeginning (world image).edits) workers.items }
         ensures { IfOk result (λ s. s ≡ record { image = image; seats = map new_seat workers.items }) }
     {
-        let mut seats = Vec::with_capacity(alloc, workers.len())?;
-        for worker in workers {
-            seats.push(Seat::new(worker))?;
-        }
+        let seats = seats_of(alloc, workers)?;
         Ok(System { image, seats })
     }
 

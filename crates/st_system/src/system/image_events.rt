@@ -10,7 +10,6 @@ use st_guard::guard::Guard;
 use st_mailbox::mailboxes::Mailbox;
 use std::alloc::Global;
 
-#[tactic(auto, using(crate::proofs::Seats::all_later))]
 impl<M: Mailbox, G: Guard> System<M, G> {
     ghost use Rattle.st_system.specs.declared.events.Event.TheVariants.{Intern as InternOf, Define as DefineOf, Install as InstallOf, Remove as RemoveOf, Create as CreateOf, Post as PostOf, Close as CloseOf};
     ghost use Rattle.st_system.specs.Acts.{Acts};

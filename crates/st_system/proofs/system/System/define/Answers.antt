@@ -23,3 +23,6 @@ returns-in_err-define g c =
     let S : SystemView g.row.G.Denot = record { image = c.self.inside.image; seats = c.self.inside.seats.items } in
     let T : SystemView g.row.G.Denot = record { image = c.define.new.image; seats = c.self.inside.seats.items } in
     subst (λ (X : SystemView g.row.G.Denot). OfImage Version (Defines X.image c.args.name.now c.args.parent c.args.slots.now) (schedule X) (Err c.in_err-define.field-0) (schedule T)) c.self.view_is (image_acts Version (λ i. Defines i c.args.name.now c.args.parent c.args.slots.now) S T (Err c.in_err-define.field-0) c.in_err-define.ensures.defines refl)
+
+pub invariant_of-self : goal.invariant_of-self
+invariant_of-self g c = all_later (world c.self.inside.image).edits (world c.define.new.image).edits c.self.inside.seats.items c.in_err-define.ensures.later c.self.invariant

@@ -1,5 +1,6 @@
 use Rattle.std.proofs.Common.{rules, refl, subst, ◌≡◌, Some}
-use Rattle.std.specs.Prelude.{slice_get, slice_set}
+use Rattle.std.specs.Prelude.{length, slice_get, slice_set}
+use Rattle.std.proofs.lemmas.Option.{slice_get_read}
 use Rattle.st_image.specs.Images.{world}
 use Rattle.st_system.specs.ClaimEvents.{AtWorker, OfClaim, ReleasesClaim}
 use Rattle.st_system.specs.Schedules.{schedule}
@@ -14,7 +15,7 @@ invariant_of-self g c =
 
 pub returns : goal.returns
 returns g c =
-    let there : slice_get c.self.inside.seats.items c.args.worker ≡ Some c.index_mut-seat.result.now = search rules in
+    let there : slice_get c.self.inside.seats.items c.args.worker ≡ Some c.index_mut-seat.result.now = slice_get_read c.self.inside.seats.items (length c.self.inside.seats.items) c.args.worker c.index_mut-seat.result.now refl (search rules) c.index_mut-seat.ensures.value in
     let S : SystemView g.row.G.Denot = record { image = c.self.inside.image; seats = c.self.inside.seats.items } in
     let T : SystemView g.row.G.Denot = record { image = c.release.new.image; seats = slice_set c.self.inside.seats.items c.args.worker c.release.new.self } in
     let acts = worker_acts (OfClaim ReleasesClaim) S T c.args.worker c.index_mut-seat.result.now c.release.new.self c.release.result there refl c.release.ensures.acts in

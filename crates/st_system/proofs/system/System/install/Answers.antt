@@ -1,3 +1,4 @@
+use Rattle.std.proofs.lemmas.Result.{err_from_is_err_and}
 use Rattle.std.proofs.Common.{refl, subst, Ok, Err}
 use Rattle.st_image.specs.Calls.{InstallsIn}
 use Rattle.st_image.specs.Images.{world}
@@ -22,4 +23,5 @@ pub returns-in_err-install : goal.returns-in_err-install
 returns-in_err-install g c =
     let S : SystemView g.row.G.Denot = record { image = c.self.inside.image; seats = c.self.inside.seats.items } in
     let T : SystemView g.row.G.Denot = record { image = c.install.new.image; seats = c.self.inside.seats.items } in
-    subst (λ (X : SystemView g.row.G.Denot). OfImage Version (InstallsIn X.image c.args.class c.args.source.now) (schedule X) (Err c.in_err-install.field-0) (schedule T)) c.self.view_is (image_acts Version (λ i. InstallsIn i c.args.class c.args.source.now) S T (Err c.in_err-install.field-0) c.in_err-install.ensures.installs refl)
+    let p = err_from_is_err_and c.from_residual.result c.from_residual.ensures.1 in
+    rw (p.1, p.2) (subst (λ (X : SystemView g.row.G.Denot). OfImage Version (InstallsIn X.image c.args.class c.args.source.now) (schedule X) (Err c.in_err-install.field-0.0) (schedule T)) c.self.view_is (image_acts Version (λ i. InstallsIn i c.args.class c.args.source.now) S T (Err c.in_err-install.field-0.0) c.in_err-install.ensures.installs refl))

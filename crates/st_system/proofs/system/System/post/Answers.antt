@@ -1,3 +1,4 @@
+use Rattle.std.proofs.lemmas.Result.{err_from_is_err_and}
 use Rattle.std.proofs.Common.{refl, subst, sym, inr, List, Err}
 use Rattle.st_classes.specs.declared.values.Value.{Value}
 use Rattle.st_image.specs.Calls.{Posts}
@@ -21,5 +22,6 @@ pub returns-in_err-post : goal.returns-in_err-post
 returns-in_err-post g c =
     let S : SystemView g.row.G.Denot = record { image = c.self.inside.image; seats = c.self.inside.seats.items } in
     let T : SystemView g.row.G.Denot = record { image = c.post.new.image; seats = c.self.inside.seats.items } in
-    let posts = subst (λ (args : List Value). Posts c.self.inside.image c.args.actor (from_client c.args.sender c.args.seq c.args.selector args) (Err c.in_err-post.field-0) c.post.new.image) c.in-Ok.ensures c.in_err-post.ensures.posts in
-    inr (subst (λ (X : SystemView g.row.G.Denot). OfImage Position (Posts X.image c.args.actor (from_client c.args.sender c.args.seq c.args.selector c.args.args.now)) (schedule X) (Err c.in_err-post.field-0) (schedule T)) c.self.view_is (image_acts Position (λ i. Posts i c.args.actor (from_client c.args.sender c.args.seq c.args.selector c.args.args.now)) S T (Err c.in_err-post.field-0) posts refl))
+    let posts = subst (λ (args : List Value). Posts c.self.inside.image c.args.actor (from_client c.args.sender c.args.seq c.args.selector args) (Err c.in_err-post.field-0.0) c.post.new.image) c.in-Ok.ensures c.in_err-post.ensures.posts in
+    let p = err_from_is_err_and c.from_residual.result c.from_residual.ensures.1 in
+    rw (p.1, p.2) (inr (subst (λ (X : SystemView g.row.G.Denot). OfImage Position (Posts X.image c.args.actor (from_client c.args.sender c.args.seq c.args.selector c.args.args.now)) (schedule X) (Err c.in_err-post.field-0.0) (schedule T)) c.self.view_is (image_acts Position (λ i. Posts i c.args.actor (from_client c.args.sender c.args.seq c.args.selector c.args.args.now)) S T (Err c.in_err-post.field-0.0) posts refl)))

@@ -38,3 +38,4 @@ pub mod Outer
 pub mod CountingOut
 pub mod CheckingOut
 pub mod Committing
+pub mod GrowingEdits

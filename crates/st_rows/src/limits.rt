@@ -222,7 +222,11 @@ fn history(rt: HostRuntime) -> Result<(), Fail> {
         assert!(rt; (posted, taken) == wanted);
         let edit = define(alloc, &mut image, b"M", OBJECT);
         assert!(rt; edit == Err(Refusal::HistoryFull));
-        assert!(rt; next_ready(&image) == if most == 3 { Some(FIRST) } else { None });
+        let ready = match most {
+            2 | 3 => Some(FIRST),
+            _ => None,
+        };
+        assert!(rt; next_ready(&image) == ready);
     }
     Ok(())
 }

@@ -2,6 +2,9 @@
 ghost use Rattle.std.specs.Prelude.{◌≡◌, ◌⊎◌, ◌^◌, ◌≤◌, [], length, Err, IfNone, IfSome};
 ghost use Rattle.st_classes.specs.Refusals.{first_of};
 ghost use Rattle.st_classes.specs.declared.refusals.Refusal.TheVariants.{NoMemory, ReadFault};
+ghost use Rattle.st_guard.specs.Moves.{CachesView};
+ghost use Rattle.st_guard.specs.declared.global_guard.GlobalGuard.{GlobalGuard as GuardOf};
+ghost use Rattle.st_server.specs.Runners.{AreNew, RunnerView};
 ghost use Rattle.st_server.specs.Scripts.{AnswersLines, script_rules, with_settings};
 
 use st_classes::refusals::Refusal;
@@ -26,7 +29,9 @@ fn in_memory(
     ensures refused { IfSome (first_of (script_rules settings))
         (λ e. (result.2 ≡ Err e) × (result.1.bytes.items ≡ []) × (result.0 ≡ image)) }
     ensures answered { IfNone (first_of (script_rules settings))
-        (AnswersLines settings.quantum (with_settings image settings) bytes.items result.1.bytes.items result.0 result.2
+        (((v : CachesView GuardOf) × (k : RunnerView) × AreNew v
+        × AnswersLines settings.quantum (record { image = with_settings image settings; caches = v }) bytes.items result.1.bytes.items k result.2
+        × (result.0 ≡ k.image))
         ⊎ (((result.2 ≡ Err NoMemory) ⊎ ((result.2 ≡ Err ReadFault) × (2 ^ 32 ≤ length bytes.items)))
         × (result.1.bytes.items ≡ []) × (result.0 ≡ with_settings image settings))) }
 {

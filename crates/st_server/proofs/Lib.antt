@@ -4,6 +4,9 @@ pub mod Parts
 pub mod Names
 pub mod Going
 pub mod Ending
+pub mod Growing
+pub mod Claims
+pub mod SomeSteps
 pub mod Quanta
 pub mod Taken
 pub mod Arguments

@@ -10,21 +10,21 @@ use Rattle.st_turn.specs.declared.body.Outcome.{Outcome}
 use Rattle.st_turn.specs.declared.body.Outcome.TheVariants as outcome
 use Rattle.st_image.specs.PostRules.{from_client}
 use Rattle.st_image.specs.Images.{ImageView, world}
-use Rattle.st_image.specs.Quanta.{image_outcome}
-use Rattle.st_image.specs.Calls.{Advances, Closes, Creates, Defines, InstallsIn, Posts, Removes}
-use Rattle.st_image.specs.Scheduling.{IsNextReady, is_ready_at}
+use Rattle.st_image.specs.Outcomes.{image_outcome}
+use Rattle.st_image.specs.Calls.{Closes, Creates, Defines, InstallsIn, Posts, Removes}
 use Rattle.st_wire.specs.declared.commands.Argument.{Argument}
 use Rattle.st_wire.specs.declared.commands.Command.{Command}
 use Rattle.st_wire.specs.declared.commands.Command.TheVariants as command
 use Rattle.st_wire.specs.declared.replies.Reply.{Reply}
 use Rattle.st_wire.specs.declared.replies.Reply.TheVariants as reply
 use Rattle.st_wire.specs.Commands.{command_of}
+use Rattle.st_server.specs.Runners.{RunnerView, NextAdvances, NoneReady}
 use Rattle.st_server.specs.ArgumentValues.{Interns, StandsFor, AllResolve, found_selector, is_told_by_text, value_text}
 
--- a call is made, and what is next with its value at the image that it left; where it is refused, that is the reply
-abbrev pub Then : {T : Type 0} → (Result T Refusal → ImageView → Type 0)
-    → (T → ImageView → Reply → ImageView → Type 0) → Reply → ImageView → Type 0
-Then {T} Calls Next r j = (result : Result T Refusal) × (k : ImageView) × Calls result k × MatchResult result
+-- a call is made, and what is next with its value at the image, or runner, that it left; where it is refused, that is the
+-- reply
+abbrev pub Then : {T S : Type 0} → (Result T Refusal → S → Type 0) → (T → S → Reply → S → Type 0) → Reply → S → Type 0
+Then {T} {S} Calls Next r j = (result : Result T Refusal) × (k : S) × Calls result k × MatchResult result
     (λ value. Next value k r j)
     (λ e. (r ≡ reply.Refused e) × (j ≡ k))
 
@@ -62,23 +62,6 @@ abbrev pub PostsNamed : ImageView → ActorId → List Argument → List ℕ →
 PostsNamed i a args text sender seq =
     Then (Interns i text (StandsFor text)) (λ s k. PostsArguments k a args s sender seq)
 
--- ---- a run: so long as quanta are left and an actor is ready, the next ready one takes a quantum of so many steps
-
--- no actor is ready
-abbrev pub NoneReady : ImageView → Type 0
-NoneReady i = (a : ℕ) → is_ready_at (world i) a ≡ false
-
--- the next ready actor takes a quantum
-abbrev pub NextAdvances : ℕ → ImageView → Result ℕ Refusal → ImageView → Type 0
-NextAdvances quantum i result k =
-    (a : ActorId) × IsNextReady (world i) i.next_from a.0 × Advances i a quantum result k
-
--- with so many quanta left, and so many quanta and steps taken
-abbrev pub Runs : ℕ → ℕ → ImageView → ℕ → ℕ → Reply → ImageView → Type 0
-Runs quantum zero i q s r j = (r ≡ reply.Ran q s) × (j ≡ i)
-Runs quantum (suc left) i q s r j = (NoneReady i × (r ≡ reply.Ran q s) × (j ≡ i))
-    ⊎ Then (NextAdvances quantum i) (λ n k. Runs quantum left k (q + 1) (s + n)) r j
-
 -- ---- an outcome
 
 -- the reply to a question for an outcome
@@ -96,24 +79,37 @@ copies_text _ = false
 abbrev pub Tells : ImageView → Result Outcome Refusal → Reply → Type 0
 Tells i result r = (r ≡ outcome_reply i result) ⊎ ((copies_text result ≡ true) × (r ≡ reply.Refused NoMemory))
 
+-- ---- a command that is asked of the image alone
+
+-- by the command; a run asks a worker too, and the last one is not served yet
+abbrev pub Asks : ImageView → Command → Reply → ImageView → Type 0
+Asks i (command.Define name parent slots) r j = RepliesFor i parent reply.Version (λ c. Defines i name c slots) r j
+Asks i (command.Method class source) r j = RepliesFor i class reply.Version (λ c. InstallsIn i c source) r j
+Asks i (command.Remove class text) r j = RepliesFor i class reply.Version (RemovesNamed i text) r j
+Asks i (command.Actor class) r j = RepliesFor i class reply.Actor (Creates i) r j
+Asks i (command.Post actor args text sender seq) r j = PostsNamed i actor args text sender seq r j
+Asks i (command.Run quanta) r j = (r ≡ reply.Refused BadCommand) × (j ≡ i)
+Asks i (command.Outcome actor turn) r j = Tells i (image_outcome i actor turn) r × (j ≡ i)
+Asks i (command.Close actor) r j = RepliesTo (λ done. reply.Closed) (Closes i actor) r j
+Asks i (command.Stats class text) r j = (r ≡ reply.Refused BadCommand) × (j ≡ i)
+
+-- ---- a run: so long as quanta are left and an actor is ready, the next ready one takes a quantum of so many steps
+
+-- with so many quanta left, and so many quanta and steps taken
+abbrev pub Runs : ℕ → ℕ → RunnerView → ℕ → ℕ → Reply → RunnerView → Type 0
+Runs quantum zero i q s r j = (r ≡ reply.Ran q s) × (j ≡ i)
+Runs quantum (suc left) i q s r j = (NoneReady i × (r ≡ reply.Ran q s) × (j ≡ i))
+    ⊎ Then (NextAdvances quantum i) (λ n k. Runs quantum left k (q + 1) (s + n)) r j
+
 -- ---- any command
 
--- by the command; the last one is not served yet
-abbrev pub Serves : ℕ → ImageView → Command → Reply → ImageView → Type 0
-Serves quantum i (command.Define name parent slots) r j =
-    RepliesFor i parent reply.Version (λ c. Defines i name c slots) r j
-Serves quantum i (command.Method class source) r j =
-    RepliesFor i class reply.Version (λ c. InstallsIn i c source) r j
-Serves quantum i (command.Remove class text) r j = RepliesFor i class reply.Version (RemovesNamed i text) r j
-Serves quantum i (command.Actor class) r j = RepliesFor i class reply.Actor (Creates i) r j
-Serves quantum i (command.Post actor args text sender seq) r j = PostsNamed i actor args text sender seq r j
+-- a run is served by the worker's steps; any other command is asked of the image, and the worker stays as it is
+abbrev pub Serves : ℕ → RunnerView → Command → Reply → RunnerView → Type 0
 Serves quantum i (command.Run quanta) r j = Runs quantum quanta i 0 0 r j
-Serves quantum i (command.Outcome actor turn) r j = Tells i (image_outcome i actor turn) r × (j ≡ i)
-Serves quantum i (command.Close actor) r j = RepliesTo (λ done. reply.Closed) (Closes i actor) r j
-Serves quantum i (command.Stats class text) r j = (r ≡ reply.Refused BadCommand) × (j ≡ i)
+Serves quantum i c r j = Asks i.image c r j.image × (j.caches ≡ i.caches)
 
 -- the reply to a line: a line that is no command is BadCommand
-abbrev pub Replies : ℕ → ImageView → List ℕ → Reply → ImageView → Type 0
+abbrev pub Replies : ℕ → RunnerView → List ℕ → Reply → RunnerView → Type 0
 Replies quantum i line r j = ((r ≡ reply.Refused NoMemory) × (j ≡ i))
     ⊎ MatchOption (command_of line)
     ((r ≡ reply.Refused BadCommand) × (j ≡ i))

@@ -2,9 +2,9 @@
 use Rattle.std.specs.Prelude.{◌≡◌, ℕ, ◌+◌, ◌≤◌, ◌<◌, List, [], ◌∷◌, ◌++◌, All, length, sum}
 use Rattle.st_image.specs.declared.items.Item.{Item}
 use Rattle.st_image.specs.declared.items.Item.TheVariants.{Ran}
-use Rattle.st_image.specs.Images.{ImageView}
 use Rattle.st_wire.specs.declared.replies.Reply.TheVariants as reply
-use Rattle.st_server.specs.CommandReplies.{NoneReady, Runs}
+use Rattle.st_server.specs.Runners.{RunnerView, NoneReady}
+use Rattle.st_server.specs.CommandReplies.{Runs}
 
 -- the steps of each quantum among some items
 abbrev pub quanta_in : List Item → List ℕ
@@ -14,8 +14,8 @@ quanta_in (_ ∷ is) = quanta_in is
 
 -- the history grew by q quanta, each of 1 step or more and no more than a quantum has and one that the image takes, and
 -- of s steps in all; they are fewer than were asked for only where no actor is ready
-abbrev pub HasRun : ℕ → ℕ → ImageView → ℕ → ℕ → ImageView → Type 0
-HasRun quantum quanta i q s j = (items : List Item) × (j.history ≡ i.history ++ items)
+abbrev pub HasRun : ℕ → ℕ → RunnerView → ℕ → ℕ → RunnerView → Type 0
+HasRun quantum quanta i q s j = (items : List Item) × (j.image.history ≡ i.image.history ++ items)
     × (length (quanta_in items) ≡ q)
     × (sum (quanta_in items) ≡ s)
     × All (λ n. (1 ≤ n) × (n ≤ quantum + 1)) (quanta_in items)
@@ -24,6 +24,6 @@ HasRun quantum quanta i q s j = (items : List Item) × (j.history ≡ i.history 
 
 -- so it is wherever a run says how many quanta and steps it took
 abbrev pub RunsSayWhatTheyTook : Type 0
-RunsSayWhatTheyTook = (quantum quanta q s : ℕ) (i j : ImageView)
+RunsSayWhatTheyTook = (quantum quanta q s : ℕ) (i j : RunnerView)
     → Runs quantum quanta i 0 0 (reply.Ran q s) j
     → HasRun quantum quanta i q s j

@@ -4,11 +4,13 @@
 //! asked of the image as the line before left it.
 #![tactic(auto)]
 
+mod asking;
 pub mod images;
 pub mod lines;
 mod quantum;
 mod reading;
 mod resolving;
+pub mod runner;
 pub mod scripts;
 mod serving;
 pub mod sessions;

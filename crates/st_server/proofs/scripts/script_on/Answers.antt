@@ -17,7 +17,7 @@ returns-in-Err-clause-script g c =
 
 pub returns-clause-script : goal.returns-clause-script
 returns-clause-script g c =
-    let script = c.answer_input.ensures.script in
+    let script = c.run_script.ensures.script in
     let kept = rw c.of_image.ensures at c.in_default-set.ensures in
     let is = c.in-Some.ensures in
     (script.0, script.1, keeps_settings c.args.settings c.args.image c.set.new.self _ _ _ _ _ _ is.0 is.1 kept.0 kept.1 script.2)

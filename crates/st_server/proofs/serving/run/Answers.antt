@@ -13,7 +13,7 @@ returns-in-Err c = runs_stops _ _ _ _ _ _ _ _ c.loop-taken.invariant.runs c.loop
 pub loop-taken-preserved : goal.loop-taken-preserved
 loop-taken-preserved c =
     let takes = rw c.in-Ok-Some.field-0-is at c.in-Ok-Some.ensures in
-    let few : c.in-Ok-Some.count ≤ c.args.quantum + 1 = few_steps _ _ takes.0 _ _ takes.2.0.1 in
+    let few : c.in-Ok-Some.count ≤ c.args.quantum + 1 = few_steps _ _ _ _ takes in
     let same = c.from-steps.ensures in
     record {
       runs = rw same (runs_more _ _ _ _ _ _ _ _ c.loop-taken.invariant.runs c.loop-taken-test.true takes);

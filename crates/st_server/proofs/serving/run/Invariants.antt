@@ -4,6 +4,6 @@ use Rattle.st_server.proofs.serving.run.Given as goal
 
 abbrev pub invariant-loop-taken : goal.invariant-loop-taken
 invariant-loop-taken l = record {
-  runs : RunsOn l.quantum l.quanta l.initial.image (l.quanta - l.taken) l.image l.taken l.steps;
+  runs : RunsOn l.quantum l.quanta l.initial.runner (l.quanta - l.taken) l.runner l.taken l.steps;
   few : l.steps ≤ 1025 * l.taken;
 }

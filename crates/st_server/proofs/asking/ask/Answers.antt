@@ -2,7 +2,7 @@ use Rattle.std.proofs.Common.{rules, ◌≡◌, ℕ, List, subst}
 use Rattle.st_image.specs.Calls.{Defines}
 use Rattle.st_wire.specs.declared.replies.Reply.TheVariants.{Version}
 use Rattle.st_server.specs.CommandReplies.{RepliesFor}
-use Rattle.st_server.proofs.serving.serve.Goals as goal
+use Rattle.st_server.proofs.asking.ask.Goals as goal
 
 pub returns-in-Define : goal.returns-in-Define
 returns-in-Define c =

@@ -1,0 +1,92 @@
+-- The claim of a quantum: its checkout, and its commit or release.
+use Rattle.std.proofs.Common.{◌≡◌, ℕ, List, [], ◌∷◌, Option, Some, None, Result, Ok, Err, Bool, true, false, if◌then◌else◌, sym, ap, subst, ◌∙◌, slice_get, append-nil, ◌+◌}
+use Rattle.std.specs.Option.{IfSome}
+use Rattle.st_classes.specs.declared.values.ActorId.{ActorId}
+use Rattle.st_classes.specs.declared.edits.Edit.{Edit}
+use Rattle.st_classes.specs.declared.refusals.Refusal.{Refusal}
+use Rattle.st_classes.specs.declared.refusals.Refusal.TheVariants.{Stale, Changed, HistoryFull, NoMemory}
+use Rattle.st_classes.specs.EditLists.{Begins}
+use Rattle.st_guard.specs.declared.global_guard.GlobalGuard.{GlobalGuard}
+use Rattle.st_guard.specs.Moves.{CachesView}
+use Rattle.st_turn.specs.Claims.{ClaimView}
+use Rattle.st_image.specs.declared.items.Item.TheVariants.{Begun}
+use Rattle.st_image.specs.Images.{ImageView, appended, world}
+use Rattle.st_image.specs.WorldInvariant.{IsLawful}
+use Rattle.st_image.specs.Commits.{HasCheckedOut, RefusesCommit, idle_at, items_of, with_out}
+use Rattle.st_image.proofs.GrowingEdits.{GoesOn, edits_grow, goes_both, goes_from}
+use Rattle.st_server.specs.Runners.{KeepsFirst, ReleasesBack, Settles}
+
+-- ---- what goes on
+
+-- what an image keeps beside its world is no item
+out_goes : (i j : ImageView) → j ≡ with_out i j → GoesOn i j
+out_goes i j e = record {
+  base = ap (λ (k : ImageView). k.base) e;
+  items = [];
+  history = ap (λ (k : ImageView). k.history) e ∙ sym (append-nil i.history);
+}
+
+-- an image with the history of another and perhaps a beginning
+begun_goes : (t : Bool) (i k : ImageView) (a : ActorId) → k ≡ with_out (let begun : ImageView = if t then appended i (Begun a ∷ []) else i in record begun { standing = record begun.standing { next_from = a.0 + 1 } }) k → GoesOn i k
+begun_goes true i k a e = record {
+  base = ap (λ (x : ImageView). x.base) e;
+  items = Begun a ∷ [];
+  history = ap (λ (x : ImageView). x.history) e;
+}
+begun_goes false i k a e = record {
+  base = ap (λ (x : ImageView). x.base) e;
+  items = [];
+  history = ap (λ (x : ImageView). x.history) e ∙ sym (append-nil i.history);
+}
+
+pub checkout_goes : (i k : ImageView) (a : ActorId) (c : ClaimView) → HasCheckedOut i a c k → GoesOn i k
+checkout_goes i k a c h = begun_goes (idle_at (slice_get (world i).actors a.0)) i k a h.image
+
+refuse_goes : (i : ImageView) (c : ClaimView) (e : Refusal) (back : Option ClaimView) (j : ImageView) → RefusesCommit i c e back j → GoesOn i j
+refuse_goes i c (Stale version) back j h = out_goes i j h.2.image
+refuse_goes i c Changed back j h = out_goes i j h.2.image
+refuse_goes i c HistoryFull back j h = record {
+  base = ap (λ (k : ImageView). k.base) h.2.image;
+  items = [];
+  history = ap (λ (k : ImageView). k.history) h.2.image ∙ sym (append-nil i.history);
+}
+refuse_goes i c NoMemory back j h = record {
+  base = ap (λ (k : ImageView). k.base) h.2.image;
+  items = [];
+  history = ap (λ (k : ImageView). k.history) h.2.image ∙ sym (append-nil i.history);
+}
+refuse_goes i c e back j h = absurd h
+
+back_goes : (i : ImageView) (back : Option ClaimView) (j : ImageView) → ReleasesBack i back j → GoesOn i j
+back_goes i None j h = goes_from i j h
+back_goes i (Some c) j h = out_goes i j h.image
+
+settles_goes : (i : ImageView) (c : ClaimView) (r : Result ℕ Refusal) (j : ImageView) → Settles i c r j → GoesOn i j
+settles_goes i c (Ok n) j h = record {
+  base = ap (λ (k : ImageView). k.base) h.image;
+  items = items_of c;
+  history = ap (λ (k : ImageView). k.history) h.image;
+}
+settles_goes i c (Err e) j h = goes_both i h.1 j (refuse_goes i c e h.0 h.1 h.2) (back_goes h.1 h.0 j h.3)
+
+-- ---- the edits of a claim
+
+claim_edits : (i k : ImageView) (a : ActorId) (c : ClaimView) → HasCheckedOut i a c k → c.edits ≡ (world i).edits
+claim_edits i k a c h = ap (λ (d : ClaimView). d.edits) h.claim
+
+-- the worker may run a claim that was checked out
+pub claim_follows : (i k : ImageView) (a : ActorId) (c : ClaimView) (v : CachesView GlobalGuard) → KeepsFirst i v → HasCheckedOut i a c k → IfSome v.kept (λ es. Begins es c.edits)
+claim_follows i k a c v h out = subst (λ es. IfSome v.kept (λ x. Begins x es)) (sym (claim_edits i k a c out)) h
+
+-- the image may commit it
+pub claim_begins : (i k : ImageView) (a : ActorId) (c : ClaimView) → IsLawful i → IsLawful k → HasCheckedOut i a c k → Begins c.edits (world k).edits
+claim_begins i k a c l m out = subst (λ es. Begins es (world k).edits) (sym (claim_edits i k a c out)) (edits_grow i k l m (checkout_goes i k a c out))
+
+kept_first : (o : Option (List Edit)) (es fs gs : List Edit) → IfSome o (λ k. k ≡ es) → es ≡ fs → Begins fs gs → IfSome o (λ k. Begins k gs)
+kept_first None es fs gs h e b = tt
+kept_first (Some k) es fs gs h e b = subst (λ x. Begins x gs) (sym (h ∙ e)) b
+
+-- what the worker keeps after it begins the edits of the image
+pub settled_keeps : (i k j : ImageView) (a : ActorId) (c d : ClaimView) (r : Result ℕ Refusal) (w : CachesView GlobalGuard) → IsLawful i → IsLawful j → HasCheckedOut i a c k → IfSome w.kept (λ es. es ≡ c.edits) → Settles k d r j → KeepsFirst j w
+settled_keeps i k j a c d r w l m out kept settled =
+    kept_first w.kept c.edits (world i).edits (world j).edits kept (claim_edits i k a c out) (edits_grow i j l m (goes_both i k j (checkout_goes i k a c out) (settles_goes k d r j settled)))

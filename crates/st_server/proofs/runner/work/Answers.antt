@@ -1,0 +1,23 @@
+use Rattle.std.proofs.Common.{◌≡◌, List, sym, subst}
+use Rattle.std.specs.Option.{IfSome}
+use Rattle.st_classes.specs.declared.edits.Edit.{Edit}
+use Rattle.st_classes.specs.EditLists.{Begins}
+use Rattle.st_image.specs.Images.{world}
+use Rattle.st_server.specs.Runners.{Steps}
+use Rattle.st_server.proofs.SomeSteps.{quantum_some}
+use Rattle.st_server.proofs.runner.work.Goals as goal
+
+pub settle-settled-requires : goal.settle-settled-requires
+settle-settled-requires c = subst (λ (es : List Edit). Begins es (world c.args.image.now).edits) (sym c.run-ran.ensures.edits) c.requires.begins
+
+pub returns-clause-works : goal.returns-clause-works
+returns-clause-works c =
+    let steps : Steps c.args.quantum c.args.worker.now c.args.claim c.run-ran.result c.run-ran.new.self c.run-ran.new.claim = rw (← c.steps.ensures.same) c.run-ran.ensures.runs in
+    (c.run-ran.result, c.run-ran.new.claim, c.settle-settled.result, steps, c.settle-settled.ensures, c.answer.ensures)
+
+pub returns-clause-kept : goal.returns-clause-kept
+returns-clause-kept c = subst (λ (es : List Edit). IfSome c.run-ran.new.self.kept (λ k. k ≡ es)) c.run-ran.ensures.edits c.run-ran.ensures.stands.kept
+
+pub returns-clause-some : goal.returns-clause-some
+returns-clause-some c = λ busy.
+    quantum_some c.answer.result c.run-ran.result c.settle-settled.result c.steps.result c.args.worker.now c.args.claim c.run-ran.new.self c.run-ran.new.claim c.args.image.now c.settle-settled.new.image c.steps.ensures.some busy c.known.ensures c.run-ran.ensures.runs c.settle-settled.ensures c.answer.ensures

@@ -1,7 +1,0 @@
-use Rattle.std.proofs.Common.{rules}
-use Rattle.st_server.proofs.serving.take_quantum.Goals as goal
-
-pub returns-in-Err : goal.returns-in-Err
-returns-in-Err c =
-    let stopped = rw c.steps.ensures.same at c.in-Err.ensures in
-    search rules

@@ -1,0 +1,97 @@
+-- A runner: an image, and the caches of the worker that takes the steps of its actors; and what one quantum of it is.
+use Rattle.std.specs.Prelude.{◌≡◌, ◌≤◌, ℕ, [], Bool, true, false, Option, None, Some, Result, Ok, Err, IfOk, MatchResult}
+use Rattle.std.specs.Option.{IfSome}
+use Rattle.std.specs.declared.alloc.AllocError.{AllocError}
+use Rattle.st_classes.specs.declared.values.ActorId.{ActorId}
+use Rattle.st_classes.specs.declared.values.Selector.{Selector}
+use Rattle.st_classes.specs.declared.edits.Edit.{Edit}
+use Rattle.st_classes.specs.declared.refusals.Refusal.{Refusal}
+use Rattle.st_classes.specs.declared.refusals.Refusal.TheVariants.{NoMemory}
+use Rattle.st_classes.specs.EditLists.{Begins}
+use Rattle.st_guard.specs.declared.global_guard.GlobalGuard.{GlobalGuard}
+use Rattle.st_guard.specs.SiteTables.{NoSites}
+use Rattle.st_guard.specs.Moves.{CachesView}
+use Rattle.st_turn.specs.declared.body.Stop.{Stop}
+use Rattle.st_turn.specs.Claims.{ClaimView}
+use Rattle.st_turn.specs.WorkerSteps.{HasMoved, Runs as TakesSteps}
+use Rattle.st_image.specs.Images.{ImageView, world}
+use Rattle.st_image.specs.Scheduling.{IsNextReady, is_free_at}
+use Rattle.st_image.specs.Commits.{ChecksOut, Commits, IsReleased}
+
+-- an image, and the caches of a worker
+pub record RunnerView : Type 0 where
+  pub image : ImageView
+  pub caches : CachesView GlobalGuard
+
+-- what the caches keep, where they keep a list of edits, begins the image's
+abbrev pub KeepsFirst : ImageView → CachesView GlobalGuard → Type 0
+KeepsFirst i v = IfSome v.kept (λ k. Begins k (world i).edits)
+
+-- new caches: nothing was found yet, and the list of edits that they keep is empty, as the kernel's is
+pub record AreNew (v : CachesView GlobalGuard) : Type 0 where
+  pub no_edits : v.guard.edits ≡ 0
+  pub no_site : NoSites v.sites
+  pub no_recent : v.recent ≡ []
+  pub count : v.edits ≡ 0
+  pub kept : v.kept ≡ Some []
+
+-- ---- the guard of the worker's caches: each edit raises every floor to the number of edits
+
+-- how many edits it has noted
+abbrev pub noted : GlobalGuard → ℕ
+noted g = g.edits
+
+-- each floor
+abbrev pub floor_of : GlobalGuard → Selector → ℕ
+floor_of g s = g.edits
+
+-- which selectors' floors an edit raises: all
+abbrev pub raises : Edit → Selector → Bool
+raises e s = true
+
+-- ---- a quantum
+
+-- the caches move to the edits of a claim, and it takes steps, up to so many
+abbrev pub Steps : ℕ → CachesView GlobalGuard → ClaimView → Result Stop AllocError → CachesView GlobalGuard
+    → ClaimView → Type 0
+Steps quantum v c ran w d = (moved : CachesView GlobalGuard) × HasMoved noted floor_of raises v moved c.edits
+    × TakesSteps floor_of quantum moved c ran w d
+
+-- a claim that was handed back is released
+abbrev pub ReleasesBack : ImageView → Option ClaimView → ImageView → Type 0
+ReleasesBack i None j = j ≡ i
+ReleasesBack i (Some c) j = IsReleased i c.actor j
+
+-- a claim is committed; or its commit is refused, and then it is released where it was handed back
+abbrev pub Settles : ImageView → ClaimView → Result ℕ Refusal → ImageView → Type 0
+Settles i c (Ok n) j = Commits i c (Ok n) j
+Settles i c (Err e) j = (back : Option ClaimView) × (k : ImageView) × Commits i c (Err (e, back)) k × ReleasesBack k back j
+
+-- what a quantum answers: what its commit does, but NoMemory where its steps found none
+abbrev pub quantum_answer : Result Stop AllocError → Result ℕ Refusal → Result ℕ Refusal
+quantum_answer (Ok stop) settled = settled
+quantum_answer (Err e) (Ok n) = Err NoMemory
+quantum_answer (Err e) (Err f) = Err f
+
+-- a claim takes steps, which are committed
+abbrev pub Works : ℕ → RunnerView → ClaimView → Result ℕ Refusal → RunnerView → Type 0
+Works quantum i c result j = (ran : Result Stop AllocError) × (d : ClaimView) × (settled : Result ℕ Refusal)
+    × Steps quantum i.caches c ran j.caches d
+    × Settles i.image d settled j.image
+    × (result ≡ quantum_answer ran settled)
+
+-- an actor is checked out, and its claim takes steps
+abbrev pub TakesQuantum : ℕ → RunnerView → ActorId → Result ℕ Refusal → RunnerView → Type 0
+TakesQuantum quantum i a result j = (claim : Result ClaimView Refusal) × (k : ImageView) × ChecksOut i.image a claim k
+    × MatchResult claim
+    (λ c. Works quantum (record i { image = k }) c result j)
+    (λ e. (result ≡ Err e) × (j ≡ record i { image = k }))
+
+-- no actor can be checked out
+abbrev pub NoneReady : RunnerView → Type 0
+NoneReady i = (a : ℕ) → is_free_at i.image a ≡ false
+
+-- the next ready actor takes a quantum, of one step or more
+abbrev pub NextAdvances : ℕ → RunnerView → Result ℕ Refusal → RunnerView → Type 0
+NextAdvances quantum i result j = (a : ActorId) × IsNextReady i.image a.0 × TakesQuantum quantum i a result j
+    × IfOk result (λ n. 1 ≤ n)

@@ -1,0 +1,197 @@
+//! Commands that are asked of an image alone.
+ghost use Rattle.std.specs.Prelude.{◌≡◌};
+ghost use Rattle.st_image.specs.Calls.{Closes, Creates, Defines, InstallsIn, Posts};
+ghost use Rattle.st_image.specs.PostRules.{from_client};
+ghost use Rattle.st_image.specs.Outcomes.{image_outcome};
+ghost use Rattle.st_wire.specs.declared.replies.Reply.TheVariants as replies;
+ghost use Rattle.st_server.specs.CommandReplies.{RepliesTo, RepliesFor, RemovesNamed, PostsArguments, PostsNamed, Tells, Asks};
+
+use crate::images::Image;
+use crate::resolving::{argument_values, find_selector, shown};
+use st_classes::refusals::Refusal;
+use st_classes::seq::Seq;
+use st_classes::values::{ActorId, ClassId, Selector, Values};
+use st_turn::body::Outcome;
+use st_wire::commands::{Argument, Command};
+use st_wire::replies::Reply;
+use std::alloc::Global;
+
+fn define(
+    alloc: Global,
+    image: &mut Image,
+    name: &[u8],
+    parent: &[u8],
+    slots: Seq<Seq<u8>>,
+) -> Reply
+    ensures { RepliesFor image.old parent.now replies.Version (λ c. Defines image.old name.now c slots) result image.new }
+{
+    let Some(parent) = image.version().class_named(parent) else {
+        return Reply::Refused(Refusal::UnknownClass);
+    };
+    match image.define(alloc, name, parent, slots) {
+        Ok(version) => Reply::Version(version),
+        Err(refusal) => Reply::Refused(refusal),
+    }
+}
+
+fn install(alloc: Global, image: &mut Image, class: &[u8], source: &[u8]) -> Reply
+    ensures { RepliesFor image.old class.now replies.Version (λ c. InstallsIn image.old c source.now) result image.new }
+{
+    let Some(class) = image.version().class_named(class) else {
+        return Reply::Refused(Refusal::UnknownClass);
+    };
+    match image.install(alloc, class, source) {
+        Ok(version) => Reply::Version(version),
+        Err(refusal) => Reply::Refused(refusal),
+    }
+}
+
+fn remove_named(
+    alloc: Global,
+    image: &mut Image,
+    class: ClassId,
+    selector: &[u8],
+) -> Result<u32, Refusal>
+    ensures { RemovesNamed image.old selector.now class result image.new }
+{
+    match find_selector(image.names(), selector) {
+        Ok(selector) => image.remove(alloc, class, selector),
+        Err(refusal) => Err(refusal),
+    }
+}
+
+fn remove(alloc: Global, image: &mut Image, class: &[u8], selector: &[u8]) -> Reply
+    ensures { RepliesFor image.old class.now replies.Version (RemovesNamed image.old selector.now) result image.new }
+{
+    let Some(class) = image.version().class_named(class) else {
+        return Reply::Refused(Refusal::UnknownClass);
+    };
+    match remove_named(alloc, image, class, selector) {
+        Ok(version) => Reply::Version(version),
+        Err(refusal) => Reply::Refused(refusal),
+    }
+}
+
+fn create(alloc: Global, image: &mut Image, class: &[u8]) -> Reply
+    ensures { RepliesFor image.old class.now replies.Actor (Creates image.old) result image.new }
+{
+    let Some(class) = image.version().class_named(class) else {
+        return Reply::Refused(Refusal::UnknownClass);
+    };
+    match image.create(alloc, class) {
+        Ok(actor) => Reply::Actor(actor),
+        Err(refusal) => Reply::Refused(refusal),
+    }
+}
+
+/// Closes a mailbox.
+fn close(image: &mut Image, actor: ActorId) -> Reply
+    ensures { RepliesTo (λ done. replies.Closed) (Closes image.old actor) result image.new }
+{
+    match image.close(actor) {
+        Ok(()) => Reply::Closed,
+        Err(refusal) => Reply::Refused(refusal),
+    }
+}
+
+fn post_values(
+    alloc: Global,
+    image: &mut Image,
+    actor: ActorId,
+    args: Values,
+    selector: Selector,
+    sender: u16,
+    seq: u64,
+) -> Reply
+    ensures { RepliesTo replies.Turn (Posts image.old actor (from_client sender seq selector args)) result image.new }
+{
+    match image.post(alloc, sender, seq, actor, selector, args) {
+        Ok(turn) => Reply::Turn(turn),
+        Err(refusal) => Reply::Refused(refusal),
+    }
+}
+
+fn post_arguments(
+    alloc: Global,
+    image: &mut Image,
+    actor: ActorId,
+    arguments: &[Argument],
+    selector: Selector,
+    sender: u16,
+    seq: u64,
+) -> Reply
+    ensures { PostsArguments image.old actor arguments.now selector sender seq result image.new }
+{
+    match argument_values(alloc, image, arguments) {
+        Ok(args) => post_values(alloc, image, actor, args, selector, sender, seq),
+        Err(refusal) => Reply::Refused(refusal),
+    }
+}
+
+fn post(
+    alloc: Global,
+    image: &mut Image,
+    actor: ActorId,
+    arguments: &[Argument],
+    selector: &[u8],
+    sender: u16,
+    seq: u64,
+) -> Reply
+    ensures { PostsNamed image.old actor arguments.now selector.now sender seq result image.new }
+{
+    match image.intern(alloc, selector) {
+        Ok(selector) => post_arguments(alloc, image, actor, arguments, selector, sender, seq),
+        Err(refusal) => Reply::Refused(refusal),
+    }
+}
+
+fn outcome(alloc: Global, image: &Image, actor: ActorId, turn: u64) -> Reply
+    ensures { Tells image.now (image_outcome image.now actor turn) result }
+{
+    match image.outcome(actor, turn) {
+        Ok(Outcome::Answer(value)) => match shown(alloc, image, value) {
+            Ok(value) => Reply::Answer(value),
+            Err(_) => Reply::Refused(Refusal::NoMemory),
+        },
+        Ok(Outcome::Fault(fault)) => Reply::Fault(fault),
+        Err(refusal) => Reply::Refused(refusal),
+    }
+}
+
+/// The reply to a command that asks the image alone. A run is none, and is BadCommand here.
+pub(crate) fn ask(alloc: Global, image: &mut Image, command: Command) -> Reply
+    ensures { Asks image.old command result image.new }
+{
+    match command {
+        Command::Define {
+            name,
+            parent,
+            slots,
+        } => define(alloc, image, name.as_slice(), parent.as_slice(), slots),
+        Command::Method { class, source } => {
+            install(alloc, image, class.as_slice(), source.as_slice())
+        }
+        Command::Remove { class, selector } => {
+            remove(alloc, image, class.as_slice(), selector.as_slice())
+        }
+        Command::Actor { class } => create(alloc, image, class.as_slice()),
+        Command::Post {
+            actor,
+            args,
+            selector,
+            sender,
+            seq,
+        } => post(
+            alloc,
+            image,
+            actor,
+            args.as_slice(),
+            selector.as_slice(),
+            sender,
+            seq,
+        ),
+        Command::Outcome { actor, turn } => outcome(alloc, image, actor, turn),
+        Command::Close { actor } => close(image, actor),
+        Command::Run { .. } | Command::Stats { .. } => Reply::Refused(Refusal::BadCommand),
+    }
+}

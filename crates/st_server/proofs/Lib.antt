@@ -4,6 +4,7 @@ pub mod Parts
 pub mod Names
 pub mod Going
 pub mod Ending
+pub mod Reports
 pub mod Growing
 pub mod Claims
 pub mod SomeSteps

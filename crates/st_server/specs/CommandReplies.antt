@@ -18,6 +18,8 @@ use Rattle.st_wire.specs.declared.commands.Command.TheVariants as command
 use Rattle.st_wire.specs.declared.replies.Reply.{Reply}
 use Rattle.st_wire.specs.declared.replies.Reply.TheVariants as reply
 use Rattle.st_wire.specs.Commands.{command_of}
+use Rattle.st_wire.specs.declared.replies.SiteReport.{SiteReport}
+use Rattle.st_server.specs.SiteReports.{StatesNamed}
 use Rattle.st_server.specs.Runners.{RunnerView, NextAdvances, NoneReady}
 use Rattle.st_server.specs.ArgumentValues.{Interns, StandsFor, AllResolve, found_selector, is_told_by_text, value_text}
 
@@ -79,9 +81,17 @@ copies_text _ = false
 abbrev pub Tells : ImageView → Result Outcome Refusal → Reply → Type 0
 Tells i result r = (r ≡ outcome_reply i result) ⊎ ((copies_text result ≡ true) × (r ≡ reply.Refused NoMemory))
 
+-- ---- statistics
+
+-- the reply to a question for the call sites of a method that a class has of its own
+abbrev pub States : ImageView → List ℕ → List ℕ → Reply → Type 0
+States i class text r = MatchOption (class_named (world i).edits class)
+    (r ≡ reply.Refused UnknownClass)
+    (λ c. (result : Result (List SiteReport) Refusal) × (r ≡ reply_by reply.Sites result) × StatesNamed i text c result)
+
 -- ---- a command that is asked of the image alone
 
--- by the command; a run asks a worker too, and the last one is not served yet
+-- by the command; a run asks a worker too, and is none
 abbrev pub Asks : ImageView → Command → Reply → ImageView → Type 0
 Asks i (command.Define name parent slots) r j = RepliesFor i parent reply.Version (λ c. Defines i name c slots) r j
 Asks i (command.Method class source) r j = RepliesFor i class reply.Version (λ c. InstallsIn i c source) r j
@@ -91,7 +101,7 @@ Asks i (command.Post actor args text sender seq) r j = PostsNamed i actor args t
 Asks i (command.Run quanta) r j = (r ≡ reply.Refused BadCommand) × (j ≡ i)
 Asks i (command.Outcome actor turn) r j = Tells i (image_outcome i actor turn) r × (j ≡ i)
 Asks i (command.Close actor) r j = RepliesTo (λ done. reply.Closed) (Closes i actor) r j
-Asks i (command.Stats class text) r j = (r ≡ reply.Refused BadCommand) × (j ≡ i)
+Asks i (command.Stats class text) r j = States i class text r × (j ≡ i)
 
 -- ---- a run: so long as quanta are left and an actor is ready, the next ready one takes a quantum of so many steps
 

@@ -2,6 +2,7 @@ pub mod Lines
 pub mod Sessions
 pub mod InputBytes
 pub mod ArgumentValues
+pub mod SiteReports
 pub mod Runners
 pub mod CommandReplies
 pub mod Totals

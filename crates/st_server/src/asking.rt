@@ -8,6 +8,7 @@ ghost use Rattle.st_server.specs.CommandReplies.{RepliesTo, RepliesFor, RemovesN
 
 use crate::images::Image;
 use crate::resolving::{argument_values, find_selector, shown};
+use crate::stating::stats;
 use st_classes::refusals::Refusal;
 use st_classes::seq::Seq;
 use st_classes::values::{ActorId, ClassId, Selector, Values};
@@ -192,6 +193,9 @@ pub(crate) fn ask(alloc: Global, image: &mut Image, command: Command) -> Reply
         ),
         Command::Outcome { actor, turn } => outcome(alloc, image, actor, turn),
         Command::Close { actor } => close(image, actor),
-        Command::Run { .. } | Command::Stats { .. } => Reply::Refused(Refusal::BadCommand),
+        Command::Stats { class, selector } => {
+            stats(alloc, image, class.as_slice(), selector.as_slice())
+        }
+        Command::Run { .. } => Reply::Refused(Refusal::BadCommand),
     }
 }

@@ -15,4 +15,5 @@ pub mod scripts;
 mod serving;
 pub mod sessions;
 pub mod settings;
+mod stating;
 pub mod totals;

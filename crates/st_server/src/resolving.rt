@@ -71,7 +71,7 @@ pub fn find_selector(names: &Names, text: &[u8]) -> Result<Selector, Refusal>
 
 /// A name as a text.
 #[tactic(auto, using(crate::proofs::Names::utf8_from_ascii))]
-fn text_of(alloc: Global, name: &[u8]) -> Result<Text, AllocError>
+pub(crate) fn text_of(alloc: Global, name: &[u8]) -> Result<Text, AllocError>
     requires { IsAscii name.now }
     ensures { IfOk result (λ text. text ≡ name.now) }
 {
@@ -83,7 +83,7 @@ fn text_of(alloc: Global, name: &[u8]) -> Result<Text, AllocError>
 
 /// The text of a selector, which is empty where the selector isn't there.
 #[tactic(auto, using(crate::proofs::Names::selector_ascii))]
-fn selector_text(image: &Image, selector: Selector) -> &[u8]
+pub(crate) fn selector_text(image: &Image, selector: Selector) -> &[u8]
     ensures ascii { IsAscii result.now }
     ensures text { result.now ≡ unwrap_or (slice_get image.now.names selector.0) [] }
 {

@@ -1,0 +1,7 @@
+pub mod WorldEdits
+pub mod CallsLater
+pub mod Seats
+pub mod Interning
+pub mod ClaimsSeen
+pub mod WorkersActing
+pub mod EventRuns

@@ -1,0 +1,30 @@
+-- An event of a worker, seen in its place among the workers, is one of the schedule.
+use Rattle.std.proofs.Common.{◌≡◌, ℕ, ◌≤◌, ◌<◌, List, Option, Some, None, Result, Ok, Err, refl, ap, sym, ◌∙◌, subst, map}
+use Rattle.std.specs.Prelude.{length, slice_get, slice_set}
+use Rattle.std.specs.Option.{option_map}
+use Rattle.std.proofs.lemmas.Option.{slice_get-map, slice_get_past}
+use Rattle.std.proofs.lemmas.List.{map-set}
+use Rattle.st_classes.specs.declared.refusals.Refusal.{Refusal}
+use Rattle.st_classes.specs.declared.refusals.Refusal.TheVariants.{BadArguments}
+use Rattle.st_image.specs.Images.{ImageView}
+use Rattle.st_system.specs.declared.events.Answer.{Answer}
+use Rattle.st_system.specs.Schedules.{BareClaim, Schedule, claim_of, schedule}
+use Rattle.st_system.specs.Seats.{SeatView, SystemView}
+use Rattle.st_system.specs.ImageEvents.{OfImage, told}
+use Rattle.st_system.specs.ClaimEvents.{AtWorker}
+
+-- a call of the image, which leaves the workers
+pub image_acts : {G A : Type 0} (tell : A → Answer) (Call : ImageView → Result A Refusal → ImageView → Type 0) (S T : SystemView G) (r : Result A Refusal) → Call S.image r T.image → T.seats ≡ S.seats → OfImage tell (Call S.image) (schedule S) (told tell r) (schedule T)
+image_acts {G} tell Call S T r h same = (r, refl, h, ap (map claim_of) same)
+
+-- there is no such worker
+pub no_worker : {G : Type 0} (Does : ImageView → Option BareClaim → Result Answer Refusal → ImageView → Option BareClaim → Type 0) (S T : SystemView G) (w : ℕ) (r : Result Answer Refusal) → length S.seats ≤ w → r ≡ Err BadArguments → T ≡ S → AtWorker Does (schedule S) w r (schedule T) (slice_get (schedule S).claims w)
+no_worker {G} Does S T w r past e same =
+    let none : slice_get (map claim_of S.seats) w ≡ None = slice_get-map claim_of S.seats w ∙ ap (option_map claim_of) (slice_get_past S.seats w past) in
+    subst (λ (o : Option (Option BareClaim)). AtWorker Does (schedule S) w r (schedule T) o) (sym none) (e, ap schedule same)
+
+-- the worker's seat is changed, and the image
+pub worker_acts : {G : Type 0} (Does : ImageView → Option BareClaim → Result Answer Refusal → ImageView → Option BareClaim → Type 0) (S T : SystemView G) (w : ℕ) (s t : SeatView G) (r : Result Answer Refusal) → slice_get S.seats w ≡ Some s → T.seats ≡ slice_set S.seats w t → Does S.image (claim_of s) r T.image (claim_of t) → AtWorker Does (schedule S) w r (schedule T) (slice_get (schedule S).claims w)
+worker_acts {G} Does S T w s t r there changed does =
+    let some : slice_get (map claim_of S.seats) w ≡ Some (claim_of s) = slice_get-map claim_of S.seats w ∙ ap (option_map claim_of) there in
+    subst (λ (o : Option (Option BareClaim)). AtWorker Does (schedule S) w r (schedule T) o) (sym some) (claim_of t, does, ap (map claim_of) changed ∙ map-set claim_of S.seats w t)

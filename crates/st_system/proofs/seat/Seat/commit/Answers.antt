@@ -1,0 +1,19 @@
+use Rattle.std.proofs.Common.{rules, sym, subst, ◌≡◌, None, Option}
+use Rattle.std.specs.Option.{IfSome}
+use Rattle.st_classes.specs.EditLists.{Begins}
+use Rattle.st_turn.specs.Claims.{ClaimView}
+use Rattle.st_image.specs.Images.{world}
+use Rattle.st_system.specs.Seats.{KeepsBeginning, SeatView}
+use Rattle.st_system.proofs.Seats.{kept_later}
+use Rattle.st_system.proofs.seat.Seat.commit.Goals as goal
+
+pub returns-in-Ok-clause-fits : goal.returns-in-Ok-clause-fits
+returns-in-Ok-clause-fits g c =
+    let before = (world c.args.image.now).edits in
+    let after = (world c.commit.new.image).edits in
+    let kept = subst (λ (s : SeatView g.row.G.Denot). KeepsBeginning before s.caches) (sym c.self.view_is) c.requires.kept in
+    let gone : c.take.new.self ≡ None = search rules in
+    record {
+      claim = subst (λ (o : Option ClaimView). IfSome o (λ d. Begins d.edits after)) (sym gone) tt;
+      kept = kept_later c.self.inside.worker before after c.in-Ok.ensures.later kept;
+    }

@@ -1,0 +1,15 @@
+use Rattle.std.proofs.Common.{refl, sym, ap, subst, List, Ok, Err}
+use Rattle.st_classes.specs.declared.edits.Edit.{Edit}
+use Rattle.st_classes.specs.declared.refusals.Refusal.TheVariants.{NoMemory}
+use Rattle.st_system.proofs.ClaimsSeen.{takes_none, takes_one}
+use Rattle.st_system.proofs.Seats.{begins_by, kept_of_claim}
+use Rattle.st_system.proofs.seat.take_one.Goals as goal
+
+pub returns-in-Ok-clause-takes : goal.returns-in-Ok-clause-takes
+returns-in-Ok-clause-takes g c = (Ok c.in-Ok.stop, refl, takes_one g.G.Guard.floor c.in-Ok.ensures.steps.0 c.step.new.self c.args.claim.now c.step.new.claim c.in-Ok.stop c.in-Ok.ensures.steps.2)
+
+pub returns-in-Ok-clause-kept : goal.returns-in-Ok-clause-kept
+returns-in-Ok-clause-kept g c = kept_of_claim c.step.new.self c.step.new.claim.edits c.step.new.claim.edits c.in-Ok.ensures.stands.kept (begins_by c.step.new.claim.edits c.step.new.claim.edits refl)
+
+pub returns-in-Err-clause-takes : goal.returns-in-Err-clause-takes
+returns-in-Err-clause-takes g c = (Err NoMemory, refl, takes_none c.args.claim.now c.step.new.claim c.in-Err.ensures.steps.2)

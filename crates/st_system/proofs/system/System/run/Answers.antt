@@ -1,0 +1,17 @@
+use Rattle.std.proofs.Common.{rules, ◌≡◌, ◌<◌, ◌+◌, ◌++◌, ◌∷◌, [], ◌∙◌, List, ap, length, subst, sym, take}
+use Rattle.std.proofs.lemmas.List.{take_more}
+use Rattle.st_system.specs.declared.events.Event.{Event}
+use Rattle.st_system.specs.Acts.{Leads}
+use Rattle.st_system.specs.Schedules.{schedule}
+use Rattle.st_system.proofs.EventRuns.{leads_push}
+use Rattle.st_system.proofs.system.System.run.Goals as goal
+
+pub loop-event-preserved : goal.loop-event-preserved
+loop-event-preserved g c =
+    let events = c.args.events.now in
+    let i = c.loop-event.event-index in
+    let event = c.event-item.result in
+    let within : i < length events = search rules in
+    let first : take (i + 1) events ≡ take i events ++ event ∷ [] =
+    take_more events i event within ∙ ap (λ (e : Event). take i events ++ e ∷ []) (sym c.event-item.is) in
+    subst (λ (es : List Event). Leads (schedule c.args.self.now) es (schedule c.apply-answer.new.self)) (sym first) (leads_push (schedule c.args.self.now) (schedule c.loop-event.self) (schedule c.apply-answer.new.self) (take i events) event c.apply-answer.result c.loop-event.invariant c.apply-answer.ensures)

@@ -1,0 +1,101 @@
+-- Events of a worker: what becomes of the image and of the worker's claim.
+use Rattle.std.specs.Prelude.{◌≡◌, ℕ, ◌+◌, List, [], Option, Some, None, Result, Ok, Err, slice_get, slice_set}
+use Rattle.std.specs.Option.{option_map}
+use Rattle.st_classes.specs.declared.values.ActorId.{ActorId}
+use Rattle.st_classes.specs.declared.refusals.Refusal.{Refusal}
+use Rattle.st_classes.specs.declared.refusals.Refusal.TheVariants.{NothingToDo, BadArguments, NoMemory}
+use Rattle.st_turn.specs.declared.body.Stop.{Stop}
+use Rattle.st_turn.specs.declared.body.Stop.TheVariants.{More}
+use Rattle.st_turn.specs.declared.claim.Sent.{Sent}
+use Rattle.st_turn.specs.Claims.{ClaimView}
+use Rattle.st_turn.specs.StepResults.{StepResult, more, stop_result}
+use Rattle.st_turn.specs.WorkerSteps.{next_step}
+use Rattle.st_image.specs.Images.{ImageView}
+use Rattle.st_image.specs.Commits.{ChecksOut, Commits, IsReleased}
+use Rattle.st_system.specs.declared.events.Answer.{Answer}
+use Rattle.st_system.specs.declared.events.Answer.TheVariants.{Done, Stopped, Steps}
+use Rattle.st_system.specs.Schedules.{BareClaim, Schedule, bare, with_sends}
+use Rattle.st_system.specs.ImageEvents.{told}
+
+-- an event of a worker: refused where there is no such worker; else it does this to the image and to the worker's
+-- claim, and each other worker keeps its own
+abbrev pub AtWorker : (ImageView → Option BareClaim → Result Answer Refusal → ImageView → Option BareClaim → Type 0)
+    → Schedule → ℕ → Result Answer Refusal → Schedule → Option (Option BareClaim) → Type 0
+AtWorker Does S w r T None = (r ≡ Err BadArguments) × (T ≡ S)
+AtWorker Does S w r T (Some claim) = (left : Option BareClaim)
+    × Does S.image claim r T.image left
+    × (T.claims ≡ slice_set S.claims w left)
+
+-- an event of a claim: without one there is nothing to do
+abbrev pub OfClaim : (ImageView → BareClaim → Result Answer Refusal → ImageView → Option BareClaim → Type 0)
+    → ImageView → Option BareClaim → Result Answer Refusal → ImageView → Option BareClaim → Type 0
+OfClaim Does i None r j left = (r ≡ Err NothingToDo) × (j ≡ i) × (left ≡ None)
+OfClaim Does i (Some c) r j left = Does i c r j left
+
+-- ---- checkout
+
+-- the claim that a checkout handed out
+abbrev pub handed_out : Result ClaimView Refusal → Option BareClaim
+handed_out (Ok c) = Some (bare c)
+handed_out (Err e) = None
+
+-- a worker that has a claim is refused; else it is given the claim of the checkout
+abbrev pub TakesClaim : ActorId → ImageView → Option BareClaim → Result Answer Refusal → ImageView → Option BareClaim
+    → Type 0
+TakesClaim a i (Some c) r j left = (r ≡ Err BadArguments) × (j ≡ i) × (left ≡ Some c)
+TakesClaim a i None r j left = (result : Result ClaimView Refusal)
+    × (r ≡ told (λ _. Done) result)
+    × ChecksOut i a result j
+    × (left ≡ handed_out result)
+
+-- ---- a step
+
+-- what the next step of a claim is
+abbrev pub next_of : BareClaim → StepResult
+next_of c = next_step (with_sends c [])
+
+-- a step is taken, where the actor has one of its own next and the claim may have one more; else the claim stays, as it
+-- does for want of memory
+abbrev pub TakesOne : BareClaim → Result Stop Refusal → BareClaim → Type 0
+TakesOne c (Ok More) d = (next_of c ≡ more d.after) × (d ≡ record c { after = d.after; steps = c.steps + 1 })
+TakesOne c (Ok stop) d = (next_of c ≡ stop_result stop c.after) × (d ≡ c)
+TakesOne c (Err e) d = (e ≡ NoMemory) × (d ≡ c)
+
+-- a step of a claim, by which nothing of the image changes
+abbrev pub StepsClaim : ImageView → BareClaim → Result Answer Refusal → ImageView → Option BareClaim → Type 0
+StepsClaim i c r j left = (result : Result Stop Refusal)
+    × (d : BareClaim)
+    × (r ≡ told Stopped result)
+    × TakesOne c result d
+    × (j ≡ i)
+    × (left ≡ Some d)
+
+-- ---- commit and release
+
+-- what a commit answered
+abbrev pub told_of_commit : Result ℕ (Refusal × Option ClaimView) → Result Answer Refusal
+told_of_commit (Ok n) = Ok (Steps n)
+told_of_commit (Err refused) = Err refused.0
+
+-- the claim that a commit handed back
+abbrev pub handed_back : Result ℕ (Refusal × Option ClaimView) → Option BareClaim
+handed_back (Ok n) = None
+handed_back (Err refused) = option_map bare refused.1
+
+-- a claim, with what became of its sends, is committed or refused; the worker keeps what is handed back
+abbrev pub CommitsClaim : ImageView → BareClaim → Result Answer Refusal → ImageView → Option BareClaim → Type 0
+CommitsClaim i c r j left = (sends : List Sent)
+    × (result : Result ℕ (Refusal × Option ClaimView))
+    × (r ≡ told_of_commit result)
+    × Commits i (with_sends c sends) result j
+    × (left ≡ handed_back result)
+
+-- a claim is given back, and is the worker's no longer
+abbrev pub ReleasesClaim : ImageView → BareClaim → Result Answer Refusal → ImageView → Option BareClaim → Type 0
+ReleasesClaim i c r j left = (r ≡ Ok Done) × IsReleased i c.actor j × (left ≡ None)
+
+-- ---- emptied caches
+
+-- nothing that a schedule sees changes
+abbrev pub KeepsClaim : ImageView → Option BareClaim → Result Answer Refusal → ImageView → Option BareClaim → Type 0
+KeepsClaim i claim r j left = (r ≡ Ok Done) × (j ≡ i) × (left ≡ claim)

@@ -1,0 +1,5 @@
+pub mod Schedules
+pub mod Seats
+pub mod ClaimEvents
+pub mod ImageEvents
+pub mod Acts

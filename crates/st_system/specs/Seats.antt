@@ -1,0 +1,45 @@
+-- Workers of a system, and what is true of each.
+use Rattle.std.specs.Prelude.{List, Option, All}
+use Rattle.std.specs.Option.{IfSome}
+use Rattle.st_classes.specs.declared.edits.Edit.{Edit}
+use Rattle.st_classes.specs.declared.values.Selector.{Selector}
+use Rattle.std.specs.Prelude.{ℕ, None}
+use Rattle.st_classes.specs.EditLists.{Begins}
+use Rattle.st_guard.specs.Moves.{CachesView, IsAt}
+use Rattle.st_turn.specs.Claims.{ClaimView}
+use Rattle.st_image.specs.Images.{ImageView, world}
+
+-- a worker's caches, and its claim, or none
+pub record SeatView (G : Type 0) : Type 0 where
+  pub caches : CachesView G
+  pub claim : Option ClaimView
+
+-- one image and its workers
+pub record SystemView (G : Type 0) : Type 0 where
+  pub image : ImageView
+  pub seats : List (SeatView G)
+
+-- the list of edits that caches keep, where they keep one, begins another
+abbrev pub KeepsBeginning : {G : Type 0} → List Edit → CachesView G → Type 0
+KeepsBeginning edits v = IfSome v.kept (λ k. Begins k edits)
+
+-- caches can follow a claim, where there is one: what they keep begins its edits
+abbrev pub CanFollow : {G : Type 0} → CachesView G → Option ClaimView → Type 0
+CanFollow v claim = IfSome claim (λ c. KeepsBeginning c.edits v)
+
+-- the edits of a worker's claim, and those that its caches keep, begin those of the class table
+pub record FitsSeat {G : Type 0} (edits : List Edit) (s : SeatView G) : Type 0 where
+  pub claim : IfSome s.claim (λ c. Begins c.edits edits)
+  pub kept : KeepsBeginning edits s.caches
+
+-- each worker fits the image
+abbrev pub FitSeats : {G : Type 0} → SystemView G → Type 0
+FitSeats s = All (FitsSeat (world s.image).edits) s.seats
+
+-- a worker without a claim
+abbrev pub new_seat : {G : Type 0} → CachesView G → SeatView G
+new_seat v = record { caches = v; claim = None }
+
+-- caches are valid at the list of edits that they keep, where they keep one
+abbrev pub AreValidWhereKept : {G : Type 0} → (G → ℕ) → (G → Selector → ℕ) → CachesView G → Type 0
+AreValidWhereKept count floor v = IfSome v.kept (λ k. IsAt (count v.guard) (floor v.guard) v.sites v.recent v.edits k)

@@ -1,0 +1,165 @@
+//! The image's calls, as events make them: what was in the class table begins what is there afterwards.
+ghost use Rattle.std.specs.Prelude.{◌≡◌, ◌⊎◌, None, Some, Ok, Err, IfOk, IfErr};
+ghost use Rattle.st_classes.specs.declared.refusals.Refusal.TheVariants.{NoMemory};
+ghost use Rattle.st_classes.specs.EditLists.{Begins};
+ghost use Rattle.st_image.specs.Images.{world};
+ghost use Rattle.st_image.specs.Calls.{Closes, Creates, Defines, InstallsIn, Posts, Removes};
+ghost use Rattle.st_image.specs.Commits.{ChecksOut, Commits, IsReleased};
+ghost use Rattle.st_image.specs.PostRules.{from_client};
+ghost use Rattle.st_system.specs.ImageEvents.{Interns};
+
+use crate::copies::{copy_texts, copy_values};
+use st_classes::refusals::Refusal;
+use st_classes::seq::Seq;
+use st_classes::values::{ActorId, ClassId, Selector, Values};
+use st_image::image::Image;
+use st_mailbox::mailboxes::Mailbox;
+use st_turn::claim::Claim;
+use std::alloc::Global;
+
+/// Interns a text.
+pub(crate) fn intern<M: Mailbox>(
+    alloc: Global,
+    image: &mut Image<M>,
+    text: &Seq<u8>,
+) -> Result<Selector, Refusal>
+    ensures interns { Interns image.old text.now result image.new }
+    ensures later { Begins (world image.old).edits (world image.new).edits }
+{
+    image.intern(alloc, text.as_slice())
+}
+
+/// Defines a class.
+pub(crate) fn define<M: Mailbox>(
+    alloc: Global,
+    image: &mut Image<M>,
+    name: &Seq<u8>,
+    parent: ClassId,
+    slots: &Seq<Seq<u8>>,
+) -> Result<u32, Refusal>
+    ensures defines { Defines image.old name.now parent slots.now result image.new }
+    ensures later { Begins (world image.old).edits (world image.new).edits }
+{
+    let Ok(slots) = copy_texts(alloc, slots) else {
+        return Err(Refusal::NoMemory);
+    };
+    image.known();
+    let answer = image.define(alloc, name.as_slice(), parent, slots);
+    image.known();
+    answer
+}
+
+/// Installs a method.
+pub(crate) fn install<M: Mailbox>(
+    alloc: Global,
+    image: &mut Image<M>,
+    class: ClassId,
+    source: &Seq<u8>,
+) -> Result<u32, Refusal>
+    ensures installs { InstallsIn image.old class source.now result image.new }
+    ensures later { Begins (world image.old).edits (world image.new).edits }
+{
+    image.install(alloc, class, source.as_slice())
+}
+
+/// Removes a method.
+pub(crate) fn remove<M: Mailbox>(
+    alloc: Global,
+    image: &mut Image<M>,
+    class: ClassId,
+    selector: Selector,
+) -> Result<u32, Refusal>
+    ensures removes { Removes image.old class selector result image.new }
+    ensures later { Begins (world image.old).edits (world image.new).edits }
+{
+    image.known();
+    let answer = image.remove(alloc, class, selector);
+    image.known();
+    answer
+}
+
+/// Makes an actor.
+pub(crate) fn create<M: Mailbox>(
+    alloc: Global,
+    image: &mut Image<M>,
+    class: ClassId,
+) -> Result<ActorId, Refusal>
+    ensures creates { Creates image.old class result image.new }
+    ensures later { Begins (world image.old).edits (world image.new).edits }
+{
+    image.known();
+    let answer = image.create(alloc, class);
+    image.known();
+    answer
+}
+
+/// Posts a message of a client, whose arguments were copied.
+pub(crate) fn post<M: Mailbox>(
+    alloc: Global,
+    image: &mut Image<M>,
+    sender: u16,
+    seq: u64,
+    actor: ActorId,
+    selector: Selector,
+    args: Values,
+) -> Result<u64, Refusal>
+    ensures posts { Posts image.old actor (from_client sender seq selector args) result image.new }
+    ensures later { Begins (world image.old).edits (world image.new).edits }
+{
+    image.known();
+    let answer = image.post(alloc, sender, seq, actor, selector, args);
+    image.known();
+    answer
+}
+
+/// Closes a mailbox.
+pub(crate) fn close<M: Mailbox>(image: &mut Image<M>, actor: ActorId) -> Result<(), Refusal>
+    ensures closes { Closes image.old actor result image.new }
+    ensures later { Begins (world image.old).edits (world image.new).edits }
+{
+    image.known();
+    let answer = image.close(actor);
+    image.known();
+    answer
+}
+
+/// Hands out a claim, which is at the present class table.
+pub(crate) fn check_out<M: Mailbox>(
+    alloc: Global,
+    image: &mut Image<M>,
+    actor: ActorId,
+) -> Result<Claim, Refusal>
+    ensures takes { ChecksOut image.old actor result image.new }
+    ensures present { IfOk result (λ c. c.edits ≡ (world image.old).edits) }
+    ensures later { Begins (world image.old).edits (world image.new).edits }
+{
+    image.known();
+    let answer = image.checkout(alloc, actor);
+    image.known();
+    answer
+}
+
+/// Commits a claim whose edits begin those of the class table. What is handed back is the claim.
+pub(crate) fn commit<M: Mailbox>(
+    alloc: Global,
+    image: &mut Image<M>,
+    claim: Claim,
+) -> Result<u32, (Refusal, Option<Claim>)>
+    requires { Begins claim.edits (world image.old).edits }
+    ensures commits { Commits image.old claim result image.new }
+    ensures back { IfErr result (λ refused. (refused.1 ≡ None) ⊎ (refused.1 ≡ Some claim)) }
+    ensures later { Begins (world image.old).edits (world image.new).edits }
+{
+    image.known();
+    let answer = image.commit_known(alloc, claim);
+    image.known();
+    answer
+}
+
+/// Gives a claim back.
+pub(crate) fn release<M: Mailbox>(image: &mut Image<M>, claim: Claim)
+    ensures released { IsReleased image.old claim.actor image.new }
+    ensures later { Begins (world image.old).edits (world image.new).edits }
+{
+    image.release(claim);
+}

@@ -1,0 +1,155 @@
+//! A worker of a system, and what it does with its claim.
+ghost use Rattle.std.specs.Prelude.{◌≡◌, List, Result};
+ghost use Rattle.st_classes.specs.declared.edits.Edit.{Edit as EditOf};
+ghost use Rattle.st_classes.specs.declared.refusals.Refusal.{Refusal as RefusalOf};
+ghost use Rattle.st_classes.specs.EditLists.{Begins};
+ghost use Rattle.st_turn.specs.declared.body.Stop.{Stop as StopOf};
+ghost use Rattle.st_image.specs.Images.{ImageView, world};
+ghost use Rattle.st_system.specs.declared.events.Answer.TheVariants.{Stopped};
+ghost use Rattle.st_system.specs.Seats.{AreValidWhereKept, FitsSeat, KeepsBeginning, new_seat};
+ghost use Rattle.st_system.specs.Schedules.{bare, claim_of};
+ghost use Rattle.st_system.specs.ImageEvents.{told};
+ghost use Rattle.st_system.specs.ClaimEvents.{CommitsClaim, KeepsClaim, OfClaim, ReleasesClaim, StepsClaim, TakesClaim, TakesOne};
+
+use crate::calls;
+use crate::events::Answer;
+use st_classes::refusals::Refusal;
+use st_classes::values::ActorId;
+use st_guard::guard::Guard;
+use st_image::image::Image;
+use st_mailbox::mailboxes::Mailbox;
+use st_turn::claim::Claim;
+use st_turn::worker::Worker;
+use std::alloc::Global;
+use std::marker::Model;
+
+/// A worker, and its claim, or none. Contracts see its caches, and the claim.
+///
+/// The caches can follow the claim: the edits that they keep begin the claim's.
+#[derive(Drop)]
+pub struct Seat<G: Guard> {
+    worker: Worker<G>,
+    claim: Option<Claim>,
+}
+
+impl<G: Guard> Model for Seat<G> {
+    ghost use Rattle.st_system.specs.Seats.{CanFollow, SeatView};
+
+    ghost Value = { SeatView G };
+
+    ghost view = { λ s. record { caches = s.worker; claim = s.claim } };
+
+    ghost invariant = { λ s. CanFollow s.worker s.claim };
+}
+
+/// Takes one step of a claim, where one of the actor's own is next.
+fn take_one<G: Guard>(
+    alloc: Global,
+    worker: &mut Worker<G>,
+    claim: &mut Claim,
+) -> Result<Answer, Refusal>
+    requires { KeepsBeginning claim.old.edits worker.old }
+    ensures takes { (stop : Result StopOf RefusalOf) × (result ≡ told Stopped stop) × TakesOne (bare claim.old) stop (bare claim.new) }
+    ensures edits { claim.new.edits ≡ claim.old.edits }
+    ensures kept { KeepsBeginning claim.new.edits worker.new }
+{
+    match worker.step(alloc, claim) {
+        Ok(stop) => Ok(Answer::Stopped(stop)),
+        Err(_) => Err(Refusal::NoMemory),
+    }
+}
+
+impl<G: Guard> Seat<G> {
+    /// A worker without a claim.
+    pub fn new(worker: Worker<G>) -> Seat<G>
+        ensures { result ≡ new_seat worker }
+    {
+        Seat {
+            worker,
+            claim: None,
+        }
+    }
+
+    /// The caches are valid at the list of edits that they keep, where they keep one.
+    pub fn caches_known(&self)
+        ensures { AreValidWhereKept G.count G.floor self.now.caches }
+    {
+        self.worker.caches().known();
+    }
+
+    /// Gives the worker a claim of an actor, where it has none.
+    pub(crate) fn check_out<M: Mailbox>(
+        &mut self,
+        alloc: Global,
+        image: &mut Image<M>,
+        actor: ActorId,
+    ) -> Result<Answer, Refusal>
+        requires { FitsSeat (world image.old).edits self.old }
+        ensures acts { TakesClaim actor image.old (claim_of self.old) result image.new (claim_of self.new) }
+        ensures later { Begins (world image.old).edits (world image.new).edits }
+        ensures fits { FitsSeat (world image.new).edits self.new }
+    {
+        if self.claim.is_some() {
+            return Err(Refusal::BadArguments);
+        }
+        let claim = calls::check_out(alloc, image, actor)?;
+        self.claim = Some(claim);
+        Ok(Answer::Done)
+    }
+
+    /// Takes one step of the claim. The image isn't asked.
+    pub(crate) fn step(&mut self, alloc: Global) -> Result<Answer, Refusal>
+        ensures acts { (image : ImageView) → OfClaim StepsClaim image (claim_of self.old) result image (claim_of self.new) }
+        ensures fits { (edits : List EditOf) → FitsSeat edits self.old → FitsSeat edits self.new }
+    {
+        match &mut self.claim {
+            Some(claim) => take_one(alloc, &mut self.worker, claim),
+            None => Err(Refusal::NothingToDo),
+        }
+    }
+
+    /// Commits the claim, which the worker keeps where it is handed back.
+    pub(crate) fn commit<M: Mailbox>(
+        &mut self,
+        alloc: Global,
+        image: &mut Image<M>,
+    ) -> Result<Answer, Refusal>
+        requires { FitsSeat (world image.old).edits self.old }
+        ensures acts { OfClaim CommitsClaim image.old (claim_of self.old) result image.new (claim_of self.new) }
+        ensures later { Begins (world image.old).edits (world image.new).edits }
+        ensures fits { FitsSeat (world image.new).edits self.new }
+    {
+        let Some(claim) = self.claim.take() else {
+            return Err(Refusal::NothingToDo);
+        };
+        match calls::commit(alloc, image, claim) {
+            Ok(steps) => Ok(Answer::Steps(steps)),
+            Err((refusal, back)) => {
+                self.claim = back;
+                Err(refusal)
+            }
+        }
+    }
+
+    /// Gives the claim back.
+    pub(crate) fn release<M: Mailbox>(&mut self, image: &mut Image<M>) -> Result<Answer, Refusal>
+        requires { FitsSeat (world image.old).edits self.old }
+        ensures acts { OfClaim ReleasesClaim image.old (claim_of self.old) result image.new (claim_of self.new) }
+        ensures later { Begins (world image.old).edits (world image.new).edits }
+        ensures fits { FitsSeat (world image.new).edits self.new }
+    {
+        let Some(claim) = self.claim.take() else {
+            return Err(Refusal::NothingToDo);
+        };
+        calls::release(image, claim);
+        Ok(Answer::Done)
+    }
+
+    /// Empties the caches.
+    pub(crate) fn forget(&mut self)
+        ensures claim { self.new.claim ≡ self.old.claim }
+        ensures fits { (edits : List EditOf) → FitsSeat edits self.old → FitsSeat edits self.new }
+    {
+        self.worker.forget();
+    }
+}

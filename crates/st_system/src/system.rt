@@ -1,0 +1,150 @@
+//! A system: one image and its workers. The events of the image alone are in system/image_events.rt, those of workers in
+//! system/worker_events.rt.
+ghost use Rattle.std.specs.Prelude.{◌≡◌, All, IfOk, length, map};
+ghost use Rattle.st_image.specs.Delivery.{HasDelivered};
+ghost use Rattle.st_image.specs.Images.{world};
+ghost use Rattle.st_image.specs.WorldInvariant.{IsLawful};
+ghost use Rattle.st_system.specs.Acts.{Acts, Leads};
+ghost use Rattle.st_system.specs.Schedules.{schedule};
+ghost use Rattle.st_system.specs.Seats.{AreValidWhereKept, KeepsBeginning, new_seat};
+
+mod image_events;
+mod worker_events;
+
+use crate::events::{Answer, Event};
+use crate::seat::Seat;
+use st_classes::refusals::Refusal;
+use st_guard::guard::Guard;
+use st_image::image::Image;
+use st_mailbox::mailboxes::Mailbox;
+use st_turn::worker::Worker;
+use std::alloc::{AllocError, Global};
+use std::marker::Model;
+
+/// One image and many workers, each of which has at most one claim. Contracts see the image, and each worker's caches and claim.
+#[derive(Drop)]
+pub struct System<M: Mailbox, G: Guard> {
+    image: Image<M>,
+    seats: Vec<Seat<G>>,
+}
+
+impl<M: Mailbox, G: Guard> Model for System<M, G> {
+    ghost use Rattle.std.specs.Prelude.{All};
+    ghost use Rattle.st_image.specs.Images.{world};
+    ghost use Rattle.st_system.specs.Seats.{FitsSeat, SystemView};
+
+    ghost Value = { SystemView G };
+
+    ghost view = { λ s. record { image = s.image; seats = s.seats.items } };
+
+    ghost invariant = { λ s. All (FitsSeat (world s.image).edits) s.seats.items };
+}
+
+/// A seat for each worker.
+fn seats_of<G: Guard>(alloc: Global, workers: Vec<Worker<G>>) -> Result<Vec<Seat<G>>, AllocError>
+    ensures { IfOk result (λ seats. seats.items ≡ map new_seat workers.items) }
+{
+    let mut seats = Vec::with_capacity(alloc, workers.len())?;
+    for worker in workers {
+        seats.push(Seat::new(worker))?;
+    }
+    Ok(seats)
+}
+
+impl<M: Mailbox, G: Guard> System<M, G> {
+    /// An image, and workers without claims. What their caches keep, where they keep a list of edits, begins the image's.
+    pub fn new(
+        alloc: Global,
+        image: Image<M>,
+        workers: Vec<Worker<G>>,
+    ) -> Result<System<M, G>, AllocError>
+        requires { All (KeepsBeginning (world image).edits) workers.items }
+        ensures { IfOk result (λ s. s ≡ record { image = image; seats = map new_seat workers.items }) }
+    {
+        let seats = seats_of(alloc, workers)?;
+        Ok(System { image, seats })
+    }
+
+    /// The image.
+    pub fn image(&self) -> &Image<M>
+        ensures { result.now ≡ self.now.image }
+    {
+        &self.image
+    }
+
+    /// How many workers there are.
+    pub fn workers(&self) -> usize
+        ensures { result ≡ length self.now.seats }
+    {
+        self.seats.len()
+    }
+
+    /// Each worker's caches are valid at the list of edits that they keep, where they keep one.
+    fn caches_known(&self)
+        ensures { All (λ s. AreValidWhereKept G.count G.floor s.caches) self.now.seats }
+    {
+        for seat in &self.seats {
+            seat.caches_known();
+        }
+    }
+
+    /// What is true of every system: its image is the replay of its history and has delivered, and each worker's caches are
+    /// valid at the list of edits that they keep.
+    pub fn known(&self)
+        ensures replay { IsLawful self.now.image }
+        ensures delivered { HasDelivered self.now.image }
+        ensures caches { All (λ s. AreValidWhereKept G.count G.floor s.caches) self.now.seats }
+    {
+        self.image.known();
+        self.image.delivered();
+        self.caches_known();
+    }
+
+    /// Lets one event happen.
+    ///
+    /// An event of a worker is refused by `BadArguments` where there is no such worker, as is a checkout by a worker that has a
+    /// claim; a step, a commit and a release are refused by `NothingToDo` where it has none. Then come the refusals of the image's
+    /// call. After a refused commit the worker keeps its claim, unless it was refused by `Stale` or `Changed`. Else a
+    /// refused event changes nothing but names.
+    pub fn apply(&mut self, alloc: Global, event: &Event) -> Result<Answer, Refusal>
+        ensures { Acts (schedule self.old) event.now result (schedule self.new) }
+    {
+        match event {
+            Event::Intern(text) => self.intern(alloc, text),
+            Event::Define {
+                name,
+                parent,
+                slots,
+            } => self.define(alloc, name, *parent, slots),
+            Event::Install { class, source } => self.install(alloc, *class, source),
+            Event::Remove { class, selector } => self.remove(alloc, *class, *selector),
+            Event::Create(class) => self.create(alloc, *class),
+            Event::Post {
+                sender,
+                seq,
+                actor,
+                selector,
+                args,
+            } => self.post(alloc, *sender, *seq, *actor, *selector, args),
+            Event::Close(actor) => self.close(*actor),
+            Event::Checkout { worker, actor } => self.check_out(alloc, *worker, *actor),
+            Event::Local(worker) => self.step(alloc, *worker),
+            Event::Commit(worker) => self.commit(alloc, *worker),
+            Event::Release(worker) => self.release(*worker),
+            Event::Forget(worker) => self.forget(*worker),
+        }
+    }
+
+    /// Lets events happen in their order. After a refused one it goes on.
+    pub fn run(&mut self, alloc: Global, events: &[Event])
+        ensures led { Leads (schedule self.old) events.now (schedule self.new) }
+        ensures replay { IsLawful self.new.image }
+        ensures delivered { HasDelivered self.new.image }
+        ensures caches { All (λ s. AreValidWhereKept G.count G.floor s.caches) self.new.seats }
+    {
+        for event in events {
+            let _answer: Result<_, _> = self.apply(alloc, event);
+        }
+        self.known();
+    }
+}

@@ -1,0 +1,75 @@
+//! Events of a worker.
+use crate::events::Answer;
+use crate::system::System;
+use st_classes::refusals::Refusal;
+use st_classes::values::ActorId;
+use st_guard::guard::Guard;
+use st_mailbox::mailboxes::Mailbox;
+use std::alloc::Global;
+
+impl<M: Mailbox, G: Guard> System<M, G> {
+    ghost use Rattle.st_system.specs.declared.events.Event.TheVariants.{Checkout as CheckoutOf, Local as LocalOf, Commit as CommitOf, Release as ReleaseOf, Forget as ForgetOf};
+    ghost use Rattle.st_system.specs.Acts.{Acts};
+    ghost use Rattle.st_system.specs.Schedules.{schedule};
+
+    pub(super) fn check_out(
+        &mut self,
+        alloc: Global,
+        worker: u32,
+        actor: ActorId,
+    ) -> Result<Answer, Refusal>
+        ensures { Acts (schedule self.old) (CheckoutOf worker actor) result (schedule self.new) }
+    {
+        let place = worker as usize;
+        if place >= self.seats.len() {
+            return Err(Refusal::BadArguments);
+        }
+        let seat = &mut self.seats[place];
+        seat.check_out(alloc, &mut self.image, actor)
+    }
+
+    pub(super) fn step(&mut self, alloc: Global, worker: u32) -> Result<Answer, Refusal>
+        ensures { Acts (schedule self.old) (LocalOf worker) result (schedule self.new) }
+    {
+        let place = worker as usize;
+        if place >= self.seats.len() {
+            return Err(Refusal::BadArguments);
+        }
+        let seat = &mut self.seats[place];
+        seat.step(alloc)
+    }
+
+    pub(super) fn commit(&mut self, alloc: Global, worker: u32) -> Result<Answer, Refusal>
+        ensures { Acts (schedule self.old) (CommitOf worker) result (schedule self.new) }
+    {
+        let place = worker as usize;
+        if place >= self.seats.len() {
+            return Err(Refusal::BadArguments);
+        }
+        let seat = &mut self.seats[place];
+        seat.commit(alloc, &mut self.image)
+    }
+
+    pub(super) fn release(&mut self, worker: u32) -> Result<Answer, Refusal>
+        ensures { Acts (schedule self.old) (ReleaseOf worker) result (schedule self.new) }
+    {
+        let place = worker as usize;
+        if place >= self.seats.len() {
+            return Err(Refusal::BadArguments);
+        }
+        let seat = &mut self.seats[place];
+        seat.release(&mut self.image)
+    }
+
+    pub(super) fn forget(&mut self, worker: u32) -> Result<Answer, Refusal>
+        ensures { Acts (schedule self.old) (ForgetOf worker) result (schedule self.new) }
+    {
+        let place = worker as usize;
+        if place >= self.seats.len() {
+            return Err(Refusal::BadArguments);
+        }
+        let seat = &mut self.seats[place];
+        seat.forget();
+        Ok(Answer::Done)
+    }
+}

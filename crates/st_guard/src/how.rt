@@ -1,4 +1,6 @@
 //! How a target was found.
+use st_classes::kernel::Target;
+use st_sites::site::SiteState;
 
 /// How a target was found.
 #[derive(Clone, Copy, PartialEq, Eq, Debug)]
@@ -9,4 +11,12 @@ pub enum How {
     Global,
     /// The rows of the class table were walked.
     Walk,
+}
+
+/// What a site has of a class.
+#[derive(Clone, Copy, PartialEq, Eq, Debug)]
+pub struct Hit {
+    pub target: Target,
+    /// The state of the site.
+    pub state: SiteState,
 }

@@ -20,3 +20,4 @@ pub mod ClaimSteps
 pub mod Busy
 pub mod WorkerSteps
 pub mod ActSites
+pub mod QuickSteps

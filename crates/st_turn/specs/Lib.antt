@@ -12,3 +12,4 @@ pub mod StepResults
 pub mod Lookups
 pub mod Claims
 pub mod WorkerSteps
+pub mod QuickSteps

@@ -149,7 +149,11 @@ impl Objects {
         ensures { self.new ≡ objects_after_store self.old receiver place value }
     {
         if let Value::Local(n) = receiver {
-            self.items[n as usize].slots.set(place as usize, value);
+            let slots = &mut self.items[n as usize].slots;
+            match value {
+                Value::Int(number) => slots.set(place as usize, Value::Int(number)),
+                other => slots.set(place as usize, other),
+            }
         }
     }
 }

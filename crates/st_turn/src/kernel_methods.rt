@@ -73,7 +73,7 @@ fn conjunction(receiver: Value, argument: Value) -> Result<Value, Fault>
 
 /// A method of SmallInteger, for an integer.
 #[inline(always)]
-fn integer_answer(kernel: Kernel, x: i64, y: i64) -> Result<Value, Fault>
+pub(crate) fn integer_answer(kernel: Kernel, x: i64, y: i64) -> Result<Value, Fault>
     ensures { result ≡ integer_answer kernel x y }
 {
     match kernel {

@@ -3,6 +3,7 @@ ghost use Rattle.std.specs.Prelude.{◌≡◌, ◌↔◌, ◌++◌, length, IfOk
 ghost use Rattle.st_turn.specs.StackLayout.{place_of, places_of, spread, spread_all};
 
 use crate::frame::Frame;
+use crate::stack::callers::Callers;
 use crate::stack::{Place, Stack};
 use crate::value_lists::same_values;
 use st_classes::limits::OPERANDS;
@@ -20,7 +21,7 @@ impl Stack {
         ensures { IfOk result (λ stack. stack ≡ record { callers = callers.now; running = running.now }) }
     {
         let mut values = Vec::new(alloc);
-        let callers = lay_all(alloc, &mut values, callers)?;
+        let callers = Callers::from_vec(lay_all(alloc, &mut values, callers)?);
         let at = lay(&mut values, running)?;
         let top = values.len();
         let size = usize::max(top, at.base + at.temps + OPERANDS);
@@ -41,8 +42,7 @@ impl Stack {
         let mut values = Vec::new(alloc);
         values.extend_from_slice(&self.values[..self.top])?;
         values.resize(size, Value::Nil)?;
-        let mut callers = Vec::new(alloc);
-        callers.extend_from_slice(self.callers.as_slice())?;
+        let callers = self.callers.copy(alloc)?;
         Ok(Stack {
             values,
             top: self.top,

@@ -4,3 +4,4 @@ pub mod ClaimEvents
 pub mod ImageEvents
 pub mod Acts
 pub mod Uncommitted
+pub mod Forgetting

@@ -6,6 +6,7 @@ ghost use Rattle.st_image.specs.Images.{world};
 ghost use Rattle.st_image.specs.RanTargets.{EachStepRan};
 ghost use Rattle.st_image.specs.WorldInvariant.{IsLawful};
 ghost use Rattle.st_system.specs.Acts.{Acts, Leads};
+ghost use Rattle.st_system.specs.Forgetting.{HasForgotten};
 ghost use Rattle.st_system.specs.Schedules.{schedule};
 ghost use Rattle.st_system.specs.Seats.{AreValidWhereKept, KeepsBeginning, new_seat};
 
@@ -109,9 +110,10 @@ impl<M: Mailbox, G: Guard> System<M, G> {
     /// An event of a worker is refused by `BadArguments` where there is no such worker, as is a checkout by a worker that has a
     /// claim; a step, a commit and a release are refused by `NothingToDo` where it has none. Then come the refusals of the image's
     /// call. After a refused commit the worker keeps its claim, unless it was refused by `Stale` or `Changed`. Else a
-    /// refused event changes nothing but names.
+    /// refused event changes nothing but names. A worker that forgets has empty caches.
     pub fn apply(&mut self, alloc: Global, event: &Event) -> Result<Answer, Refusal>
-        ensures { Acts (schedule self.old) event.now result (schedule self.new) }
+        ensures acts { Acts (schedule self.old) event.now result (schedule self.new) }
+        ensures forgotten { HasForgotten event.now self.new.seats }
     {
         match event {
             Event::Intern(text) => self.intern(alloc, text),

@@ -39,3 +39,5 @@ pub mod CountingOut
 pub mod CheckingOut
 pub mod Committing
 pub mod GrowingEdits
+pub mod RanSteps
+pub mod CountingOnce

@@ -3,3 +3,5 @@ pub mod Seats
 pub mod ClaimEvents
 pub mod ImageEvents
 pub mod Acts
+pub mod Uncommitted
+pub mod Forgetting

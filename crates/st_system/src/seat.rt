@@ -8,6 +8,7 @@ ghost use Rattle.st_image.specs.Images.{ImageView, world};
 ghost use Rattle.st_system.specs.declared.events.Answer.TheVariants.{Stopped};
 ghost use Rattle.st_system.specs.Seats.{AreValidWhereKept, FitsSeat, KeepsBeginning, new_seat};
 ghost use Rattle.st_system.specs.Schedules.{bare, claim_of};
+ghost use Rattle.st_system.specs.Forgetting.{HaveNothing};
 ghost use Rattle.st_system.specs.ImageEvents.{told};
 ghost use Rattle.st_system.specs.ClaimEvents.{CommitsClaim, KeepsClaim, OfClaim, ReleasesClaim, StepsClaim, TakesClaim, TakesOne};
 
@@ -148,6 +149,7 @@ impl<G: Guard> Seat<G> {
     /// Empties the caches.
     pub(crate) fn forget(&mut self)
         ensures claim { self.new.claim ≡ self.old.claim }
+        ensures emptied { HaveNothing self.new.caches }
         ensures fits { (edits : List EditOf) → FitsSeat edits self.old → FitsSeat edits self.new }
     {
         self.worker.forget();

@@ -9,7 +9,9 @@ use std::alloc::Global;
 
 impl<M: Mailbox, G: Guard> System<M, G> {
     ghost use Rattle.st_system.specs.declared.events.Event.TheVariants.{Checkout as CheckoutOf, Local as LocalOf, Commit as CommitOf, Release as ReleaseOf, Forget as ForgetOf};
+    ghost use Rattle.std.specs.Prelude.{IfSome, slice_get};
     ghost use Rattle.st_system.specs.Acts.{Acts};
+    ghost use Rattle.st_system.specs.Forgetting.{HaveNothing};
     ghost use Rattle.st_system.specs.Schedules.{schedule};
 
     pub(super) fn check_out(
@@ -62,7 +64,8 @@ impl<M: Mailbox, G: Guard> System<M, G> {
     }
 
     pub(super) fn forget(&mut self, worker: u32) -> Result<Answer, Refusal>
-        ensures { Acts (schedule self.old) (ForgetOf worker) result (schedule self.new) }
+        ensures acts { Acts (schedule self.old) (ForgetOf worker) result (schedule self.new) }
+        ensures forgotten { IfSome (slice_get self.new.seats worker) (λ s. HaveNothing s.caches) }
     {
         let place = worker as usize;
         if place >= self.seats.len() {

@@ -1,13 +1,14 @@
-use Rattle.std.proofs.Common.{rules, refl, ap, subst, ◌≡◌, Ok, Some}
+use Rattle.std.proofs.Common.{rules, refl, ap, subst, sym, Option, ◌≡◌, Ok, Some}
 use Rattle.std.specs.Prelude.{length, slice_get, slice_set}
 use Rattle.std.proofs.lemmas.Option.{slice_get_read}
-use Rattle.std.specs.Option.{option_map}
+use Rattle.std.specs.Option.{IfSome, option_map}
 use Rattle.st_system.specs.declared.events.Answer.TheVariants.{Done}
 use Rattle.st_image.specs.Images.{world}
-use Rattle.st_image.proofs.Places.{at_all}
+use Rattle.st_image.proofs.Places.{at_all, get_set_same}
 use Rattle.st_system.specs.ClaimEvents.{AtWorker, KeepsClaim}
 use Rattle.st_system.specs.Schedules.{bare, schedule}
-use Rattle.st_system.specs.Seats.{FitsSeat, SystemView}
+use Rattle.st_system.specs.Forgetting.{HaveNothing}
+use Rattle.st_system.specs.Seats.{FitsSeat, SeatView, SystemView}
 use Rattle.st_system.proofs.Seats.{all_set, begins_same}
 use Rattle.st_system.proofs.WorkersActing.{worker_acts}
 use Rattle.st_system.proofs.system.System.forget.Goals as goal
@@ -18,10 +19,17 @@ invariant_of-self g c =
     let edits = (world c.self.inside.image).edits in
     all_set edits edits c.self.inside.seats.items c.args.worker c.forget.new.self (begins_same edits) c.self.invariant (c.forget.ensures.fits edits (at_all (FitsSeat edits) c.self.inside.seats.items c.args.worker c.index_mut-seat.result.now c.self.invariant there))
 
-pub returns : goal.returns
-returns g c =
+pub returns-clause-acts : goal.returns-clause-acts
+returns-clause-acts g c =
     let there : slice_get c.self.inside.seats.items c.args.worker ≡ Some c.index_mut-seat.result.now = slice_get_read c.self.inside.seats.items (length c.self.inside.seats.items) c.args.worker c.index_mut-seat.result.now refl (search rules) c.index_mut-seat.ensures.value in
     let S : SystemView g.row.G.Denot = record { image = c.self.inside.image; seats = c.self.inside.seats.items } in
     let T : SystemView g.row.G.Denot = record { image = c.self.inside.image; seats = slice_set c.self.inside.seats.items c.args.worker c.forget.new.self } in
     let acts = worker_acts KeepsClaim S T c.args.worker c.index_mut-seat.result.now c.forget.new.self (Ok Done) there refl (refl, refl, ap (option_map bare) c.forget.ensures.claim) in
     subst (λ (X : SystemView g.row.G.Denot). AtWorker KeepsClaim (schedule X) c.args.worker (Ok Done) (schedule T) (slice_get (schedule X).claims c.args.worker)) c.self.view_is acts
+
+pub returns-clause-forgotten : goal.returns-clause-forgotten
+returns-clause-forgotten g c =
+    let seats = c.self.inside.seats.items in
+    let there : slice_get seats c.args.worker ≡ Some c.index_mut-seat.result.now = slice_get_read seats (length seats) c.args.worker c.index_mut-seat.result.now refl (search rules) c.index_mut-seat.ensures.value in
+    subst (λ (o : Option (SeatView g.row.G.Denot)). IfSome o (λ s. HaveNothing s.caches))
+    (sym (get_set_same seats c.args.worker c.index_mut-seat.result.now c.forget.new.self there)) c.forget.ensures.emptied

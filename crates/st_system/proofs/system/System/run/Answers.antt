@@ -14,4 +14,4 @@ loop-event-preserved g c =
     let within : i < length events = search rules in
     let first : take (i + 1) events ≡ take i events ++ event ∷ [] =
     take_more events i event within ∙ ap (λ (e : Event). take i events ++ e ∷ []) (sym c.event-item.is) in
-    subst (λ (es : List Event). Leads (schedule c.args.self.now) es (schedule c.apply-answer.new.self)) (sym first) (leads_push (schedule c.args.self.now) (schedule c.loop-event.self) (schedule c.apply-answer.new.self) (take i events) event c.apply-answer.result c.loop-event.invariant c.apply-answer.ensures)
+    subst (λ (es : List Event). Leads (schedule c.args.self.now) es (schedule c.apply-answer.new.self)) (sym first) (leads_push (schedule c.args.self.now) (schedule c.loop-event.self) (schedule c.apply-answer.new.self) (take i events) event c.apply-answer.result c.loop-event.invariant c.apply-answer.ensures.acts)

@@ -134,12 +134,15 @@ struct FailingOutput {
     inner: MemoryOutput,
     left: u32,
     failures: u64,
+    flushes: u64,
 }
 
 impl Output for FailingOutput {
     ghost contents = { λ f. Some f.inner.bytes.items };
 
     ghost failures = { λ f. f.failures };
+
+    ghost flushes = { λ f. f.flushes };
 
     fn write(&mut self, bytes: &[u8]) -> Result<usize, WriteFailed> {
         if self.left > 0 {
@@ -151,6 +154,11 @@ impl Output for FailingOutput {
         self.failures = self.failures.wrapping_add(1);
         Err(WriteFailed)
     }
+
+    fn flush(&mut self) -> Result<(), WriteFailed> {
+        self.flushes = self.flushes.wrapping_add(1);
+        Ok(())
+    }
 }
 
 #[test]
@@ -159,6 +167,7 @@ fn output_fails(rt: HostRuntime) -> Result<(), Fail> {
         inner: MemoryOutput::new(rt.alloc()),
         left: 1,
         failures: 0,
+        flushes: 0,
     };
     let end = end_on(rt.alloc(), TWO_RUNS, &mut output)?;
     assert!(rt; end == Err(Refusal::WriteFault));

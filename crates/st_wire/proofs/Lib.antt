@@ -4,3 +4,6 @@ pub mod Lines
 pub mod Writing
 pub mod Parts
 pub mod KeyOrder
+pub mod ReturnWords
+pub mod ReturnStrings
+pub mod Returns

@@ -1,5 +1,5 @@
 -- The command of a line.
-use Rattle.std.specs.Prelude.{ℕ, ◌==◌, ◌&&◌, Bool, true, List, [], ◌∷◌, length, codes, not, is_some, if◌then◌else◌, Option, Some, None, option_map, option_and_then}
+use Rattle.std.specs.Prelude.{◌≡◌, ◌++◌, ℕ, ◌==◌, ◌&&◌, Bool, true, List, [], ◌∷◌, length, codes, not, is_some, if◌then◌else◌, Option, Some, None, option_map, option_and_then}
 use Rattle.std.specs.Str.{is_utf8, bytes_eq}
 use Rattle.serde_json.specs.Data.{Data}
 use Rattle.serde_json.specs.Find.{get}
@@ -121,6 +121,10 @@ value_of line = if is_utf8 line then read line else None
 -- the command of a line, where its JSON value is one
 abbrev pub command_of : List ℕ → Option Command
 command_of line = option_and_then command_in (value_of line)
+
+-- a carriage return behind a line changes nothing of its command
+abbrev pub ReturnsMeanNothing : Type 0
+ReturnsMeanNothing = (line : List ℕ) → command_of (line ++ 13 ∷ []) ≡ command_of line
 
 -- the refusal of a line that is none
 abbrev pub command_rules : List ℕ → List Rule

@@ -1,13 +1,14 @@
--- Inputs as they show themselves, and counts of failures and reads.
-use Rattle.std.specs.Prelude.{ℕ, ◌+◌, ◌%◌, ◌^◌, List, Option}
+-- Inputs as they show themselves, and counts of failures, reads and flushes.
+use Rattle.std.specs.Prelude.{ℕ, zero, suc, ◌+◌, ◌%◌, ◌^◌, List, Option}
 
--- n more, by a count of 64 bits that goes on from 0 behind its greatest number
-abbrev pub so_many_more : ℕ → ℕ → ℕ
-so_many_more n count = (count + n) % 2 ^ 64
-
--- one more, by such a count
+-- one more, by a count of 64 bits that goes on from 0 behind its greatest number
 abbrev pub one_more : ℕ → ℕ
-one_more = so_many_more 1
+one_more count = (count + 1) % 2 ^ 64
+
+-- n more, by such a count
+abbrev pub so_many_more : ℕ → ℕ → ℕ
+so_many_more zero count = count
+so_many_more (suc n) count = (count + suc n) % 2 ^ 64
 
 -- the bytes that an input will give, where they are known, how often it has failed, and how often it has been read
 pub record InputView : Type 0 where

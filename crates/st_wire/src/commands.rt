@@ -4,7 +4,7 @@ ghost use Rattle.serde_json.specs.View.{view};
 ghost use Rattle.st_classes.specs.Refusals.{Answers, first_of};
 ghost use Rattle.st_classes.specs.declared.refusals.Refusal.TheVariants.{BadCommand};
 ghost use Rattle.st_wire.specs.PartResults.{Reads};
-ghost use Rattle.st_wire.specs.Commands.{command_of, command_rules, has_just as has_just_keys, has_all as has_all_keys, command_in, define_in, method_in, remove_in, new_actor_in, post_in, close_in, run_in, outcome_in, stats_in};
+ghost use Rattle.st_wire.specs.Commands.{ReturnsMeanNothing, command_of, command_rules, has_just as has_just_keys, has_all as has_all_keys, command_in, define_in, method_in, remove_in, new_actor_in, post_in, close_in, run_in, outcome_in, stats_in};
 
 use crate::fields::{
     actor_at, arguments_at, quanta_at, sender_at, size, text_at, texts_at, whole_at,
@@ -94,6 +94,11 @@ pub fn read_command(alloc: Global, line: &[u8]) -> Result<Command, Refusal>
         }),
     }
 }
+
+/// A carriage return behind a line changes nothing of its command.
+pub fn returns_mean_nothing()
+    ensures { ReturnsMeanNothing }
+{}
 
 fn read_object(alloc: Global, object: &Value) -> Result<Command, Refusal>
     ensures { Reads (command_in (view object.now)) result }

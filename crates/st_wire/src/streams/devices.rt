@@ -45,6 +45,23 @@ fn write_to<W: io::Write>(writer: &mut W, bytes: &[u8]) -> Result<usize, WriteFa
     Err(WriteFailed)
 }
 
+/// One flush, tried again where a signal interrupts it.
+fn flush_of<W: io::Write>(writer: &mut W) -> Result<(), WriteFailed>
+    ensures { Keeps (W.contents writer.old) (W.contents writer.new) }
+{
+    for _ in 0..u64::MAX {
+        match writer.flush() {
+            Ok(()) => return Ok(()),
+            Err(error) => {
+                if error.kind() != ErrorKind::Interrupted {
+                    return Err(WriteFailed);
+                }
+            }
+        }
+    }
+    Err(WriteFailed)
+}
+
 /// What std reads from, as standard input, a file or a socket. What it will give is known where std knows it.
 ///
 /// A read that a signal interrupts is no failure and is not counted apart: it is tried again within the same read, as
@@ -92,11 +109,13 @@ impl<R: io::Read> Input for Reader<R> {
 ///
 /// A write that a signal interrupts is no failure: it is tried again, and only a write that is interrupted 2^64 - 1
 /// times is a failure. Every other error is one, and so is a write of which no byte is taken. A writer with a buffer fails where
-/// the buffer cannot be written out, and that may be after the write that filled it: see [`Writer::finish`].
+/// the buffer cannot be written out, and that may be after the write that filled it: at a later write, at a flush or in
+/// [`Writer::finish`].
 #[derive(Drop)]
 pub struct Writer<W> {
     inner: W,
     failures: u64,
+    flushes: u64,
 }
 
 impl<W: io::Write> Writer<W> {
@@ -104,8 +123,13 @@ impl<W: io::Write> Writer<W> {
     pub fn new(inner: W) -> Writer<W>
         ensures inner { result.inner ≡ inner }
         ensures unfailed { result.failures ≡ 0 }
+        ensures unflushed { result.flushes ≡ 0 }
     {
-        Writer { inner, failures: 0 }
+        Writer {
+            inner,
+            failures: 0,
+            flushes: 0,
+        }
     }
 }
 
@@ -124,8 +148,18 @@ impl<W: io::Write> Output for Writer<W> {
 
     ghost failures = { λ w. w.failures };
 
+    ghost flushes = { λ w. w.flushes };
+
     fn write(&mut self, bytes: &[u8]) -> Result<usize, WriteFailed> {
         let result = write_to(&mut self.inner, bytes);
+        if result.is_err() {
+            self.failures = self.failures.wrapping_add(1);
+        }
+        result
+    }
+    fn flush(&mut self) -> Result<(), WriteFailed> {
+        self.flushes = self.flushes.wrapping_add(1);
+        let result = flush_of(&mut self.inner);
         if result.is_err() {
             self.failures = self.failures.wrapping_add(1);
         }

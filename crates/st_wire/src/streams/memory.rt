@@ -51,16 +51,19 @@ impl Input for MemoryInput {
 pub struct MemoryOutput {
     bytes: Vec<u8>,
     failures: u64,
+    flushes: u64,
 }
 
 impl MemoryOutput {
     pub fn new(alloc: Global) -> MemoryOutput
         ensures empty { result.bytes.items ≡ [] }
         ensures unfailed { result.failures ≡ 0 }
+        ensures unflushed { result.flushes ≡ 0 }
     {
         MemoryOutput {
             bytes: Vec::new(alloc),
             failures: 0,
+            flushes: 0,
         }
     }
 
@@ -77,11 +80,19 @@ impl Output for MemoryOutput {
 
     ghost failures = { λ m. m.failures };
 
+    ghost flushes = { λ m. m.flushes };
+
     fn write(&mut self, bytes: &[u8]) -> Result<usize, WriteFailed> {
         if !bytes.is_empty() && self.bytes.extend_from_slice(bytes).is_ok() {
             return Ok(bytes.len());
         }
         self.failures = self.failures.wrapping_add(1);
         Err(WriteFailed)
+    }
+
+    /// It holds nothing back, so it never fails.
+    fn flush(&mut self) -> Result<(), WriteFailed> {
+        self.flushes = self.flushes.wrapping_add(1);
+        Ok(())
     }
 }

@@ -11,4 +11,5 @@ loop-done-preserved g c =
       within = within_bytes bytes c.loop-done.done _ so_far.within one.within;
       written = more_written _ _ _ bytes _ c.loop-done.done _ refl so_far.written one.writes;
       unfailed = one.unfailed ∙ so_far.unfailed;
+      unflushed = one.unflushed ∙ so_far.unflushed;
     }

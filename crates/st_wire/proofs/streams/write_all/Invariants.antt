@@ -7,6 +7,7 @@ invariant-loop-done g l = record {
   within : l.done ≤ length l.bytes;
   written : Appends (g.O.Output.contents l.initial.output) (g.O.Output.contents l.output) (take l.done l.bytes);
   unfailed : g.O.Output.failures l.output ≡ g.O.Output.failures l.initial.output;
+  unflushed : g.O.Output.flushes l.output ≡ g.O.Output.flushes l.initial.output;
 }
 
 abbrev pub decreases-loop-done : goal.decreases-loop-done

@@ -1,0 +1,11 @@
+pub mod Parts
+pub mod FirstLine
+pub mod Ending
+pub mod Stripping
+pub mod Front
+pub mod Taking
+pub mod TakingLast
+pub mod Stepping
+pub mod Going
+pub mod Stopping
+pub mod Counting

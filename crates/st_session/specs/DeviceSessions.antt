@@ -1,0 +1,65 @@
+-- A session over devices: the bytes that it read, and which of their lines are answered.
+use Rattle.std.specs.Prelude.{◌≡◌, ℕ, ◌+◌, ◌≤◌, ◌^◌, ◌⊎◌, List, [], ◌++◌, length, Option, None, Some, Result, Ok, Err}
+use Rattle.std.specs.Io.KnownBytes.{Consumes, IsAtEnd}
+use Rattle.st_classes.specs.declared.refusals.Refusal.{Refusal}
+use Rattle.st_classes.specs.declared.refusals.Refusal.TheVariants.{NoMemory, ReadFault, WriteFault}
+use Rattle.st_wire.specs.declared.replies.Reply.{Reply}
+use Rattle.st_wire.specs.Streams.{InputView, one_more, so_many_more}
+use Rattle.st_session.specs.Lines.{lines, whole_lines}
+use Rattle.st_session.specs.Sessions.{Session}
+
+-- an input was read and gave these bytes, the first of those that were left where they are known; it was read no more than 2^32
+-- times, and no more than once beside the reads that gave a byte or more
+abbrev pub Gives : InputView → InputView → List ℕ → Type 0
+Gives before after taken = Consumes before.remaining after.remaining taken
+    × ((n : ℕ) × (n ≤ 2 ^ 32) × (n ≤ length taken + 1) × (after.reads ≡ so_many_more n before.reads))
+
+-- the text is all that was left, where that is known, and nothing is left after it
+abbrev pub IsWhole : Option (List ℕ) → Option (List ℕ) → List ℕ → Type 0
+IsWhole None after text = IsAtEnd after
+IsWhole (Some bytes) after text = (text ≡ bytes) × (after ≡ Some [])
+
+-- 2^32 reads were made, and each gave a byte or more
+abbrev pub IsEndless : InputView → InputView → List ℕ → Type 0
+IsEndless before after taken = (after.failures ≡ before.failures)
+    × (after.reads ≡ so_many_more (2 ^ 32) before.reads)
+    × (2 ^ 32 ≤ length taken)
+
+-- why the next bytes were not read: memory ran out, or what was written could not be handed on; or a read failed, or there was no
+-- end
+abbrev pub WhyStopped : InputView → InputView → List ℕ → Refusal → Type 0
+WhyStopped before after taken e = (((e ≡ NoMemory) ⊎ (e ≡ WriteFault)) × (after.failures ≡ before.failures))
+    ⊎ ((e ≡ ReadFault) × ((after.failures ≡ one_more before.failures) ⊎ IsEndless before after taken))
+
+-- the session ended at a line of the bytes that were read, whatever may come behind them; or at a line of all bytes, where the
+-- input has ended
+abbrev pub EndsAtLine : {S : Type 0} → (S → List ℕ → Reply → S → Type 0)
+    → S → InputView → InputView → List ℕ → List ℕ → S → Refusal → Type 0
+EndsAtLine replies i before after taken written j e = (after.failures ≡ before.failures)
+    × (((more : List ℕ) → Session replies i (lines (taken ++ more)) written j (Some e))
+    ⊎ (IsWhole before.remaining after.remaining taken × Session replies i (lines taken) written j (Some e)))
+
+-- all whole lines that were read are answered, and then the session stopped before it had read on
+abbrev pub StopsBetween : {S : Type 0} → (S → List ℕ → Reply → S → Type 0)
+    → S → InputView → InputView → List ℕ → List ℕ → S → Refusal → Type 0
+StopsBetween replies i before after taken written j e = Session replies i (whole_lines taken) written j None
+    × WhyStopped before after taken e
+
+-- a session over what an input had left: all its lines are answered, and their number is told; or the session ended before
+abbrev pub DeviceSession : {S : Type 0} → (S → List ℕ → Reply → S → Type 0)
+    → S → InputView → InputView → List ℕ → S → Result ℕ Refusal → Type 0
+DeviceSession replies i before after written j (Ok count) = (taken : List ℕ) × Gives before after taken
+    × IsWhole before.remaining after.remaining taken
+    × (after.failures ≡ before.failures)
+    × Session replies i (lines taken) written j None
+    × (count ≡ length (lines taken))
+DeviceSession replies i before after written j (Err e) = (taken : List ℕ) × Gives before after taken
+    × (EndsAtLine replies i before after taken written j e ⊎ StopsBetween replies i before after taken written j e)
+
+-- the output was flushed before each read of the input, of which there were no more than so many, and never else; behind a flush
+-- that failed there was no read
+abbrev pub FlushesBeforeReads : {T : Type 0} → ℕ → ℕ → ℕ → ℕ → ℕ → Result T Refusal → Type 0
+FlushesBeforeReads most reads reads_after flushes flushes_after result = (n : ℕ) × (n ≤ most)
+    × (reads_after ≡ so_many_more n reads)
+    × ((flushes_after ≡ so_many_more n flushes)
+    ⊎ ((result ≡ Err WriteFault) × (flushes_after ≡ so_many_more (n + 1) flushes)))

@@ -1,0 +1,28 @@
+//! What answers commands.
+ghost use Rattle.st_wire.specs.declared.commands.Command.{Command as CommandOf};
+ghost use Rattle.st_wire.specs.declared.replies.Reply.{Reply as ReplyOf};
+ghost use Rattle.st_session.specs.Sessions.{Replies};
+
+use st_wire::commands::{Command, read_command};
+use st_wire::replies::Reply;
+use std::alloc::Global;
+
+/// What answers the commands of a session.
+pub trait Handler {
+    /// Which reply it may give to a command, and how that leaves it.
+    ghost answers: { Self → CommandOf → ReplyOf → Self → Type 0 };
+
+    /// The reply to a command.
+    fn reply(&mut self, alloc: Global, command: Command) -> Reply
+        ensures { answers self.old command result self.new };
+}
+
+/// The reply to a line. One that is no command is BadCommand.
+pub(crate) fn reply_to<H: Handler>(handler: &mut H, alloc: Global, line: &[u8]) -> Reply
+    ensures { Replies H.answers handler.old line.now result handler.new }
+{
+    match read_command(alloc, line) {
+        Ok(command) => handler.reply(alloc, command),
+        Err(refusal) => Reply::Refused(refusal),
+    }
+}

@@ -1,0 +1,52 @@
+//! Sessions over devices.
+ghost use Rattle.std.specs.Prelude.{◌≡◌, ◌^◌, ℕ, List};
+ghost use Rattle.std.specs.Io.KnownBytes.{Appends};
+ghost use Rattle.st_wire.specs.Streams.{input_view};
+ghost use Rattle.st_session.specs.Sessions.{Replies, end_of, failures_after};
+ghost use Rattle.st_session.specs.DeviceSessions.{DeviceSession, FlushesBeforeReads};
+
+use crate::answering::{PIECE, answer_last, take_turn};
+use crate::handlers::Handler;
+use crate::unread::Unread;
+use st_classes::refusals::Refusal;
+use st_wire::streams::{Input, Output};
+use std::alloc::Global;
+
+/// The most reads of a session.
+const READS: u64 = 1 << 32;
+
+/// Writes to an output a reply to each line of an input, and says how many lines there were. Each line is answered before more
+/// bytes are read than came with its newline, and what was written is handed on before each read.
+///
+/// It ends before the last line, and says why: with TooLong or BadCommand at a line that is over 8,192 bytes or no UTF-8, which
+/// is replied to but not handled; with WriteFault where a write or a flush failed; with ReadFault where a read failed or 2^32 of
+/// them found no end, and then the whole lines that were read are answered; and with NoMemory where there was none for the
+/// text of a line or of a reply, or for the bytes that would be read next.
+pub fn session<H: Handler, I: Input, O: Output>(
+    handler: &mut H,
+    alloc: Global,
+    input: &mut I,
+    output: &mut O,
+) -> Result<u64, Refusal>
+    ensures session { let before = input_view I.remaining I.failures I.reads input.old in
+        let after = input_view I.remaining I.failures I.reads input.new in
+        (written : List ℕ) × Appends (O.contents output.old) (O.contents output.new) written
+        × DeviceSession (Replies H.answers) handler.old before after written handler.new result }
+    ensures flushes { FlushesBeforeReads (2 ^ 32) (I.reads input.old) (I.reads input.new) (O.flushes output.old) (O.flushes output.new) result }
+    ensures failures { O.failures output.new ≡ failures_after (end_of result) (O.failures output.old) }
+{
+    let mut unread = Unread::new(alloc);
+    let mut buffer = [0u8; PIECE];
+    let mut lines = 0;
+    for reads in 0..READS {
+        match take_turn(handler, alloc, input, output, &mut unread, &mut buffer) {
+            Ok(Some(count)) => lines += count,
+            Ok(None) => match answer_last(handler, alloc, output, &mut unread) {
+                Ok(is_line) => return Ok(lines + u64::from(is_line)),
+                Err(refusal) => return Err(refusal),
+            },
+            Err(refusal) => return Err(refusal),
+        }
+    }
+    Err(Refusal::ReadFault)
+}

@@ -10,6 +10,7 @@ pub mod ClientNumbers
 pub mod ClientLists
 pub mod NewestResults
 pub mod Starting
+pub mod Stating
 pub mod RisingClients
 pub mod ClaimsTrimmed
 pub mod Showing

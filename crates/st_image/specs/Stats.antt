@@ -1,5 +1,5 @@
 -- The statistics of a method's call sites.
-use Rattle.std.specs.Prelude.{ℕ, List, [], ◌∷◌, true, false, not, Option, Some, None, is_none, slice_get}
+use Rattle.std.specs.Prelude.{ℕ, ◌^◌, ◌<◌, List, [], ◌∷◌, true, false, not, Option, Some, None, is_none, slice_get}
 use Rattle.std.specs.List.{filter_map}
 use Rattle.st_classes.specs.declared.values.ClassId.{ClassId}
 use Rattle.st_classes.specs.declared.values.Selector.{Selector}
@@ -17,8 +17,8 @@ use Rattle.st_classes.specs.EditLists.{method_at}
 use Rattle.st_classes.specs.Walks.{own}
 use Rattle.st_image.specs.declared.tallies.Tally.{Tally}
 use Rattle.st_image.specs.declared.tallies.SiteStats.{SiteStats}
-use Rattle.st_image.specs.Images.{ImageView, world}
-use Rattle.st_image.specs.Tallies.{tally_at}
+use Rattle.st_image.specs.Images.{ImageView, constants, world}
+use Rattle.st_image.specs.Tallies.{CountsSends, sends_of, tally_at}
 
 -- the user's method among those that a class can have
 abbrev pub user_method : Option Found → Option MethodId
@@ -56,3 +56,11 @@ stats_rules i c s =
     (not (is_class (world i).edits c), UnknownClass)
     ∷ (is_none (installed_own (world i).edits c s), NoSuchMethod)
     ∷ []
+
+-- the sends of a site are fewer than a machine word counts
+abbrev pub HasFewSends : SiteStats → Type 0
+HasFewSends s = sends_of s.tally < 2 ^ 64
+
+-- the tallies of an image count the sends of its history
+abbrev pub HasCounted : ImageView → Type 0
+HasCounted i = CountsSends (constants i) i.base i.history i.standing.tallies

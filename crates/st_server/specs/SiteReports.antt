@@ -1,15 +1,15 @@
 -- The reports of a method's call sites.
-use Rattle.std.specs.Prelude.{◌≡◌, ◌+◌, ◌-◌, ◌^◌, ℕ, List, [], map, min, Result, Err, MatchResult, unwrap_or, slice_get}
+use Rattle.std.specs.Prelude.{◌≡◌, ℕ, List, [], map, Result, Err, MatchResult, unwrap_or, slice_get}
 use Rattle.st_classes.specs.declared.values.ClassId.{ClassId}
 use Rattle.st_classes.specs.declared.values.Selector.{Selector}
 use Rattle.st_classes.specs.declared.refusals.Refusal.{Refusal}
 use Rattle.st_classes.specs.Refusals.{first_of}
 use Rattle.st_sites.specs.declared.site.SiteState.{SiteState}
 use Rattle.st_sites.specs.declared.site.SiteState.TheVariants.{Empty, Mono, Poly, Mega}
-use Rattle.st_image.specs.declared.tallies.Tally.{Tally}
 use Rattle.st_image.specs.declared.tallies.SiteStats.{SiteStats}
 use Rattle.st_image.specs.Images.{ImageView, world}
 use Rattle.st_image.specs.Calls.{AnswersExactly}
+use Rattle.st_image.specs.Tallies.{sends_of}
 use Rattle.st_image.specs.Stats.{installed_own, method_stats, stats_rules}
 use Rattle.st_wire.specs.declared.replies.SiteReport.{SiteReport}
 use Rattle.st_wire.specs.declared.replies.SiteState.{SiteState as Shown}
@@ -23,16 +23,12 @@ state_shown Mono = shown.Mono
 state_shown Poly = shown.Poly
 state_shown Mega = shown.Mega
 
--- all sends of a site, up to 2^64 - 1
-abbrev pub sends_shown : Tally → ℕ
-sends_shown t = min (min (t.by_site + t.by_global) (2 ^ 64 - 1) + t.by_walk) (2 ^ 64 - 1)
-
 -- the report of a site, with its selector's text
 abbrev pub site_report : List (List ℕ) → SiteStats → SiteReport
 site_report names s = record {
   global = s.tally.by_global;
   selector = unwrap_or (slice_get names s.selector.0) [];
-  sends = sends_shown s.tally;
+  sends = sends_of s.tally;
   site = s.tally.by_site;
   state = state_shown s.tally.state;
   is_super = s.is_super;

@@ -1,6 +1,7 @@
 //! The statistics of a method's call sites, as a reply tells them.
-ghost use Rattle.std.specs.Prelude.{◌≡◌, IfOk, map};
-ghost use Rattle.st_server.specs.SiteReports.{StatesNamed, StatesOf, site_report, sends_shown, state_shown};
+ghost use Rattle.std.specs.Prelude.{◌≡◌, All, IfOk, map};
+ghost use Rattle.st_image.specs.Stats.{HasFewSends};
+ghost use Rattle.st_server.specs.SiteReports.{StatesNamed, StatesOf, site_report, state_shown};
 ghost use Rattle.st_server.specs.CommandReplies.{States};
 
 use crate::images::Image;
@@ -8,7 +9,7 @@ use crate::resolving::{find_selector, selector_text, text_of};
 use st_classes::refusals::Refusal;
 use st_classes::seq::Seq;
 use st_classes::values::{ClassId, Selector};
-use st_image::tallies::{SiteStats, Tally};
+use st_image::tallies::SiteStats;
 use st_sites::site::SiteState;
 use st_wire::replies::{Reply, SiteReport, SiteState as ShownState};
 use std::alloc::{AllocError, Global};
@@ -25,18 +26,9 @@ fn shown_state(state: SiteState) -> ShownState
     }
 }
 
-/// All sends of a site, up to 2^64 - 1.
-fn shown_sends(tally: &Tally) -> u64
-    ensures { result ≡ sends_shown tally.now }
-{
-    tally
-        .by_site
-        .saturating_add(tally.by_global)
-        .saturating_add(tally.by_walk)
-}
-
 /// The report of a site.
 fn report(alloc: Global, image: &Image, stats: &SiteStats) -> Result<SiteReport, AllocError>
+    requires { HasFewSends stats.now }
     ensures { IfOk result (λ r. r ≡ site_report image.now.names stats.now) }
 {
     let selector = text_of(alloc, selector_text(image, stats.selector))?;
@@ -44,7 +36,7 @@ fn report(alloc: Global, image: &Image, stats: &SiteStats) -> Result<SiteReport,
     Ok(SiteReport {
         global: tally.by_global,
         selector,
-        sends: shown_sends(&tally),
+        sends: tally.sends(),
         site: tally.by_site,
         state: shown_state(tally.state),
         is_super: stats.is_super,
@@ -54,6 +46,7 @@ fn report(alloc: Global, image: &Image, stats: &SiteStats) -> Result<SiteReport,
 
 /// The reports of sites, in their order.
 fn reports(alloc: Global, image: &Image, list: &[SiteStats]) -> Result<Vec<SiteReport>, AllocError>
+    requires { All HasFewSends list.now }
     ensures { IfOk result (λ v. v.items ≡ map (site_report image.now.names) list.now) }
 {
     let mut told = Vec::new(alloc);

@@ -39,13 +39,13 @@ fn instruction_at(code: &[Instruction], place: usize) -> Option<&Instruction>
 }
 
 impl<M: Mailbox> Image<M> {
-    ghost use Rattle.std.specs.Prelude.{◌≡◌, true, IfOk};
+    ghost use Rattle.std.specs.Prelude.{◌≡◌, All, true, IfOk};
     ghost use Rattle.std.specs.List.{filter_map};
     ghost use Rattle.st_classes.specs.Classes.{is_class};
     ghost use Rattle.st_classes.specs.Refusals.{first_of};
     ghost use Rattle.st_image.specs.Calls.{AnswersExactly};
     ghost use Rattle.st_image.specs.Images.{world};
-    ghost use Rattle.st_image.specs.Stats.{installed_own, method_stats, site_stats, stats_rules};
+    ghost use Rattle.st_image.specs.Stats.{HasCounted, HasFewSends, installed_own, method_stats, site_stats, stats_rules};
 
     /// The method that is installed in a class for a selector, if there is one.
     fn installed(&self, class: ClassId, selector: Selector) -> Option<MethodId>
@@ -84,12 +84,8 @@ impl<M: Mailbox> Image<M> {
         Ok(list)
     }
 
-    /// What was counted of the call sites of the method that a class has of its own for a selector, in the order of its code: the
-    /// committed sends, how their targets were found, and the state of the site after the last that used a worker's caches.
-    ///
-    /// Refusals, in this order: `UnknownClass`; `NoSuchMethod` where the class has no method of its own for the selector, or one of
-    /// the kernel's. Memory can run out only where neither applies.
-    pub fn stats(
+    /// The statistics of the method that a class has of its own for a selector.
+    fn told(
         &self,
         alloc: Global,
         class: ClassId,
@@ -110,5 +106,33 @@ impl<M: Mailbox> Image<M> {
             Ok(list) => Ok(list),
             Err(_) => Err(Refusal::NoMemory),
         }
+    }
+
+    /// Shows that the tallies count the sends of the history: the sends of each site are its send steps in the history, by the
+    /// definitions of a step.
+    pub fn counted(&self)
+        ensures { HasCounted self.now }
+    {
+        let _tallies = &self.tallies;
+    }
+
+    /// What was counted of the call sites of the method that a class has of its own for a selector, in the order of its code: the
+    /// committed sends, how their targets were found, and the state of the site after the last that used a worker's caches. The
+    /// sends of a site are below 2^64.
+    ///
+    /// Refusals, in this order: `UnknownClass`; `NoSuchMethod` where the class has no method of its own for the selector, or one of
+    /// the kernel's. Memory can run out only where neither applies.
+    pub fn stats(
+        &self,
+        alloc: Global,
+        class: ClassId,
+        selector: Selector,
+    ) -> Result<Vec<SiteStats>, Refusal>
+        ensures answers { AnswersExactly (first_of (stats_rules self.now class selector)) result (λ list. list.items ≡ method_stats self.now (installed_own (world self.now).edits class selector)) }
+        ensures few { IfOk result (λ list. All HasFewSends list.items) }
+    {
+        self.known();
+        self.counted();
+        self.told(alloc, class, selector)
     }
 }

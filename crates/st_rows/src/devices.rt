@@ -53,13 +53,13 @@ fn says_to<R: Read + Drop>(
 
 /// A device that gives its bytes in pieces, and fails after so many of them.
 #[derive(Drop)]
-struct Pieces {
-    left: &'static [u8],
+struct Pieces<'a> {
+    left: &'a [u8],
     longest: usize,
     reads: u32,
 }
 
-impl Read for Pieces {
+impl Read for Pieces<'_> {
     fn read(&mut self, buffer: &mut [u8]) -> io::Result<usize> {
         if self.reads == 0 {
             return Err(io::Error::from(ErrorKind::BrokenPipe));
@@ -70,33 +70,51 @@ impl Read for Pieces {
     }
 }
 
-#[test]
-fn input_in_pieces(rt: HostRuntime) -> Result<(), Fail> {
-    let left = b"{\"cmd\":\"run\"}\nno\n{\"cmd\":\"run\"}";
-    let replies = r#"{"ok":{"quanta":0,"steps":0}}
-{"error":"BadCommand"}
-{"ok":{"quanta":0,"steps":0}}
-"#;
-    for longest in [1, 3] {
-        let pieces = Pieces {
-            left,
-            longest,
-            reads: u32::MAX,
-        };
-        assert!(rt; says_to(rt.alloc(), pieces, replies, Ok(3)));
-    }
-    Ok(())
+/// How the script of a new image ends whose input comes in pieces of so many bytes, and what it wrote.
+fn written_in_pieces(
+    alloc: Global,
+    settings: ScriptSettings,
+    script: &[u8],
+    longest: usize,
+) -> Result<(MemoryOutput, Result<u64, Refusal>), Refusal> {
+    let image = Image::new(alloc, Settings::DEFAULT)?;
+    let mut input = Reader::new(Pieces {
+        left: script,
+        longest,
+        reads: u32::MAX,
+    });
+    let mut output = MemoryOutput::new(alloc);
+    let (_, end) = script_on(alloc, &mut input, &mut output, settings, image);
+    Ok((output, end))
 }
 
+/// Whether a script is answered by these replies and ends so, however its bytes are cut.
+pub(crate) fn says_in_pieces(
+    alloc: Global,
+    settings: ScriptSettings,
+    script: &[u8],
+    replies: &[u8],
+    end: Result<u64, Refusal>,
+) -> Result<bool, Fail> {
+    for longest in [1, 2, 7, 8192] {
+        let (output, ended) = written_in_pieces(alloc, settings, script, longest)?;
+        if ended != end || output.as_slice() != replies {
+            return Ok(false);
+        }
+    }
+    Ok(true)
+}
+
+/// The lines that are whole before a read fails are answered.
 #[test]
 fn input_fails(rt: HostRuntime) -> Result<(), Fail> {
-    for reads in [0, 1, 8] {
+    for (reads, replies) in [(0, ""), (1, ""), (4, ""), (5, RAN), (8, RAN)] {
         let pieces = Pieces {
             left: TWO_RUNS,
             longest: 3,
             reads,
         };
-        assert!(rt; says_to(rt.alloc(), pieces, "", Err(Refusal::ReadFault)));
+        assert!(rt; says_to(rt.alloc(), pieces, replies, Err(Refusal::ReadFault)));
     }
     Ok(())
 }
@@ -128,13 +146,24 @@ fn an_interrupted_read_is_no_failure(rt: HostRuntime) -> Result<(), Fail> {
     Ok(())
 }
 
-/// An output that fails after so many writes.
+/// An output that fails after so many writes, or after so many flushes.
 #[derive(Drop)]
 struct FailingOutput {
     inner: MemoryOutput,
     left: u32,
+    flushes_left: u32,
     failures: u64,
     flushes: u64,
+}
+
+fn failing_output(alloc: Global, left: u32, flushes_left: u32) -> FailingOutput {
+    FailingOutput {
+        inner: MemoryOutput::new(alloc),
+        left,
+        flushes_left,
+        failures: 0,
+        flushes: 0,
+    }
 }
 
 impl Output for FailingOutput {
@@ -157,21 +186,33 @@ impl Output for FailingOutput {
 
     fn flush(&mut self) -> Result<(), WriteFailed> {
         self.flushes = self.flushes.wrapping_add(1);
-        Ok(())
+        if self.flushes_left > 0 {
+            self.flushes_left -= 1;
+            return Ok(());
+        }
+        self.failures = self.failures.wrapping_add(1);
+        Err(WriteFailed)
     }
 }
 
 #[test]
 fn output_fails(rt: HostRuntime) -> Result<(), Fail> {
-    let mut output = FailingOutput {
-        inner: MemoryOutput::new(rt.alloc()),
-        left: 1,
-        failures: 0,
-        flushes: 0,
-    };
+    let mut output = failing_output(rt.alloc(), 1, u32::MAX);
     let end = end_on(rt.alloc(), TWO_RUNS, &mut output)?;
     assert!(rt; end == Err(Refusal::WriteFault));
     assert!(rt; output.inner.as_slice() == RAN.as_bytes());
+    Ok(())
+}
+
+/// What is written is flushed before each read: once before the first one, and once where no whole line is left.
+#[test]
+fn a_flush_fails(rt: HostRuntime) -> Result<(), Fail> {
+    for (flushes, replies) in [(0, ""), (1, RAN)] {
+        let mut output = failing_output(rt.alloc(), u32::MAX, flushes);
+        let end = end_on(rt.alloc(), RUN, &mut output)?;
+        assert!(rt; end == Err(Refusal::WriteFault));
+        assert!(rt; output.inner.as_slice() == replies.as_bytes());
+    }
     Ok(())
 }
 

@@ -20,7 +20,7 @@ use crate::scripts::mailboxes::{
     CLOSE_IN_A_FULL_HISTORY, CLOSE_OF_THE_KERNEL, CLOSED, NUMBERS_OVER_ACTORS, OLD_NUMBERS,
     ORDER_OF_POST_REFUSALS, ROOM_FOR_ONE, SHUTS_ANOTHER, SHUTS_ITSELF,
 };
-use crate::sessions_in_memory::says_within;
+use crate::sessions_in_memory::says;
 use st_image::settings::Settings;
 use st_server::settings::ScriptSettings;
 use std::alloc::{AllocError, Global};
@@ -116,10 +116,10 @@ fn parted(alloc: Global, dialogue: &str) -> Result<Parts, AllocError> {
     })
 }
 
-/// Whether each line of a dialogue is answered by the next.
+/// Whether each line of a dialogue is answered by the next, however the bytes are cut.
 fn is_answered(alloc: Global, settings: ScriptSettings, dialogue: &str) -> Result<bool, Fail> {
     let parts = parted(alloc, dialogue)?;
-    says_within(
+    says(
         alloc,
         settings,
         &parts.script,

@@ -1,12 +1,16 @@
 //! Sessions over bytes in memory.
-ghost use Rattle.std.specs.Prelude.{◌≡◌, ◌⊎◌, ◌^◌, ◌≤◌, [], length, Err, IfNone, IfSome};
+ghost use Rattle.std.specs.Prelude.{◌≡◌, ◌⊎◌, [], Err, IfNone, IfSome};
 ghost use Rattle.st_classes.specs.Refusals.{first_of};
-ghost use Rattle.st_classes.specs.declared.refusals.Refusal.TheVariants.{NoMemory, ReadFault};
+ghost use Rattle.st_classes.specs.declared.refusals.Refusal.TheVariants.{NoMemory};
 ghost use Rattle.st_guard.specs.Moves.{CachesView};
 ghost use Rattle.st_guard.specs.declared.global_guard.GlobalGuard.{GlobalGuard as GuardOf};
+ghost use Rattle.st_session.specs.Sessions.{Replies};
+ghost use Rattle.st_session.specs.DeviceSessions.{ByteSession};
+ghost use Rattle.st_server.specs.CommandReplies.{Serves};
 ghost use Rattle.st_server.specs.Runners.{AreNew, RunnerView};
-ghost use Rattle.st_server.specs.Scripts.{AnswersLines, script_rules, with_settings};
+ghost use Rattle.st_server.specs.Scripts.{script_rules, with_settings};
 
+use crate::devices::says_in_pieces;
 use st_classes::refusals::Refusal;
 use st_image::settings::Settings;
 use st_server::images::Image;
@@ -17,8 +21,8 @@ use std::alloc::{AllocError, Global};
 use std::test::*;
 
 /// A script over bytes in memory. Its contract says what that of every script says there: settings out of their ranges
-/// are refused; otherwise all of the bytes are answered, line by line, or there was no memory for them or no end of
-/// them, and then nothing is written.
+/// are refused; otherwise what is written depends on the bytes alone, line by line, unless there was no memory for the
+/// caches, and then nothing is written.
 fn in_memory(
     alloc: Global,
     bytes: Vec<u8>,
@@ -30,10 +34,9 @@ fn in_memory(
         (λ e. (result.2 ≡ Err e) × (result.1.bytes.items ≡ []) × (result.0 ≡ image)) }
     ensures answered { IfNone (first_of (script_rules settings))
         (((v : CachesView GuardOf) × (k : RunnerView) × AreNew v
-        × AnswersLines settings.quantum (record { image = with_settings image settings; caches = v }) bytes.items result.1.bytes.items k result.2
+        × ByteSession (Replies (Serves settings.quantum)) (record { image = with_settings image settings; caches = v }) bytes.items result.1.bytes.items k result.2
         × (result.0 ≡ k.image))
-        ⊎ (((result.2 ≡ Err NoMemory) ⊎ ((result.2 ≡ Err ReadFault) × (2 ^ 32 ≤ length bytes.items)))
-        × (result.1.bytes.items ≡ []) × (result.0 ≡ with_settings image settings))) }
+        ⊎ ((result.2 ≡ Err NoMemory) × (result.1.bytes.items ≡ []) × (result.0 ≡ with_settings image settings))) }
 {
     let mut input = MemoryInput::new(bytes);
     let mut output = MemoryOutput::new(alloc);
@@ -52,8 +55,8 @@ fn answered(
     Ok((output, end))
 }
 
-/// Whether a session is answered by these replies, and ends so.
-pub(crate) fn says_within(
+/// Whether a script in memory is answered by these replies, and ends so.
+fn says_whole(
     alloc: Global,
     settings: ScriptSettings,
     script: &[u8],
@@ -63,6 +66,20 @@ pub(crate) fn says_within(
     let text = Vec::from_slice(alloc, script)?;
     let (output, ended) = answered(alloc, text, settings)?;
     Ok(ended == end && output.as_slice() == replies)
+}
+
+/// Whether a script is answered by these replies and ends so, in memory and however its bytes are cut.
+pub(crate) fn says(
+    alloc: Global,
+    settings: ScriptSettings,
+    script: &[u8],
+    replies: &[u8],
+    end: Result<u64, Refusal>,
+) -> Result<bool, Fail> {
+    Ok(
+        says_whole(alloc, settings, script, replies, end)?
+            && says_in_pieces(alloc, settings, script, replies, end)?,
+    )
 }
 
 /// Texts, the replies to their lines, and how their sessions end.
@@ -83,6 +100,17 @@ const SESSIONS: &[(&[u8], &str, Result<u64, Refusal>)] = &[
         Ok(1),
     ),
     (
+        b"{\"cmd\":\"run\"}\r\n{\"cmd\":\r\"run\"}\n{\"cmd\":\"r\run\"}\n",
+        "{\"ok\":{\"quanta\":0,\"steps\":0}}\n{\"ok\":{\"quanta\":0,\"steps\":0}}\n{\"error\":\"BadCommand\"}\n",
+        Ok(3),
+    ),
+    (b"{\"cmd\":\"run", "{\"error\":\"BadCommand\"}\n", Ok(1)),
+    (
+        b"{\"cmd\":\"\xc3\xa9\xe2\x82\xac\xf0\x9f\xa6\x80\"}\n{\"cmd\":\"run\"}\n",
+        "{\"error\":\"BadCommand\"}\n{\"ok\":{\"quanta\":0,\"steps\":0}}\n",
+        Ok(2),
+    ),
+    (
         b"{\"cmd\":\"run\"}\n{\"cmd\":\"run\xff\"}\n{\"cmd\":\"run\"}\n",
         "{\"ok\":{\"quanta\":0,\"steps\":0}}\n{\"error\":\"BadCommand\"}\n",
         Err(Refusal::BadCommand),
@@ -98,18 +126,18 @@ fn sessions() -> &'static [(&'static [u8], &'static str, Result<u64, Refusal>)] 
 fn answers_each_line(rt: HostRuntime) -> Result<(), Fail> {
     let settings = ScriptSettings::DEFAULT;
     for (script, replies, end) in sessions() {
-        let says = says_within(rt.alloc(), settings, script, replies.as_bytes(), *end)?;
-        assert!(rt; says, "{replies}");
+        let said = says(rt.alloc(), settings, script, replies.as_bytes(), *end)?;
+        assert!(rt; said, "{replies}");
     }
     Ok(())
 }
 
-/// A line of 8,192 bytes, and one of a byte more.
+/// A run in a line of 8,192 bytes, and one in a line of a byte more.
 fn two_long_lines(alloc: Global) -> Result<Vec<u8>, AllocError> {
-    let mut text = Vec::new(alloc);
-    text.resize(8192, b'x')?;
-    text.push(b'\n')?;
-    text.resize(2 * 8192 + 2, b'x')?;
+    let mut text = Vec::from_slice(alloc, b"{\"cmd\":\"run\"}")?;
+    text.resize(8192, b' ')?;
+    text.extend_from_slice(b"\n{\"cmd\":\"run\"}")?;
+    text.resize(2 * 8192 + 2, b' ')?;
     text.extend_from_slice(b"\n{\"cmd\":\"run\"}\n")?;
     Ok(text)
 }
@@ -117,10 +145,10 @@ fn two_long_lines(alloc: Global) -> Result<Vec<u8>, AllocError> {
 #[test]
 fn long_lines(rt: HostRuntime) -> Result<(), Fail> {
     let text = two_long_lines(rt.alloc())?;
-    let replies = b"{\"error\":\"BadCommand\"}\n{\"error\":\"TooLong\"}\n";
+    let replies = b"{\"ok\":{\"quanta\":0,\"steps\":0}}\n{\"error\":\"TooLong\"}\n";
     let end = Err(Refusal::TooLong);
-    let says = says_within(rt.alloc(), ScriptSettings::DEFAULT, &text, replies, end)?;
-    assert!(rt; says);
+    let said = says(rt.alloc(), ScriptSettings::DEFAULT, &text, replies, end)?;
+    assert!(rt; said);
     Ok(())
 }
 
@@ -133,7 +161,7 @@ fn settings_out_of_range(rt: HostRuntime) -> Result<(), Fail> {
             history,
         };
         let end = Err(Refusal::BadArguments);
-        assert!(rt; says_within(rt.alloc(), settings, b"{\"cmd\":\"run\"}\n", b"", end)?);
+        assert!(rt; says(rt.alloc(), settings, b"{\"cmd\":\"run\"}\n", b"", end)?);
     }
     Ok(())
 }

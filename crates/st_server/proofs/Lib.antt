@@ -1,9 +1,4 @@
-pub mod Counting
-pub mod FirstLine
-pub mod Parts
 pub mod Names
-pub mod Going
-pub mod Ending
 pub mod Reports
 pub mod Growing
 pub mod Claims
@@ -11,5 +6,4 @@ pub mod SomeSteps
 pub mod Quanta
 pub mod Taken
 pub mod Arguments
-pub mod BadLine
 pub mod Scripting

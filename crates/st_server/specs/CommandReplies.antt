@@ -17,7 +17,6 @@ use Rattle.st_wire.specs.declared.commands.Command.{Command}
 use Rattle.st_wire.specs.declared.commands.Command.TheVariants as command
 use Rattle.st_wire.specs.declared.replies.Reply.{Reply}
 use Rattle.st_wire.specs.declared.replies.Reply.TheVariants as reply
-use Rattle.st_wire.specs.Commands.{command_of}
 use Rattle.st_wire.specs.declared.replies.SiteReport.{SiteReport}
 use Rattle.st_server.specs.SiteReports.{StatesNamed}
 use Rattle.st_server.specs.Runners.{RunnerView, NextAdvances, NoneReady}
@@ -117,10 +116,3 @@ Runs quantum (suc left) i q s r j = (NoneReady i × (r ≡ reply.Ran q s) × (j 
 abbrev pub Serves : ℕ → RunnerView → Command → Reply → RunnerView → Type 0
 Serves quantum i (command.Run quanta) r j = Runs quantum quanta i 0 0 r j
 Serves quantum i c r j = Asks i.image c r j.image × (j.caches ≡ i.caches)
-
--- the reply to a line: a line that is no command is BadCommand
-abbrev pub Replies : ℕ → RunnerView → List ℕ → Reply → RunnerView → Type 0
-Replies quantum i line r j = ((r ≡ reply.Refused NoMemory) × (j ≡ i))
-    ⊎ MatchOption (command_of line)
-    ((r ≡ reply.Refused BadCommand) × (j ≡ i))
-    (λ c. Serves quantum i c r j)

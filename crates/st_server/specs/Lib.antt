@@ -1,6 +1,3 @@
-pub mod Lines
-pub mod Sessions
-pub mod InputBytes
 pub mod ArgumentValues
 pub mod SiteReports
 pub mod Runners

@@ -1,5 +1,5 @@
--- A script: its input is read to the end, and then a session answers the lines.
-use Rattle.std.specs.Prelude.{◌≡◌, ℕ, ◌&&◌, ◌⊎◌, List, [], ◌∷◌, length, Bool, not, Result, Err, nat_le, MatchOption, IfOk}
+-- A script: a session that an image and its worker answer.
+use Rattle.std.specs.Prelude.{◌≡◌, ℕ, ◌&&◌, ◌⊎◌, List, [], ◌∷◌, Bool, not, Result, Err, nat_le, MatchOption}
 use Rattle.st_classes.specs.declared.refusals.Refusal.{Refusal}
 use Rattle.st_classes.specs.declared.refusals.Refusal.TheVariants.{BadArguments, NoMemory}
 use Rattle.st_classes.specs.Refusals.{Rule, first_of}
@@ -9,10 +9,9 @@ use Rattle.st_server.specs.declared.settings.ScriptSettings.{ScriptSettings}
 use Rattle.st_guard.specs.declared.global_guard.GlobalGuard.{GlobalGuard}
 use Rattle.st_guard.specs.Moves.{CachesView}
 use Rattle.st_server.specs.Runners.{RunnerView, AreNew}
-use Rattle.st_server.specs.Lines.{lines}
-use Rattle.st_server.specs.InputBytes.{ReadsAll, StopsReading}
-use Rattle.st_server.specs.Sessions.{Session, end_of}
-use Rattle.st_server.specs.CommandReplies.{Replies}
+use Rattle.st_session.specs.Sessions.{Replies}
+use Rattle.st_session.specs.DeviceSessions.{DeviceSession}
+use Rattle.st_server.specs.CommandReplies.{Serves}
 
 -- a quantum is from 1 to 1,024 steps
 abbrev pub is_quantum : ℕ → Bool
@@ -28,25 +27,11 @@ script_rules s =
 abbrev pub with_settings : ImageView → ScriptSettings → ImageView
 with_settings i s = record i { capacity = s.capacity; most_items = s.history }
 
--- the lines of a text are answered, and all of them counted unless the session ended before
-abbrev pub AnswersLines : ℕ → RunnerView → List ℕ → List ℕ → RunnerView → Result ℕ Refusal → Type 0
-AnswersLines quantum i text written j result =
-    Session (Replies quantum) i (lines text) written j (end_of result)
-    × IfOk result (λ n. n ≡ length (lines text))
-
--- the text that was read is answered, or its reading stopped and nothing is written
-abbrev pub Scripted : ℕ → RunnerView → InputView → InputView → List ℕ → RunnerView → Result ℕ Refusal → Type 0
-Scripted quantum i before after written j result =
-    ((text : List ℕ) × ReadsAll before after text × AnswersLines quantum i text written j result)
-    ⊎ ((e : Refusal) × (taken : List ℕ) × (result ≡ Err e) × StopsReading before after taken e
-    × (written ≡ [])
-    × (j ≡ i))
-
 -- a script is run with new caches, or finds no memory for them, and then nothing is read or written
 abbrev pub RunsScript : ℕ → ImageView → InputView → InputView → List ℕ → ImageView → Result ℕ Refusal → Type 0
 RunsScript quantum i before after written j result =
     ((v : CachesView GlobalGuard) × (k : RunnerView) × AreNew v
-    × Scripted quantum (record { image = i; caches = v }) before after written k result
+    × DeviceSession (Replies (Serves quantum)) (record { image = i; caches = v }) before after written k result
     × (j ≡ k.image))
     ⊎ ((result ≡ Err NoMemory) × (after ≡ before) × (written ≡ []) × (j ≡ i))
 

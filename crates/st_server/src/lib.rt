@@ -1,19 +1,16 @@
 //! The program over an image: commands and their replies, and a script of lines.
 //!
-//! [`scripts::script_on`] answers each line of its input by one line: the text of the reply to the line's command,
+//! [`scripts::script_on`] answers each line of its input, as it comes, by one line: the text of the reply to the line's command,
 //! asked of the image as the line before left it.
 #![tactic(auto)]
 
 mod asking;
 pub mod images;
-pub mod lines;
 mod quantum;
-mod reading;
 mod resolving;
 pub mod runner;
 pub mod scripts;
 mod serving;
-pub mod sessions;
 pub mod settings;
 mod stating;
 pub mod totals;

@@ -1,11 +1,11 @@
 //! Commands, served by an image and its worker.
 ghost use Rattle.std.specs.Prelude.{◌≡◌};
-ghost use Rattle.st_server.specs.CommandReplies.{Runs, Serves, Replies};
+ghost use Rattle.st_server.specs.CommandReplies.{Runs, Serves};
 
 use crate::quantum::Quantum;
 use crate::runner::Runner;
-use crate::sessions::Handler;
-use st_wire::commands::{Command, read_command};
+use st_session::handlers::Handler;
+use st_wire::commands::Command;
 use st_wire::replies::Reply;
 use std::alloc::Global;
 
@@ -38,17 +38,7 @@ fn serve(alloc: Global, runner: &mut Runner, quantum: Quantum, command: Command)
     }
 }
 
-/// The reply to a line. One that is no command is BadCommand.
-fn reply_to(alloc: Global, runner: &mut Runner, quantum: Quantum, line: &[u8]) -> Reply
-    ensures { Replies quantum runner.old line.now result runner.new }
-{
-    match read_command(alloc, line) {
-        Ok(command) => serve(alloc, runner, quantum, command),
-        Err(refusal) => Reply::Refused(refusal),
-    }
-}
-
-/// An image and its worker, which answer lines.
+/// An image and its worker, which answer commands.
 #[derive(Drop)]
 pub struct ImageHandler {
     pub runner: Runner,
@@ -56,9 +46,9 @@ pub struct ImageHandler {
 }
 
 impl Handler for ImageHandler {
-    ghost answers = { λ i line r j. Replies i.quantum i.runner line r j.runner × (j.quantum ≡ i.quantum) };
+    ghost answers = { λ i c r j. Serves i.quantum i.runner c r j.runner × (j.quantum ≡ i.quantum) };
 
-    fn reply(&mut self, alloc: Global, line: &[u8]) -> Reply {
-        reply_to(alloc, &mut self.runner, self.quantum, line)
+    fn reply(&mut self, alloc: Global, command: Command) -> Reply {
+        serve(alloc, &mut self.runner, self.quantum, command)
     }
 }

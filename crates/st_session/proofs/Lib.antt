@@ -9,3 +9,4 @@ pub mod Stepping
 pub mod Going
 pub mod Stopping
 pub mod Counting
+pub mod KnownBytes

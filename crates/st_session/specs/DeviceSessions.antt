@@ -56,6 +56,16 @@ DeviceSession replies i before after written j (Ok count) = (taken : List ℕ) �
 DeviceSession replies i before after written j (Err e) = (taken : List ℕ) × Gives before after taken
     × (EndsAtLine replies i before after taken written j e ⊎ StopsBetween replies i before after taken written j e)
 
+-- the same where the bytes that the input had left are known, and nothing but a lack of an end can fail: what is written depends on
+-- them alone
+abbrev pub ByteSession : {S : Type 0} → (S → List ℕ → Reply → S → Type 0)
+    → S → List ℕ → List ℕ → S → Result ℕ Refusal → Type 0
+ByteSession replies i bytes written j (Ok count) = Session replies i (lines bytes) written j None × (count ≡ length (lines bytes))
+ByteSession replies i bytes written j (Err e) = Session replies i (lines bytes) written j (Some e)
+    ⊎ ((taken : List ℕ) × (rest : List ℕ) × (bytes ≡ taken ++ rest)
+    × Session replies i (whole_lines taken) written j None
+    × (((e ≡ NoMemory) ⊎ (e ≡ WriteFault)) ⊎ ((e ≡ ReadFault) × (2 ^ 32 ≤ length bytes))))
+
 -- the output was flushed before each read of the input, of which there were no more than so many, and never else; behind a flush
 -- that failed there was no read
 abbrev pub FlushesBeforeReads : {T : Type 0} → ℕ → ℕ → ℕ → ℕ → ℕ → Result T Refusal → Type 0

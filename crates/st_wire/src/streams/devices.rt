@@ -157,6 +157,7 @@ impl<W: io::Write> Output for Writer<W> {
         }
         result
     }
+
     fn flush(&mut self) -> Result<(), WriteFailed> {
         self.flushes = self.flushes.wrapping_add(1);
         let result = flush_of(&mut self.inner);

@@ -1,8 +1,12 @@
-use Rattle.std.proofs.Common.{[], refl, inr}
-use Rattle.std.proofs.KnownBytes.{Appends-nil}
+use Rattle.std.proofs.Common.{refl}
+use Rattle.st_wire.specs.Streams.{input_view}
+use Rattle.st_server.specs.declared.serving.ImageHandler.{ImageHandler}
+use Rattle.st_server.proofs.Scripting.{image_device_session}
 use Rattle.st_server.proofs.scripts.answer_input.Goals as goal
 
-pub returns-in-Err-clause-script : goal.returns-in-Err-clause-script
-returns-in-Err-clause-script g c =
-    let stopped = c.in-Err.ensures.stopped in
-    ([], Appends-nil _, inr (c.in-Err.refusal, stopped.0, refl, stopped.1, refl, refl))
+pub returns-clause-script : goal.returns-clause-script
+returns-clause-script g c =
+    let view = input_view g.I.Input.remaining g.I.Input.failures g.I.Input.reads in
+    let s = c.session-result.ensures.session in
+    let handler : ImageHandler = record { runner = c.args.runner; quantum = c.args.quantum } in
+    (s.0, s.1, image_device_session c.args.quantum handler c.session-result.new.handler (view c.args.input.now) (view c.session-result.new.input) s.0 c.session-result.result refl s.2)

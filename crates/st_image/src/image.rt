@@ -1,5 +1,6 @@
 //! The image: construction, readers, interning and new actors. Edits, installs, posts, closing, turns and the list of
 //! clients are in image/.
+ghost use Rattle.st_image.specs.Changes.{BodiesStay};
 ghost use Rattle.st_image.specs.Delivery.{Delivers};
 ghost use Rattle.st_image.specs.WorldInvariant.{NamesMayGrow};
 
@@ -15,6 +16,7 @@ mod stating;
 
 use crate::actor::Actor;
 use crate::actors::Actors;
+use crate::changes::Changes;
 use crate::clients::Clients;
 use crate::items::Item;
 use crate::settings::Settings;
@@ -44,6 +46,11 @@ pub fn names_may_grow()
     ensures { NamesMayGrow }
 {}
 
+/// An actor's body is changed by the beginning of its messages and by its own steps alone.
+pub fn bodies_stay()
+    ensures { BodiesStay }
+{}
+
 /// An image: a class table, actors, and the history that led to them.
 ///
 /// Contracts see the world that it began with, its names, its history, the numbers that are set, and what it keeps beside its
@@ -63,6 +70,7 @@ pub struct Image<M: Mailbox> {
     /// The number from which the next ready actor is looked for.
     next_from: u32,
     tallies: Tallies,
+    changes: Changes,
 }
 
 impl<M: Mailbox> Model for Image<M> {
@@ -76,7 +84,7 @@ impl<M: Mailbox> Model for Image<M> {
 
     ghost view = { λ i. record { base = start; names = i.names; history = i.history.items; capacity = i.settings.capacity; most_items = i.settings.history; standing = record { next_from = i.next_from; claims_out = trimmed i.actors.out; tallies = i.tallies } } };
 
-    ghost invariant = { λ i. HoldsImage start i.names i.token i.actors.kept i.history.items i.edits_made i.settings i.clients i.tallies };
+    ghost invariant = { λ i. HoldsImage start i.names i.token i.actors.kept i.history.items i.edits_made i.settings i.clients i.tallies i.changes };
 }
 
 impl<M: Mailbox> Image<M> {
@@ -123,6 +131,7 @@ impl<M: Mailbox> Image<M> {
             settings,
             next_from: 0,
             tallies: Tallies::new(alloc),
+            changes: Changes::new(alloc),
         })
     }
 

@@ -1,15 +1,13 @@
 -- The edits of a history: an edit adds itself, and all other items leave them.
-use Rattle.std.proofs.Common.{◌≡◌, ℕ, zero, suc, ◌++◌, [], ◌∷◌, List, Option, Some, None, Result, Ok, Err, Bool, true, false, cond, refl, ap, sym, ◌∙◌, subst, slice_get, length, append_assoc, append-nil, nat_le, nat_lt}
+use Rattle.std.proofs.Common.{◌≡◌, ℕ, zero, suc, ◌++◌, [], ◌∷◌, List, Option, Some, None, Result, Ok, Err, Bool, true, false, cond, refl, ap, sym, ◌∙◌, slice_get, length, append_assoc, append-nil, nat_le, nat_lt}
 use Rattle.std.specs.Prelude.{not}
 use Rattle.std.specs.List.{list_any}
-use Rattle.std.specs.Option.{option_map}
 use Rattle.st_classes.specs.declared.values.ClassId.{ClassId}
 use Rattle.st_classes.specs.declared.values.ActorId.{ActorId}
 use Rattle.st_classes.specs.declared.values.Selector.{Selector}
 use Rattle.st_classes.specs.declared.values.Value.{Value}
 use Rattle.st_classes.specs.declared.values.Value.TheVariants.{Int, Bool as Boolean, Nil, Sym, Class, Actor as Reference, Local}
 use Rattle.st_classes.specs.declared.faults.Fault.TheVariants.{BadArgument, LocalArgument, TooManyActors}
-use Rattle.st_classes.specs.declared.edits.Edit.{Edit}
 use Rattle.st_classes.specs.declared.refusals.Refusal.{Refusal}
 use Rattle.st_classes.specs.MethodSuits.{arity_at, is_number}
 use Rattle.st_classes.specs.EditRules.{is_value_class}
@@ -29,6 +27,7 @@ use Rattle.st_image.specs.ActResults.{world_after}
 use Rattle.st_image.specs.Images.{ImageView, appended, constants, world}
 use Rattle.st_image.specs.WorldInvariant.{IsLawful}
 use Rattle.st_image.specs.Calls.{Adds}
+use Rattle.st_image.specs.RanTargets.{edits_among}
 use Rattle.st_image.proofs.Stepping.{bound, cond_some, mapped, ran_after}
 
 -- ---- an act leaves the edits
@@ -93,23 +92,13 @@ taken_edits c a w v (outer act) e = some_edits _ v e ∙ act_edits c a w act
 step_edits : (c : Constants) (a : ActorId) (w v : World) → after_step c a w ≡ Some v → v.edits ≡ w.edits
 step_edits c a w v e = let p = bound (λ b. after_step_of c a w (step w.edits a b.body)) (slice_get w.actors a.0) v e in taken_edits c a w v (step w.edits a p.0.body) p.2
 
-steps_edits : (c : Constants) (a : ActorId) (n : ℕ) (w v : World) → world_after c a n w ≡ Some v → v.edits ≡ w.edits
+pub steps_edits : (c : Constants) (a : ActorId) (n : ℕ) (w v : World) → world_after c a n w ≡ Some v → v.edits ≡ w.edits
 steps_edits c a zero w v e = some_edits w v e
 steps_edits c a (suc n) w v e = let p = bound (world_after c a n) (after_step c a w) v e in steps_edits c a n p.0 v p.2 ∙ step_edits c a w p.0 p.1
 
 -- ---- the edits among the items of a history
 
--- the edits among some items
-abbrev pub edits_among : List Item → List Edit
-edits_among [] = []
-edits_among (Edited e ∷ is) = e ∷ edits_among is
-edits_among (Created c ∷ is) = edits_among is
-edits_among (Posted a m ∷ is) = edits_among is
-edits_among (Closed a ∷ is) = edits_among is
-edits_among (Begun a ∷ is) = edits_among is
-edits_among (Ran a n ∷ is) = edits_among is
-
-among_append : (is js : List Item) → edits_among (is ++ js) ≡ edits_among is ++ edits_among js
+pub among_append : (is js : List Item) → edits_among (is ++ js) ≡ edits_among is ++ edits_among js
 among_append [] js = refl
 among_append (Edited e ∷ is) js = ap (λ es. e ∷ es) (among_append is js)
 among_append (Created c ∷ is) js = among_append is js
@@ -131,7 +120,7 @@ next_edits c w v (Begun a) h =
     none_more w v (ap (λ (x : World). x.edits) (sym p.2))
 next_edits c w v (Ran a n) h = none_more w v (steps_edits c a n w v (cond_some (nat_lt 0 n) (world_after c a n w) v (sym (ran_after c w a n) ∙ h)).1)
 
-replay_edits : (c : Constants) (w v : World) (is : List Item) → replay c w is ≡ Some v → v.edits ≡ w.edits ++ edits_among is
+pub replay_edits : (c : Constants) (w v : World) (is : List Item) → replay c w is ≡ Some v → v.edits ≡ w.edits ++ edits_among is
 replay_edits c w v [] e = none_more w v (some_edits w v e)
 replay_edits c w v (i ∷ is) e =
     let p = bound (λ u. replay c u is) (next c w i) v e in
@@ -148,17 +137,18 @@ pub record GoesOn (i j : ImageView) : Type 0 where
   pub items : List Item
   pub history : j.history ≡ i.history ++ items
 
--- then its edits begin with the other's
+-- then its edits are the other's, and those among the items behind
+pub edits_longer : (i j : ImageView) → IsLawful i → IsLawful j → (g : GoesOn i j) → (world j).edits ≡ (world i).edits ++ edits_among g.items
+edits_longer i j l m g =
+    replay_edits (constants j) j.base (world j) j.history m.lawful
+    ∙ ap (λ (w : World). w.edits ++ edits_among j.history) g.base
+    ∙ ap (λ h. i.base.edits ++ edits_among h) g.history
+    ∙ ap (λ es. i.base.edits ++ es) (among_append i.history g.items)
+    ∙ sym (append_assoc i.base.edits (edits_among i.history) (edits_among g.items))
+    ∙ ap (λ es. es ++ edits_among g.items) (sym (replay_edits (constants i) i.base (world i) i.history l.lawful))
+
 pub edits_grow : (i j : ImageView) → IsLawful i → IsLawful j → GoesOn i j → Begins (world i).edits (world j).edits
-edits_grow i j l m g = (
-  edits_among g.items,
-  replay_edits (constants j) j.base (world j) j.history m.lawful
-      ∙ ap (λ (w : World). w.edits ++ edits_among j.history) g.base
-      ∙ ap (λ h. i.base.edits ++ edits_among h) g.history
-      ∙ ap (λ es. i.base.edits ++ es) (among_append i.history g.items)
-      ∙ sym (append_assoc i.base.edits (edits_among i.history) (edits_among g.items))
-      ∙ ap (λ es. es ++ edits_among g.items) (sym (replay_edits (constants i) i.base (world i) i.history l.lawful)),
-)
+edits_grow i j l m g = (edits_among g.items, edits_longer i j l m g)
 
 pub goes_from : (i j : ImageView) → j ≡ i → GoesOn i j
 goes_from i j e = record {

@@ -42,3 +42,5 @@ pub mod CountingChanges
 pub mod KnownBodies
 pub mod Committing
 pub mod GrowingEdits
+pub mod RanSteps
+pub mod CountingOnce

@@ -20,3 +20,6 @@ pub mod Tallies
 pub mod Calls
 pub mod Commits
 pub mod Stats
+pub mod SentMessages
+pub mod RanTargets
+pub mod OneClaim

@@ -2,6 +2,7 @@
 //! clients are in image/.
 ghost use Rattle.st_image.specs.Changes.{BodiesStay};
 ghost use Rattle.st_image.specs.Delivery.{Delivers};
+ghost use Rattle.st_image.specs.OneClaim.{CountsOnItsBody};
 ghost use Rattle.st_image.specs.WorldInvariant.{NamesMayGrow};
 
 mod checking_out;
@@ -49,6 +50,12 @@ pub fn names_may_grow()
 /// An actor's body is changed by the beginning of its messages and by its own steps alone.
 pub fn bodies_stay()
     ensures { BodiesStay }
+{}
+
+/// The steps of a claim count only if its actor still has the body that the claim began with. So after a commit that changed the
+/// body, a second claim on the body before is refused as `Changed`.
+pub fn one_claim_counts()
+    ensures { CountsOnItsBody }
 {}
 
 /// An image: a class table, actors, and the history that led to them.
@@ -101,6 +108,7 @@ impl<M: Mailbox> Image<M> {
     ghost use Rattle.std.specs.Option.{option_copied};
     ghost use Rattle.st_image.specs.Scheduling.{IsNextReady, is_free_at};
     ghost use Rattle.st_image.specs.Delivery.{HasDelivered};
+    ghost use Rattle.st_image.specs.RanTargets.{EachStepRan};
     ghost use Rattle.st_image.specs.WorldInvariant.{IsLawful};
 
     /// An image with the kernel's names and classes, no actors and no history.
@@ -162,6 +170,14 @@ impl<M: Mailbox> Image<M> {
     /// message once and each sender's in sending order. Both have only grown since, and none was accepted after close.
     pub fn delivered(&self)
         ensures { HasDelivered self.now }
+    {
+        self.known();
+    }
+
+    /// Each step in the history that sent a message has run what the walk up the superclass chain finds at the class table of that
+    /// place: a user's method that is current in it, a method of the kernel, the user's method for `doesNotUnderstand:`, or none.
+    pub fn sends_ran(&self)
+        ensures { EachStepRan self.now }
     {
         self.known();
     }

@@ -1,13 +1,13 @@
 -- After each call of the image, what was in the class table begins what is there.
-use Rattle.std.proofs.Common.{◌≡◌, ◌⊎◌, ℕ, [], ◌∷◌, ◌++◌, List, Option, Some, None, Result, Ok, Err, Bool, true, false, refl, ap, sym, ◌∙◌, append-nil, inl, inr}
-use Rattle.std.specs.Prelude.{OnErr, OnOk, IfErr, IfOk, length, slice_get, if◌then◌else◌, ◌+◌}
+use Rattle.std.proofs.Common.{◌≡◌, ◌⊎◌, ℕ, [], ◌∷◌, List, Option, Some, None, Result, Ok, Err, Bool, true, false, ap, sym, ◌∙◌, append-nil, inl, inr}
+use Rattle.std.specs.Prelude.{OnErr, IfErr, IfOk, length, slice_get, if◌then◌else◌, ◌+◌}
 use Rattle.st_classes.specs.declared.values.ActorId.{ActorId}
 use Rattle.st_classes.specs.declared.values.ClassId.{ClassId}
 use Rattle.st_classes.specs.declared.values.Selector.{Selector}
 use Rattle.st_classes.specs.declared.edits.Edit.TheVariants.{Install}
 use Rattle.st_classes.specs.declared.refusals.Refusal.{Refusal}
 use Rattle.st_classes.specs.declared.refusals.Refusal.TheVariants.{NoMemory, Stale, Changed, HistoryFull}
-use Rattle.st_classes.specs.Refusals.{Rule, first_of}
+use Rattle.st_classes.specs.Refusals.{Rule}
 use Rattle.st_classes.specs.EditLists.{Begins}
 use Rattle.st_turn.specs.Claims.{ClaimView}
 use Rattle.st_mailbox.specs.declared.messages.Message.{Message}

@@ -1,5 +1,5 @@
 -- What a schedule sees of the steps and the commit of a claim.
-use Rattle.std.proofs.Common.{◌≡◌, ◌++◌, ℕ, List, Option, Some, None, Result, Ok, Err, refl, ap, sym, ◌∙◌}
+use Rattle.std.proofs.Common.{◌≡◌, ℕ, Option, Result, Ok, Err, refl, ap}
 use Rattle.std.specs.declared.alloc.AllocError.{AllocError}
 use Rattle.st_classes.specs.declared.values.Selector.{Selector}
 use Rattle.st_classes.specs.declared.refusals.Refusal.{Refusal}
@@ -10,7 +10,7 @@ use Rattle.st_turn.specs.declared.body.Stop.TheVariants.{More, Ended, Outer, Lim
 use Rattle.st_turn.specs.Claims.{ClaimView}
 use Rattle.st_turn.specs.WorkerSteps.{Steps}
 use Rattle.st_image.specs.Images.{ImageView}
-use Rattle.st_image.specs.Commits.{ChecksOut, Commits}
+use Rattle.st_image.specs.Commits.{Commits}
 use Rattle.st_system.specs.declared.events.Answer.{Answer}
 use Rattle.st_system.specs.Schedules.{BareClaim, bare}
 use Rattle.st_system.specs.ClaimEvents.{CommitsClaim, TakesOne, handed_back, told_of_commit}

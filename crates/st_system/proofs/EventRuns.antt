@@ -1,5 +1,5 @@
 -- Rows of events, one event more.
-use Rattle.std.proofs.Common.{◌≡◌, ◌++◌, [], ◌∷◌, List, Result, refl, subst}
+use Rattle.std.proofs.Common.{◌++◌, [], ◌∷◌, List, Result, refl, subst}
 use Rattle.st_classes.specs.declared.refusals.Refusal.{Refusal}
 use Rattle.st_system.specs.declared.events.Answer.{Answer}
 use Rattle.st_system.specs.declared.events.Event.{Event}

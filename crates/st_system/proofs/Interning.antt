@@ -1,5 +1,5 @@
 -- What interning answers.
-use Rattle.std.proofs.Common.{◌≡◌, ◌⊎◌, ℕ, List, Option, Some, None, Result, Ok, Err, Bool, false, inl, inr}
+use Rattle.std.proofs.Common.{◌≡◌, ℕ, List, Some, None, Result, Ok, Err, false, inl, inr}
 use Rattle.std.specs.Prelude.{OnErr, OnOk, IfErr, slice_get}
 use Rattle.st_classes.specs.declared.values.Selector.{Selector}
 use Rattle.st_classes.specs.declared.refusals.Refusal.{Refusal}

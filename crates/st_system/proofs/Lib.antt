@@ -5,3 +5,4 @@ pub mod Interning
 pub mod ClaimsSeen
 pub mod WorkersActing
 pub mod EventRuns
+pub mod Uncommitting

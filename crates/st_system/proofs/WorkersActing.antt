@@ -1,5 +1,5 @@
 -- An event of a worker, seen in its place among the workers, is one of the schedule.
-use Rattle.std.proofs.Common.{◌≡◌, ℕ, ◌≤◌, ◌<◌, List, Option, Some, None, Result, Ok, Err, refl, ap, sym, ◌∙◌, subst, map}
+use Rattle.std.proofs.Common.{◌≡◌, ℕ, ◌≤◌, Option, Some, None, Result, Err, refl, ap, sym, ◌∙◌, subst, map}
 use Rattle.std.specs.Prelude.{length, slice_get, slice_set}
 use Rattle.std.specs.Option.{option_map}
 use Rattle.std.proofs.lemmas.Option.{slice_get-map, slice_get_past}
@@ -8,7 +8,7 @@ use Rattle.st_classes.specs.declared.refusals.Refusal.{Refusal}
 use Rattle.st_classes.specs.declared.refusals.Refusal.TheVariants.{BadArguments}
 use Rattle.st_image.specs.Images.{ImageView}
 use Rattle.st_system.specs.declared.events.Answer.{Answer}
-use Rattle.st_system.specs.Schedules.{BareClaim, Schedule, claim_of, schedule}
+use Rattle.st_system.specs.Schedules.{BareClaim, claim_of, schedule}
 use Rattle.st_system.specs.Seats.{SeatView, SystemView}
 use Rattle.st_system.specs.ImageEvents.{OfImage, told}
 use Rattle.st_system.specs.ClaimEvents.{AtWorker}

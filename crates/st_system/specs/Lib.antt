@@ -3,3 +3,4 @@ pub mod Seats
 pub mod ClaimEvents
 pub mod ImageEvents
 pub mod Acts
+pub mod Uncommitted

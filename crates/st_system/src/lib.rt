@@ -8,5 +8,6 @@
 mod calls;
 mod copies;
 pub mod events;
+pub mod laws;
 pub mod seat;
 pub mod system;

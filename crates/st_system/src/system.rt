@@ -3,6 +3,7 @@
 ghost use Rattle.std.specs.Prelude.{◌≡◌, All, IfOk, length, map};
 ghost use Rattle.st_image.specs.Delivery.{HasDelivered};
 ghost use Rattle.st_image.specs.Images.{world};
+ghost use Rattle.st_image.specs.RanTargets.{EachStepRan};
 ghost use Rattle.st_image.specs.WorldInvariant.{IsLawful};
 ghost use Rattle.st_system.specs.Acts.{Acts, Leads};
 ghost use Rattle.st_system.specs.Schedules.{schedule};
@@ -88,15 +89,18 @@ impl<M: Mailbox, G: Guard> System<M, G> {
         }
     }
 
-    /// What is true of every system: its image is the replay of its history and has delivered, and each worker's caches are
-    /// valid at the list of edits that they keep.
+    /// What is true of every system: its image is the replay of its history and has delivered; each step in that history which
+    /// sent a message has run what the walk finds at the class table of its place; and each worker's caches are valid at the list
+    /// of edits that they keep.
     pub fn known(&self)
         ensures replay { IsLawful self.now.image }
         ensures delivered { HasDelivered self.now.image }
+        ensures sent { EachStepRan self.now.image }
         ensures caches { All (λ s. AreValidWhereKept G.count G.floor s.caches) self.now.seats }
     {
         self.image.known();
         self.image.delivered();
+        self.image.sends_ran();
         self.caches_known();
     }
 
@@ -140,6 +144,7 @@ impl<M: Mailbox, G: Guard> System<M, G> {
         ensures led { Leads (schedule self.old) events.now (schedule self.new) }
         ensures replay { IsLawful self.new.image }
         ensures delivered { HasDelivered self.new.image }
+        ensures sent { EachStepRan self.new.image }
         ensures caches { All (λ s. AreValidWhereKept G.count G.floor s.caches) self.new.seats }
     {
         for event in events {

@@ -1,5 +1,4 @@
-use Rattle.std.proofs.Common.{refl, sym, ap, subst, List, Ok, Err}
-use Rattle.st_classes.specs.declared.edits.Edit.{Edit}
+use Rattle.std.proofs.Common.{refl, Ok, Err}
 use Rattle.st_classes.specs.declared.refusals.Refusal.TheVariants.{NoMemory}
 use Rattle.st_system.proofs.ClaimsSeen.{takes_none, takes_one}
 use Rattle.st_system.proofs.Seats.{begins_by, kept_of_claim}

@@ -2,7 +2,6 @@ use Rattle.std.proofs.Common.{sym, subst, List}
 use Rattle.st_classes.specs.declared.edits.Edit.{Edit}
 use Rattle.st_classes.specs.EditLists.{Begins}
 use Rattle.st_image.specs.Images.{world}
-use Rattle.st_guard.specs.Moves.{CachesView}
 use Rattle.st_system.specs.Seats.{KeepsBeginning, SeatView}
 use Rattle.st_system.proofs.Seats.{kept_later}
 use Rattle.st_system.proofs.seat.Seat.check_out.Goals as goal

@@ -1,4 +1,4 @@
-use Rattle.std.proofs.Common.{rules, arith, ◌≡◌, ◌≤◌, ◌∙◌, All, List, ap, length, subst, sym, take}
+use Rattle.std.proofs.Common.{rules, ◌≡◌, ◌≤◌, ◌∙◌, All, List, ap, length, subst}
 use Rattle.std.proofs.lemmas.List.{take_all}
 use Rattle.st_system.specs.Seats.{AreValidWhereKept, SeatView, SystemView}
 use Rattle.st_system.proofs.system.System.caches_known.Goals as goal

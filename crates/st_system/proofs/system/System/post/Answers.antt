@@ -1,5 +1,5 @@
 use Rattle.std.proofs.lemmas.Result.{err_from_is_err_and}
-use Rattle.std.proofs.Common.{refl, subst, sym, inr, List, Err}
+use Rattle.std.proofs.Common.{refl, subst, inr, List, Err}
 use Rattle.st_classes.specs.declared.values.Value.{Value}
 use Rattle.st_image.specs.Calls.{Posts}
 use Rattle.st_image.specs.Images.{world}

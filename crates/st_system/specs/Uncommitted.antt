@@ -1,0 +1,52 @@
+-- What the events of workers leave in the image, where nothing is committed.
+use Rattle.std.specs.Prelude.{◌≡◌, ◌≤◌, ◌+◌, ◌++◌, ℕ, List, [], ◌∷◌, length, map, Bool, true, false, Result}
+use Rattle.std.specs.List.{list_all}
+use Rattle.st_classes.specs.declared.values.ActorId.{ActorId}
+use Rattle.st_classes.specs.declared.refusals.Refusal.{Refusal}
+use Rattle.st_image.specs.declared.items.Item.TheVariants.{Begun}
+use Rattle.st_image.specs.Images.{ImageView}
+use Rattle.st_image.specs.Commits.{with_out}
+use Rattle.st_system.specs.declared.events.Answer.{Answer}
+use Rattle.st_system.specs.declared.events.Event.{Event}
+use Rattle.st_system.specs.declared.events.Event.TheVariants.{Checkout, Local, Release, Forget}
+use Rattle.st_system.specs.Schedules.{Schedule}
+use Rattle.st_system.specs.Acts.{Acts, Leads}
+
+-- an event of a worker that is neither a checkout nor a commit
+abbrev pub is_apart : Event → Bool
+is_apart (Local w) = true
+is_apart (Release w) = true
+is_apart (Forget w) = true
+is_apart _ = false
+
+-- an event of a worker that is no commit
+abbrev pub is_uncommitted : Event → Bool
+is_uncommitted (Checkout w a) = true
+is_uncommitted e = is_apart e
+
+-- how many of the events are checkouts
+abbrev pub checkouts : List Event → ℕ
+checkouts [] = 0
+checkouts (Checkout w a ∷ es) = checkouts es + 1
+checkouts (_ ∷ es) = checkouts es
+
+-- turns have begun, no more than so many, and nothing else has happened: the history has their beginnings behind it, and
+-- the base, the names and the statistics are the same
+pub record OnlyBegins (most : ℕ) (i j : ImageView) : Type 0 where
+  pub begun : List ActorId
+  pub few : length begun ≤ most
+  pub history : j.history ≡ i.history ++ map Begun begun
+  pub base : j.base ≡ i.base
+  pub names : j.names ≡ i.names
+  pub tallies : j.standing.tallies ≡ i.standing.tallies
+
+-- Whatever workers do with claims that they have, nothing of the image changes but how many claims are out. A checkout
+-- adds the beginning of one turn at most. So events of workers without commits leave the beginnings of turns in the
+-- image, one for each checkout at most, and nothing else.
+pub record LeavesNothing : Type 0 where
+  pub apart : (S T : Schedule) (es : List Event) →
+      list_all is_apart es ≡ true → Leads S es T → T.image ≡ with_out S.image T.image
+  pub checkout : (S T : Schedule) (w : ℕ) (a : ActorId) (r : Result Answer Refusal) →
+      Acts S (Checkout w a) r T → OnlyBegins 1 S.image T.image
+  pub uncommitted : (S T : Schedule) (es : List Event) →
+      list_all is_uncommitted es ≡ true → Leads S es T → OnlyBegins (checkouts es) S.image T.image

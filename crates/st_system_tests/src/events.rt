@@ -1,0 +1,231 @@
+//! Events of a system of two workers, and what they answer.
+use crate::systems::*;
+use st_classes::kernel::SMALL_INTEGER;
+use st_classes::refusals::Refusal;
+use st_classes::values::ClassId;
+use st_system::events::{Answer, Event};
+use std::alloc::{AllocError, Global};
+use std::test::*;
+
+/// The most items of a history where nothing is said.
+const MOST: u32 = 1_000_000;
+
+const UNKNOWN: Answered = Err(Refusal::BadArguments);
+
+const NOTHING: Answered = Err(Refusal::NothingToDo);
+
+const STALE: Answered = Err(Refusal::Stale { version: 4 });
+
+const FULL: Answered = Err(Refusal::HistoryFull);
+
+const THREE: Answered = Ok(Answer::Steps(3));
+
+const NONE: Answered = Ok(Answer::Steps(0));
+
+/// Events of workers that are not there, or that have no claim or one too many.
+const MISPLACED: Rows = &[
+    (Work::Checkout(2), UNKNOWN),
+    (Work::Local(2), UNKNOWN),
+    (Work::Commit(2), UNKNOWN),
+    (Work::Release(2), UNKNOWN),
+    (Work::Forget(2), UNKNOWN),
+    (Work::Local(1), NOTHING),
+    (Work::Commit(1), NOTHING),
+    (Work::Release(1), NOTHING),
+    (Work::Checkout(0), DONE),
+    (Work::Checkout(0), UNKNOWN),
+    (Work::Local(1), NOTHING),
+    (Work::Local(0), STEPPED),
+];
+
+/// Two workers take the same three steps of an actor, each on a claim of its own, and one of them with emptied caches. The first
+/// to commit has taken them.
+const TWO_CLAIMS: Rows = &[
+    (Work::Checkout(0), DONE),
+    (Work::Checkout(1), DONE),
+    (Work::Local(0), STEPPED),
+    (Work::Local(0), STEPPED),
+    (Work::Local(0), STEPPED),
+    (Work::Forget(1), DONE),
+    (Work::Local(1), STEPPED),
+    (Work::Local(1), STEPPED),
+    (Work::Local(1), STEPPED),
+    (Work::Commit(0), THREE),
+    (Work::Commit(1), Err(Refusal::Changed)),
+];
+
+/// A claim of no steps, of an actor whose next step is its own.
+const NO_STEPS: Rows = &[
+    (Work::Checkout(0), DONE),
+    (Work::Commit(0), NONE),
+    (Work::Local(0), NOTHING),
+];
+
+/// A claim of three steps.
+const THREE_STEPS: Rows = &[
+    (Work::Checkout(0), DONE),
+    (Work::Local(0), STEPPED),
+    (Work::Local(0), STEPPED),
+    (Work::Local(0), STEPPED),
+];
+
+/// A claim of an older class table is refused, and spent.
+const STALE_CLAIM: Rows = &[(Work::Commit(0), STALE), (Work::Commit(0), NOTHING)];
+
+/// A commit that the history has no place for is refused again, until the claim is given back.
+const FULL_HISTORY: Rows = &[
+    (Work::Checkout(0), DONE),
+    (Work::Local(0), STEPPED),
+    (Work::Commit(0), FULL),
+    (Work::Commit(0), FULL),
+    (Work::Local(0), STEPPED),
+    (Work::Commit(0), FULL),
+    (Work::Release(0), DONE),
+    (Work::Commit(0), NOTHING),
+    (Work::Checkout(0), DONE),
+    (Work::Commit(0), NONE),
+];
+
+/// The tables behind functions without a contract, so that the proof of a test carries none of them.
+fn misplaced() -> Rows {
+    MISPLACED
+}
+
+fn two_claims() -> Rows {
+    TWO_CLAIMS
+}
+
+fn no_steps() -> Rows {
+    NO_STEPS
+}
+
+fn three_steps() -> Rows {
+    THREE_STEPS
+}
+
+fn stale_claim() -> Rows {
+    STALE_CLAIM
+}
+
+fn full_history() -> Rows {
+    FULL_HISTORY
+}
+
+#[test]
+fn refuses_misplaced_events(rt: HostRuntime) -> Result<(), Fail> {
+    let alloc = rt.alloc();
+    let mut system = new_system(alloc, MOST)?;
+    assert!(rt; is_posted(alloc, &mut system)?);
+    assert_eq!(rt; first_wrong(alloc, &mut system, misplaced()), None);
+    assert!(rt; items(&system) == 6);
+    Ok(())
+}
+
+/// Whether the history ends with one run of three steps, and has no other.
+fn has_run_three(system: &TwoWorkers) -> bool {
+    items(system) == 7 && ends_with_a_run(system, 3)
+}
+
+#[test]
+fn commits_one_of_two_claims(rt: HostRuntime) -> Result<(), Fail> {
+    let alloc = rt.alloc();
+    let mut system = new_system(alloc, MOST)?;
+    assert!(rt; is_posted(alloc, &mut system)?);
+    assert_eq!(rt; first_wrong(alloc, &mut system, two_claims()), None);
+    assert!(rt; has_run_three(&system));
+    assert_eq!(rt; first_wrong(alloc, &mut system, no_steps()), None);
+    assert!(rt; has_run_three(&system));
+    Ok(())
+}
+
+/// Whether a claim of three steps is stale where a method was installed since.
+fn is_stale(alloc: Global, class: ClassId, source: &str) -> Result<bool, Refusal> {
+    let mut system = new_system(alloc, MOST)?;
+    let Ok(true) = is_posted(alloc, &mut system) else {
+        return Ok(false);
+    };
+    let stepped = first_wrong(alloc, &mut system, three_steps());
+    let installed = install(alloc, &mut system, class, source);
+    let refused = first_wrong(alloc, &mut system, stale_claim());
+    Ok(
+        stepped.is_none()
+            && installed == Ok(Answer::Version(4))
+            && refused.is_none()
+            && items(&system) == 7,
+    )
+}
+
+/// The second of two claims is refused, and so is one after an edit, whether its steps sent what was edited or not.
+#[test]
+fn by_events(rt: HostRuntime) -> Result<(), Fail> {
+    let alloc = rt.alloc();
+    let mut system = new_system(alloc, MOST)?;
+    assert!(rt; is_posted(alloc, &mut system)?);
+    assert_eq!(rt; first_wrong(alloc, &mut system, two_claims()), None);
+    for (class, source) in [(SMALL_INTEGER, "tag ^2"), (A, "bump ^0")] {
+        assert!(rt; is_stale(alloc, class, source)?, "{source}");
+    }
+    Ok(())
+}
+
+/// A history of six items has no place for the steps that follow the beginning of a turn.
+#[test]
+fn hands_claims_back(rt: HostRuntime) -> Result<(), Fail> {
+    let alloc = rt.alloc();
+    let mut system = new_system(alloc, 6)?;
+    assert!(rt; is_posted(alloc, &mut system)?);
+    assert_eq!(rt; first_wrong(alloc, &mut system, full_history()), None);
+    assert!(rt; items(&system) == 6 && ends_with_a_beginning(&system));
+    Ok(())
+}
+
+/// Commits a claim, and tries again where memory was refused.
+fn commit(alloc: Global, system: &mut TwoWorkers) -> Answered {
+    match apply(alloc, system, &Event::Commit(0)) {
+        Err(Refusal::NoMemory) => apply(alloc, system, &Event::Commit(0)),
+        answer => answer,
+    }
+}
+
+/// A commit for which memory was refused can be tried again. Memory is refused where this test is run with an allocation that
+/// fails, by `rt try --test --fail-alloc N`.
+#[test]
+fn commits_when_tried_again(rt: HostRuntime) -> Result<(), Fail> {
+    let alloc = rt.alloc();
+    let mut system = new_system(alloc, MOST)?;
+    assert!(rt; is_posted(alloc, &mut system)?);
+    assert_eq!(rt; first_wrong(alloc, &mut system, three_steps()), None);
+    assert!(rt; commit(alloc, &mut system) == THREE);
+    assert!(rt; has_run_three(&system));
+    Ok(())
+}
+
+/// Events, of which the second is refused.
+const RUN: &[Work] = &[
+    Work::Checkout(0),
+    Work::Checkout(0),
+    Work::Local(0),
+    Work::Local(0),
+    Work::Commit(0),
+];
+
+fn events(alloc: Global) -> Result<Vec<Event>, AllocError> {
+    let mut events = Vec::new(alloc);
+    for work in RUN {
+        events.push(event(*work))?;
+    }
+    Ok(events)
+}
+
+/// A run goes on after a refused event.
+#[test]
+fn runs_events(rt: HostRuntime) -> Result<(), Fail> {
+    let alloc = rt.alloc();
+    let mut system = new_system(alloc, MOST)?;
+    assert!(rt; is_posted(alloc, &mut system)?);
+    run(alloc, &mut system, events(alloc)?.as_slice());
+    known(&system);
+    assert!(rt; workers(&system) == 2);
+    assert!(rt; items(&system) == 7 && ends_with_a_run(&system, 2));
+    Ok(())
+}

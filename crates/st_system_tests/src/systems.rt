@@ -1,0 +1,221 @@
+//! A system of two workers and its events. Each call stands behind a function without a contract: what a test does with several of
+//! them is then proved in seconds.
+ghost use Rattle.std.specs.Prelude.{◌≡◌, All, IfOk, List, None};
+ghost use Rattle.st_classes.specs.declared.edits.Edit.{Edit as EditOf};
+ghost use Rattle.st_system.specs.Seats.{KeepsBeginning};
+
+use st_classes::kernel::{OBJECT, SMALL_INTEGER};
+use st_classes::refusals::Refusal;
+use st_classes::seq::Seq;
+use st_classes::values::{ActorId, ClassId, Selector};
+use st_guard::caches::Caches;
+use st_guard::global_guard::GlobalGuard;
+use st_image::image::Image;
+use st_image::items::Item;
+use st_image::settings::Settings;
+use st_mailbox::list_box::ListBox;
+use st_system::events::{Answer, Event};
+use st_system::system::System;
+use st_turn::body::Stop;
+use st_turn::worker::Worker;
+use std::alloc::{AllocError, Global};
+
+/// A system of two workers.
+pub(crate) type TwoWorkers = System<ListBox, GlobalGuard>;
+
+/// What an event answers.
+pub(crate) type Answered = Result<Answer, Refusal>;
+
+/// The only actor.
+pub(crate) const FIRST: ActorId = ActorId(0);
+
+/// The first class of the user's.
+pub(crate) const A: ClassId = ClassId(8);
+
+/// The first name of the user's.
+pub(crate) const GO: Selector = Selector(22);
+
+/// A step was taken.
+pub(crate) const STEPPED: Answered = Ok(Answer::Stopped(Stop::More));
+
+/// It is done.
+pub(crate) const DONE: Answered = Ok(Answer::Done);
+
+/// An event of a worker, of the only actor.
+#[derive(Clone, Copy)]
+pub(crate) enum Work {
+    Checkout(u32),
+    Local(u32),
+    Commit(u32),
+    Release(u32),
+    Forget(u32),
+}
+
+/// Events of workers, each with what it has to answer.
+pub(crate) type Rows = &'static [(Work, Answered)];
+
+pub(crate) fn event(work: Work) -> Event {
+    match work {
+        Work::Checkout(worker) => Event::Checkout {
+            worker,
+            actor: FIRST,
+        },
+        Work::Local(worker) => Event::Local(worker),
+        Work::Commit(worker) => Event::Commit(worker),
+        Work::Release(worker) => Event::Release(worker),
+        Work::Forget(worker) => Event::Forget(worker),
+    }
+}
+
+/// A worker whose caches keep no list of edits.
+fn new_worker(alloc: Global) -> Result<Worker<GlobalGuard>, AllocError>
+    ensures { IfOk result (λ w. w.kept ≡ None) }
+{
+    let mut worker = Worker::new(Caches::new(alloc, GlobalGuard::new())?);
+    worker.forget();
+    Ok(worker)
+}
+
+fn two_workers(alloc: Global) -> Result<Vec<Worker<GlobalGuard>>, AllocError>
+    ensures { IfOk result (λ ws. (edits : List EditOf) → All (KeepsBeginning edits) ws.items) }
+{
+    let first = new_worker(alloc)?;
+    let second = new_worker(alloc)?;
+    Ok(vec![in alloc; first, second]?)
+}
+
+/// A new image with a history of at most so many items, and two workers without claims.
+pub(crate) fn new_system(alloc: Global, history: u32) -> Result<TwoWorkers, Refusal> {
+    let settings = Settings {
+        capacity: 64,
+        history,
+    };
+    let image = Image::new(alloc, settings)?;
+    let Ok(workers) = two_workers(alloc) else {
+        return Err(Refusal::NoMemory);
+    };
+    match System::new(alloc, image, workers) {
+        Ok(system) => Ok(system),
+        Err(_) => Err(Refusal::NoMemory),
+    }
+}
+
+pub(crate) fn apply(alloc: Global, system: &mut TwoWorkers, event: &Event) -> Answered {
+    system.apply(alloc, event)
+}
+
+pub(crate) fn run(alloc: Global, system: &mut TwoWorkers, events: &[Event]) {
+    system.run(alloc, events);
+}
+
+pub(crate) fn known(system: &TwoWorkers) {
+    system.known();
+}
+
+/// How many workers there are.
+pub(crate) fn workers(system: &TwoWorkers) -> usize {
+    system.workers()
+}
+
+/// How many items the history has.
+pub(crate) fn items(system: &TwoWorkers) -> usize {
+    system.image().history().len()
+}
+
+/// Whether the history ends with the beginning of a turn of the actor, and so many steps of it in one item.
+pub(crate) fn ends_with_a_run(system: &TwoWorkers, wanted: u32) -> bool {
+    match system.image().history() {
+        [.., Item::Begun(begun), Item::Ran { actor, steps }] => {
+            *begun == FIRST && *actor == FIRST && *steps == wanted
+        }
+        _ => false,
+    }
+}
+
+/// Whether the history ends with the beginning of a turn of the actor.
+pub(crate) fn ends_with_a_beginning(system: &TwoWorkers) -> bool {
+    match system.image().history() {
+        [.., Item::Begun(begun)] => *begun == FIRST,
+        _ => false,
+    }
+}
+
+/// The place, from 0, of the first event that does not answer as it has to.
+pub(crate) fn first_wrong(alloc: Global, system: &mut TwoWorkers, rows: Rows) -> Option<usize> {
+    for (place, (work, wanted)) in rows.iter().enumerate() {
+        if apply(alloc, system, &event(*work)) != *wanted {
+            return Some(place);
+        }
+    }
+    None
+}
+
+fn text(alloc: Global, text: &str) -> Result<Seq<u8>, AllocError> {
+    Ok(Seq::from_vec(Vec::from_slice(alloc, text.as_bytes())?))
+}
+
+/// A class A without instance variables is defined.
+fn define(alloc: Global) -> Result<Event, AllocError> {
+    Ok(Event::Define {
+        name: text(alloc, "A")?,
+        parent: OBJECT,
+        slots: Seq::from_vec(Vec::new(alloc)),
+    })
+}
+
+fn install_event(alloc: Global, class: ClassId, source: &str) -> Result<Event, AllocError> {
+    Ok(Event::Install {
+        class,
+        source: text(alloc, source)?,
+    })
+}
+
+/// A method is installed.
+pub(crate) fn install(
+    alloc: Global,
+    system: &mut TwoWorkers,
+    class: ClassId,
+    source: &str,
+) -> Answered {
+    match install_event(alloc, class, source) {
+        Ok(event) => apply(alloc, system, &event),
+        Err(_) => Err(Refusal::NoMemory),
+    }
+}
+
+/// The message `go` of client 1, whose number is 1.
+fn post(alloc: Global) -> Event {
+    Event::Post {
+        sender: 1,
+        seq: 1,
+        actor: FIRST,
+        selector: GO,
+        args: Seq::from_vec(Vec::new(alloc)),
+    }
+}
+
+/// A class with a method that sends `tag` to a number, and its number.
+fn has_classes(alloc: Global, system: &mut TwoWorkers) -> Result<bool, AllocError> {
+    let defined = apply(alloc, system, &define(alloc)?);
+    let go = install(alloc, system, A, "go ^3 tag + 1");
+    let tag = install(alloc, system, SMALL_INTEGER, "tag ^1");
+    let name = apply(alloc, system, &Event::Intern(text(alloc, "go")?));
+    Ok(
+        defined == Ok(Answer::Version(1))
+            && go == Ok(Answer::Version(2))
+            && tag == Ok(Answer::Version(3))
+            && name == Ok(Answer::Interned(GO)),
+    )
+}
+
+/// Whether an actor of the class is made and gets a message that runs the method. The history has five items then.
+fn has_posted(alloc: Global, system: &mut TwoWorkers) -> bool {
+    let actor = apply(alloc, system, &Event::Create(A));
+    let place = apply(alloc, system, &post(alloc));
+    actor == Ok(Answer::Created(FIRST)) && place == Ok(Answer::Position(1))
+}
+
+/// Whether these events answer as they have to: class A gets a method `go`, and an actor of A a message that runs it.
+pub(crate) fn is_posted(alloc: Global, system: &mut TwoWorkers) -> Result<bool, AllocError> {
+    Ok(has_classes(alloc, system)? && has_posted(alloc, system))
+}

@@ -11,11 +11,10 @@ use std::alloc::Global;
 
 impl<M: Mailbox> Image<M> {
     ghost use Rattle.std.specs.Prelude.{◌≡◌, ◌≢◌, ◌↔◌, ◌<◌, IsTrue, None, MatchOption, IfErr, OnOk};
-    ghost use Rattle.std.specs.Bool.{OnTrue};
     ghost use Rattle.st_classes.specs.EditLists.{Begins};
     ghost use Rattle.st_image.specs.Images.{world};
     ghost use Rattle.st_image.specs.Changes.{changes_in};
-    ghost use Rattle.st_image.specs.Commits.{Commits, CommitAllowed, CommitRefused, HasCommitted, IsAsBefore, IsUnchanged, KnowsBody, RefusesCommit, act_site, steps_of};
+    ghost use Rattle.st_image.specs.Commits.{Commits, CommitAllowed, CommitRefused, HasCommitted, IsAsBefore, IsUnchanged, KnowsBody, RefusesCommit, Survives, act_site, steps_of};
 
     /// Whether the body of an actor was changed as often as the stamp of a claim says.
     fn is_stamped(&self, claim: &Claim) -> bool
@@ -34,32 +33,25 @@ impl<M: Mailbox> Image<M> {
         }
     }
 
-    /// Whether an actor is there and has the body that a claim began with. Where the stamp of the claim is known to tell its body,
-    /// the bodies are not compared while it is the actor's.
-    fn is_unchanged(&self, claim: &Claim, known: bool) -> bool
-        requires { OnTrue known (KnowsBody self.now claim.now) }
-        ensures { IsTrue result ↔ IsUnchanged self.now claim.now }
-    {
-        if known && self.is_stamped(claim) {
-            return true;
-        }
-        self.has_body(claim)
-    }
-
-    /// Why the commit of a claim is refused, if it is.
-    fn commit_refusal(&self, claim: &Claim, known: bool, steps: u32) -> Option<Refusal>
-        requires begins { Begins claim.now.edits (world self.now).edits }
-        requires body { OnTrue known (KnowsBody self.now claim.now) }
-        requires steps { steps ≡ steps_of claim.now }
-        ensures { MatchOption result (CommitAllowed self.now claim.now) (λ e. CommitRefused self.now claim.now e) }
+    /// Why a claim whose edits begin those of the class table is stale, if it is.
+    fn stale_refusal(&self, claim: &Claim) -> Option<Refusal>
+        requires { Begins claim.now.edits (world self.now).edits }
+        ensures { MatchOption result (Survives self.now claim.now) (λ e. CommitRefused self.now claim.now e) }
     {
         let version = self.version().edits();
         if claim.token().shown().edits() != version {
             return Some(Refusal::Stale { version });
         }
-        if !self.is_unchanged(claim, known) {
-            return Some(Refusal::Changed);
-        }
+        None
+    }
+
+    /// Why the history has no place for what a commit adds, if it has none.
+    fn full_refusal(&self, claim: &Claim, steps: u32) -> Option<Refusal>
+        requires survives { Survives self.now claim.now }
+        requires unchanged { IsUnchanged self.now claim.now }
+        requires steps { steps ≡ steps_of claim.now }
+        ensures { MatchOption result (CommitAllowed self.now claim.now) (λ e. CommitRefused self.now claim.now e) }
+    {
         self.room_refusal(if steps == 0 { 0 } else { 1 })
     }
 
@@ -140,20 +132,19 @@ impl<M: Mailbox> Image<M> {
         (refusal, None)
     }
 
-    /// Commits a claim whose edits begin those of the class table, and whose stamp tells its body where that is known.
-    fn commit_by(
+    /// Commits a claim of the present class table, whose actor still has the body that it began with.
+    fn commit_unchanged(
         &mut self,
         alloc: Global,
         claim: Claim,
-        known: bool,
     ) -> Result<u32, (Refusal, Option<Claim>)>
-        requires begins { Begins claim.edits (world self.old).edits }
-        requires body { OnTrue known (KnowsBody self.old claim) }
+        requires survives { Survives self.old claim }
+        requires unchanged { IsUnchanged self.old claim }
         ensures { Commits self.old claim result self.new }
     {
         claim.known();
         let steps = Self::steps_to_commit(&claim);
-        if let Some(refusal) = self.commit_refusal(&claim, known, steps) {
+        if let Some(refusal) = self.full_refusal(&claim, steps) {
             return Err(self.refuse(claim, refusal));
         }
         if steps == 0 {
@@ -177,7 +168,13 @@ impl<M: Mailbox> Image<M> {
         requires body { KnowsBody self.old claim }
         ensures { Commits self.old claim result self.new }
     {
-        self.commit_by(alloc, claim, true)
+        if let Some(refusal) = self.stale_refusal(&claim) {
+            return Err(self.refuse(claim, refusal));
+        }
+        if !self.is_stamped(&claim) && !self.has_body(&claim) {
+            return Err(self.refuse(claim, Refusal::Changed));
+        }
+        self.commit_unchanged(alloc, claim)
     }
 
     /// The steps of a claim become the actor's, and enter the history as one item; no item is added for no steps. Where the claim
@@ -193,6 +190,12 @@ impl<M: Mailbox> Image<M> {
             let version = self.version().edits();
             return Err(self.refuse(claim, Refusal::Stale { version }));
         }
-        self.commit_by(alloc, claim, false)
+        if let Some(refusal) = self.stale_refusal(&claim) {
+            return Err(self.refuse(claim, refusal));
+        }
+        if !self.has_body(&claim) {
+            return Err(self.refuse(claim, Refusal::Changed));
+        }
+        self.commit_unchanged(alloc, claim)
     }
 }

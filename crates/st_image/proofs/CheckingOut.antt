@@ -36,6 +36,7 @@ use Rattle.st_image.specs.ImageInvariant.{CanRun, IsImage}
 use Rattle.st_image.specs.declared.tallies.Tally.{Tally}
 use Rattle.st_image.specs.ClaimsOut.{one_more}
 use Rattle.st_turn.specs.Claims.{ClaimView}
+use Rattle.st_image.specs.Changes.{changes_in}
 use Rattle.st_image.specs.Commits.{HasCheckedOut, after_checkout, checkout_rules, idle_at, new_claim, with_out}
 use Rattle.st_image.proofs.Lists.{off, set_at_same}
 use Rattle.st_image.proofs.Changing.{change_here, get-change, length-change}
@@ -145,19 +146,19 @@ checked_by i a true e = rw e refl
 checked_by i a false e = rw e (ap (λ (x : List Item). let b : ImageView = record i { history = x; standing = record i.standing { next_from = a.0 + 1 } } in b) (sym (append-nil i.history)))
 
 -- what callers see of a checkout
-pub checked : (base : World) (names : List (List ℕ)) (edits : List Edit) (actors : List ActorView) (h : List Item) (made : ℕ) (s : Settings) (n : ℕ) (out : List ℕ) (rows : List (List Tally)) (a : ActorId) (k : ActorView) (t : Bool) (c : ClaimView)
+pub checked : (base : World) (names : List (List ℕ)) (edits : List Edit) (actors : List ActorView) (h : List Item) (made : ℕ) (s : Settings) (n : ℕ) (out : List ℕ) (rows : List (List Tally)) (a : ActorId) (k : ActorView) (t : Bool) (c : ClaimView) (stamp : ℕ)
     → IsImage base names edits actors h made s → slice_get actors a.0 ≡ Some k → a.0 < length out → is_idle k.body.phase ≡ t
     → IsOut base names edits (change_at view_checked_out a.0 actors) (h ++ begun_items t a) made s a (view_checked_out k).body
-    → c ≡ new_claim edits a (view_checked_out k).body
+    → c ≡ new_claim edits a (view_checked_out k).body stamp → stamp ≡ changes_in (h ++ begun_items t a) a.0
     → HasCheckedOut (seen base names h s (standing_of n out rows)) a c (seen base names (h ++ begun_items t a) s (standing_of (a.0 + 1) (change_at one_more a.0 out) rows))
-checked base names edits actors h made s n out rows a k t c i at within e o claim =
+checked base names edits actors h made s n out rows a k t c stamp i at within e o claim stamped =
     let old : ImageView = seen base names h s (standing_of n out rows) in
     let new : ImageView = seen base names (h ++ begun_items t a) s (standing_of (a.0 + 1) (change_at one_more a.0 out) rows) in
     let was : idle_at (slice_get (world old).actors a.0) ≡ t = idle_there edits actors (world old) a k i.shows at ∙ e in
     record {
       body = (view_checked_out k).body;
       there = ap (option_map (λ (b : WorldActor). b.body)) o.there ∙ ap Some o.has;
-      claim = claim ∙ ap (λ (es : List Edit). new_claim es a (view_checked_out k).body) i.shows.edits_are;
+      claim = claim ∙ ap (λ (es : List Edit). new_claim es a (view_checked_out k).body stamp) i.shows.edits_are ∙ ap (new_claim (world old).edits a (view_checked_out k).body) stamped;
       image = ap (λ (x : ImageView). with_out x new) (sym (checked_by old a t was));
       counted = counts_out one_more a old new out (change_at one_more a.0 out) refl refl refl (inl within);
     }

@@ -38,6 +38,9 @@ pub mod Acts
 pub mod Outer
 pub mod CountingOut
 pub mod CheckingOut
+pub mod BodyChanges
+pub mod CountingChanges
+pub mod KnownBodies
 pub mod Committing
 pub mod GrowingEdits
 pub mod RanSteps

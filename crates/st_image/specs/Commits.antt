@@ -1,5 +1,5 @@
 -- Checkouts, commits and releases of claims.
-use Rattle.std.specs.Prelude.{◌≡◌, ◌≢◌, ℕ, ◌+◌, ◌==◌, ◌&&◌, List, [], ◌∷◌, length, Bool, true, Option, Some, None, Result, Ok, Err, OnErr, nat_lt, if◌then◌else◌, slice_get, option_and_then}
+use Rattle.std.specs.Prelude.{◌≡◌, ◌≢◌, ◌≤◌, ℕ, ◌+◌, ◌==◌, ◌&&◌, List, [], ◌∷◌, length, Bool, true, Option, Some, None, Result, Ok, Err, OnErr, nat_lt, if◌then◌else◌, slice_get, option_and_then}
 use Rattle.std.specs.Option.{option_map}
 use Rattle.st_classes.specs.declared.values.ActorId.{ActorId}
 use Rattle.st_classes.specs.declared.keys.SiteId.{SiteId}
@@ -16,6 +16,7 @@ use Rattle.st_image.specs.declared.items.Item.TheVariants.{Begun, Ran}
 use Rattle.st_image.specs.Worlds.{WorldActor, pending}
 use Rattle.st_image.specs.Images.{ImageView, appended, no_room, world}
 use Rattle.st_image.specs.Calls.{AnswersExactly}
+use Rattle.st_image.specs.Changes.{changes_in}
 use Rattle.st_image.specs.ClaimsOut.{claims_of, one_less, one_more}
 use Rattle.st_image.specs.Tallies.{SameTallies, Tallied}
 
@@ -56,15 +57,16 @@ after_checkout i a =
     let begun = if idle_at (slice_get (world i).actors a.0) then appended i (Begun a ∷ []) else i in
     record begun { standing = record begun.standing { next_from = a.0 + 1 } }
 
--- the claim of no steps on a body
-abbrev pub new_claim : List Edit → ActorId → Body → ClaimView
-new_claim edits a b = record { actor = a; edits = edits; before = b; after = b; steps = 0; sends = [] }
+-- the claim of no steps on a body, with a stamp
+abbrev pub new_claim : List Edit → ActorId → Body → ℕ → ClaimView
+new_claim edits a b stamp =
+    record { actor = a; edits = edits; before = b; after = b; steps = 0; sends = []; stamp = stamp }
 
--- the claim is on the actor's body as it is then, at the present table
+-- the claim is on the actor's body as it is then, at the present table; its stamp is how often that body was changed
 pub record HasCheckedOut (i : ImageView) (a : ActorId) (c : ClaimView) (j : ImageView) : Type 0 where
   pub body : Body
   pub there : body_at j a ≡ Some body
-  pub claim : c ≡ new_claim (world i).edits a body
+  pub claim : c ≡ new_claim (world i).edits a body (changes_in j.history a.0)
   pub image : j ≡ with_out (after_checkout i a) j
   pub counted : CountsOut one_more a i j
 
@@ -100,6 +102,18 @@ Survives i c = c.edits ≡ (world i).edits
 -- the actor is there, and its body is the one that the claim began with
 abbrev pub IsUnchanged : ImageView → ClaimView → Type 0
 IsUnchanged i c = body_at i c.actor ≡ Some c.before
+
+-- The stamp of a claim tells the body with which it began: the actor's body was changed so often by then, and it has been
+-- changed no more where it was changed no oftener.
+pub record KnowsBody (i : ImageView) (c : ClaimView) : Type 0 where
+  pub early : c.stamp ≤ changes_in i.history c.actor.0
+  pub same : c.stamp ≡ changes_in i.history c.actor.0 → IsUnchanged i c
+
+-- One image goes on in another: each actor's body was changed no less often there, and is still the same where it was
+-- changed no more often.
+abbrev pub BodiesLast : ImageView → ImageView → Type 0
+BodiesLast i j = (a : ActorId) → (changes_in i.history a.0 ≤ changes_in j.history a.0)
+    × ((b : Body) → changes_in j.history a.0 ≡ changes_in i.history a.0 → body_at i a ≡ Some b → body_at j a ≡ Some b)
 
 -- why the history has no place for what a commit adds, if it has none
 abbrev pub commit_room : ImageView → ClaimView → Option Refusal

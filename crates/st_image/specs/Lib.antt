@@ -1,6 +1,7 @@
 pub mod Worlds
 pub mod PostRules
 pub mod Replay
+pub mod Changes
 pub mod ClaimsOut
 pub mod Images
 pub mod Senders

@@ -1,5 +1,6 @@
 //! The image: construction, readers, interning and new actors. Edits, installs, posts, closing, turns and the list of
 //! clients are in image/.
+ghost use Rattle.st_image.specs.Changes.{BodiesStay};
 ghost use Rattle.st_image.specs.Delivery.{Delivers};
 ghost use Rattle.st_image.specs.OneClaim.{CountsOnItsBody};
 ghost use Rattle.st_image.specs.WorldInvariant.{NamesMayGrow};
@@ -16,6 +17,7 @@ mod stating;
 
 use crate::actor::Actor;
 use crate::actors::Actors;
+use crate::changes::Changes;
 use crate::clients::Clients;
 use crate::items::Item;
 use crate::settings::Settings;
@@ -45,6 +47,11 @@ pub fn names_may_grow()
     ensures { NamesMayGrow }
 {}
 
+/// An actor's body is changed by the beginning of its messages and by its own steps alone.
+pub fn bodies_stay()
+    ensures { BodiesStay }
+{}
+
 /// The steps of a claim count only if its actor still has the body that the claim began with. So after a commit that changed the
 /// body, a second claim on the body before is refused as `Changed`.
 pub fn one_claim_counts()
@@ -70,6 +77,7 @@ pub struct Image<M: Mailbox> {
     /// The number from which the next ready actor is looked for.
     next_from: u32,
     tallies: Tallies,
+    changes: Changes,
 }
 
 impl<M: Mailbox> Model for Image<M> {
@@ -83,7 +91,7 @@ impl<M: Mailbox> Model for Image<M> {
 
     ghost view = { λ i. record { base = start; names = i.names; history = i.history.items; capacity = i.settings.capacity; most_items = i.settings.history; standing = record { next_from = i.next_from; claims_out = trimmed i.actors.out; tallies = i.tallies } } };
 
-    ghost invariant = { λ i. HoldsImage start i.names i.token i.actors.kept i.history.items i.edits_made i.settings i.clients i.tallies };
+    ghost invariant = { λ i. HoldsImage start i.names i.token i.actors.kept i.history.items i.edits_made i.settings i.clients i.tallies i.changes };
 }
 
 impl<M: Mailbox> Image<M> {
@@ -131,6 +139,7 @@ impl<M: Mailbox> Image<M> {
             settings,
             next_from: 0,
             tallies: Tallies::new(alloc),
+            changes: Changes::new(alloc),
         })
     }
 

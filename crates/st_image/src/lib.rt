@@ -7,6 +7,7 @@
 mod acting;
 mod actor;
 mod actors;
+mod changes;
 mod clients;
 pub mod image;
 pub mod items;

@@ -2,6 +2,7 @@
 ghost use Rattle.std.specs.Prelude.{◌≡◌, ◌≤◌, false, Ok, Err, IfOk, IfErr, IfSome, MatchOption, MatchResult};
 ghost use Rattle.st_classes.specs.EditLists.{Begins};
 ghost use Rattle.st_turn.specs.Idle.{is_idle};
+ghost use Rattle.st_image.specs.Commits.{KnowsBody};
 ghost use Rattle.st_image.specs.Images.{world};
 ghost use Rattle.st_server.specs.CommandReplies.{Asks};
 ghost use Rattle.st_server.specs.Runners.{AreNew, NextAdvances, NoneReady, Settles, TakesQuantum, Works, quantum_answer};
@@ -45,9 +46,10 @@ fn new_worker(alloc: Global) -> Result<Worker, AllocError>
     Ok(Worker::new(caches))
 }
 
-/// Commits a claim, whose edits begin the image's, and releases it where it is handed back.
+/// Commits a claim, whose edits begin the image's and whose stamp tells its body, and releases it where it is handed back.
 fn settle(alloc: Global, image: &mut Image, claim: Claim) -> Result<u32, Refusal>
-    requires { Begins claim.edits (world image.old).edits }
+    requires begins { Begins claim.edits (world image.old).edits }
+    requires body { KnowsBody image.old claim }
     ensures { Settles image.old claim result image.new }
 {
     match image.commit_known(alloc, claim) {
@@ -81,6 +83,7 @@ fn work(
 ) -> Result<u32, Refusal>
     requires follows { IfSome worker.old.kept (λ k. Begins k claim.edits) }
     requires begins { Begins claim.edits (world image.old).edits }
+    requires body { KnowsBody image.old claim }
     ensures works { Works quantum (record { image = image.old; caches = worker.old }) claim result (record { image = image.new; caches = worker.new }) }
     ensures kept { IfSome worker.new.kept (λ k. k ≡ claim.edits) }
     ensures some { is_idle claim.before.phase ≡ false → IfOk result (λ n. 1 ≤ n) }

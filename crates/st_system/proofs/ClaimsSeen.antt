@@ -1,5 +1,5 @@
 -- What a schedule sees of the steps and the commit of a claim.
-use Rattle.std.proofs.Common.{◌≡◌, ℕ, Option, Result, Ok, Err, refl, ap}
+use Rattle.std.proofs.Common.{◌≡◌, ℕ, Option, Result, Ok, Err, refl, ap, sym, subst}
 use Rattle.std.specs.declared.alloc.AllocError.{AllocError}
 use Rattle.st_classes.specs.declared.values.Selector.{Selector}
 use Rattle.st_classes.specs.declared.refusals.Refusal.{Refusal}
@@ -7,7 +7,7 @@ use Rattle.st_classes.specs.declared.refusals.Refusal.TheVariants.{NoMemory}
 use Rattle.st_guard.specs.Moves.{CachesView}
 use Rattle.st_turn.specs.declared.body.Stop.{Stop}
 use Rattle.st_turn.specs.declared.body.Stop.TheVariants.{More, Ended, Outer, Limit}
-use Rattle.st_turn.specs.Claims.{ClaimView}
+use Rattle.st_turn.specs.Claims.{BeganAs, ClaimView}
 use Rattle.st_turn.specs.WorkerSteps.{Steps}
 use Rattle.st_image.specs.Images.{ImageView}
 use Rattle.st_image.specs.Commits.{Commits}
@@ -28,4 +28,8 @@ takes_none c d h = (refl, ap bare h)
 
 -- a commit
 pub commits_claim : (i j : ImageView) (c : ClaimView) (result : Result ℕ (Refusal × Option ClaimView)) (r : Result Answer Refusal) (left : Option BareClaim) → Commits i c result j → r ≡ told_of_commit result → left ≡ handed_back result → CommitsClaim i (bare c) r j left
-commits_claim i j c result r left h e k = (c.sends, result, e, h, k)
+commits_claim i j c result r left h e k = (c.sends, c.stamp, result, e, h, k)
+
+-- a claim that stayed began as it did
+pub began_same : (c d : ClaimView) → d ≡ c → BeganAs c d
+began_same c d e = subst (BeganAs c) (sym e) (record { actor = refl; edits = refl; before = refl; stamp = refl })

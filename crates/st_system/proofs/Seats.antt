@@ -1,13 +1,15 @@
--- Workers fit their image also after later edits.
-use Rattle.std.proofs.Common.{◌≡◌, ◌⊎◌, ℕ, [], ◌++◌, List, Option, Some, None, ap, sym, ◌∙◌, subst, append_assoc, append-nil, inl, inr}
+-- Workers fit their image also where it goes on.
+use Rattle.std.proofs.Common.{refl, ◌≡◌, ◌⊎◌, ℕ, [], ◌++◌, List, Option, Some, None, ap, sym, ◌∙◌, subst, append_assoc, append-nil, inl, inr}
 use Rattle.std.specs.Prelude.{All, map, slice_set}
 use Rattle.std.specs.Option.{IfSome}
 use Rattle.std.proofs.lemmas.List.Elements.{All-map, All-set, All-weaker}
 use Rattle.st_classes.specs.declared.edits.Edit.{Edit}
 use Rattle.st_classes.specs.EditLists.{Begins}
 use Rattle.st_guard.specs.Moves.{CachesView}
-use Rattle.st_turn.specs.Claims.{ClaimView}
-use Rattle.st_system.specs.Seats.{CanFollow, FitsSeat, KeepsBeginning, SeatView, new_seat}
+use Rattle.st_turn.specs.Claims.{BeganAs, ClaimView}
+use Rattle.st_image.specs.Images.{ImageView, world}
+use Rattle.st_image.proofs.KnownBodies.{knows_as, knows_later, last_as_before}
+use Rattle.st_system.specs.Seats.{CanFollow, FitsClaim, FitsSeat, GoesOnIn, KeepsBeginning, SeatView, new_seat}
 
 pub begins_same : (es : List Edit) → Begins es es
 begins_same es = ([], sym (append-nil es))
@@ -18,9 +20,25 @@ begins_by es fs h = subst (λ (gs : List Edit). Begins gs es) (sym h) (begins_sa
 pub begins_then : (es fs gs : List Edit) → Begins es fs → Begins fs gs → Begins es gs
 begins_then es fs gs (more, h) (rest, k) = (more ++ rest, k ∙ ap (λ (l : List Edit). l ++ rest) h ∙ append_assoc es more rest)
 
-claim_later : (o : Option ClaimView) (fs gs : List Edit) → Begins fs gs → IfSome o (λ c. Begins c.edits fs) → IfSome o (λ c. Begins c.edits gs)
-claim_later None fs gs b h = tt
-claim_later (Some c) fs gs b h = begins_then c.edits fs gs h b
+fits_claim_later : (i j : ImageView) (c : ClaimView) → GoesOnIn i j → FitsClaim i c → FitsClaim j c
+fits_claim_later i j c on h = record {
+  edits = begins_then c.edits (world i).edits (world j).edits h.edits on.edits;
+  body = knows_later i j c on.bodies h.body;
+}
+
+claim_later : (o : Option ClaimView) (i j : ImageView) → GoesOnIn i j → IfSome o (FitsClaim i) → IfSome o (FitsClaim j)
+claim_later None i j on h = tt
+claim_later (Some c) i j on h = fits_claim_later i j c on h
+
+-- a claim that began as another fits what that fits
+pub fits_as : (i : ImageView) (c d : ClaimView) → BeganAs c d → FitsClaim i c → FitsClaim i d
+fits_as i c d b h = record {
+  edits = subst (λ (es : List Edit). Begins es (world i).edits) (sym b.edits) h.edits;
+  body = knows_as i c d b h.body;
+}
+
+pub goes_on_same : (i : ImageView) → GoesOnIn i i
+goes_on_same i = record { edits = begins_same (world i).edits; bodies = last_as_before i i refl refl }
 
 list_later : (o : Option (List Edit)) (fs gs : List Edit) → Begins fs gs → IfSome o (λ k. Begins k fs) → IfSome o (λ k. Begins k gs)
 list_later None fs gs b h = tt
@@ -29,13 +47,13 @@ list_later (Some k) fs gs b h = begins_then k fs gs h b
 pub kept_later : {G : Type 0} (v : CachesView G) (fs gs : List Edit) → Begins fs gs → KeepsBeginning fs v → KeepsBeginning gs v
 kept_later {G} v fs gs b h = list_later v.kept fs gs b h
 
--- a worker fits later edits
-pub fits_later : {G : Type 0} (fs gs : List Edit) (s : SeatView G) → Begins fs gs → FitsSeat fs s → FitsSeat gs s
-fits_later {G} fs gs s b h = record { claim = claim_later s.claim fs gs b h.claim; kept = kept_later s.caches fs gs b h.kept }
+-- a worker fits a later image
+pub fits_later : {G : Type 0} (i j : ImageView) (s : SeatView G) → GoesOnIn i j → FitsSeat i s → FitsSeat j s
+fits_later {G} i j s on h = record { claim = claim_later s.claim i j on h.claim; kept = kept_later s.caches (world i).edits (world j).edits on.edits h.kept }
 
 -- so do all
-pub all_later : {G : Type 0} (fs gs : List Edit) (seats : List (SeatView G)) → Begins fs gs → All (FitsSeat fs) seats → All (FitsSeat gs) seats
-all_later {G} fs gs seats b h = All-weaker (FitsSeat fs) (FitsSeat gs) (λ s f. fits_later fs gs s b f) seats h
+pub all_later : {G : Type 0} (i j : ImageView) (seats : List (SeatView G)) → GoesOnIn i j → All (FitsSeat i) seats → All (FitsSeat j) seats
+all_later {G} i j seats on h = All-weaker (FitsSeat i) (FitsSeat j) (λ s f. fits_later i j s on f) seats h
 
 -- caches that kept the edits of a claim keep a beginning of what these begin
 pub kept_of_claim : {G : Type 0} (v : CachesView G) (es fs : List Edit) → IfSome v.kept (λ k. k ≡ es) → Begins es fs → KeepsBeginning fs v
@@ -45,19 +63,25 @@ kept_of_claim {G} v es fs h b = one v.kept h
     one None g = tt
     one (Some k) g = subst (λ (l : List Edit). Begins l fs) (sym g) b
 
+-- a worker whose claim took a step fits the image that it fitted
+pub step_fits : {G : Type 0} (i : ImageView) (s : SeatView G) (w : CachesView G) (c d : ClaimView) → s.claim ≡ Some c → BeganAs c d → KeepsBeginning d.edits w → FitsSeat i s → FitsSeat i (record { caches = w; claim = Some d })
+step_fits {G} i s w c d at began follows h =
+    let fits : FitsClaim i d = fits_as i c d began (subst (λ (o : Option ClaimView). IfSome o (FitsClaim i)) at h.claim) in
+    record { claim = fits; kept = kept_later w d.edits (world i).edits fits.edits follows }
+
 -- what a commit handed back is followed as it was
 pub follows_back : {G : Type 0} (v : CachesView G) (c : ClaimView) (o : Option ClaimView) → KeepsBeginning c.edits v → (o ≡ None) ⊎ (o ≡ Some c) → CanFollow v o
 follows_back {G} v c o h (inl e) = subst (λ (x : Option ClaimView). CanFollow v x) (sym e) tt
 follows_back {G} v c o h (inr e) = subst (λ (x : Option ClaimView). CanFollow v x) (sym e) h
 
-pub fits_back : (c : ClaimView) (o : Option ClaimView) (es : List Edit) → Begins c.edits es → (o ≡ None) ⊎ (o ≡ Some c) → IfSome o (λ d. Begins d.edits es)
-fits_back c o es h (inl e) = subst (λ (x : Option ClaimView). IfSome x (λ d. Begins d.edits es)) (sym e) tt
-fits_back c o es h (inr e) = subst (λ (x : Option ClaimView). IfSome x (λ d. Begins d.edits es)) (sym e) h
+pub fits_back : (c : ClaimView) (o : Option ClaimView) (i j : ImageView) → GoesOnIn i j → FitsClaim i c → (o ≡ None) ⊎ (o ≡ Some c) → IfSome o (FitsClaim j)
+fits_back c o i j on h (inl e) = subst (λ (x : Option ClaimView). IfSome x (FitsClaim j)) (sym e) tt
+fits_back c o i j on h (inr e) = subst (λ (x : Option ClaimView). IfSome x (FitsClaim j)) (sym e) (fits_claim_later i j c on h)
 
 -- new workers fit, where what their caches keep begins the image's edits
-pub all_new : {G : Type 0} (es : List Edit) (workers : List (CachesView G)) → All (KeepsBeginning es) workers → All (FitsSeat es) (map new_seat workers)
-all_new {G} es workers h = All-map (FitsSeat es) new_seat workers (All-weaker (KeepsBeginning es) (λ v. FitsSeat es (new_seat v)) (λ v k. record { claim = tt; kept = k }) workers h)
+pub all_new : {G : Type 0} (i : ImageView) (workers : List (CachesView G)) → All (KeepsBeginning (world i).edits) workers → All (FitsSeat i) (map new_seat workers)
+all_new {G} i workers h = All-map (FitsSeat i) new_seat workers (All-weaker (KeepsBeginning (world i).edits) (λ v. FitsSeat i (new_seat v)) (λ v k. record { claim = tt; kept = k }) workers h)
 
--- one worker is changed, and the edits go on
-pub all_set : {G : Type 0} (fs gs : List Edit) (seats : List (SeatView G)) (place : ℕ) (t : SeatView G) → Begins fs gs → All (FitsSeat fs) seats → FitsSeat gs t → All (FitsSeat gs) (slice_set seats place t)
-all_set {G} fs gs seats place t b h fits = All-set (FitsSeat gs) seats place t fits (all_later fs gs seats b h)
+-- one worker is changed, and the image goes on
+pub all_set : {G : Type 0} (i j : ImageView) (seats : List (SeatView G)) (place : ℕ) (t : SeatView G) → GoesOnIn i j → All (FitsSeat i) seats → FitsSeat j t → All (FitsSeat j) (slice_set seats place t)
+all_set {G} i j seats place t on h fits = All-set (FitsSeat j) seats place t fits (all_later i j seats on h)

@@ -52,7 +52,7 @@ TakesClaim a i None r j left = (result : Result ClaimView Refusal)
 
 -- what the next step of a claim is
 abbrev pub next_of : BareClaim → StepResult
-next_of c = next_step (with_sends c [])
+next_of c = next_step (with_sends c [] 0)
 
 -- a step is taken, where the actor has one of its own next and the claim may have one more; else the claim stays, as it
 -- does for want of memory
@@ -82,12 +82,13 @@ abbrev pub handed_back : Result ℕ (Refusal × Option ClaimView) → Option Bar
 handed_back (Ok n) = None
 handed_back (Err refused) = option_map bare refused.1
 
--- a claim, with what became of its sends, is committed or refused; the worker keeps what is handed back
+-- a claim, with what became of its sends and its stamp, is committed or refused; the worker keeps what is handed back
 abbrev pub CommitsClaim : ImageView → BareClaim → Result Answer Refusal → ImageView → Option BareClaim → Type 0
 CommitsClaim i c r j left = (sends : List Sent)
+    × (stamp : ℕ)
     × (result : Result ℕ (Refusal × Option ClaimView))
     × (r ≡ told_of_commit result)
-    × Commits i (with_sends c sends) result j
+    × Commits i (with_sends c sends stamp) result j
     × (left ≡ handed_back result)
 
 -- a claim is given back, and is the worker's no longer

@@ -9,8 +9,8 @@ use Rattle.st_turn.specs.Claims.{ClaimView}
 use Rattle.st_image.specs.Images.{ImageView}
 use Rattle.st_system.specs.Seats.{SeatView, SystemView}
 
--- a claim without what became of its sends: the steps of an actor at the edits of a class table, and the bodies from
--- which and to which they lead
+-- a claim without what became of its sends and without its stamp: the steps of an actor at the edits of a class table,
+-- and the bodies from which and to which they lead
 pub record BareClaim : Type 0 where
   pub actor : ActorId
   pub edits : List Edit
@@ -22,15 +22,16 @@ pub record BareClaim : Type 0 where
 abbrev pub bare : ClaimView → BareClaim
 bare c = record { actor = c.actor; edits = c.edits; before = c.before; after = c.after; steps = c.steps }
 
--- a claim with these sends
-abbrev pub with_sends : BareClaim → List Sent → ClaimView
-with_sends c sends = record {
+-- a claim with these sends and this stamp
+abbrev pub with_sends : BareClaim → List Sent → ℕ → ClaimView
+with_sends c sends stamp = record {
   actor = c.actor;
   edits = c.edits;
   before = c.before;
   after = c.after;
   steps = c.steps;
   sends = sends;
+  stamp = stamp;
 }
 
 -- the state of a schedule: the image, and each worker's claim, or none

@@ -1,12 +1,11 @@
-//! The image's calls, as events make them: what was in the class table begins what is there afterwards.
+//! The image's calls, as events make them: the image before goes on in the one after.
 ghost use Rattle.std.specs.Prelude.{◌≡◌, ◌⊎◌, None, Some, Ok, Err, IfOk, IfErr};
 ghost use Rattle.st_classes.specs.declared.refusals.Refusal.TheVariants.{NoMemory};
-ghost use Rattle.st_classes.specs.EditLists.{Begins};
-ghost use Rattle.st_image.specs.Images.{world};
 ghost use Rattle.st_image.specs.Calls.{Closes, Creates, Defines, InstallsIn, Posts, Removes};
 ghost use Rattle.st_image.specs.Commits.{ChecksOut, Commits, IsReleased};
 ghost use Rattle.st_image.specs.PostRules.{from_client};
 ghost use Rattle.st_system.specs.ImageEvents.{Interns};
+ghost use Rattle.st_system.specs.Seats.{FitsClaim, GoesOnIn};
 
 use crate::copies::{copy_texts, copy_values};
 use st_classes::refusals::Refusal;
@@ -24,7 +23,7 @@ pub(crate) fn intern<M: Mailbox>(
     text: &Seq<u8>,
 ) -> Result<Selector, Refusal>
     ensures interns { Interns image.old text.now result image.new }
-    ensures later { Begins (world image.old).edits (world image.new).edits }
+    ensures later { GoesOnIn image.old image.new }
 {
     image.intern(alloc, text.as_slice())
 }
@@ -38,7 +37,7 @@ pub(crate) fn define<M: Mailbox>(
     slots: &Seq<Seq<u8>>,
 ) -> Result<u32, Refusal>
     ensures defines { Defines image.old name.now parent slots.now result image.new }
-    ensures later { Begins (world image.old).edits (world image.new).edits }
+    ensures later { GoesOnIn image.old image.new }
 {
     let Ok(slots) = copy_texts(alloc, slots) else {
         return Err(Refusal::NoMemory);
@@ -57,7 +56,7 @@ pub(crate) fn install<M: Mailbox>(
     source: &Seq<u8>,
 ) -> Result<u32, Refusal>
     ensures installs { InstallsIn image.old class source.now result image.new }
-    ensures later { Begins (world image.old).edits (world image.new).edits }
+    ensures later { GoesOnIn image.old image.new }
 {
     image.install(alloc, class, source.as_slice())
 }
@@ -70,7 +69,7 @@ pub(crate) fn remove<M: Mailbox>(
     selector: Selector,
 ) -> Result<u32, Refusal>
     ensures removes { Removes image.old class selector result image.new }
-    ensures later { Begins (world image.old).edits (world image.new).edits }
+    ensures later { GoesOnIn image.old image.new }
 {
     image.known();
     let answer = image.remove(alloc, class, selector);
@@ -85,7 +84,7 @@ pub(crate) fn create<M: Mailbox>(
     class: ClassId,
 ) -> Result<ActorId, Refusal>
     ensures creates { Creates image.old class result image.new }
-    ensures later { Begins (world image.old).edits (world image.new).edits }
+    ensures later { GoesOnIn image.old image.new }
 {
     image.known();
     let answer = image.create(alloc, class);
@@ -104,7 +103,7 @@ pub(crate) fn post<M: Mailbox>(
     args: Values,
 ) -> Result<u64, Refusal>
     ensures posts { Posts image.old actor (from_client sender seq selector args) result image.new }
-    ensures later { Begins (world image.old).edits (world image.new).edits }
+    ensures later { GoesOnIn image.old image.new }
 {
     image.known();
     let answer = image.post(alloc, sender, seq, actor, selector, args);
@@ -115,7 +114,7 @@ pub(crate) fn post<M: Mailbox>(
 /// Closes a mailbox.
 pub(crate) fn close<M: Mailbox>(image: &mut Image<M>, actor: ActorId) -> Result<(), Refusal>
     ensures closes { Closes image.old actor result image.new }
-    ensures later { Begins (world image.old).edits (world image.new).edits }
+    ensures later { GoesOnIn image.old image.new }
 {
     image.known();
     let answer = image.close(actor);
@@ -123,15 +122,15 @@ pub(crate) fn close<M: Mailbox>(image: &mut Image<M>, actor: ActorId) -> Result<
     answer
 }
 
-/// Hands out a claim, which is at the present class table.
+/// Hands out a claim, which fits the image.
 pub(crate) fn check_out<M: Mailbox>(
     alloc: Global,
     image: &mut Image<M>,
     actor: ActorId,
 ) -> Result<Claim, Refusal>
     ensures takes { ChecksOut image.old actor result image.new }
-    ensures present { IfOk result (λ c. c.edits ≡ (world image.old).edits) }
-    ensures later { Begins (world image.old).edits (world image.new).edits }
+    ensures fits { IfOk result (FitsClaim image.new) }
+    ensures later { GoesOnIn image.old image.new }
 {
     image.known();
     let answer = image.checkout(alloc, actor);
@@ -139,16 +138,16 @@ pub(crate) fn check_out<M: Mailbox>(
     answer
 }
 
-/// Commits a claim whose edits begin those of the class table. What is handed back is the claim.
+/// Commits a claim that fits the image. What is handed back is the claim.
 pub(crate) fn commit<M: Mailbox>(
     alloc: Global,
     image: &mut Image<M>,
     claim: Claim,
 ) -> Result<u32, (Refusal, Option<Claim>)>
-    requires { Begins claim.edits (world image.old).edits }
+    requires { FitsClaim image.old claim }
     ensures commits { Commits image.old claim result image.new }
     ensures back { IfErr result (λ refused. (refused.1 ≡ None) ⊎ (refused.1 ≡ Some claim)) }
-    ensures later { Begins (world image.old).edits (world image.new).edits }
+    ensures later { GoesOnIn image.old image.new }
 {
     image.known();
     let answer = image.commit_known(alloc, claim);
@@ -159,7 +158,7 @@ pub(crate) fn commit<M: Mailbox>(
 /// Gives a claim back.
 pub(crate) fn release<M: Mailbox>(image: &mut Image<M>, claim: Claim)
     ensures released { IsReleased image.old claim.actor image.new }
-    ensures later { Begins (world image.old).edits (world image.new).edits }
+    ensures later { GoesOnIn image.old image.new }
 {
     image.release(claim);
 }

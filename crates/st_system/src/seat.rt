@@ -1,12 +1,11 @@
 //! A worker of a system, and what it does with its claim.
-ghost use Rattle.std.specs.Prelude.{◌≡◌, List, Result};
-ghost use Rattle.st_classes.specs.declared.edits.Edit.{Edit as EditOf};
+ghost use Rattle.std.specs.Prelude.{◌≡◌, Result};
 ghost use Rattle.st_classes.specs.declared.refusals.Refusal.{Refusal as RefusalOf};
-ghost use Rattle.st_classes.specs.EditLists.{Begins};
 ghost use Rattle.st_turn.specs.declared.body.Stop.{Stop as StopOf};
-ghost use Rattle.st_image.specs.Images.{ImageView, world};
+ghost use Rattle.st_turn.specs.Claims.{BeganAs};
+ghost use Rattle.st_image.specs.Images.{ImageView};
 ghost use Rattle.st_system.specs.declared.events.Answer.TheVariants.{Stopped};
-ghost use Rattle.st_system.specs.Seats.{AreValidWhereKept, FitsSeat, KeepsBeginning, new_seat};
+ghost use Rattle.st_system.specs.Seats.{AreValidWhereKept, FitsSeat, GoesOnIn, KeepsBeginning, new_seat};
 ghost use Rattle.st_system.specs.Schedules.{bare, claim_of};
 ghost use Rattle.st_system.specs.Forgetting.{HaveNothing};
 ghost use Rattle.st_system.specs.ImageEvents.{told};
@@ -51,7 +50,7 @@ fn take_one<G: Guard>(
 ) -> Result<Answer, Refusal>
     requires { KeepsBeginning claim.old.edits worker.old }
     ensures takes { (stop : Result StopOf RefusalOf) × (result ≡ told Stopped stop) × TakesOne (bare claim.old) stop (bare claim.new) }
-    ensures edits { claim.new.edits ≡ claim.old.edits }
+    ensures began { BeganAs claim.old claim.new }
     ensures kept { KeepsBeginning claim.new.edits worker.new }
 {
     match worker.step(alloc, claim) {
@@ -85,10 +84,10 @@ impl<G: Guard> Seat<G> {
         image: &mut Image<M>,
         actor: ActorId,
     ) -> Result<Answer, Refusal>
-        requires { FitsSeat (world image.old).edits self.old }
+        requires { FitsSeat image.old self.old }
         ensures acts { TakesClaim actor image.old (claim_of self.old) result image.new (claim_of self.new) }
-        ensures later { Begins (world image.old).edits (world image.new).edits }
-        ensures fits { FitsSeat (world image.new).edits self.new }
+        ensures later { GoesOnIn image.old image.new }
+        ensures fits { FitsSeat image.new self.new }
     {
         if self.claim.is_some() {
             return Err(Refusal::BadArguments);
@@ -101,7 +100,7 @@ impl<G: Guard> Seat<G> {
     /// Takes one step of the claim. The image isn't asked.
     pub(crate) fn step(&mut self, alloc: Global) -> Result<Answer, Refusal>
         ensures acts { (image : ImageView) → OfClaim StepsClaim image (claim_of self.old) result image (claim_of self.new) }
-        ensures fits { (edits : List EditOf) → FitsSeat edits self.old → FitsSeat edits self.new }
+        ensures fits { (image : ImageView) → FitsSeat image self.old → FitsSeat image self.new }
     {
         match &mut self.claim {
             Some(claim) => take_one(alloc, &mut self.worker, claim),
@@ -115,10 +114,10 @@ impl<G: Guard> Seat<G> {
         alloc: Global,
         image: &mut Image<M>,
     ) -> Result<Answer, Refusal>
-        requires { FitsSeat (world image.old).edits self.old }
+        requires { FitsSeat image.old self.old }
         ensures acts { OfClaim CommitsClaim image.old (claim_of self.old) result image.new (claim_of self.new) }
-        ensures later { Begins (world image.old).edits (world image.new).edits }
-        ensures fits { FitsSeat (world image.new).edits self.new }
+        ensures later { GoesOnIn image.old image.new }
+        ensures fits { FitsSeat image.new self.new }
     {
         let Some(claim) = self.claim.take() else {
             return Err(Refusal::NothingToDo);
@@ -134,10 +133,10 @@ impl<G: Guard> Seat<G> {
 
     /// Gives the claim back.
     pub(crate) fn release<M: Mailbox>(&mut self, image: &mut Image<M>) -> Result<Answer, Refusal>
-        requires { FitsSeat (world image.old).edits self.old }
+        requires { FitsSeat image.old self.old }
         ensures acts { OfClaim ReleasesClaim image.old (claim_of self.old) result image.new (claim_of self.new) }
-        ensures later { Begins (world image.old).edits (world image.new).edits }
-        ensures fits { FitsSeat (world image.new).edits self.new }
+        ensures later { GoesOnIn image.old image.new }
+        ensures fits { FitsSeat image.new self.new }
     {
         let Some(claim) = self.claim.take() else {
             return Err(Refusal::NothingToDo);
@@ -150,7 +149,7 @@ impl<G: Guard> Seat<G> {
     pub(crate) fn forget(&mut self)
         ensures claim { self.new.claim ≡ self.old.claim }
         ensures emptied { HaveNothing self.new.caches }
-        ensures fits { (edits : List EditOf) → FitsSeat edits self.old → FitsSeat edits self.new }
+        ensures fits { (image : ImageView) → FitsSeat image self.old → FitsSeat image self.new }
     {
         self.worker.forget();
     }

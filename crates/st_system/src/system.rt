@@ -32,14 +32,13 @@ pub struct System<M: Mailbox, G: Guard> {
 
 impl<M: Mailbox, G: Guard> Model for System<M, G> {
     ghost use Rattle.std.specs.Prelude.{All};
-    ghost use Rattle.st_image.specs.Images.{world};
     ghost use Rattle.st_system.specs.Seats.{FitsSeat, SystemView};
 
     ghost Value = { SystemView G };
 
     ghost view = { λ s. record { image = s.image; seats = s.seats.items } };
 
-    ghost invariant = { λ s. All (FitsSeat (world s.image).edits) s.seats.items };
+    ghost invariant = { λ s. All (FitsSeat s.image) s.seats.items };
 }
 
 /// A seat for each worker.

@@ -21,3 +21,4 @@ pub mod Busy
 pub mod WorkerSteps
 pub mod ActSites
 pub mod QuickSteps
+pub mod ClaimBeginnings

@@ -37,10 +37,11 @@ pub struct ClaimParts {
     pub before: Body,
     pub steps: u32,
     pub sends: Vec<Sent>,
+    pub stamp: u32,
 }
 
 /// Steps of an actor at a published version, which lead from a body of the actor's to another. Contracts see the actor, the edits of
-/// the version, the two bodies, the number of steps, and the sends among them in order.
+/// the version, the two bodies, the number of steps, the sends among them in order, and a number that stands for the body before.
 ///
 /// A claim is sound by its type: its steps are steps of the definitions, none of them an act that the image does.
 #[derive(Drop)]
@@ -51,6 +52,8 @@ pub struct Claim {
     after: Body,
     steps: u32,
     sends: Vec<Sent>,
+    /// Stands for the body before, as whoever made the claim says.
+    stamp: u32,
 }
 
 impl Model for Claim {
@@ -58,16 +61,22 @@ impl Model for Claim {
 
     ghost Value = { ClaimView };
 
-    ghost view = { λ c. record { actor = c.actor; edits = c.token; before = c.before; after = c.after; steps = c.steps; sends = c.sends.items } };
+    ghost view = { λ c. record { actor = c.actor; edits = c.token; before = c.before; after = c.after; steps = c.steps; sends = c.sends.items; stamp = c.stamp } };
 
     ghost invariant = { λ c. IsSound c.actor c.token c.before c.after c.steps c.sends.items };
 }
 
 impl Claim {
-    /// No steps, from a body that fits the version.
-    pub fn new(alloc: Global, actor: ActorId, token: Token, body: Body) -> Result<Claim, AllocError>
+    /// No steps, from a body that fits the version, with a number that stands for the body.
+    pub fn new(
+        alloc: Global,
+        actor: ActorId,
+        token: Token,
+        body: Body,
+        stamp: u32,
+    ) -> Result<Claim, AllocError>
         requires { FitsSome token actor body }
-        ensures { IfOk result (λ c. c ≡ record { actor = actor; edits = token; before = body; after = body; steps = 0; sends = [] }) }
+        ensures { IfOk result (λ c. c ≡ record { actor = actor; edits = token; before = body; after = body; steps = 0; sends = []; stamp = stamp }) }
     {
         let after = body.copy(alloc)?;
         Ok(Claim {
@@ -77,6 +86,7 @@ impl Claim {
             after,
             steps: 0,
             sends: Vec::new(alloc),
+            stamp,
         })
     }
 
@@ -134,6 +144,14 @@ impl Claim {
         self.sends.as_slice()
     }
 
+    /// The number that stands for the body before.
+    #[inline]
+    pub fn stamp(&self) -> u32
+        ensures { result ≡ self.now.stamp }
+    {
+        self.stamp
+    }
+
     /// Whether the next step is an act that the image does.
     pub fn is_act_next(&self) -> bool
         ensures { result ≡ is_outer (step self.now.edits self.now.actor self.now.after) }
@@ -148,6 +166,7 @@ impl Claim {
         ensures before { result.0.before ≡ self.before }
         ensures steps { result.0.steps ≡ self.steps }
         ensures sends { result.0.sends.items ≡ self.sends }
+        ensures stamp { result.0.stamp ≡ self.stamp }
         ensures after { result.1 ≡ self.after }
     {
         let Claim {
@@ -157,6 +176,7 @@ impl Claim {
             after,
             steps,
             sends,
+            stamp,
         } = self;
         let parts = ClaimParts {
             actor,
@@ -164,6 +184,7 @@ impl Claim {
             before,
             steps,
             sends,
+            stamp,
         };
         (parts, after)
     }
@@ -171,7 +192,7 @@ impl Claim {
     /// Puts the parts of a claim together again. No memory is taken.
     pub fn from_parts(parts: ClaimParts, after: Body) -> Claim
         requires { IsSound parts.actor parts.token parts.before after parts.steps parts.sends.items }
-        ensures { result ≡ record { actor = parts.actor; edits = parts.token; before = parts.before; after = after; steps = parts.steps; sends = parts.sends.items } }
+        ensures { result ≡ record { actor = parts.actor; edits = parts.token; before = parts.before; after = after; steps = parts.steps; sends = parts.sends.items; stamp = parts.stamp } }
     {
         let ClaimParts {
             actor,
@@ -179,6 +200,7 @@ impl Claim {
             before,
             steps,
             sends,
+            stamp,
         } = parts;
         Claim {
             actor,
@@ -187,6 +209,7 @@ impl Claim {
             after,
             steps,
             sends,
+            stamp,
         }
     }
 }

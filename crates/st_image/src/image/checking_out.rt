@@ -48,10 +48,13 @@ impl<M: Mailbox> Image<M> {
     {
         let begins = self.is_idle(actor);
         let body = self.actors.body_to_check_out(alloc, actor)?;
-        let claim = Claim::new(alloc, actor, self.token.again()?, body)?;
+        self.changes.make_room(actor)?;
+        let stamp = self.changes.count_after(actor, begins);
+        let claim = Claim::new(alloc, actor, self.token.again()?, body, stamp)?;
         if begins {
             self.history.reserve(1)?;
             self.history.push(Item::Begun(actor)).unwrap();
+            self.changes.raise(actor);
         }
         self.actors.check_out(actor);
         self.next_from = actor.0 + 1;

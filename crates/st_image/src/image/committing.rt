@@ -13,10 +13,18 @@ impl<M: Mailbox> Image<M> {
     ghost use Rattle.std.specs.Prelude.{◌≡◌, ◌≢◌, ◌↔◌, ◌<◌, IsTrue, None, MatchOption, IfErr, OnOk};
     ghost use Rattle.st_classes.specs.EditLists.{Begins};
     ghost use Rattle.st_image.specs.Images.{world};
-    ghost use Rattle.st_image.specs.Commits.{Commits, CommitAllowed, CommitRefused, HasCommitted, IsAsBefore, IsUnchanged, RefusesCommit, act_site, steps_of};
+    ghost use Rattle.st_image.specs.Changes.{changes_in};
+    ghost use Rattle.st_image.specs.Commits.{Commits, CommitAllowed, CommitRefused, HasCommitted, IsAsBefore, IsUnchanged, KnowsBody, RefusesCommit, Survives, act_site, steps_of};
 
-    /// Whether an actor is there and has the body that a claim began with.
-    fn is_unchanged(&self, claim: &Claim) -> bool
+    /// Whether the body of an actor was changed as often as the stamp of a claim says.
+    fn is_stamped(&self, claim: &Claim) -> bool
+        ensures { IsTrue result ↔ (claim.now.stamp ≡ changes_in self.now.history claim.now.actor.0) }
+    {
+        claim.stamp() == self.changes.count(claim.actor())
+    }
+
+    /// Whether an actor is there and has the body that a claim began with, which is compared.
+    fn has_body(&self, claim: &Claim) -> bool
         ensures { IsTrue result ↔ IsUnchanged self.now claim.now }
     {
         match self.actor(claim.actor()) {
@@ -25,19 +33,25 @@ impl<M: Mailbox> Image<M> {
         }
     }
 
-    /// Why the commit of a claim is refused, if it is.
-    fn commit_refusal(&self, claim: &Claim, steps: u32) -> Option<Refusal>
-        requires begins { Begins claim.now.edits (world self.now).edits }
-        requires steps { steps ≡ steps_of claim.now }
-        ensures { MatchOption result (CommitAllowed self.now claim.now) (λ e. CommitRefused self.now claim.now e) }
+    /// Why a claim whose edits begin those of the class table is stale, if it is.
+    fn stale_refusal(&self, claim: &Claim) -> Option<Refusal>
+        requires { Begins claim.now.edits (world self.now).edits }
+        ensures { MatchOption result (Survives self.now claim.now) (λ e. CommitRefused self.now claim.now e) }
     {
         let version = self.version().edits();
         if claim.token().shown().edits() != version {
             return Some(Refusal::Stale { version });
         }
-        if !self.is_unchanged(claim) {
-            return Some(Refusal::Changed);
-        }
+        None
+    }
+
+    /// Why the history has no place for what a commit adds, if it has none.
+    fn full_refusal(&self, claim: &Claim, steps: u32) -> Option<Refusal>
+        requires survives { Survives self.now claim.now }
+        requires unchanged { IsUnchanged self.now claim.now }
+        requires steps { steps ≡ steps_of claim.now }
+        ensures { MatchOption result (CommitAllowed self.now claim.now) (λ e. CommitRefused self.now claim.now e) }
+    {
         self.room_refusal(if steps == 0 { 0 } else { 1 })
     }
 
@@ -79,6 +93,9 @@ impl<M: Mailbox> Image<M> {
         let Ok(()) = self.history.reserve(1) else {
             return Err(claim);
         };
+        let Ok(()) = self.changes.make_room(actor) else {
+            return Err(claim);
+        };
         let Ok(()) = self.tallies.make_places(claim.sends(), site) else {
             return Err(claim);
         };
@@ -95,6 +112,7 @@ impl<M: Mailbox> Image<M> {
             Ok(_) => {
                 self.tallies.count(parts.sends.as_slice(), site);
                 self.actors.release(actor);
+                self.changes.raise(actor);
                 self.history.push(Item::Ran { actor, steps }).unwrap();
                 Ok(())
             }
@@ -114,18 +132,19 @@ impl<M: Mailbox> Image<M> {
         (refusal, None)
     }
 
-    /// As `commit`, of a claim whose edits begin those of the class table, as the caller knows. The edits are not compared.
-    pub fn commit_known(
+    /// Commits a claim of the present class table, whose actor still has the body that it began with.
+    fn commit_unchanged(
         &mut self,
         alloc: Global,
         claim: Claim,
     ) -> Result<u32, (Refusal, Option<Claim>)>
-        requires { Begins claim.edits (world self.old).edits }
+        requires survives { Survives self.old claim }
+        requires unchanged { IsUnchanged self.old claim }
         ensures { Commits self.old claim result self.new }
     {
         claim.known();
         let steps = Self::steps_to_commit(&claim);
-        if let Some(refusal) = self.commit_refusal(&claim, steps) {
+        if let Some(refusal) = self.full_refusal(&claim, steps) {
             return Err(self.refuse(claim, refusal));
         }
         if steps == 0 {
@@ -136,6 +155,26 @@ impl<M: Mailbox> Image<M> {
             Ok(()) => Ok(steps),
             Err(claim) => Err((Refusal::NoMemory, Some(claim))),
         }
+    }
+
+    /// As `commit`, of a claim whose edits begin those of the class table, and whose stamp tells its body, as the caller knows. The
+    /// edits are not compared, nor are the bodies where the actor's was not changed since the checkout.
+    pub fn commit_known(
+        &mut self,
+        alloc: Global,
+        claim: Claim,
+    ) -> Result<u32, (Refusal, Option<Claim>)>
+        requires begins { Begins claim.edits (world self.old).edits }
+        requires body { KnowsBody self.old claim }
+        ensures { Commits self.old claim result self.new }
+    {
+        if let Some(refusal) = self.stale_refusal(&claim) {
+            return Err(self.refuse(claim, refusal));
+        }
+        if !self.is_stamped(&claim) && !self.has_body(&claim) {
+            return Err(self.refuse(claim, Refusal::Changed));
+        }
+        self.commit_unchanged(alloc, claim)
     }
 
     /// The steps of a claim become the actor's, and enter the history as one item; no item is added for no steps. Where the claim
@@ -151,6 +190,12 @@ impl<M: Mailbox> Image<M> {
             let version = self.version().edits();
             return Err(self.refuse(claim, Refusal::Stale { version }));
         }
-        self.commit_known(alloc, claim)
+        if let Some(refusal) = self.stale_refusal(&claim) {
+            return Err(self.refuse(claim, refusal));
+        }
+        if !self.has_body(&claim) {
+            return Err(self.refuse(claim, Refusal::Changed));
+        }
+        self.commit_unchanged(alloc, claim)
     }
 }

@@ -3,12 +3,19 @@ use Rattle.std.specs.Option.{IfSome}
 use Rattle.st_classes.specs.declared.edits.Edit.{Edit}
 use Rattle.st_classes.specs.EditLists.{Begins}
 use Rattle.st_image.specs.Images.{world}
-use Rattle.st_server.specs.Runners.{Steps}
+use Rattle.st_turn.proofs.ClaimBeginnings.{runs_began}
+use Rattle.st_image.proofs.KnownBodies.{knows_as}
+use Rattle.st_server.specs.Runners.{Steps, floor_of}
 use Rattle.st_server.proofs.SomeSteps.{quantum_some}
 use Rattle.st_server.proofs.runner.work.Goals as goal
 
-pub settle-settled-requires : goal.settle-settled-requires
-settle-settled-requires c = subst (λ (es : List Edit). Begins es (world c.args.image.now).edits) (sym c.run-ran.ensures.edits) c.requires.begins
+pub settle-settled-requires-clause-body : goal.settle-settled-requires-clause-body
+settle-settled-requires-clause-body c =
+    let steps : Steps c.args.quantum c.args.worker.now c.args.claim c.run-ran.result c.run-ran.new.self c.run-ran.new.claim = rw (← c.steps.ensures.same) c.run-ran.ensures.runs in
+    knows_as c.args.image.now c.args.claim c.run-ran.new.claim (runs_began floor_of c.args.quantum steps.0 c.args.claim c.run-ran.result c.run-ran.new.self c.run-ran.new.claim steps.2) c.requires.body
+
+pub settle-settled-requires-clause-begins : goal.settle-settled-requires-clause-begins
+settle-settled-requires-clause-begins c = subst (λ (es : List Edit). Begins es (world c.args.image.now).edits) (sym c.run-ran.ensures.edits) c.requires.begins
 
 pub returns-clause-works : goal.returns-clause-works
 returns-clause-works c =

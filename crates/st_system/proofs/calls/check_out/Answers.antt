@@ -1,5 +1,13 @@
-use Rattle.st_system.proofs.CallsLater.{checks_out_later}
+use Rattle.st_system.specs.Seats.{GoesOnIn}
+use Rattle.st_system.proofs.CallsLater.{checks_out_fits, checks_out_later}
 use Rattle.st_system.proofs.calls.check_out.Goals as goal
+
+pub returns-clause-fits : goal.returns-clause-fits
+returns-clause-fits g c =
+    let i = c.args.image.now in
+    let j = c.checkout-answer.new.self in
+    let on : GoesOnIn i j = checks_out_later i j c.args.actor c.checkout-answer.result c.known.ensures c.known-2.ensures c.checkout-answer.ensures in
+    checks_out_fits i j c.args.actor c.checkout-answer.result c.checkout-answer.ensures on
 
 pub returns-clause-later : goal.returns-clause-later
 returns-clause-later g c = checks_out_later c.args.image.now c.checkout-answer.new.self c.args.actor c.checkout-answer.result c.known.ensures c.known-2.ensures c.checkout-answer.ensures

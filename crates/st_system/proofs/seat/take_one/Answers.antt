@@ -1,6 +1,8 @@
 use Rattle.std.proofs.Common.{refl, Ok, Err}
 use Rattle.st_classes.specs.declared.refusals.Refusal.TheVariants.{NoMemory}
-use Rattle.st_system.proofs.ClaimsSeen.{takes_none, takes_one}
+use Rattle.st_turn.proofs.ClaimBeginnings.{step_began}
+use Rattle.std.specs.declared.alloc.AllocError.{AllocError}
+use Rattle.st_system.proofs.ClaimsSeen.{began_same, takes_none, takes_one}
 use Rattle.st_system.proofs.Seats.{begins_by, kept_of_claim}
 use Rattle.st_system.proofs.seat.take_one.Goals as goal
 
@@ -12,3 +14,9 @@ returns-in-Ok-clause-kept g c = kept_of_claim c.step.new.self c.step.new.claim.e
 
 pub returns-in-Err-clause-takes : goal.returns-in-Err-clause-takes
 returns-in-Err-clause-takes g c = (Err NoMemory, refl, takes_none c.args.claim.now c.step.new.claim c.in-Err.ensures.steps.2)
+
+pub returns-in-Ok-clause-began : goal.returns-in-Ok-clause-began
+returns-in-Ok-clause-began g c = step_began {E = AllocError} g.G.Guard.floor c.in-Ok.ensures.steps.0 c.args.claim.now (Ok c.in-Ok.stop) c.step.new.self c.step.new.claim c.in-Ok.ensures.steps.2
+
+pub returns-in-Err-clause-began : goal.returns-in-Err-clause-began
+returns-in-Err-clause-began g c = began_same c.args.claim.now c.step.new.claim c.in-Err.ensures.steps.2

@@ -1,8 +1,9 @@
-use Rattle.std.proofs.Common.{arith, ◌≡◌, ◌+◌, ◌<◌, ◌++◌, [], ◌∷◌, List, length, None, true, false, refl, ap, sym, ◌∙◌, subst, slice_get, append-nil}
+use Rattle.std.proofs.Common.{arith, Bool, cond, ◌≡◌, ◌+◌, ◌<◌, ◌++◌, [], ◌∷◌, List, length, None, true, false, refl, ap, sym, ◌∙◌, subst, slice_get, append-nil}
 use Rattle.std.proofs.lemmas.Grind.{common_steps}
 use Rattle.std.proofs.lemmas.Option.{slice_get_within}
 use Rattle.st_classes.specs.declared.edits.Edit.{Edit}
 use Rattle.st_classes.specs.Refusals.{first_of}
+use Rattle.st_turn.specs.declared.body.Body.{Body}
 use Rattle.st_turn.specs.Idle.{is_idle}
 use Rattle.st_turn.specs.BodyFits.{FitsSome}
 use Rattle.st_image.specs.declared.image.Image.TheInside.{Inside}
@@ -13,6 +14,7 @@ use Rattle.st_image.specs.Images.{ImageView, Standing, world, world_of}
 use Rattle.st_image.specs.ActorViews.{ActorsView, view_checked_out}
 use Rattle.st_image.specs.ActResults.{constants_of}
 use Rattle.st_image.specs.Commits.{HasCheckedOut, checkout_rules, idle_at, new_claim}
+use Rattle.st_image.specs.Changes.{change_count}
 use Rattle.st_image.specs.ClaimsOut.{one_more}
 use Rattle.st_image.specs.ImageInvariant.{IsImage}
 use Rattle.st_image.proofs.Posting.{seen, standing_of}
@@ -20,6 +22,7 @@ use Rattle.st_image.proofs.Running.{fits_some}
 use Rattle.st_image.proofs.CheckingOut.{IsOut, begun_items, checked, hands, idle_there, outs, small_number}
 use Rattle.st_image.proofs.ClientNumbers.{kept_other}
 use Rattle.st_image.proofs.Sends.{sends_other}
+use Rattle.st_image.proofs.CountingChanges.{counts_one, counts_same, stamp_is}
 use Rattle.st_image.proofs.image.Image.hand_out.Goals as goal
 use Rattle.st_image.proofs.image.Image.hand_out.Goals.{then-begins+in_ok-reserve, else-begins}
 
@@ -63,11 +66,11 @@ invariant_of-self-2 g c =
       | then-begins+in_ok-reserve w ↦ (
           let out : IsOut start i.names i.token (change_at view_checked_out c.args.actor.0 i.actors.kept) (i.history.items ++ begun_items true c.args.actor) i.edits_made i.settings c.args.actor (view_checked_out k.0).body = outs start i.names i.token i.actors.kept i.history.items i.edits_made i.settings beside c.args.actor k.0 true c.self.invariant.image allowed k.1 (sym phase ∙ w.if-begins.true) in
           let items : w.push.new.self.items ≡ i.history.items ++ Begun c.args.actor ∷ [] = grind (arith, common_steps) in
-          rw (w.self-inside-is, items, put) (record { image = out.image; numbers_of_clients = kept_other i.clients [] i.history.items (Begun c.args.actor) (λ qs. refl) c.self.invariant.numbers_of_clients; sends = sends_other start i.names i.token i.actors.kept i.history.items i.edits_made i.settings i.tallies (Begun c.args.actor) c.self.invariant.image c.self.invariant.sends refl })
+          rw (w.self-inside-is, items, put) (record { image = out.image; numbers_of_clients = kept_other i.clients [] i.history.items (Begun c.args.actor) (λ qs. refl) c.self.invariant.numbers_of_clients; sends = sends_other start i.names i.token i.actors.kept i.history.items i.edits_made i.settings i.tallies (Begun c.args.actor) c.self.invariant.image c.self.invariant.sends refl; counts = counts_one i.changes c.make_room.new.self w.raise.new.self i.history.items (Begun c.args.actor) c.args.actor.0 (λ a. refl) c.make_room.ensures.same w.raise.ensures c.self.invariant.counts })
           )
       | else-begins w ↦ (
           let out : IsOut start i.names i.token (change_at view_checked_out c.args.actor.0 i.actors.kept) (i.history.items ++ begun_items false c.args.actor) i.edits_made i.settings c.args.actor (view_checked_out k.0).body = outs start i.names i.token i.actors.kept i.history.items i.edits_made i.settings beside c.args.actor k.0 false c.self.invariant.image allowed k.1 (sym phase ∙ w.if-begins.false) in
-          rw (w.self-inside-is, put) (record { image = subst (λ (x : List Item). IsImage start i.names i.token (change_at view_checked_out c.args.actor.0 i.actors.kept) x i.edits_made i.settings) (append-nil i.history.items) out.image; numbers_of_clients = c.self.invariant.numbers_of_clients; sends = c.self.invariant.sends })
+          rw (w.self-inside-is, put) (record { image = subst (λ (x : List Item). IsImage start i.names i.token (change_at view_checked_out c.args.actor.0 i.actors.kept) x i.edits_made i.settings) (append-nil i.history.items) out.image; numbers_of_clients = c.self.invariant.numbers_of_clients; sends = c.self.invariant.sends; counts = counts_same i.changes c.make_room.new.self i.history.items c.make_room.ensures.same c.self.invariant.counts })
           )
     ]
 
@@ -80,16 +83,16 @@ returns-clause-ok g c =
     let same : c.if-begins.self-inside.actors ≡ i.actors = elim c.if-begins.branch [ then-begins+in_ok-reserve w ↦ ap (λ (x : Inside _). x.actors) w.self-inside-is | else-begins w ↦ ap (λ (x : Inside _). x.actors) w.self-inside-is ] in
     let put : c.check_out.new.self ≡ (let v : ActorsView = record { kept = change_at view_checked_out c.args.actor.0 i.actors.kept; out = change_at one_more c.args.actor.0 i.actors.out } in v) = c.check_out.ensures.checked ∙ ap (λ (x : ActorsView). let v : ActorsView = record { kept = change_at view_checked_out c.args.actor.0 x.kept; out = change_at one_more c.args.actor.0 x.out } in v) same in
     let phase : c.is_idle-begins.result ≡ is_idle k.0.body.phase = c.is_idle-begins.ensures ∙ ap (λ (v : ImageView). idle_at (slice_get (world v).actors c.args.actor.0)) (sym c.self.view_is) ∙ idle_there i.token i.actors.kept (world_of (constants_of i.names i.settings.capacity) start i.history.items) c.args.actor k.0 c.self.invariant.image.shows k.1 in
-    let claim : c.in_ok-claim.claim ≡ new_claim i.token c.args.actor (view_checked_out k.0).body = c.in_ok-claim.ensures ∙ ap (λ (es : List Edit). new_claim es c.args.actor c.in_ok-body.body) c.in_ok-again.ensures ∙ ap (new_claim i.token c.args.actor) (c.in_ok-body.ensures k.0 k.1) in
+    let claim : c.in_ok-claim.claim ≡ new_claim i.token c.args.actor (view_checked_out k.0).body c.count_after-stamp.result = c.in_ok-claim.ensures ∙ ap (λ (es : List Edit). new_claim es c.args.actor c.in_ok-body.body c.count_after-stamp.result) c.in_ok-again.ensures ∙ ap (λ (b : Body). new_claim i.token c.args.actor b c.count_after-stamp.result) (c.in_ok-body.ensures k.0 k.1) in
     let within : c.args.actor.0 < length i.actors.out = subst (λ (v : ActorsView). c.args.actor.0 < length v.out) same c.check_out.ensures.counted in
     elim c.if-begins.branch [
       | then-begins+in_ok-reserve w ↦ (
           let out : IsOut start i.names i.token (change_at view_checked_out c.args.actor.0 i.actors.kept) (i.history.items ++ begun_items true c.args.actor) i.edits_made i.settings c.args.actor (view_checked_out k.0).body = outs start i.names i.token i.actors.kept i.history.items i.edits_made i.settings beside c.args.actor k.0 true c.self.invariant.image allowed k.1 (sym phase ∙ w.if-begins.true) in
           let items : w.push.new.self.items ≡ i.history.items ++ Begun c.args.actor ∷ [] = grind (arith, common_steps) in
-          rw (← c.self.view_is, w.self-inside-is, items, put) (checked start i.names i.token i.actors.kept i.history.items i.edits_made i.settings i.next_from i.actors.out i.tallies c.args.actor k.0 true c.in_ok-claim.claim c.self.invariant.image k.1 within (sym phase ∙ w.if-begins.true) out claim)
+          rw (← c.self.view_is, w.self-inside-is, items, put) (checked start i.names i.token i.actors.kept i.history.items i.edits_made i.settings i.next_from i.actors.out i.tallies c.args.actor k.0 true c.in_ok-claim.claim c.count_after-stamp.result c.self.invariant.image k.1 within (sym phase ∙ w.if-begins.true) out claim (stamp_is i.changes c.make_room.new.self i.history.items c.args.actor true c.count_after-stamp.result c.make_room.ensures.same c.self.invariant.counts (c.count_after-stamp.ensures ∙ ap (λ (t : Bool). change_count c.make_room.new.self c.args.actor.0 + cond t 1 0) w.if-begins.true)))
           )
       | else-begins w ↦ (
           let out : IsOut start i.names i.token (change_at view_checked_out c.args.actor.0 i.actors.kept) (i.history.items ++ begun_items false c.args.actor) i.edits_made i.settings c.args.actor (view_checked_out k.0).body = outs start i.names i.token i.actors.kept i.history.items i.edits_made i.settings beside c.args.actor k.0 false c.self.invariant.image allowed k.1 (sym phase ∙ w.if-begins.false) in
-          rw (← c.self.view_is, w.self-inside-is, put) (subst (λ (x : List Item). HasCheckedOut (seen start i.names i.history.items i.settings beside) c.args.actor c.in_ok-claim.claim (seen start i.names x i.settings (standing_of (c.args.actor.0 + 1) (change_at one_more c.args.actor.0 i.actors.out) i.tallies))) (append-nil i.history.items) (checked start i.names i.token i.actors.kept i.history.items i.edits_made i.settings i.next_from i.actors.out i.tallies c.args.actor k.0 false c.in_ok-claim.claim c.self.invariant.image k.1 within (sym phase ∙ w.if-begins.false) out claim))
+          rw (← c.self.view_is, w.self-inside-is, put) (subst (λ (x : List Item). HasCheckedOut (seen start i.names i.history.items i.settings beside) c.args.actor c.in_ok-claim.claim (seen start i.names x i.settings (standing_of (c.args.actor.0 + 1) (change_at one_more c.args.actor.0 i.actors.out) i.tallies))) (append-nil i.history.items) (checked start i.names i.token i.actors.kept i.history.items i.edits_made i.settings i.next_from i.actors.out i.tallies c.args.actor k.0 false c.in_ok-claim.claim c.count_after-stamp.result c.self.invariant.image k.1 within (sym phase ∙ w.if-begins.false) out claim (stamp_is i.changes c.make_room.new.self i.history.items c.args.actor false c.count_after-stamp.result c.make_room.ensures.same c.self.invariant.counts (c.count_after-stamp.ensures ∙ ap (λ (t : Bool). change_count c.make_room.new.self c.args.actor.0 + cond t 1 0) w.if-begins.false))))
           )
     ]

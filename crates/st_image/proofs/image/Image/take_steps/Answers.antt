@@ -1,4 +1,4 @@
-use Rattle.std.proofs.Common.{◌≡◌, ℕ, ◌<◌, refl, sym, ap, subst, slice_get, ◌∙◌, ◌++◌, [], ◌∷◌, false, Some, List, Option, arith}
+use Rattle.std.proofs.Common.{◌≡◌, ◌==◌, ◌+◌, cond, ℕ, ◌<◌, refl, sym, ap, subst, slice_get, ◌∙◌, ◌++◌, [], ◌∷◌, false, Some, List, Option, arith}
 use Rattle.std.proofs.lemmas.Grind.{common_steps}
 use Rattle.st_classes.specs.declared.values.ActorId.{ActorId}
 use Rattle.st_classes.specs.declared.keys.SiteId.{SiteId}
@@ -10,6 +10,7 @@ use Rattle.st_image.specs.Replay.{with_body}
 use Rattle.st_image.specs.Images.{ImageView, Standing, world_of}
 use Rattle.st_image.specs.ActorViews.{ActorView, actor_view, view_after_steps}
 use Rattle.st_image.specs.ActResults.{TakesOuter, constants_of}
+use Rattle.st_image.specs.Changes.{change_count}
 use Rattle.st_image.specs.ClaimsOut.{one_less}
 use Rattle.st_image.specs.Commits.{CommitAllowed, HasCommitted, act_site}
 use Rattle.st_image.specs.Tallies.{Tallied, after_act_at, after_sends, tally_at}
@@ -22,6 +23,7 @@ use Rattle.st_image.proofs.Acts.{kept_is, out_same, some_kept}
 use Rattle.st_image.proofs.Committing.{HasTaken, MayCommit, has_taken, items_are, may_commit}
 use Rattle.st_image.proofs.CountingOut.{counts_same_out}
 use Rattle.st_image.proofs.ClientNumbers.{kept_other}
+use Rattle.st_image.proofs.CountingChanges.{counts_one}
 use Rattle.st_image.proofs.image.Image.take_steps.Goals as goal
 
 pub put_steps-requires-clause-busy : goal.put_steps-requires-clause-busy
@@ -63,7 +65,7 @@ invariant_of-self-in-Ok-put_steps g c =
     let pushed : c.push.new.self.items ≡ i.history.items ++ Ran c.actor-actor.result c.args.steps ∷ [] = grind (arith, common_steps) in
     let items : c.push.new.self.items ≡ i.history.items ++ Ran d.actor c.args.steps ∷ [] = pushed ∙ ap (λ (b : ActorId). i.history.items ++ Ran b c.args.steps ∷ []) c.actor-actor.ensures in
     let taken : HasTaken i.names i.token c.put_steps.new.actors.kept i.history.items i.edits_made i.settings c.count.new.self d.actor c.args.steps = has_taken i.names i.token i.actors.kept c.put_steps.new.actors.kept i.history.items i.edits_made i.settings beside i.tallies c.count.new.self d c.args.steps c.in-Ok-put_steps.field-0 c.self.invariant.image c.self.invariant.sends c.known.ensures allowed c.requires.steps c.requires.some may takes c.in-Ok-put_steps.ensures.grown tallied in
-    rw (items, kept_is _ _ c.release.ensures) (record { image = taken.image; numbers_of_clients = kept_other i.clients [] i.history.items (Ran d.actor c.args.steps) (λ qs. refl) c.self.invariant.numbers_of_clients; sends = taken.sends })
+    rw (items, kept_is _ _ c.release.ensures) (record { image = taken.image; numbers_of_clients = kept_other i.clients [] i.history.items (Ran d.actor c.args.steps) (λ qs. refl) c.self.invariant.numbers_of_clients; sends = taken.sends; counts = counts_one i.changes c.make_room.new.self c.raise.new.self i.history.items (Ran d.actor c.args.steps) d.actor.0 (λ a. refl) c.make_room.ensures.same (subst (λ (b : ActorId). (a : ℕ) → change_count c.raise.new.self a ≡ change_count c.make_room.new.self a + cond (a == b.0) 1 0) c.actor-actor.ensures c.raise.ensures) c.self.invariant.counts })
 
 pub returns-in-Ok-put_steps-clause-ok : goal.returns-in-Ok-put_steps-clause-ok
 returns-in-Ok-put_steps-clause-ok g c =

@@ -1,4 +1,5 @@
 use Rattle.std.proofs.Common.{Ok, subst}
+use Rattle.st_image.proofs.KnownBodies.{checked_out_knows}
 use Rattle.st_server.specs.Runners.{RunnerView, TakesQuantum}
 use Rattle.st_server.proofs.Claims.{claim_begins, claim_follows, settled_keeps}
 use Rattle.st_server.proofs.SomeSteps.{checkout_busy}
@@ -9,6 +10,9 @@ work-result-requires-clause-follows c = claim_follows c.self.inside.image c.chec
 
 pub work-result-requires-clause-begins : goal.work-result-requires-clause-begins
 work-result-requires-clause-begins c = claim_begins c.self.inside.image c.checkout.new.self c.args.actor c.in_ok-claim.claim c.known.ensures c.known-2.ensures c.in_ok-claim.ensures.0.1
+
+pub work-result-requires-clause-body : goal.work-result-requires-clause-body
+work-result-requires-clause-body c = checked_out_knows c.self.inside.image c.checkout.new.self c.args.actor c.in_ok-claim.claim c.in_ok-claim.ensures.0.1
 
 pub invariant_of-self-2 : goal.invariant_of-self-2
 invariant_of-self-2 c =

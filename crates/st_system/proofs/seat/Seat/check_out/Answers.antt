@@ -1,6 +1,4 @@
-use Rattle.std.proofs.Common.{sym, subst, List}
-use Rattle.st_classes.specs.declared.edits.Edit.{Edit}
-use Rattle.st_classes.specs.EditLists.{Begins}
+use Rattle.std.proofs.Common.{sym, subst}
 use Rattle.st_image.specs.Images.{world}
 use Rattle.st_system.specs.Seats.{KeepsBeginning, SeatView}
 use Rattle.st_system.proofs.Seats.{kept_later}
@@ -11,7 +9,4 @@ returns-clause-fits g c =
     let before = (world c.args.image.now).edits in
     let after = (world c.check_out.new.image).edits in
     let kept = subst (λ (s : SeatView g.row.G.Denot). KeepsBeginning before s.caches) (sym c.self.view_is) c.requires.kept in
-    record {
-      claim = subst (λ (es : List Edit). Begins es after) (sym c.in_ok-claim.ensures.present) c.in_ok-claim.ensures.later;
-      kept = kept_later c.self.inside.worker before after c.in_ok-claim.ensures.later kept;
-    }
+    record { claim = c.in_ok-claim.ensures.fits; kept = kept_later c.self.inside.worker before after c.in_ok-claim.ensures.later.edits kept }

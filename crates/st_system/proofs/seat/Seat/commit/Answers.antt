@@ -1,9 +1,8 @@
 use Rattle.std.proofs.Common.{rules, sym, subst, ◌≡◌, None, Option}
 use Rattle.std.specs.Option.{IfSome}
-use Rattle.st_classes.specs.EditLists.{Begins}
 use Rattle.st_turn.specs.Claims.{ClaimView}
 use Rattle.st_image.specs.Images.{world}
-use Rattle.st_system.specs.Seats.{KeepsBeginning, SeatView}
+use Rattle.st_system.specs.Seats.{FitsClaim, KeepsBeginning, SeatView}
 use Rattle.st_system.proofs.Seats.{kept_later}
 use Rattle.st_system.proofs.seat.Seat.commit.Goals as goal
 
@@ -14,6 +13,6 @@ returns-in-Ok-clause-fits g c =
     let kept = subst (λ (s : SeatView g.row.G.Denot). KeepsBeginning before s.caches) (sym c.self.view_is) c.requires.kept in
     let gone : c.take.new.self ≡ None = search rules in
     record {
-      claim = subst (λ (o : Option ClaimView). IfSome o (λ d. Begins d.edits after)) (sym gone) tt;
-      kept = kept_later c.self.inside.worker before after c.in-Ok.ensures.later kept;
+      claim = subst (λ (o : Option ClaimView). IfSome o (FitsClaim c.commit.new.image)) (sym gone) tt;
+      kept = kept_later c.self.inside.worker before after c.in-Ok.ensures.later.edits kept;
     }

@@ -1,7 +1,6 @@
 use Rattle.std.proofs.Common.{rules, refl, subst, ◌≡◌, Some}
 use Rattle.std.specs.Prelude.{length, slice_get, slice_set}
 use Rattle.std.proofs.lemmas.Option.{slice_get_read}
-use Rattle.st_image.specs.Images.{world}
 use Rattle.st_system.specs.ClaimEvents.{AtWorker, TakesClaim}
 use Rattle.st_system.specs.Schedules.{schedule}
 use Rattle.st_system.specs.Seats.{SystemView}
@@ -11,7 +10,7 @@ use Rattle.st_system.proofs.system.System.check_out.Goals as goal
 
 pub invariant_of-self : goal.invariant_of-self
 invariant_of-self g c =
-    all_set (world c.self.inside.image).edits (world c.check_out.new.image).edits c.self.inside.seats.items c.args.worker c.check_out.new.self c.check_out.ensures.later c.self.invariant c.check_out.ensures.fits
+    all_set c.self.inside.image c.check_out.new.image c.self.inside.seats.items c.args.worker c.check_out.new.self c.check_out.ensures.later c.self.invariant c.check_out.ensures.fits
 
 pub returns : goal.returns
 returns g c =

@@ -1,7 +1,6 @@
 use Rattle.std.proofs.Common.{rules, refl, subst, ◌≡◌, Some}
 use Rattle.std.specs.Prelude.{length, slice_get, slice_set}
 use Rattle.std.proofs.lemmas.Option.{slice_get_read}
-use Rattle.st_image.specs.Images.{world}
 use Rattle.st_system.specs.ClaimEvents.{AtWorker, OfClaim, CommitsClaim}
 use Rattle.st_system.specs.Schedules.{schedule}
 use Rattle.st_system.specs.Seats.{SystemView}
@@ -11,7 +10,7 @@ use Rattle.st_system.proofs.system.System.commit.Goals as goal
 
 pub invariant_of-self : goal.invariant_of-self
 invariant_of-self g c =
-    all_set (world c.self.inside.image).edits (world c.commit.new.image).edits c.self.inside.seats.items c.args.worker c.commit.new.self c.commit.ensures.later c.self.invariant c.commit.ensures.fits
+    all_set c.self.inside.image c.commit.new.image c.self.inside.seats.items c.args.worker c.commit.new.self c.commit.ensures.later c.self.invariant c.commit.ensures.fits
 
 pub returns : goal.returns
 returns g c =

@@ -1,7 +1,6 @@
 use Rattle.std.proofs.lemmas.Result.{err_from_is_err_and}
 use Rattle.std.proofs.Common.{refl, subst, Ok, Err}
 use Rattle.st_image.specs.Calls.{Defines}
-use Rattle.st_image.specs.Images.{world}
 use Rattle.st_system.specs.declared.events.Answer.TheVariants.{Version}
 use Rattle.st_system.specs.ImageEvents.{OfImage}
 use Rattle.st_system.specs.Schedules.{schedule}
@@ -11,7 +10,7 @@ use Rattle.st_system.proofs.WorkersActing.{image_acts}
 use Rattle.st_system.proofs.system.System.define.Goals as goal
 
 pub invariant_of-self-2 : goal.invariant_of-self-2
-invariant_of-self-2 g c = all_later (world c.self.inside.image).edits (world c.define.new.image).edits c.self.inside.seats.items c.in_ok-define.ensures.later c.self.invariant
+invariant_of-self-2 g c = all_later c.self.inside.image c.define.new.image c.self.inside.seats.items c.in_ok-define.ensures.later c.self.invariant
 
 pub returns : goal.returns
 returns g c =
@@ -27,4 +26,4 @@ returns-in_err-define g c =
     rw (p.1, p.2) (subst (λ (X : SystemView g.row.G.Denot). OfImage Version (Defines X.image c.args.name.now c.args.parent c.args.slots.now) (schedule X) (Err c.in_err-define.field-0.0) (schedule T)) c.self.view_is (image_acts Version (λ i. Defines i c.args.name.now c.args.parent c.args.slots.now) S T (Err c.in_err-define.field-0.0) c.in_err-define.ensures.defines refl))
 
 pub invariant_of-self : goal.invariant_of-self
-invariant_of-self g c = all_later (world c.self.inside.image).edits (world c.define.new.image).edits c.self.inside.seats.items c.in_err-define.ensures.later c.self.invariant
+invariant_of-self g c = all_later c.self.inside.image c.define.new.image c.self.inside.seats.items c.in_err-define.ensures.later c.self.invariant

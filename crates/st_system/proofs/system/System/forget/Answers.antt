@@ -3,21 +3,20 @@ use Rattle.std.specs.Prelude.{length, slice_get, slice_set}
 use Rattle.std.proofs.lemmas.Option.{slice_get_read}
 use Rattle.std.specs.Option.{IfSome, option_map}
 use Rattle.st_system.specs.declared.events.Answer.TheVariants.{Done}
-use Rattle.st_image.specs.Images.{world}
 use Rattle.st_image.proofs.Places.{at_all, get_set_same}
 use Rattle.st_system.specs.ClaimEvents.{AtWorker, KeepsClaim}
 use Rattle.st_system.specs.Schedules.{bare, schedule}
 use Rattle.st_system.specs.Forgetting.{HaveNothing}
 use Rattle.st_system.specs.Seats.{FitsSeat, SeatView, SystemView}
-use Rattle.st_system.proofs.Seats.{all_set, begins_same}
+use Rattle.st_system.proofs.Seats.{all_set, goes_on_same}
 use Rattle.st_system.proofs.WorkersActing.{worker_acts}
 use Rattle.st_system.proofs.system.System.forget.Goals as goal
 
 pub invariant_of-self : goal.invariant_of-self
 invariant_of-self g c =
     let there : slice_get c.self.inside.seats.items c.args.worker ≡ Some c.index_mut-seat.result.now = slice_get_read c.self.inside.seats.items (length c.self.inside.seats.items) c.args.worker c.index_mut-seat.result.now refl (search rules) c.index_mut-seat.ensures.value in
-    let edits = (world c.self.inside.image).edits in
-    all_set edits edits c.self.inside.seats.items c.args.worker c.forget.new.self (begins_same edits) c.self.invariant (c.forget.ensures.fits edits (at_all (FitsSeat edits) c.self.inside.seats.items c.args.worker c.index_mut-seat.result.now c.self.invariant there))
+    let i = c.self.inside.image in
+    all_set i i c.self.inside.seats.items c.args.worker c.forget.new.self (goes_on_same i) c.self.invariant (c.forget.ensures.fits i (at_all (FitsSeat i) c.self.inside.seats.items c.args.worker c.index_mut-seat.result.now c.self.invariant there))
 
 pub returns-clause-acts : goal.returns-clause-acts
 returns-clause-acts g c =

@@ -1,7 +1,6 @@
 use Rattle.std.proofs.lemmas.Result.{err_from_is_err_and}
 use Rattle.std.proofs.Common.{refl, subst, Ok, Err}
 use Rattle.st_image.specs.Calls.{InstallsIn}
-use Rattle.st_image.specs.Images.{world}
 use Rattle.st_system.specs.declared.events.Answer.TheVariants.{Version}
 use Rattle.st_system.specs.ImageEvents.{OfImage}
 use Rattle.st_system.specs.Schedules.{schedule}
@@ -11,7 +10,7 @@ use Rattle.st_system.proofs.WorkersActing.{image_acts}
 use Rattle.st_system.proofs.system.System.install.Goals as goal
 
 pub invariant_of-self-2 : goal.invariant_of-self-2
-invariant_of-self-2 g c = all_later (world c.self.inside.image).edits (world c.install.new.image).edits c.self.inside.seats.items c.in_ok-install.ensures.later c.self.invariant
+invariant_of-self-2 g c = all_later c.self.inside.image c.install.new.image c.self.inside.seats.items c.in_ok-install.ensures.later c.self.invariant
 
 pub returns : goal.returns
 returns g c =
@@ -25,3 +24,6 @@ returns-in_err-install g c =
     let T : SystemView g.row.G.Denot = record { image = c.install.new.image; seats = c.self.inside.seats.items } in
     let p = err_from_is_err_and c.from_residual.result c.from_residual.ensures.1 in
     rw (p.1, p.2) (subst (λ (X : SystemView g.row.G.Denot). OfImage Version (InstallsIn X.image c.args.class c.args.source.now) (schedule X) (Err c.in_err-install.field-0.0) (schedule T)) c.self.view_is (image_acts Version (λ i. InstallsIn i c.args.class c.args.source.now) S T (Err c.in_err-install.field-0.0) c.in_err-install.ensures.installs refl))
+
+pub invariant_of-self : goal.invariant_of-self
+invariant_of-self g c = all_later c.self.inside.image c.install.new.image c.self.inside.seats.items c.in_err-install.ensures.later c.self.invariant

@@ -2,7 +2,6 @@ use Rattle.std.proofs.lemmas.Result.{err_from_is_err_and}
 use Rattle.std.proofs.Common.{refl, subst, inr, List, Err}
 use Rattle.st_classes.specs.declared.values.Value.{Value}
 use Rattle.st_image.specs.Calls.{Posts}
-use Rattle.st_image.specs.Images.{world}
 use Rattle.st_image.specs.PostRules.{from_client}
 use Rattle.st_system.specs.declared.events.Answer.TheVariants.{Position}
 use Rattle.st_system.specs.ImageEvents.{OfImage}
@@ -13,10 +12,10 @@ use Rattle.st_system.proofs.WorkersActing.{image_acts}
 use Rattle.st_system.proofs.system.System.post.Goals as goal
 
 pub invariant_of-self : goal.invariant_of-self
-invariant_of-self g c = all_later (world c.self.inside.image).edits (world c.post.new.image).edits c.self.inside.seats.items c.in_err-post.ensures.later c.self.invariant
+invariant_of-self g c = all_later c.self.inside.image c.post.new.image c.self.inside.seats.items c.in_err-post.ensures.later c.self.invariant
 
 pub invariant_of-self-2 : goal.invariant_of-self-2
-invariant_of-self-2 g c = all_later (world c.self.inside.image).edits (world c.post.new.image).edits c.self.inside.seats.items c.in_ok-post.ensures.later c.self.invariant
+invariant_of-self-2 g c = all_later c.self.inside.image c.post.new.image c.self.inside.seats.items c.in_ok-post.ensures.later c.self.invariant
 
 pub returns-in_err-post : goal.returns-in_err-post
 returns-in_err-post g c =

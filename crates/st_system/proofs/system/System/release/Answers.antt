@@ -1,7 +1,6 @@
 use Rattle.std.proofs.Common.{rules, refl, subst, ◌≡◌, Some}
 use Rattle.std.specs.Prelude.{length, slice_get, slice_set}
 use Rattle.std.proofs.lemmas.Option.{slice_get_read}
-use Rattle.st_image.specs.Images.{world}
 use Rattle.st_system.specs.ClaimEvents.{AtWorker, OfClaim, ReleasesClaim}
 use Rattle.st_system.specs.Schedules.{schedule}
 use Rattle.st_system.specs.Seats.{SystemView}
@@ -11,7 +10,7 @@ use Rattle.st_system.proofs.system.System.release.Goals as goal
 
 pub invariant_of-self : goal.invariant_of-self
 invariant_of-self g c =
-    all_set (world c.self.inside.image).edits (world c.release.new.image).edits c.self.inside.seats.items c.args.worker c.release.new.self c.release.ensures.later c.self.invariant c.release.ensures.fits
+    all_set c.self.inside.image c.release.new.image c.self.inside.seats.items c.args.worker c.release.new.self c.release.ensures.later c.self.invariant c.release.ensures.fits
 
 pub returns : goal.returns
 returns g c =

@@ -1,20 +1,19 @@
 use Rattle.std.proofs.Common.{rules, refl, subst, ◌≡◌, Some}
 use Rattle.std.specs.Prelude.{length, slice_get, slice_set}
 use Rattle.std.proofs.lemmas.Option.{slice_get_read}
-use Rattle.st_image.specs.Images.{world}
 use Rattle.st_image.proofs.Places.{at_all}
 use Rattle.st_system.specs.ClaimEvents.{AtWorker, OfClaim, StepsClaim}
 use Rattle.st_system.specs.Schedules.{schedule}
 use Rattle.st_system.specs.Seats.{FitsSeat, SystemView}
-use Rattle.st_system.proofs.Seats.{all_set, begins_same}
+use Rattle.st_system.proofs.Seats.{all_set, goes_on_same}
 use Rattle.st_system.proofs.WorkersActing.{worker_acts}
 use Rattle.st_system.proofs.system.System.step.Goals as goal
 
 pub invariant_of-self : goal.invariant_of-self
 invariant_of-self g c =
     let there : slice_get c.self.inside.seats.items c.args.worker ≡ Some c.index_mut-seat.result.now = slice_get_read c.self.inside.seats.items (length c.self.inside.seats.items) c.args.worker c.index_mut-seat.result.now refl (search rules) c.index_mut-seat.ensures.value in
-    let edits = (world c.self.inside.image).edits in
-    all_set edits edits c.self.inside.seats.items c.args.worker c.step.new.self (begins_same edits) c.self.invariant (c.step.ensures.fits edits (at_all (FitsSeat edits) c.self.inside.seats.items c.args.worker c.index_mut-seat.result.now c.self.invariant there))
+    let i = c.self.inside.image in
+    all_set i i c.self.inside.seats.items c.args.worker c.step.new.self (goes_on_same i) c.self.invariant (c.step.ensures.fits i (at_all (FitsSeat i) c.self.inside.seats.items c.args.worker c.index_mut-seat.result.now c.self.invariant there))
 
 pub returns : goal.returns
 returns g c =

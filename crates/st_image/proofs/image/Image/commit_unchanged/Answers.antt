@@ -8,7 +8,7 @@ use Rattle.st_image.specs.Commits.{CommitAllowed, steps_of}
 use Rattle.st_image.proofs.Posting.{seen, standing_of}
 use Rattle.st_image.proofs.Acts.{out_same}
 use Rattle.st_image.proofs.Committing.{committed_none}
-use Rattle.st_image.proofs.image.Image.commit_known.Goals as goal
+use Rattle.st_image.proofs.image.Image.commit_unchanged.Goals as goal
 
 pub returns-then-steps-eq0 : goal.returns-then-steps-eq0
 returns-then-steps-eq0 g c =

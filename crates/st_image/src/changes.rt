@@ -1,0 +1,76 @@
+//! How often the body of each actor was changed.
+ghost use Rattle.std.specs.Prelude.{◌≡◌, ◌+◌, ◌<◌, ◌^◌, ◌==◌, ℕ, [], length, if◌then◌else◌, OnOk};
+ghost use Rattle.st_image.specs.Changes.{change_count};
+
+use st_classes::values::ActorId;
+use std::alloc::{AllocError, Global};
+use std::marker::Model;
+
+/// How often the body of each actor was changed, by the actors' numbers. Contracts see a list of numbers, of which those past its
+/// end are 0.
+#[derive(Drop)]
+pub(crate) struct Changes {
+    counts: Vec<u32>,
+}
+
+impl Model for Changes {
+    ghost use Rattle.std.specs.Prelude.{ℕ, List};
+
+    ghost Value = { List ℕ };
+
+    ghost view = { λ c. c.counts.items };
+}
+
+impl Changes {
+    /// No body was changed.
+    pub(crate) fn new(alloc: Global) -> Changes
+        ensures { result ≡ [] }
+    {
+        Changes {
+            counts: Vec::new(alloc),
+        }
+    }
+
+    /// How often the body of an actor was changed.
+    pub(crate) fn count(&self, actor: ActorId) -> u32
+        ensures { result ≡ change_count self.now actor.0 }
+    {
+        match self.counts.get(actor.0 as usize) {
+            Some(count) => *count,
+            None => 0,
+        }
+    }
+
+    /// How often the body of an actor will have been changed, once it is changed again where it is to be.
+    pub(crate) fn count_after(&self, actor: ActorId, changes: bool) -> u32
+        requires { change_count self.now actor.0 + 1 < 2 ^ 32 }
+        ensures { result ≡ change_count self.now actor.0 + (if changes then 1 else 0) }
+    {
+        if changes {
+            self.count(actor) + 1
+        } else {
+            self.count(actor)
+        }
+    }
+
+    /// Makes room for the number of an actor. No number changes.
+    pub(crate) fn make_room(&mut self, actor: ActorId) -> Result<(), AllocError>
+        ensures same { (a : ℕ) → change_count self.new a ≡ change_count self.old a }
+        ensures room { OnOk result (actor.0 < length self.new) }
+    {
+        let wanted = actor.0 as usize + 1;
+        if self.counts.len() < wanted {
+            self.counts.resize(wanted, 0)?;
+        }
+        Ok(())
+    }
+
+    /// The body of an actor was changed once more.
+    pub(crate) fn raise(&mut self, actor: ActorId)
+        requires room { actor.0 < length self.old }
+        requires few { change_count self.old actor.0 + 1 < 2 ^ 32 }
+        ensures { (a : ℕ) → change_count self.new a ≡ change_count self.old a + (if a == actor.0 then 1 else 0) }
+    {
+        self.counts[actor.0 as usize] += 1;
+    }
+}

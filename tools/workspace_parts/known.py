@@ -20,6 +20,10 @@ class KnownClass:
         """The definition as it is typed."""
         return f"{self.name} : {self.parent}" + (f" | {' '.join(self.slots)} |" if self.slots else "")
 
+    def method_lines(self):
+        """The methods as they are typed."""
+        return [line for source in self.methods.values() for line in f"{self.name} >> {source}".split("\n")]
+
 
 @dataclass
 class KnownActor:

@@ -47,6 +47,8 @@ class Session:
         except Stopped as stopped:
             self.tell_where()
             self.tell_stop(text, stopped)
+        except RecursionError:
+            self.say("this is nested too deep; send a part of it first, and name the answer")
         return "refused"
 
     def tell_where(self):
@@ -64,9 +66,16 @@ class Session:
         elif isinstance(found, Method):
             self.install(found)
         elif isinstance(found, Command):
-            commands.do(self, found)
+            self.command(found)
         elif found:
             self.do_statements(read_statements(text))
+
+    def command(self, found):
+        try:
+            commands.do(self, found)
+        except Wrong as wrong:
+            wrong.place = None if wrong.place is None else wrong.place + found.start
+            raise
 
     # Definitions.
 
@@ -108,15 +117,17 @@ class Session:
 
     def check_names(self, statements):
         """Looks for names that mean nothing before anything is sent."""
-        names = set(self.known.names)
+        given = set()
         for statement in statements:
             for name in names_in(statement.expression):
-                if not name.text[0].isupper() and name.text not in names:
-                    raise Wrong(f"nothing is named {name.text}; {self.naming(name.text, names)}", name.place)
-            names.update(statement.names)
+                if not name.text[0].isupper() and name.text not in given:
+                    self.check_name(name.text, name.place)
+            given.update(statement.names)
 
-    def naming(self, name, names):
-        return near(name, names)[2:] or f"make an actor of a class, as in  {name} := Counter actor"
+    def check_name(self, name, place=None):
+        if name not in self.known.names:
+            hint = near(name, self.known.names)
+            raise Wrong(f"nothing is named {name}{hint or f'; make an actor of a class, as in  {name} := Counter actor'}", place)
 
     def name(self, statement, value, actor, is_last):
         if statement.names and isinstance(value, dict) and "local" in value:

@@ -68,6 +68,8 @@ class Fault:
             return "the method is too long; put a part of it into another one"
         if self.token.kind == "none" and self.kind in ("BadToken", "BadPattern"):
             return no_token(self.here)
+        if self.kind == "BadCharacter":
+            return no_token(self.here) if self.here.isascii() else f"{self.here} is not ASCII, and sources are, in comments too; take it out"
         own = {"BadToken": self.bad_token, "BadPattern": self.bad_pattern, "UnknownName": self.unknown}.get(self.kind)
         return own() if own else KINDS[self.kind].format(token=self.here)
 

@@ -60,7 +60,7 @@ class Turns:
         reply = self.connection.ask(command)
         if "error" in reply:
             raise Refused(command, reply)
-        self.items += 1
+        self.items += command["cmd"] not in ("outcome", "stats")
         return reply["ok"]
 
     def post(self, actor, selector, arguments):
@@ -102,11 +102,16 @@ class Turns:
                 taken, steps = taken + ran["quanta"], steps + ran["steps"]
                 if turn in self.ends or ran["quanta"] < size:
                     break
-                self.check(taken, most if quanta is None else taken + 1, turn or "the run")
+                self.check(taken, most if quanta is None else taken + 1, self.running(turn))
                 life.tell(taken)
         finally:
             life.clear()
         return taken, steps
+
+    def running(self, turn):
+        """What is said to be running while a turn is waited for: the actor may be in an earlier one."""
+        first = next((it for it in self.waiting if turn and it.actor == turn.actor), turn)
+        return "the run" if turn is None else str(turn) if first == turn else f"{first}, before turn {turn.number},"
 
     def run(self, size):
         """One slice; which turns have ended is seen at once."""

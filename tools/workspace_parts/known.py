@@ -63,6 +63,11 @@ class Known:
     def actor(self, number):
         return self.actors.setdefault(number, KnownActor())
 
+    def see(self, value):
+        """Takes note of an actor that a value is."""
+        if isinstance(value, dict) and "ref" in value:
+            self.actor(value["ref"])
+
     def name_of(self, number):
         """The name of an actor; None if it has none."""
         return next((name for name, value in self.names.items() if value == {"ref": number}), None)

@@ -2,6 +2,7 @@
 
 import re
 
+from .sending import Sending
 from .statements import Literal, Name, Send, read_statements
 from .turns import Turn
 from .values import count
@@ -12,19 +13,20 @@ def post(session, rest):
     statements = read_statements(rest)
     if not statements:
         raise Wrong("write a message after it, as in  :post c bump")
-    session.check_names(statements)
+    sending = Sending(session)
+    sending.check_names(statements)
     for statement in statements:
         if statement.names or not isinstance(statement.expression, Send):
             raise Wrong(f"{statement.text} is not a message to an actor, or its answer would be needed at once")
-        post_one(session, statement.expression)
+        post_one(session, sending, statement.expression)
 
 
-def post_one(session, send):
+def post_one(session, sending, send):
     if not all(isinstance(it, (Literal, Name)) for _, arguments in send.messages for it in [send.receiver, *arguments]):
         raise Wrong("a message that waits takes only values and names", send.place)
-    actor = session.receiver(session.value_of(send.receiver)[0], send.place)
+    actor = sending.receiver(sending.value_of(send.receiver)[0], send.place)
     for selector, arguments in send.messages:
-        turn = session.turns.post(actor, selector, [session.value_of(argument)[0] for argument in arguments])
+        turn = session.turns.post(actor, selector, [sending.value_of(argument)[0] for argument in arguments])
         session.say(f"{turn} waits")
 
 
@@ -39,11 +41,9 @@ def run(session, rest):
 
 
 def take(session, quanta):
-    try:
-        taken, steps = session.turns.go_on(quanta)
-        session.say(f"{count(taken, 'quantum')}, {count(steps, 'step')}" if taken else "nothing is ready to run")
-    finally:
-        session.tell_ends()
+    taken, steps = session.turns.go_on(quanta)
+    session.say(f"{count(taken, 'quantum')}, {count(steps, 'step')}" if taken else "nothing is ready to run")
+    session.tell_ends()
 
 
 def turn(session, rest):
@@ -67,5 +67,6 @@ def actor_of(session, text):
         return int(match[1])
     if not re.fullmatch("[a-z][A-Za-z0-9]*", text):
         raise Wrong("write the name of an actor, or its number as in  actor 3")
-    session.check_name(text)
-    return session.receiver(session.known.names[text], None)
+    sending = Sending(session)
+    sending.check_name(text)
+    return sending.receiver(session.known.names[text])

@@ -212,7 +212,7 @@ def interrupted(program):
             pass
         process.send_signal(signal.SIGINT)
         out, err = process.communicate(timeout=60)
-        same(("was broken off" in out.decode(), err, process.returncode), (True, b"", 130))
+        same(("broken off" in out.decode(), err, process.returncode), (True, b"", 130))
 
 
 def log(program):

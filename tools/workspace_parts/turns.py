@@ -25,7 +25,7 @@ class Turn:
 
 
 class Life:
-    """A sign of life on a terminal, from the second second on."""
+    """A sign of life on a terminal, after the first second."""
 
     def __init__(self):
         self.shown = False
@@ -60,7 +60,7 @@ class Turns:
         reply = self.connection.ask(command)
         if "error" in reply:
             raise Refused(command, reply)
-        self.items += command["cmd"] not in ("outcome", "stats")
+        self.items += command["cmd"] not in ("run", "outcome", "stats")
         return reply["ok"]
 
     def post(self, actor, selector, arguments):
@@ -82,8 +82,9 @@ class Turns:
 
     def end_of(self, turn):
         """Runs until a turn has ended, and says how."""
-        while turn not in self.ends:
-            self.go_on(None, turn)
+        self.go_on(None, turn)
+        if turn not in self.ends:
+            raise BrokenOff(f"{turn} has not ended, though nothing is ready to run")
         return self.ends.pop(turn)
 
     def take_ends(self):
@@ -115,10 +116,12 @@ class Turns:
 
     def run(self, size):
         """One slice; which turns have ended is seen at once."""
-        ran = self.ask({"cmd": "run", "quanta": size})
+        try:
+            ran = self.ask({"cmd": "run", "quanta": size})
+        finally:
+            for actor in {turn.actor for turn in self.waiting}:
+                self.see_ends(actor)
         self.items += ran["quanta"]
-        for actor in {turn.actor for turn in self.waiting}:
-            self.see_ends(actor)
         return ran
 
     def see_ends(self, actor):

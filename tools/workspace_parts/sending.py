@@ -90,6 +90,8 @@ class Sending:
     def send_class(self, name, selector, arguments, place):
         if selector in MAKES_ACTOR:
             return {"ref": self.session.make_actor(name)}
+        if name not in self.known.classes:
+            raise Wrong(f"nothing is named {name}{near(name, [*self.known.names, *self.known.classes])}", place)
         if selector == "removeSelector:" and isinstance(arguments[0], dict) and "sym" in arguments[0]:
             self.session.remove(name, arguments[0]["sym"])
             return {"class": name}

@@ -87,7 +87,7 @@ def form(text):
     plain = without_comments(text)
     if not plain.strip():
         return None
-    command = COMMAND.match(text)
+    command = COMMAND.match(plain)
     if command:
         return Command(command[1], text[command.end() :].strip(), command.end())
     if META.match(plain):

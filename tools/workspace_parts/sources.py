@@ -4,11 +4,12 @@ import unicodedata
 
 from .advice import KINDS
 from .known import near
+from .statements import MOST_LETTERS
 from .tokens import arguments, no_token, pattern, temporaries, tokens
 
 WIDEST = 76
 BEFORE, DOTS = 40, ".."
-MOST_LETTERS, MOST_BYTES = 64, 4096
+MOST_BYTES = 4096
 TOO_LARGE = {
     "number": "whole numbers go from -2^63 to 2^63 - 1; take a smaller one",
     "keyword": "a message has at most 8 arguments; send two messages",
@@ -121,7 +122,7 @@ class Fault:
         return KINDS["BadPattern"]
 
     def too_large(self):
-        if len(self.here) > MOST_LETTERS and self.token.kind in ("word", "keyword"):
+        if len(self.here.rstrip(":")) > MOST_LETTERS and self.token.kind in ("word", "keyword"):
             return "a name has at most 64 letters and digits; take a shorter one"
         if self.place == 0 or len(self.source[: self.place].encode()) == MOST_BYTES:
             return "the method is too long; put a part of it into another one"

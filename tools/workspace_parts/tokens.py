@@ -55,7 +55,8 @@ def no_token(character):
         return f"nothing begins with this {character} here; symbols are written #name or #at:put:, and assignments :="
     if character == "'":
         return "there are no strings; take a symbol, as in #name, or double quotes for a comment"
-    return f"{character} has no meaning here; take it out"
+    shown = character if character.isprintable() else f"the character {ord(character)}"
+    return f"{shown} has no meaning here; take it out"
 
 
 def is_open(text):

@@ -157,6 +157,14 @@ def session(program):
         same(terminal.process.wait(20), 0)
 
 
+def pasted(program):
+    """Several entries that are pasted at once."""
+    with Typing(program) as terminal:
+        terminal.type("\x1b[200~Job : Object\nJob >> work: n\n  | i |\n  i := 0.\n\n  ^i + n\n\nj := Job actor\nj work: 3\x1b[201~\n")
+        terminal.see("j work: 3\n")
+        same(terminal.see("> "), "class Job, version 1\nactor 0\n3\n> ")
+
+
 def long_run(program):
     """A long run shows that it runs, and is broken off; an edit in the middle of the turn ends it."""
     with Typing(program) as terminal:
@@ -256,6 +264,7 @@ TRIALS = (
     completion,
     several_lines,
     session,
+    pasted,
     long_run,
     broken_line,
     endless,

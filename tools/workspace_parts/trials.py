@@ -197,7 +197,7 @@ def endless(program):
     """A run that nobody breaks off leaves half of the history."""
     lines = [*SPIN, "s spin", ":run", "Spin >> goOn  ^false", ":run"]
     found = piped(program, lines, "--quantum", "1").stdout.decode()
-    stops = re.findall(r"was stopped after ([0-9,]+) quanta, half of what the history has left; :run or :step goes on", found)
+    stops = re.findall(r"was stopped after ([0-9,]+) quanta, half of those left; :run or :step goes on", found)
     quanta = [int(it.replace(",", "")) for it in stops]
     if len(quanta) != 2 or not 499_000 < quanta[0] < 501_000 or not 249_000 < quanta[1] < 251_000:
         raise AssertionError(f"it is stopped after {stops}")

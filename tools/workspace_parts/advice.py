@@ -12,7 +12,7 @@ REFUSALS = {
     "colon",
     "BadCommand": "the program does not know this command; it and the workspace are not of the same version",
     "BadImage": "the image file cannot be read at {place}; take another file",
-    "BadName": "{name} is no name; take a letter and then letters and digits, at most 64, a capital first for a class and a "
+    "BadName": "{name} cannot be a name; take a letter and then letters and digits, at most 64, a capital first for a class and a "
     "small letter for a variable",
     "BadSource": "the method is not written as the language asks; mend it at the mark and type it again",
     "ClassExists": "there is a class {class} already, and its variables stay; replace its methods, or take another name",

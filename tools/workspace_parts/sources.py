@@ -1,0 +1,136 @@
+"""The place of what is wrong in a source or a statement, under the line that was typed."""
+
+import unicodedata
+
+from .advice import KINDS
+from .known import near
+from .tokens import pattern, tokens
+
+WIDEST = 76
+BEFORE, DOTS = 40, ".."
+
+
+def marked(text, place, sentence, start=0):
+    """The line of the place, and below it a mark with the sentence. In the first line, what is before `start` is left out if
+    the place is behind it."""
+    begin = text.rfind("\n", 0, place) + 1
+    if begin == 0 and place >= start:
+        begin = start
+    end = text.find("\n", place)
+    line = text[begin : end if end >= 0 else len(text)]
+    blanks = len(line) - len(line.lstrip())
+    blanks = min(blanks, place - begin)
+    line, at = window(line[blanks:].rstrip(), place - begin - blanks)
+    return ["  " + line, "  " + " " * width(line[:at]) + "^ " + sentence]
+
+
+def window(line, at):
+    """A part of a long line, and the place in it; control characters, which would move the mark, are blanks in it."""
+    line = "".join(character if character.isprintable() else " " for character in line)
+    if width(line) <= WIDEST:
+        return line, at
+    first = max(0, at - BEFORE)
+    left = DOTS if first else ""
+    part = line[first : first + WIDEST - 2 * len(DOTS)]
+    right = DOTS if first + len(part) < len(line) else ""
+    return left + part + right, at - first + len(left)
+
+
+def width(text):
+    """How many columns a text takes in a terminal."""
+    return sum(0 if unicodedata.combining(it) else 2 if unicodedata.east_asian_width(it) in "WF" else 1 for it in text)
+
+
+def bad_source(source, kind, offset, variables, classes):
+    """The lines for a source that was refused; `offset` counts bytes."""
+    place = len(source.encode()[:offset].decode(errors="ignore"))
+    found = pattern(source)
+    start = 0
+    if found and kind != "BadPattern":
+        start = len(source) - len(source[found[1] :].lstrip())
+    sentence = Fault(source, kind, place, variables, classes).sentence()
+    return marked(source, place, f"{kind}: {sentence}", start)
+
+
+class Fault:
+    """What is wrong at a place of a source."""
+
+    def __init__(self, source, kind, place, variables, classes):
+        self.source, self.kind, self.place = source, kind, place
+        self.variables, self.classes = variables, classes
+        self.before = [token for token in tokens(source[:place]) if token.kind != "end"]
+        self.token = tokens(source[place:])[0]
+        self.here = self.token.text or source[place : place + 1]
+
+    def sentence(self):
+        if self.kind == "TooLarge" and self.place in (0, 4096):
+            return "the method is too long; put a part of it into another one"
+        if self.token.kind == "none" and self.kind in ("BadToken", "BadPattern"):
+            return self.no_token()
+        own = {"BadToken": self.bad_token, "BadPattern": self.bad_pattern, "UnknownName": self.unknown}.get(self.kind)
+        return own() if own else KINDS[self.kind].format(token=self.here)
+
+    def no_token(self):
+        """What is said where no token begins."""
+        if self.here == '"':
+            return "this comment is not closed; put a double quote at its end"
+        if self.here.isdigit():
+            return "no number is written like this; numbers are whole, and a blank stands before a name"
+        return f"nothing begins with this {self.here} here; symbols are written #name or #at:put:, and assignments :="
+
+    def bad_token(self):
+        """What stands here and what is expected; for some faults what is wrong instead."""
+        if self.here == "super":
+            return "super only receives messages, and no cascade; send it one, or use self"
+        if self.in_temporaries():
+            return "temporaries are names with a small letter first, between bars"
+        if self.after_answer():
+            return "nothing comes after an answer; take out the ^ or what comes after it"
+        stands = f"{self.here} stands" if self.place < len(self.source) else "the method ends"
+        return f"{stands} where {self.expected()} is expected"
+
+    def in_temporaries(self):
+        bars = sum(token.kind == "|" for token in self.before)
+        return bars == 1 and self.here != "|"
+
+    def after_answer(self):
+        """Whether the statement before this one, in the same brackets, is an answer."""
+        if not self.before or self.before[-1].kind != "." or self.here in (".", ""):
+            return False
+        depth = 0
+        for token in reversed(self.before[:-1]):
+            depth += {")": 1, "]": 1, "(": -1, "[": -1}.get(token.kind, 0)
+            if depth < 0 or (depth == 0 and token.kind == "."):
+                return False
+            if depth == 0 and token.kind == "^":
+                return True
+        return False
+
+    def bad_pattern(self):
+        if self.here[:1].isupper():
+            return "an argument begins with a small letter; take another name"
+        return KINDS["BadPattern"]
+
+    def unknown(self):
+        return KINDS["UnknownName"].format(token=self.here) + near(self.here, [*self.variables, *self.classes])
+
+    def expected(self):
+        """What the grammar goes on with, as far as the token before tells."""
+        last = self.before[-1].kind if self.before else "."
+        if last in ("binary", "keyword", "assign", "^", "("):
+            return "an operand"
+        if last == ";":
+            return "a message"
+        if last in (".", "[", "|"):
+            return "a statement"
+        return {"(": "a message or )", "[": "a message, a period or ]"}.get(self.open_bracket(), "a message or a period")
+
+    def open_bracket(self):
+        """The innermost bracket that is open at the place; None if none is."""
+        opened = []
+        for token in self.before:
+            if token.kind in "([":
+                opened.append(token.kind)
+            elif token.kind in ")]" and opened:
+                opened.pop()
+        return opened[-1] if opened else None

@@ -1,0 +1,85 @@
+"""The tokens of what is typed. docs/LANGUAGE.md has the rules; the program is the judge of sources, and this only helps to say
+where and why."""
+
+import re
+from dataclasses import dataclass
+
+SPACE = re.compile(r'(?:[\t\n\f\r ]|"[^"]*")+')
+TOKEN = re.compile(
+    r"""(?P<keyword>[A-Za-z][A-Za-z0-9]*:(?!=))
+      | (?P<word>[A-Za-z][A-Za-z0-9]*)
+      | (?P<number>[0-9]+(?![A-Za-z]|\.[0-9])(?![0-9]))
+      | (?P<symbol>\#(?:(?:[A-Za-z][A-Za-z0-9]*:(?!=))+(?![A-Za-z])|[A-Za-z][A-Za-z0-9]*(?!:)(?![A-Za-z0-9])|[-+*/\\<>=~&,][+*/\\<>=~&,]?))
+      | (?P<assign>:=)
+      | (?P<binary>[-+*/\\<>=~&,][+*/\\<>=~&,]?)
+      | (?P<alone>[()\[\]^.;|])""",
+    re.VERBOSE,
+)
+
+
+@dataclass(frozen=True)
+class Token:
+    """`kind` is keyword, word, number, symbol, assign, binary, a character that stands alone, end, or none: a place where no
+    token begins."""
+
+    kind: str
+    text: str
+    start: int
+    stop: int
+
+
+def tokens(text):
+    """All tokens up to the end or to the first place where none begins, which is the last one then."""
+    found, place = [], 0
+    while True:
+        space = SPACE.match(text, place)
+        place = space.end() if space else place
+        if place == len(text):
+            return found + [Token("end", "", place, place)]
+        match = TOKEN.match(text, place)
+        if not match:
+            return found + [Token("none", text[place], place, place + 1)]
+        kind = match[0] if match.lastgroup == "alone" else match.lastgroup
+        found.append(Token(kind, match[0], place, match.end()))
+        place = match.end()
+
+
+def is_open(text):
+    """Whether a bracket or a comment is open at the end."""
+    found = tokens(text)
+    if found[-1].text == '"':
+        return True
+    return sum({"(": 1, "[": 1, ")": -1, "]": -1}.get(token.kind, 0) for token in found) > 0
+
+
+def without_comments(text):
+    """The text with blanks where comments were, so that places stay."""
+    return re.sub(r'"[^"]*"', lambda comment: re.sub(r"[^\n]", " ", comment[0]), text)
+
+
+def pattern(source):
+    """The selector of a method's source and the place after its pattern; None if there is no pattern."""
+    found = tokens(source)
+    first = found[0]
+    if first.kind == "word":
+        return first.text, first.stop
+    if first.kind == "binary" and found[1].kind == "word":
+        return first.text, found[1].stop
+    selector, stop = "", 0
+    for keyword, name in zip(found[::2], found[1::2]):
+        if keyword.kind != "keyword" or name.kind != "word":
+            break
+        selector, stop = selector + keyword.text, name.stop
+    return (selector, stop) if selector else None
+
+
+def has_body(source):
+    """Whether something stands after the pattern and the temporaries of a source."""
+    found = pattern(source)
+    if found is None:
+        return True
+    rest = tokens(source[found[1] :])
+    if rest[0].kind == "|":
+        bar = next((at for at, token in enumerate(rest[1:], 1) if token.kind == "|"), None)
+        rest = rest[bar + 1 :] if bar else rest[-1:]
+    return rest[0].kind != "end"

@@ -50,7 +50,7 @@ MOST = {
 # The kinds of bad sources; `token` is the one at the mark. sources.py says more of some.
 KINDS = {
     "BadCharacter": "{token} is not used in methods, nor in their comments; take it out",
-    "BadPattern": "a method begins with a name, an operator and an argument, or keywords with an argument each",
+    "BadPattern": "no pattern is here; begin with a name, an operator and an argument, or keywords with an argument each",
     "BadToken": "something is missing at the mark, or stands where the grammar asks for something else; mend it there",
     "BlockEscapes": "a block stands only in ifTrue:, whileTrue:, and: and their like; put what it does into a method",
     "DuplicateName": "the name {token} is taken, by another variable or by the language; take another one",

@@ -27,6 +27,7 @@ def post(session, rest):
     statements = read_statements(rest)
     if not statements:
         raise Wrong("write a message after it, as in  :post c bump")
+    session.check_names(statements)
     for statement in statements:
         if statement.names or not isinstance(statement.expression, Send):
             raise Wrong(f"{statement.text} is not a message to an actor, or its answer would be needed at once")
@@ -54,9 +55,11 @@ def run(session, rest):
 
 
 def take(session, quanta):
-    taken, steps = session.turns.go_on(quanta, lambda: False, "the run")
-    session.say(f"{count(taken, 'quantum')}, {count(steps, 'step')}" if taken else "nothing is ready to run")
-    session.tell_ended()
+    try:
+        taken, steps = session.turns.go_on(quanta)
+        session.say(f"{count(taken, 'quantum')}, {count(steps, 'step')}" if taken else "nothing is ready to run")
+    finally:
+        session.tell_ends()
 
 
 def turn(session, rest):

@@ -9,6 +9,13 @@ from .wrong import Ended
 
 # A longer line would end the session (docs/LIMITS.md).
 LONGEST_LINE = 8192
+NOTHING_RUN = b'{"ok":{"quanta":0,"steps":0}}\n'
+HOW_BUILT = "./actorimage builds the program, and README.md says what that needs"
+# What a status says of a program that ends before its first reply.
+STARTS = {
+    1: f"could not be started, for the reason above; {HOW_BUILT}",
+    2: "refused its options; --quantum and --capacity are 1 to 1,024",
+}
 
 
 class Connection:
@@ -21,29 +28,42 @@ class Connection:
                 [program, "script", *options], stdin=subprocess.PIPE, stdout=subprocess.PIPE, start_new_session=True
             )
         except OSError as error:
-            raise Ended(f"{program} cannot be started ({error.strerror}); build it with ./actorimage --help") from None
+            raise Ended(f"{program} cannot be started ({error.strerror}); {HOW_BUILT}") from None
+        self.greet()
+
+    def greet(self):
+        """Waits until the program replies, which takes long where it is built first."""
         try:
-            self.ask({"cmd": "run"})
+            self.send({"cmd": "run"})
+            reply = self.process.stdout.readline()
+        except BrokenPipeError:
+            reply = b""
         except KeyboardInterrupt:
             os.killpg(self.process.pid, signal.SIGTERM)
             raise
+        if reply == NOTHING_RUN:
+            return
+        self.close()
+        why = STARTS.get(self.process.returncode, "is not the program of actorimage") if not reply else "is not the program of actorimage"
+        raise Ended(f"{self.program} {why}")
 
     def ask(self, command):
-        line = as_line(command).encode(errors="replace")
-        if len(line) > LONGEST_LINE:
-            return {"error": "TooLong"}
+        """The reply to a command."""
         try:
-            self.process.stdin.write(line + b"\n")
-            self.process.stdin.flush()
+            if not self.send(command):
+                return {"error": "TooLong"}
             return json.loads(self.process.stdout.readline())
         except (BrokenPipeError, ValueError):
-            raise Ended(self.end()) from None
+            raise Ended(f"the program ended with status {self.process.wait()}; start the workspace again") from None
 
-    def end(self):
-        status = self.process.wait()
-        if status == 1:
-            return "the program ended with status 1, for the reason above; start the workspace again when it is mended"
-        return f"the program ended with status {status}; is {self.program} the built program?"
+    def send(self, command):
+        """Whether a command is short enough to be sent."""
+        line = as_line(command).encode(errors="replace")
+        if len(line) > LONGEST_LINE:
+            return False
+        self.process.stdin.write(line + b"\n")
+        self.process.stdin.flush()
+        return True
 
     def close(self):
         try:

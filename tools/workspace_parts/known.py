@@ -66,5 +66,5 @@ class Known:
 
 def near(name, names):
     """A question after the nearest of some names; empty if none is near."""
-    found = difflib.get_close_matches(name, list(names), 1, 0.7)
+    found = difflib.get_close_matches(name, list(names), 1, 0.6)
     return f"; did you mean {found[0]}?" if found else ""

@@ -39,8 +39,8 @@ def transcript(session):
     """Does the lines of standard input and prints each before what it gives."""
     for entry in entries(line.rstrip("\n") for line in sys.stdin):
         first, *more = entry.text.split("\n")
-        session.tell(["> " + first, *(("  " + line).rstrip() for line in more)])
         with session.breaks:
+            session.tell(["> " + first, *(("  " + line).rstrip() for line in more)])
             session.do(entry.text)
         if session.is_over:
             return

@@ -5,11 +5,11 @@ from .connection import Connection, Log
 from .entries import Command, Definition, Method, form
 from .known import Known, near
 from .sources import bad_source, marked
-from .statements import Literal, Name, read_statements
+from .statements import Literal, Name, Send, read_statements
 from .tokens import pattern
 from .turns import Turns
 from .values import show
-from .wrong import BrokenOff, Refused, Wrong
+from .wrong import Faulted, Refused, Stopped, Wrong
 
 MAKES_ACTOR = ("actor", "newActor")
 
@@ -44,14 +44,9 @@ class Session:
             found = form(text)
             self.do_form(text, found)
             return type(found).__name__
-        except Wrong as wrong:
+        except Stopped as stopped:
             self.tell_where()
-            self.tell(marked(text, wrong.place, wrong.sentence) if wrong.place is not None else [wrong.sentence])
-        except Refused as refused:
-            self.tell_where()
-            self.tell_refusal(refused)
-        except BrokenOff as broken:
-            self.say(broken.sentence)
+            self.tell_stop(text, stopped)
         return "refused"
 
     def tell_where(self):
@@ -101,16 +96,27 @@ class Session:
     # Messages.
 
     def do_statements(self, statements):
-        """Sends the messages one after the other, and shows the answer of the last. The first that ends with a fault ends all."""
+        """Sends the messages one after the other, and shows the answer of the last."""
+        self.check_names(statements)
         for at, statement in enumerate(statements):
             try:
                 value, actor = self.value_of(statement.expression)
                 self.name(statement, value, actor, is_last=at == len(statements) - 1)
-            except Faulted:
-                rest = ". ".join(later.text for later in statements[at + 1 :])
-                if rest:
-                    self.say(f"not sent: {rest}")
-                return
+            except Stopped as stopped:
+                stopped.unsent = ". ".join(later.text for later in statements[at + 1 :])
+                raise
+
+    def check_names(self, statements):
+        """Looks for names that mean nothing before anything is sent."""
+        names = set(self.known.names)
+        for statement in statements:
+            for name in names_in(statement.expression):
+                if not name.text[0].isupper() and name.text not in names:
+                    raise Wrong(f"nothing is named {name.text}; {self.naming(name.text, names)}", name.place)
+            names.update(statement.names)
+
+    def naming(self, name, names):
+        return near(name, names)[2:] or f"make an actor of a class, as in  {name} := Counter actor"
 
     def name(self, statement, value, actor, is_last):
         if statement.names and isinstance(value, dict) and "local" in value:
@@ -133,12 +139,7 @@ class Session:
         return found
 
     def named(self, name):
-        if name.text[0].isupper():
-            return {"class": name.text}
-        if name.text not in self.known.names:
-            hint = near(name.text, self.known.names)
-            raise Wrong(f"nothing is named {name.text}; make an actor of a class, as in  {name.text} := Counter actor{hint}", name.place)
-        return self.known.names[name.text]
+        return {"class": name.text} if name.text[0].isupper() else self.known.names[name.text]
 
     def send(self, receiver, selector, arguments, place):
         if isinstance(receiver, dict) and "class" in receiver:
@@ -157,12 +158,11 @@ class Session:
             raise Wrong("an object of an actor's own cannot be sent to another one; send a number, a symbol or an actor", place)
 
     def answer(self, turn):
-        """Runs until the turn has ended. What others waited for is told before."""
+        """Runs until the turn has ended. What waited before and ended is told first."""
         end = self.turns.end_of(turn)
-        self.tell_ended()
+        self.tell_ends()
         if "fault" in end:
-            self.tell_fault(turn, end)
-            raise Faulted
+            raise Faulted(turn, end["fault"])
         self.see(end.get("answer"))
         return end.get("answer")
 
@@ -188,23 +188,34 @@ class Session:
 
     # What is said.
 
-    def tell_ended(self):
-        for turn, end in self.turns.ended():
+    def tell_stop(self, text, stopped):
+        if isinstance(stopped, Wrong):
+            self.tell([stopped.sentence] if stopped.place is None else marked(text, stopped.place, stopped.sentence))
+        elif isinstance(stopped, Refused):
+            self.tell_refusal(stopped)
+        elif isinstance(stopped, Faulted):
+            self.tell_fault(stopped.turn, stopped.fault)
+        else:
+            self.say(stopped.sentence)
+        if stopped.unsent:
+            self.say(f"not sent: {stopped.unsent}")
+
+    def tell_ends(self):
+        for turn, end in self.turns.take_ends():
             self.tell_end(turn, end)
 
     def tell_end(self, turn, end):
         if "fault" in end:
-            self.tell_fault(turn, end)
+            self.tell_fault(turn, end["fault"])
         elif "answer" in end:
             self.see(end["answer"])
             self.say(f"{turn} answers {show(end['answer'], self.known, turn.actor)}")
         else:
             self.say(f"{turn} has ended, and its answer is no longer kept")
 
-    def tell_fault(self, turn, end):
-        self.last_name = end["fault"]
-        self.tell_where()
-        self.say(f"fault {end['fault']} in {turn}")
+    def tell_fault(self, turn, fault):
+        self.last_name = fault
+        self.say(f"fault {fault} in {turn}")
 
     def tell_refusal(self, refused):
         reply, command = refused.reply, refused.command
@@ -213,11 +224,24 @@ class Session:
             variables = self.known.slots(command["class"])
             self.tell(bad_source(command["source"], reply["kind"], reply["offset"], variables, self.known.classes))
             return
-        sentence = advice.refusal(command, reply)
         if reply["error"] == "UnknownClass":
-            sentence += near(command.get("super", command.get("class", "")), self.known.classes)
-        self.say(sentence)
+            name = self.unknown_class(command)
+            self.say(advice.refusal({**command, "class": name, "super": name}, reply) + near(name, self.known.classes))
+        else:
+            self.say(advice.refusal(command, reply))
+
+    def unknown_class(self, command):
+        """The first class of a refused command that is not known."""
+        given = [command.get("super"), command.get("class")]
+        given += [it["class"] for it in command.get("args", []) if isinstance(it, dict) and "class" in it]
+        return next((name for name in given if name and name not in self.known.classes), "this")
 
 
-class Faulted(Exception):
-    """A turn ended with a fault, which was told."""
+def names_in(expression):
+    if isinstance(expression, Name):
+        yield expression
+    elif isinstance(expression, Send):
+        yield from names_in(expression.receiver)
+        for _, arguments in expression.messages:
+            for argument in arguments:
+                yield from names_in(argument)

@@ -4,7 +4,7 @@ import unicodedata
 
 from .advice import KINDS
 from .known import near
-from .tokens import pattern, tokens
+from .tokens import no_token, pattern, tokens
 
 WIDEST = 76
 BEFORE, DOTS = 40, ".."
@@ -21,7 +21,8 @@ def marked(text, place, sentence, start=0):
     blanks = len(line) - len(line.lstrip())
     blanks = min(blanks, place - begin)
     line, at = window(line[blanks:].rstrip(), place - begin - blanks)
-    return ["  " + line, "  " + " " * width(line[:at]) + "^ " + sentence]
+    mark = "  " + " " * width(line[:at]) + "^ " + sentence
+    return ["  " + line, mark] if line else [mark]
 
 
 def window(line, at):
@@ -66,17 +67,9 @@ class Fault:
         if self.kind == "TooLarge" and self.place in (0, 4096):
             return "the method is too long; put a part of it into another one"
         if self.token.kind == "none" and self.kind in ("BadToken", "BadPattern"):
-            return self.no_token()
+            return no_token(self.here)
         own = {"BadToken": self.bad_token, "BadPattern": self.bad_pattern, "UnknownName": self.unknown}.get(self.kind)
         return own() if own else KINDS[self.kind].format(token=self.here)
-
-    def no_token(self):
-        """What is said where no token begins."""
-        if self.here == '"':
-            return "this comment is not closed; put a double quote at its end"
-        if self.here.isdigit():
-            return "no number is written like this; numbers are whole, and a blank stands before a name"
-        return f"nothing begins with this {self.here} here; symbols are written #name or #at:put:, and assignments :="
 
     def bad_token(self):
         """What stands here and what is expected; for some faults what is wrong instead."""

@@ -3,7 +3,7 @@ blocks and answers."""
 
 from dataclasses import dataclass
 
-from .tokens import tokens
+from .tokens import no_token, tokens
 from .wrong import Wrong
 
 LEAST, MOST = -(2**63), 2**63 - 1
@@ -56,8 +56,8 @@ class Parser:
 
     def fail(self, expected):
         token = self.token
-        if token.kind == "none" and token.text == '"':
-            raise Wrong("this comment is not closed", token.start)
+        if token.kind == "none":
+            raise Wrong(no_token(token.text), token.start)
         if token.kind in ("[", "^"):
             raise Wrong("blocks and answers stand in methods only; here messages are sent to actors", token.start)
         here = "the line ends" if token.kind == "end" else f"{token.text} stands"

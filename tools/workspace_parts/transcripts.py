@@ -1,8 +1,10 @@
 """Transcripts: what was typed, after `> `, and what it must give. They stand in files of their own, or in documents."""
 
+import os
 import re
 import subprocess
 import sys
+import tempfile
 from dataclasses import dataclass, field
 
 PROMPT = "> "
@@ -29,8 +31,8 @@ class Transcript:
 
 def transcripts(path):
     """The transcripts of a file. In a document they are the listings that begin with `> `, one session in all; a line
-    `<!-- workspace --quantum 16 -->` before a listing begins another one, with these options. In another file what comes before
-    the first `> ` says nothing, but for a line `workspace --quantum 16`."""
+    `<!-- workspace --quantum 16 -->` before a listing begins another one, with these options. In another file a line
+    `workspace --quantum 16` does so."""
     with open(path, encoding="utf-8") as file:
         lines = list(enumerate(file.read().splitlines(), 1))
     found = [Transcript(path, [])]
@@ -54,29 +56,36 @@ def listings(lines):
 
 
 def read_listing(lines, found):
-    """Adds the entries of a listing to the last transcript, or to a new one with its own options."""
-    is_typed, empty = False, 0
+    """Adds the entries of a listing to the last transcript, or to a new one with its own options. After an empty line, what
+    comes before the next `> ` says nothing."""
+    last, is_typed, empty = None, False, 0
     for number, line in lines:
-        last = found[-1].entries[-1] if found[-1].entries and (is_typed or found[-1].entries[-1].line >= lines[0][0]) else None
         options = OPTIONS.match(line)
         if line.startswith(PROMPT) or line == PROMPT.strip():
-            found[-1].entries.append(Typed(number, line[len(PROMPT) :]))
-            is_typed = True
-        elif last and is_typed and MORE.match(line):
+            last, is_typed = Typed(number, line[len(PROMPT) :]), True
+            found[-1].entries.append(last)
+        elif is_typed and MORE.match(line):
             last.text += "\n" * (empty + 1) + line[len(PROMPT) :]
-        elif last and line.strip():
+        elif last and line.strip() and not empty:
             last.wanted.append(line.rstrip())
             is_typed = False
-        elif options and not last:
+        elif options:
             found.append(Transcript(found[0].path, options[1].split()))
+        elif line.strip():
+            last = None
         empty = 0 if line.strip() else empty + 1
 
 
 def given(workspace, program, transcript):
-    """The lines that the workspace prints for a transcript, and its status."""
+    """The lines that the workspace prints for a transcript, and its status. It runs in a folder of its own, in which it sees
+    those of the repository."""
     text = "".join(entry.text + "\n" for entry in transcript.entries)
     command = [sys.executable, workspace, "--program", program, *transcript.options]
-    ended = subprocess.run(command, input=text.encode(), capture_output=True, timeout=120)
+    top = os.path.dirname(os.path.dirname(workspace))
+    with tempfile.TemporaryDirectory() as folder:
+        for name in ("docs", "examples", "tests"):
+            os.symlink(os.path.join(top, name), os.path.join(folder, name))
+        ended = subprocess.run(command, input=text.encode(), capture_output=True, timeout=120, cwd=folder)
     return (ended.stdout + ended.stderr).decode().splitlines(), ended.returncode
 
 

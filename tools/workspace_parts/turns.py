@@ -8,8 +8,8 @@ from .values import count
 from .wrong import BrokenOff, Refused
 
 SENDER = 1
-# Quanta of one `run`: enough that a slice costs more than asking for it, and few enough that Ctrl-C acts at once.
-SLICE = 200
+# Quanta of one `run`. An actor may end a turn in each, and the newest 64 outcomes are kept, so none is missed.
+SLICE = 64
 # Items of a history (docs/LIMITS.md). A run takes at most half of those that are left.
 HISTORY = 1_000_000
 GOES_ON = ":run or :step goes on where it was"
@@ -44,8 +44,8 @@ class Life:
 
 
 class Turns:
-    """`waiting` are turns that were posted, or broken off, and whose end was not yet told. `items` counts those of the
-    history that the commands took, as far as one can know."""
+    """`waiting` are turns that were posted and have not ended yet; `ends` has those that ended and were not told of. `items`
+    counts those of the history that the commands took, as far as one can know."""
 
     def __init__(self, connection, breaks):
         self.connection = connection
@@ -53,6 +53,7 @@ class Turns:
         self.last = 0
         self.items = 0
         self.waiting = []
+        self.ends = {}
 
     def ask(self, command):
         """What the reply has after `ok`."""
@@ -79,6 +80,51 @@ class Turns:
     def outcome(self, turn):
         return self.ask({"cmd": "outcome", "actor": turn.actor, "turn": turn.number})
 
+    def end_of(self, turn):
+        """Runs until a turn has ended, and says how."""
+        while turn not in self.ends:
+            self.go_on(None, turn)
+        return self.ends.pop(turn)
+
+    def take_ends(self):
+        """The turns that have ended and were not told of, with how they ended."""
+        ends, self.ends = self.ends, {}
+        return ends.items()
+
+    def go_on(self, quanta=None, turn=None):
+        """Takes quanta until there were as many, the turn has ended, or nothing is ready; the quanta and steps that were taken."""
+        life, taken, steps = Life(), 0, 0
+        most = max(1, (HISTORY - self.items) // 2)
+        try:
+            while quanta is None or taken < quanta:
+                size = SLICE if quanta is None else min(SLICE, quanta - taken)
+                ran = self.run(size)
+                taken, steps = taken + ran["quanta"], steps + ran["steps"]
+                if turn in self.ends or ran["quanta"] < size:
+                    break
+                self.check(taken, most if quanta is None else taken + 1, turn or "the run")
+                life.tell(taken)
+        finally:
+            life.clear()
+        return taken, steps
+
+    def run(self, size):
+        """One slice; which turns have ended is seen at once."""
+        ran = self.ask({"cmd": "run", "quanta": size})
+        self.items += ran["quanta"]
+        for actor in {turn.actor for turn in self.waiting}:
+            self.see_ends(actor)
+        return ran
+
+    def see_ends(self, actor):
+        """The turns of an actor end in their order."""
+        for turn in [it for it in self.waiting if it.actor == actor]:
+            end = self.ending(turn)
+            if end is None:
+                return
+            self.waiting.remove(turn)
+            self.ends[turn] = end
+
     def ending(self, turn):
         """How a turn ended; None if it has not, and {} if that is no longer kept."""
         try:
@@ -88,47 +134,9 @@ class Turns:
                 raise
             return None if refused.reply["error"] == "Pending" else {}
 
-    def end_of(self, turn):
-        """Runs until a turn has ended, and says how."""
-        found = []
-
-        def has_ended():
-            found.append(self.ending(turn))
-            return found[-1] is not None
-
-        self.go_on(None, has_ended, turn)
-        self.waiting.remove(turn)
-        return found[-1]
-
-    def go_on(self, quanta, is_done, what):
-        """Takes quanta until there were as many, it is done, or nothing is ready; the quanta and steps that were taken."""
-        life, taken, steps = Life(), 0, 0
-        most = max(1, (HISTORY - self.items) // 2)
-        try:
-            while quanta is None or taken < quanta:
-                size = min(SLICE, SLICE if quanta is None else quanta - taken)
-                ran = self.ask({"cmd": "run", "quanta": size})
-                taken, steps = taken + ran["quanta"], steps + ran["steps"]
-                self.items += ran["quanta"]
-                if is_done() or ran["quanta"] < size:
-                    break
-                self.check(taken, most, what, quanta)
-                life.tell(taken)
-        finally:
-            life.clear()
-        return taken, steps
-
-    def check(self, taken, most, what, quanta):
+    def check(self, taken, most, what):
         """Breaks off if that was asked for, or to keep room in the history."""
         if self.breaks.asked:
             raise BrokenOff(f"{what} was broken off after {count(taken, 'quantum')}; {GOES_ON}")
-        if taken >= most and quanta is None:
+        if taken >= most:
             raise BrokenOff(f"{what} was stopped after {count(taken, 'quantum')}, half of what the history has left; {GOES_ON}")
-
-    def ended(self):
-        """The waiting turns that have ended by now, and how; they no longer wait then."""
-        for turn in list(self.waiting):
-            end = self.ending(turn)
-            if end is not None:
-                self.waiting.remove(turn)
-                yield turn, end

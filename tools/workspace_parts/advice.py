@@ -8,7 +8,7 @@ import re
 from .statements import RESERVED
 
 REFUSALS = {
-    "BadArguments": "{selector} takes another number of arguments, or one of them names nothing; write one value after each colon",
+    "BadArguments": "the message takes another number of arguments, or one of them names nothing; write one value after each colon",
     "BadCommand": "the program does not know this command; it and the workspace are not of the same version",
     "BadImage": "the image file cannot be read at {place}; take another file",
     "BadName": "{name} is no name; take a letter and then letters and digits, at most 64, a capital first for a class and a small "
@@ -23,7 +23,7 @@ REFUSALS = {
     "KernelClass": "{class} is a class of the kernel; take Object or a class of your own",
     "KernelMethod": "{class} has this method from the kernel, where it stays; take another name, or a class of your own",
     "NoMemory": "memory ran out, and this was not done; try again, or start anew with :restart",
-    "NoSuchMethod": "{class} has no method {selector} of its own; :methods {class} lists those it has",
+    "NoSuchMethod": "{class} has no method {selector} of its own; :methods lists those it has",
     "Old": "another client posts under this number as well; type it again",
     "Pending": "turn {turn} of {actor} has not ended, or not begun; :run goes on with it",
     "ReadFault": "the program could not read what was sent; start anew with :restart",
@@ -49,7 +49,7 @@ MOST = {
 
 # The kinds of bad sources; `token` is the one at the mark. sources.py says more of some.
 KINDS = {
-    "BadCharacter": "{token} is not used in methods, nor in their comments; take it out",
+    "BadCharacter": "{token} begins nothing in this language, or is not ASCII; take it out",
     "BadPattern": "no pattern is here; begin with a name, an operator and an argument, or keywords with an argument each",
     "BadToken": "something is missing at the mark, or stands where the grammar asks for something else; mend it there",
     "BlockEscapes": "a block stands only in ifTrue:, whileTrue:, and: and their like; put what it does into a method",
@@ -113,7 +113,7 @@ PLAIN = {
     "class": "the class",
     "name": "this",
     "place": "one of its places",
-    "selector": "the selector",
+    "selector": "with this name",
     "token": "this",
     "turn": "N",
     "what": "of these",

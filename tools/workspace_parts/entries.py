@@ -11,7 +11,7 @@ CLASS = re.compile(rf"\s*({WORD})(\s*):(?!=)\s*({WORD})\s*(\|[^|]*\|)?\s*$")
 CLASS_BEGUN = re.compile(rf"\s*([A-Z]{WORD})\s*:(?!=)")
 METHOD = re.compile(r"\s*([A-Z][A-Za-z0-9]*)\s*>>")
 META = re.compile(r"\s*[A-Z][A-Za-z0-9]*\s+class\s*>>")
-COMMAND = re.compile(r"\s*:([A-Za-z]*)\s*")
+COMMAND = re.compile(r"\s*:(?!=)([A-Za-z]*)\s*")
 
 
 @dataclass
@@ -32,8 +32,11 @@ class Method:
 
 @dataclass
 class Command:
+    """`start` is where the text after the name begins in what was typed."""
+
     name: str
     rest: str
+    start: int
 
 
 @dataclass
@@ -85,8 +88,8 @@ def form(text):
     if not plain.strip():
         return None
     command = COMMAND.match(text)
-    if command and not text[command.end(1) :].startswith("="):
-        return Command(command[1], text[command.end() :].strip())
+    if command:
+        return Command(command[1], text[command.end() :].strip(), command.end())
     if META.match(plain):
         raise Wrong("classes have no methods of their own side; write  Name >> pattern  and a body")
     method = METHOD.match(plain)

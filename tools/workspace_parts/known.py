@@ -20,6 +20,10 @@ class KnownClass:
         """The definition as it is typed."""
         return f"{self.name} : {self.parent}" + (f" | {' '.join(self.slots)} |" if self.slots else "")
 
+    def method_lines(self):
+        """The methods as they are typed."""
+        return [line for source in self.methods.values() for line in f"{self.name} >> {source}".split("\n")]
+
 
 @dataclass
 class KnownActor:
@@ -58,6 +62,11 @@ class Known:
 
     def actor(self, number):
         return self.actors.setdefault(number, KnownActor())
+
+    def see(self, value):
+        """Takes note of an actor that a value is."""
+        if isinstance(value, dict) and "ref" in value:
+            self.actor(value["ref"])
 
     def name_of(self, number):
         """The name of an actor; None if it has none."""

@@ -12,7 +12,7 @@ import os
 import sys
 
 from .breaks import Breaks
-from .entries import Command, entries
+from .entries import entries
 from .session import Session
 from .wrong import Ended
 
@@ -51,16 +51,17 @@ def transcript(session):
 def talk(session):
     from . import terminal
 
-    session.say(WELCOME)
     terminal.talk(session)
 
 
-def begin(given):
-    session = Session(given.program, options(given), Breaks(), lambda line: print(line, flush=True))
-    for name in given.files:
+def work(session, files):
+    is_terminal = sys.stdin.isatty()
+    if is_terminal:
+        session.say(WELCOME)
+    for name in files:
         with session.breaks:
-            session.do_form(name, Command("load", name))
-    return session
+            session.do(f":load {name}")
+    (talk if is_terminal else transcript)(session)
 
 
 def main():
@@ -68,8 +69,8 @@ def main():
     sys.stdin.reconfigure(errors="replace")
     sys.stdout.reconfigure(errors="replace")
     try:
-        session = begin(given)
-        (talk if sys.stdin.isatty() else transcript)(session)
+        session = Session(given.program, options(given), Breaks(), lambda line: print(line, flush=True))
+        work(session, given.files)
         session.close()
     except Ended as ended:
         print(f"tools/workspace: {ended.sentence}", file=sys.stderr)

@@ -5,13 +5,12 @@ from .connection import Connection, Log
 from .entries import Command, Definition, Method, form
 from .known import Known, near
 from .sources import bad_source, marked
-from .statements import Literal, Name, Send, read_statements
+from .statements import read_statements
+from .sending import Sending
 from .tokens import pattern
 from .turns import Turns
 from .values import show
 from .wrong import Faulted, Refused, Stopped, Wrong
-
-MAKES_ACTOR = ("actor", "newActor")
 
 
 class Session:
@@ -47,6 +46,10 @@ class Session:
         except Stopped as stopped:
             self.tell_where()
             self.tell_stop(text, stopped)
+            self.tell_ends()
+        except RecursionError:
+            self.tell_where()
+            self.say("this is nested too deep; send a part of it first, and name the answer")
         return "refused"
 
     def tell_where(self):
@@ -64,9 +67,16 @@ class Session:
         elif isinstance(found, Method):
             self.install(found)
         elif isinstance(found, Command):
-            commands.do(self, found)
+            self.command(found)
         elif found:
-            self.do_statements(read_statements(text))
+            Sending(self).do(read_statements(text))
+
+    def command(self, found):
+        try:
+            commands.do(self, found)
+        except Wrong as wrong:
+            wrong.place = None if wrong.place is None else wrong.place + found.start
+            raise
 
     # Definitions.
 
@@ -91,100 +101,13 @@ class Session:
 
     def remove(self, class_name, selector):
         self.turns.ask({"cmd": "remove", "class": class_name, "selector": selector})
-        self.known.classes[class_name].methods.pop(selector, None)
+        if class_name in self.known.classes:
+            self.known.classes[class_name].methods.pop(selector, None)
 
-    # Messages.
-
-    def do_statements(self, statements):
-        """Sends the messages one after the other, and shows the answer of the last."""
-        self.check_names(statements)
-        for at, statement in enumerate(statements):
-            try:
-                value, actor = self.value_of(statement.expression)
-                self.name(statement, value, actor, is_last=at == len(statements) - 1)
-            except Stopped as stopped:
-                stopped.unsent = ". ".join(later.text for later in statements[at + 1 :])
-                raise
-
-    def check_names(self, statements):
-        """Looks for names that mean nothing before anything is sent."""
-        names = set(self.known.names)
-        for statement in statements:
-            for name in names_in(statement.expression):
-                if not name.text[0].isupper() and name.text not in names:
-                    raise Wrong(f"nothing is named {name.text}; {self.naming(name.text, names)}", name.place)
-            names.update(statement.names)
-
-    def naming(self, name, names):
-        return near(name, names)[2:] or f"make an actor of a class, as in  {name} := Counter actor"
-
-    def name(self, statement, value, actor, is_last):
-        if statement.names and isinstance(value, dict) and "local" in value:
-            raise Wrong(f"{show(value, self.known, actor)} stays in its actor; only numbers, symbols, classes and actors can be named")
-        made = isinstance(value, dict) and "ref" in value and actor is None
-        if is_last:
-            self.say(f"actor {value['ref']}" if made else show(value, self.known, actor))
-        for name in statement.names:
-            self.known.names[name] = value
-
-    def value_of(self, expression):
-        """The value, and the number of the actor that answered it, if one did."""
-        if isinstance(expression, Literal):
-            return expression.value, None
-        if isinstance(expression, Name):
-            return self.named(expression), None
-        receiver, _ = self.value_of(expression.receiver)
-        for selector, arguments in expression.messages:
-            found = self.send(receiver, selector, [self.value_of(argument)[0] for argument in arguments], expression.place)
-        return found
-
-    def named(self, name):
-        return {"class": name.text} if name.text[0].isupper() else self.known.names[name.text]
-
-    def send(self, receiver, selector, arguments, place):
-        if isinstance(receiver, dict) and "class" in receiver:
-            return self.send_class(receiver["class"], selector, arguments, place)
-        actor = self.receiver(receiver, place)
-        self.check_arguments(arguments, place)
-        return self.answer(self.turns.post(actor, selector, arguments)), actor
-
-    def receiver(self, value, place):
-        if not isinstance(value, dict) or "ref" not in value:
-            raise Wrong(f"{show(value, self.known)} is not an actor, and messages are sent to actors here", place)
-        return value["ref"]
-
-    def check_arguments(self, arguments, place):
-        if any(isinstance(argument, dict) and "local" in argument for argument in arguments):
-            raise Wrong("an object of an actor's own cannot be sent to another one; send a number, a symbol or an actor", place)
-
-    def answer(self, turn):
-        """Runs until the turn has ended. What waited before and ended is told first."""
-        end = self.turns.end_of(turn)
-        self.tell_ends()
-        if "fault" in end:
-            raise Faulted(turn, end["fault"])
-        self.see(end.get("answer"))
-        return end.get("answer")
-
-    def send_class(self, name, selector, arguments, place):
-        if selector in MAKES_ACTOR:
-            return self.make_actor(name), None
-        if selector == "removeSelector:" and isinstance(arguments[0], dict) and "sym" in arguments[0]:
-            self.remove(name, arguments[0]["sym"])
-            return {"class": name}, None
-        if selector.startswith("subclass:"):
-            raise Wrong(f"a class is defined as  Counter : {name} | count |", place)
-        raise Wrong(f"a class only makes actors here, as in  c := {name} actor", place)
-
-    def make_actor(self, name):
-        number = self.turns.ask({"cmd": "actor", "class": name})["actor"]
-        self.known.actor(number).class_name = name
-        return {"ref": number}
-
-    def see(self, value):
-        """Takes note of an actor."""
-        if isinstance(value, dict) and "ref" in value:
-            self.known.actor(value["ref"])
+    def make_actor(self, class_name):
+        number = self.turns.ask({"cmd": "actor", "class": class_name})["actor"]
+        self.known.actor(number).class_name = class_name
+        return number
 
     # What is said.
 
@@ -208,7 +131,7 @@ class Session:
         if "fault" in end:
             self.tell_fault(turn, end["fault"])
         elif "answer" in end:
-            self.see(end["answer"])
+            self.known.see(end["answer"])
             self.say(f"{turn} answers {show(end['answer'], self.known, turn.actor)}")
         else:
             self.say(f"{turn} has ended, and its answer is no longer kept")
@@ -235,13 +158,3 @@ class Session:
         given = [command.get("super"), command.get("class")]
         given += [it["class"] for it in command.get("args", []) if isinstance(it, dict) and "class" in it]
         return next((name for name in given if name and name not in self.known.classes), "this")
-
-
-def names_in(expression):
-    if isinstance(expression, Name):
-        yield expression
-    elif isinstance(expression, Send):
-        yield from names_in(expression.receiver)
-        for _, arguments in expression.messages:
-            for argument in arguments:
-                yield from names_in(argument)

@@ -68,6 +68,8 @@ class Fault:
             return "the method is too long; put a part of it into another one"
         if self.token.kind == "none" and self.kind in ("BadToken", "BadPattern"):
             return no_token(self.here)
+        if self.kind == "BadCharacter":
+            return no_token(self.here) if self.here.isascii() else f"{self.here} is not ASCII, and sources are, in comments too; take it out"
         own = {"BadToken": self.bad_token, "BadPattern": self.bad_pattern, "UnknownName": self.unknown}.get(self.kind)
         return own() if own else KINDS[self.kind].format(token=self.here)
 
@@ -79,8 +81,10 @@ class Fault:
             return "temporaries are names with a small letter first, between bars"
         if self.after_answer():
             return "nothing comes after an answer; take out the ^ or what comes after it"
-        stands = f"{self.here} stands" if self.place < len(self.source) else "the method ends"
-        return f"{stands} where {self.expected()} is expected"
+        return f"{self.stands()} where {self.expected()} is expected"
+
+    def stands(self):
+        return f"{self.here} stands" if self.token.kind != "end" else "the method ends"
 
     def in_temporaries(self):
         bars = sum(token.kind == "|" for token in self.before)
@@ -102,6 +106,8 @@ class Fault:
     def bad_pattern(self):
         if self.here[:1].isupper():
             return "an argument begins with a small letter; take another name"
+        if self.before and self.before[-1].kind in ("keyword", "binary"):
+            return f"{self.stands()} where the name of an argument is expected"
         return KINDS["BadPattern"]
 
     def unknown(self):

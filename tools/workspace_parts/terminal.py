@@ -4,8 +4,7 @@ import os
 import re
 
 from .commands import COMMANDS
-from .entries import entries, form
-from .entries import Method, Statements
+from .entries import Method, Statements, entries, form
 from .tokens import has_body, is_open
 from .wrong import Wrong
 
@@ -85,7 +84,7 @@ def start_reading(session):
     readline.set_history_length(HISTORY_LINES)
     readline.set_completer_delims(ENDS)
     readline.set_completer(lambda text, state: nth(session, text, state))
-    readline.parse_and_bind("tab: complete")
+    readline.parse_and_bind("bind ^I rl_complete" if "libedit" in (readline.__doc__ or "") else "tab: complete")
 
 
 def keep_history():

@@ -52,6 +52,8 @@ def no_token(character):
         return "no number is written like this; numbers are whole, and a blank stands before a name"
     if character in "#:":
         return f"nothing begins with this {character} here; symbols are written #name or #at:put:, and assignments :="
+    if character == "'":
+        return "there are no strings; take a symbol, as in #name, or double quotes for a comment"
     return f"{character} has no meaning here; take it out"
 
 

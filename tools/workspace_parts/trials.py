@@ -188,10 +188,10 @@ def broken_line(program):
 def endless(program):
     """A run that nobody breaks off leaves half of the history."""
     lines = [*SPIN, "s spin", ":run", "Spin >> goOn  ^false", ":run"]
-    found = piped(program, lines).stdout.decode()
+    found = piped(program, lines, "--quantum", "1").stdout.decode()
     stops = re.findall(r"was stopped after ([0-9,]+) quanta, half of what the history has left; :run or :step goes on", found)
     quanta = [int(it.replace(",", "")) for it in stops]
-    if len(quanta) != 2 or not 450_000 < quanta[0] <= 500_000 or not 220_000 < quanta[1] <= 250_000:
+    if len(quanta) != 2 or not 499_000 < quanta[0] < 501_000 or not 249_000 < quanta[1] < 251_000:
         raise AssertionError(f"it is stopped after {stops}")
     same(found.endswith("turn 1 of actor 0 answers 7\n"), True)
 
@@ -212,7 +212,7 @@ def interrupted(program):
             pass
         process.send_signal(signal.SIGINT)
         out, err = process.communicate(timeout=60)
-        same(("was broken off" in out.decode(), err, process.returncode), (True, b"", 130))
+        same(("broken off" in out.decode(), err, process.returncode), (True, b"", 130))
 
 
 def log(program):

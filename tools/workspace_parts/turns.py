@@ -25,7 +25,7 @@ class Turn:
 
 
 class Life:
-    """A sign of life on a terminal, from the second second on."""
+    """A sign of life on a terminal, after the first second."""
 
     def __init__(self):
         self.shown = False
@@ -60,7 +60,7 @@ class Turns:
         reply = self.connection.ask(command)
         if "error" in reply:
             raise Refused(command, reply)
-        self.items += 1
+        self.items += command["cmd"] not in ("run", "outcome", "stats")
         return reply["ok"]
 
     def post(self, actor, selector, arguments):
@@ -82,8 +82,9 @@ class Turns:
 
     def end_of(self, turn):
         """Runs until a turn has ended, and says how."""
-        while turn not in self.ends:
-            self.go_on(None, turn)
+        self.go_on(None, turn)
+        if turn not in self.ends:
+            raise BrokenOff(f"{turn} has not ended, though nothing is ready to run")
         return self.ends.pop(turn)
 
     def take_ends(self):
@@ -102,18 +103,25 @@ class Turns:
                 taken, steps = taken + ran["quanta"], steps + ran["steps"]
                 if turn in self.ends or ran["quanta"] < size:
                     break
-                self.check(taken, most if quanta is None else taken + 1, turn or "the run")
+                self.check(taken, most if quanta is None else taken + 1, self.running(turn))
                 life.tell(taken)
         finally:
             life.clear()
         return taken, steps
 
+    def running(self, turn):
+        """What is said to be running while a turn is waited for: the actor may be in an earlier one."""
+        first = next((it for it in self.waiting if turn and it.actor == turn.actor), turn)
+        return "the run" if turn is None else str(turn) if first == turn else f"{first}, before turn {turn.number},"
+
     def run(self, size):
         """One slice; which turns have ended is seen at once."""
-        ran = self.ask({"cmd": "run", "quanta": size})
+        try:
+            ran = self.ask({"cmd": "run", "quanta": size})
+        finally:
+            for actor in {turn.actor for turn in self.waiting}:
+                self.see_ends(actor)
         self.items += ran["quanta"]
-        for actor in {turn.actor for turn in self.waiting}:
-            self.see_ends(actor)
         return ran
 
     def see_ends(self, actor):

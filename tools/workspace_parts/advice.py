@@ -56,7 +56,7 @@ KINDS = {
     "DuplicateName": "the name {token} is taken, by another variable or by the language; take another one",
     "Nested": "brackets are nested over 64 deep; put a part into a method of its own",
     "ReadOnly": "{token} is not a variable that can be assigned to; assign to a temporary between bars",
-    "TooLarge": "{token} is too large; numbers have 64 bits, names 64 letters, and a method 4,096 bytes",
+    "TooLarge": "something is larger than docs/LIMITS.md lets it be; make it smaller, or put a part into another method",
     "UnknownName": "no variable or class is named {token}; name it between bars in the method, or in its class",
 }
 

@@ -17,7 +17,7 @@ and after the name of a method alone; an empty line ends that. Ctrl-C breaks a l
 
 
 @dataclass
-class Known:
+class Described:
     """A command as it is typed, what it does, and its function, which takes the session and the text after the name."""
 
     form: str
@@ -74,23 +74,23 @@ def quit_session(session, rest):
 COMMANDS = {
     known.form[1:].split()[0]: known
     for known in (
-        Known(":post c work: 100", "sends a message, and leaves its turn to :step and :run", running.post),
-        Known(":step 1", "takes quanta; one if no number is given", running.step),
-        Known(":run", "takes quanta until nothing is left to do", running.run),
-        Known(":turn 3 of c", "shows how a turn ended", running.turn),
-        Known(":close c", "closes an actor's mailbox", running.close),
-        Known(":remove Counter bump", "removes a method", browsing.remove),
-        Known(":classes", "lists the classes that were defined", browsing.classes),
-        Known(":methods Counter", "lists the methods of a class; alone, all methods", browsing.methods),
-        Known(":actors", "lists the actors that were seen", browsing.actors),
-        Known(":names", "lists what was named", browsing.names),
-        Known(":stats Counter bump", "shows how the caches answered the sends of a method", browsing.stats),
-        Known(":load FILE", "does what a file has: definitions, messages, comments", files.load),
-        Known(":save FILE", "writes all classes and methods to a file", files.save),
-        Known(":log FILE", "writes what was sent and answered as JSON; alone, shows it for the line before", files.log),
-        Known(":why heapFull", "says what a refusal or fault means, and what to do; alone, the last one", why),
-        Known(":help :step", "helps with a command; alone, with all", help_on),
-        Known(":restart", "starts anew, with nothing defined", restart),
-        Known(":quit", "ends the workspace", quit_session),
+        Described(":post c work: 100", "sends a message, and leaves its turn to :step and :run", running.post),
+        Described(":step 1", "takes quanta; one if no number is given", running.step),
+        Described(":run", "takes quanta until nothing is left to do", running.run),
+        Described(":turn 3 of c", "shows how a turn ended", running.turn),
+        Described(":close c", "closes an actor's mailbox", running.close),
+        Described(":remove Counter bump", "removes a method", browsing.remove),
+        Described(":classes", "lists the classes that were defined", browsing.classes),
+        Described(":methods Counter", "lists the methods of a class; alone, all methods", browsing.methods),
+        Described(":actors", "lists the actors that were seen", browsing.actors),
+        Described(":names", "lists what was named", browsing.names),
+        Described(":stats Counter bump", "shows how the caches answered the sends of a method", browsing.stats),
+        Described(":load FILE", "does what a file has: definitions, messages, comments", files.load),
+        Described(":save FILE", "writes all classes and methods to a file", files.save),
+        Described(":log FILE", "writes what was sent and answered as JSON; alone, shows it for the line before", files.log),
+        Described(":why heapFull", "says what a refusal or fault means, and what to do; alone, the last one", why),
+        Described(":help :step", "helps with a command; alone, with all", help_on),
+        Described(":restart", "starts anew, with nothing defined", restart),
+        Described(":quit", "ends the workspace", quit_session),
     )
 }

@@ -8,7 +8,7 @@ from .wrong import Wrong
 
 WORD = r"[^\s:|.;()\[\]<>=#]+"
 CLASS = re.compile(rf"\s*({WORD})(\s*):(?!=)\s*({WORD})\s*(\|[^|]*\|)?\s*$")
-CLASS_BEGUN = re.compile(rf"\s*([A-Z]{WORD})\s*:(?!=)")
+CLASS_BEGUN = re.compile(r"\s*[A-Z][A-Za-z0-9]*\s*:(?!=)")
 METHOD = re.compile(r"\s*([A-Z][A-Za-z0-9]*)\s*>>")
 META = re.compile(r"\s*[A-Z][A-Za-z0-9]*\s+class\s*>>")
 COMMAND = re.compile(r"\s*:(?!=)([A-Za-z]*)\s*")
@@ -87,7 +87,7 @@ def form(text):
     plain = without_comments(text)
     if not plain.strip():
         return None
-    command = COMMAND.match(text)
+    command = COMMAND.match(plain)
     if command:
         return Command(command[1], text[command.end() :].strip(), command.end())
     if META.match(plain):

@@ -8,6 +8,9 @@ from .entries import entries
 from .values import count
 from .wrong import Wrong
 
+# So many refused entries say that a file is not meant to be loaded.
+MOST_REFUSED = 20
+
 
 @dataclass
 class Loading:
@@ -29,8 +32,10 @@ def load(session, rest):
     if any(real == it.real for it in session.loading):
         raise Wrong(f"{rest} is being loaded already")
     try:
-        with open(path, encoding="utf-8-sig", errors="replace") as file:
+        with open(path, encoding="utf-8-sig") as file:
             lines = file.read().split("\n")
+    except UnicodeDecodeError:
+        raise Wrong(f"{rest} cannot be read (it is no text in UTF-8)") from None
     except OSError as error:
         raise Wrong(f"{rest} cannot be read ({error.strerror})") from None
     session.loading.append(Loading(rest, real))
@@ -49,7 +54,7 @@ def load_lines(session, lines):
     done = Counter()
     for entry in entries(lines):
         session.loading[-1].line = entry.line
-        if session.breaks.asked or session.is_over:
+        if session.breaks.asked or session.is_over or done["refused"] == MOST_REFUSED:
             session.say(f"{session.loading[-1]} not done from here on")
             break
         done[session.do(entry.text)] += 1

@@ -91,7 +91,7 @@ class Sending:
         if selector in MAKES_ACTOR:
             return {"ref": self.session.make_actor(name)}
         if name not in self.known.classes:
-            raise Wrong(f"nothing is named {name}{near(name, [*self.known.names, *self.known.classes])}", place)
+            raise Wrong(f"nothing is named {name}{near(name, self.known.classes) or near(name, self.known.names)}", place)
         if selector == "removeSelector:" and isinstance(arguments[0], dict) and "sym" in arguments[0]:
             self.session.remove(name, arguments[0]["sym"])
             return {"class": name}

@@ -4,10 +4,18 @@ import unicodedata
 
 from .advice import KINDS
 from .known import near
-from .tokens import no_token, pattern, tokens
+from .statements import MOST_LETTERS
+from .tokens import arguments, no_token, pattern, temporaries, tokens
 
 WIDEST = 76
 BEFORE, DOTS = 40, ".."
+MOST_BYTES = 4096
+TOO_LARGE = {
+    "number": "whole numbers go from -2^63 to 2^63 - 1; take a smaller one",
+    "keyword": "a message has at most 8 arguments; send two messages",
+    "symbol": "a symbol has at most 8 keywords, of 64 letters each; take a shorter one",
+    "word": "a method has at most 64 arguments and temporaries; put a part of it into another one",
+}
 
 
 def marked(text, place, sentence, start=0):
@@ -64,13 +72,16 @@ class Fault:
         self.here = self.token.text or source[place : place + 1]
 
     def sentence(self):
-        if self.kind == "TooLarge" and self.place in (0, 4096):
-            return "the method is too long; put a part of it into another one"
         if self.token.kind == "none" and self.kind in ("BadToken", "BadPattern"):
             return no_token(self.here)
         if self.kind == "BadCharacter":
             return no_token(self.here) if self.here.isascii() else f"{self.here} is not ASCII, and sources are, in comments too; take it out"
-        own = {"BadToken": self.bad_token, "BadPattern": self.bad_pattern, "UnknownName": self.unknown}.get(self.kind)
+        own = {
+            "BadToken": self.bad_token,
+            "BadPattern": self.bad_pattern,
+            "TooLarge": self.too_large,
+            "UnknownName": self.unknown,
+        }.get(self.kind)
         return own() if own else KINDS[self.kind].format(token=self.here)
 
     def bad_token(self):
@@ -110,8 +121,16 @@ class Fault:
             return f"{self.stands()} where the name of an argument is expected"
         return KINDS["BadPattern"]
 
+    def too_large(self):
+        if len(self.here.rstrip(":")) > MOST_LETTERS and self.token.kind in ("word", "keyword"):
+            return "a name has at most 64 letters and digits; take a shorter one"
+        if self.place == 0 or len(self.source[: self.place].encode()) == MOST_BYTES:
+            return "the method is too long; put a part of it into another one"
+        return TOO_LARGE.get(self.token.kind, KINDS["TooLarge"])
+
     def unknown(self):
-        return KINDS["UnknownName"].format(token=self.here) + near(self.here, [*self.variables, *self.classes])
+        names = [*arguments(self.source), *temporaries(self.source)[0], *self.variables, *self.classes]
+        return KINDS["UnknownName"].format(token=self.here) + near(self.here, names)
 
     def expected(self):
         """What the grammar goes on with, as far as the token before tells."""

@@ -7,6 +7,7 @@ from .tokens import no_token, tokens
 from .wrong import Wrong
 
 LEAST, MOST = -(2**63), 2**63 - 1
+MOST_LETTERS = 64
 LITERALS = {"nil": None, "true": True, "false": False}
 RESERVED = ("self", "super", "thisActor", *LITERALS)
 
@@ -45,6 +46,9 @@ class Parser:
         self.text = text
         self.tokens = tokens(text)
         self.at = 0
+        for token in self.tokens:
+            if token.kind in ("word", "keyword") and len(token.text.rstrip(":")) > MOST_LETTERS:
+                raise Wrong("a name has at most 64 letters and digits; take a shorter one", token.start)
 
     @property
     def token(self):

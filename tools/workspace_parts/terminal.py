@@ -27,8 +27,8 @@ def wants_more(text):
     except Wrong:
         return False
     if isinstance(found, Method):
-        return is_open(text) or not has_body(found.source)
-    return isinstance(found, Statements) and is_open(text) or text.count('"') % 2 == 1
+        return is_open(found.source) or not has_body(found.source)
+    return isinstance(found, Statements) and is_open(text)
 
 
 def read_entry(read=input):
@@ -66,12 +66,18 @@ def talk(session):
             except EOFError:
                 print()
                 return
-            # Text that is pasted may have several entries.
-            for entry in entries(text.split("\n")):
-                with session.breaks:
-                    session.do(entry.text)
+            do_text(session, text)
     finally:
         keep_history()
+
+
+def do_text(session, text):
+    """Does what was typed, or pasted: that may be several entries."""
+    with session.breaks:
+        for entry in entries(text.split("\n")):
+            session.do(entry.text)
+            if session.breaks.asked or session.is_over:
+                return
 
 
 def start_reading(session):

@@ -3,6 +3,7 @@ where and why."""
 
 import re
 from dataclasses import dataclass
+from itertools import takewhile
 
 SPACE = re.compile(r'(?:[\t\n\f\r ]|"[^"]*")+')
 TOKEN = re.compile(
@@ -54,7 +55,8 @@ def no_token(character):
         return f"nothing begins with this {character} here; symbols are written #name or #at:put:, and assignments :="
     if character == "'":
         return "there are no strings; take a symbol, as in #name, or double quotes for a comment"
-    return f"{character} has no meaning here; take it out"
+    shown = character if character.isprintable() else f"the character {ord(character)}"
+    return f"{shown} has no meaning here; take it out"
 
 
 def is_open(text):
@@ -86,13 +88,23 @@ def pattern(source):
     return (selector, stop) if selector else None
 
 
+def temporaries(source):
+    """The temporaries of a source, and the place after them; no names and the place after the pattern if it has none."""
+    start = (pattern(source) or ("", 0))[1]
+    found = tokens(source[start:])
+    if found[0].kind != "|":
+        return [], start
+    names = [token.text for token in takewhile(lambda token: token.kind == "word", found[1:])]
+    return names, start + found[min(len(names) + 1, len(found) - 1)].stop
+
+
+def arguments(source):
+    """The arguments of a source."""
+    found = pattern(source)
+    words = tokens(source[: found[1]])[:-1] if found else []
+    return [token.text for token in words[1:] if token.kind == "word"]
+
+
 def has_body(source):
     """Whether something stands after the pattern and the temporaries of a source."""
-    found = pattern(source)
-    if found is None:
-        return True
-    rest = tokens(source[found[1] :])
-    if rest[0].kind == "|":
-        bar = next((at for at, token in enumerate(rest[1:], 1) if token.kind == "|"), None)
-        rest = rest[bar + 1 :] if bar else rest[-1:]
-    return rest[0].kind != "end"
+    return pattern(source) is None or tokens(source[temporaries(source)[1] :])[0].kind != "end"

@@ -1,4 +1,4 @@
-"""Transcripts: what was typed, after `> `, and what it must give. They stand in files of their own, or in documents."""
+"""Transcripts: what was typed, after `> `, and what it must give."""
 
 import os
 import re
@@ -10,7 +10,7 @@ from dataclasses import dataclass, field
 PROMPT = "> "
 # A line of a transcript that goes on with the one before has two spaces in place of the prompt, and two or more of its own.
 MORE = re.compile(r"    |  \t")
-OPTIONS = re.compile(r"\s*(?:<!--\s*)?workspace((?:\s+--[a-z]+\s+\S+)*)\s*(?:-->)?\s*$")
+OPTIONS = re.compile(r"workspace((?: --[a-z]+ \S+)+)$")
 
 
 @dataclass
@@ -29,51 +29,26 @@ class Transcript:
     entries: list = field(default_factory=list)
 
 
-def transcripts(path):
-    """The transcripts of a file. In a document they are the listings that begin with `> `, one session in all; a line
-    `<!-- workspace --quantum 16 -->` before a listing begins another one, with these options. In another file a line
-    `workspace --quantum 16` does so."""
+def transcript(path):
+    """The transcript of a file. After an empty line, what comes before the next `> ` says nothing, but for a line of options, as
+    `workspace --quantum 16`."""
+    found, last, empty = Transcript(path, []), None, 0
     with open(path, encoding="utf-8") as file:
-        lines = list(enumerate(file.read().splitlines(), 1))
-    found = [Transcript(path, [])]
-    for listing in listings(lines) if path.endswith(".md") else [lines]:
-        read_listing(listing, found)
-    return [it for it in found if it.entries]
-
-
-def listings(lines):
-    """The listings of a document whose first line begins with `> `, and the comments between listings."""
-    inside = None
-    for number, line in lines:
-        if line.startswith("```"):
-            if inside and inside[0][1].startswith(PROMPT):
-                yield inside
-            inside = [] if inside is None else None
-        elif inside is not None:
-            inside.append((number, line))
-        elif line.startswith("<!--"):
-            yield [(number, line)]
-
-
-def read_listing(lines, found):
-    """Adds the entries of a listing to the last transcript, or to a new one with its own options. After an empty line, what
-    comes before the next `> ` says nothing."""
-    last, is_typed, empty = None, False, 0
-    for number, line in lines:
+        lines = file.read().splitlines()
+    for number, line in enumerate(lines, 1):
         options = OPTIONS.match(line)
         if line.startswith(PROMPT) or line == PROMPT.strip():
-            last, is_typed = Typed(number, line[len(PROMPT) :]), True
-            found[-1].entries.append(last)
-        elif is_typed and MORE.match(line):
+            last = Typed(number, line[len(PROMPT) :])
+            found.entries.append(last)
+        elif last and not last.wanted and MORE.match(line):
             last.text += "\n" * (empty + 1) + line[len(PROMPT) :]
         elif last and line.strip() and not empty:
             last.wanted.append(line.rstrip())
-            is_typed = False
-        elif options:
-            found.append(Transcript(found[0].path, options[1].split()))
         elif line.strip():
             last = None
+            found.options += options[1].split() if options else []
         empty = 0 if line.strip() else empty + 1
+    return found
 
 
 def given(workspace, program, transcript):

@@ -11,7 +11,7 @@ import tempfile
 from . import advice
 from .known import Known
 from .pretend import Terminal
-from .terminal import candidates, read_entry
+from .terminal import candidates, read_entry, readline
 from .turns import HISTORY
 
 TOP = os.path.dirname(os.path.dirname(os.path.dirname(os.path.realpath(__file__))))
@@ -137,7 +137,7 @@ def typed(terminal, lines):
 
 
 def session(program):
-    """A session in a terminal: history, completion, an empty end."""
+    """A session in a terminal, and its end."""
     typing = Typing(program)
     with typing as terminal:
         same(typed(terminal, [*COUNTER, "c := Counter actor"]), "actor 0\n")
@@ -146,15 +146,37 @@ def session(program):
         terminal.see("bad   ^(3 +\n  ")
         terminal.type("\n")
         same(terminal.see("> "), "\n  ^(3 +\n       ^ BadToken: the method ends where an operand is expected\n> ")
-        terminal.type("c bu\t\n")
-        terminal.see("3\n> ")
+        same(terminal.ask("c bump"), "3\n")
+        same(terminal.end(), 0)
+        terminal = typing.open()
+        terminal.type(":quit\n")
+        same(terminal.process.wait(20), 0)
+
+
+def keys(program):
+    """Completion, and the history of another session."""
+    if not readline:
+        return
+    typing = Typing(program)
+    with typing as terminal:
+        typed(terminal, [*COUNTER, "c := Counter actor"])
+        terminal.type("c st\t\n")
+        terminal.see("a Counter\n> ")
         same(terminal.end(), 0)
         terminal = typing.open()
         terminal.type("\x1b[A\n")
-        terminal.see("c bump\n")
+        terminal.see("c start\n")
         terminal.see("nothing is named c; make an actor of a class, as in  c := Counter actor\n> ")
-        terminal.type(":quit\n")
-        same(terminal.process.wait(20), 0)
+
+
+def pasted(program):
+    """Several entries that are pasted at once, where readline takes them as a whole."""
+    if getattr(readline, "_READLINE_LIBRARY_VERSION", "0") < "8.1":
+        return
+    with Typing(program) as terminal:
+        terminal.type("\x1b[200~Job : Object\nJob >> work: n\n  | i |\n  i := 0.\n\n  ^i + n\n\nj := Job actor\nj work: 3\x1b[201~\n")
+        terminal.see("j work: 3\n")
+        same(terminal.see("> "), "class Job, version 1\nactor 0\n3\n> ")
 
 
 def long_run(program):
@@ -189,7 +211,7 @@ def endless(program):
     """A run that nobody breaks off leaves half of the history."""
     lines = [*SPIN, "s spin", ":run", "Spin >> goOn  ^false", ":run"]
     found = piped(program, lines, "--quantum", "1").stdout.decode()
-    stops = re.findall(r"was stopped after ([0-9,]+) quanta, half of what the history has left; :run or :step goes on", found)
+    stops = re.findall(r"was stopped after ([0-9,]+) quanta, half of those left; :run or :step goes on", found)
     quanta = [int(it.replace(",", "")) for it in stops]
     if len(quanta) != 2 or not 499_000 < quanta[0] < 501_000 or not 249_000 < quanta[1] < 251_000:
         raise AssertionError(f"it is stopped after {stops}")
@@ -256,6 +278,8 @@ TRIALS = (
     completion,
     several_lines,
     session,
+    keys,
+    pasted,
     long_run,
     broken_line,
     endless,

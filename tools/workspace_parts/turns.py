@@ -147,4 +147,4 @@ class Turns:
         if self.breaks.asked:
             raise BrokenOff(f"{what} was broken off after {count(taken, 'quantum')}; {GOES_ON}")
         if taken >= most:
-            raise BrokenOff(f"{what} was stopped after {count(taken, 'quantum')}, half of what the history has left; {GOES_ON}")
+            raise BrokenOff(f"{what} was stopped after {count(taken, 'quantum')}, half of those left; {GOES_ON}, :restart starts anew")

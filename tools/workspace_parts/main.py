@@ -39,7 +39,7 @@ def options(given):
 
 def transcript(session):
     """Does the lines of standard input and prints each before what it gives."""
-    for entry in entries(line.rstrip("\n") for line in sys.stdin):
+    for entry in entries(line.rstrip("\r\n") for line in sys.stdin):
         first, *more = entry.text.split("\n")
         with session.breaks:
             session.tell(["> " + first, *(("  " + line).rstrip() for line in more)])

@@ -27,6 +27,11 @@ class Terminal:
     def type(self, text):
         os.write(self.ours, text.encode())
 
+    def interrupt(self):
+        """Ctrl-C, once what was shown last is over and something is awaited: a signal just before would wait with it."""
+        time.sleep(0.2)
+        self.type("\x03")
+
     def see(self, wanted, seconds=20):
         """What is shown up to and with a text, which is awaited."""
         end = time.monotonic() + seconds

@@ -84,7 +84,7 @@ def long_run(program):
         typed(terminal, SPIN)
         terminal.type("s spin. s spin\n")
         terminal.see("quanta so far; Ctrl-C breaks off")
-        terminal.type("\x03")
+        terminal.interrupt()
         told = terminal.see("> ")
         where = "turn 1 of actor 0 was broken off after [0-9,]+ quanta; :run or :step goes on where it was\n"
         if not re.search(where + "not sent: s spin\n", told):
@@ -100,8 +100,10 @@ def broken_line(program):
     """Ctrl-C while a line is typed leaves the line."""
     with Typing(program) as terminal:
         terminal.type("C >> m\n")
-        terminal.see("C >> m\n")
-        terminal.type("^3\x03")
+        terminal.see("C >> m\n  ")
+        terminal.type("^3")
+        terminal.see("^3")
+        terminal.interrupt()
         terminal.see("\n> ")
         same(terminal.ask(":methods"), "no method was written yet\n")
         same(terminal.end(), 0)
@@ -113,7 +115,7 @@ def slow_start(program):
         path = shell_program(folder, "echo building >&2\nexec sleep 100")
         terminal = Terminal([WORKSPACE, "--program", path], folder)
         terminal.see("building\n")
-        terminal.type("\x03")
+        terminal.interrupt()
         terminal.see("tools/workspace: broken off\n")
         same(terminal.process.wait(20), 130)
 

@@ -8,18 +8,19 @@ import re
 from .statements import RESERVED
 
 REFUSALS = {
-    "BadArguments": "the message takes another number of arguments, or one of them names nothing; write one value after each colon",
+    "BadArguments": "the message takes another number of arguments, or one of them names nothing; write a value after each "
+    "colon",
     "BadCommand": "the program does not know this command; it and the workspace are not of the same version",
     "BadImage": "the image file cannot be read at {place}; take another file",
-    "BadName": "{name} is no name; take a letter and then letters and digits, at most 64, a capital first for a class and a small "
-    "letter for a variable",
+    "BadName": "{name} cannot be a name; take a letter and then letters and digits, at most 64, a capital first for a class and a "
+    "small letter for a variable",
     "BadSource": "the method is not written as the language asks; mend it at the mark and type it again",
     "ClassExists": "there is a class {class} already, and its variables stay; replace its methods, or take another name",
     "Closed": "the mailbox of {actor} is closed for ever; make a new actor",
     "Expired": "how turn {turn} of {actor} ended is no longer kept, or it never began; ask for one of the newest 64",
     "Full": "the mailbox of {actor} is full; :run makes room",
-    "HistoryFull": "the history is full, often of an endless turn's quanta, and nothing more is accepted; :save what you need and "
-    "start anew with :restart",
+    "HistoryFull": "the history is full, often of the quanta of an endless turn, and nothing more is accepted; :save what you "
+    "need and start anew with :restart",
     "KernelClass": "{class} is a class of the kernel; take Object or a class of your own",
     "KernelMethod": "{class} has this method from the kernel, where it stays; take another name, or a class of your own",
     "NoMemory": "memory ran out, and this was not done; try again, or start anew with :restart",
@@ -61,11 +62,13 @@ KINDS = {
 }
 
 FAULTS = {
-    "badArgument": "a kernel method got an argument or a receiver that it cannot take; look at what is added, compared or posted there",
+    "badArgument": "a kernel method got an argument or a receiver that it cannot take; look at what is added, compared or "
+    "posted there",
     "heapFull": "the actor has 1,024 objects, as many as it may; let it make fewer, or share the work among actors",
     "localArgument": "a message would take an object to another actor; send numbers, symbols or actors instead",
     "mustBeBoolean": "a condition was neither true nor false; look at what is asked before ifTrue:, whileTrue: and their like",
-    "notUnderstood": "no class up the chain has a method for a message that was sent; define the method, or look for a slip in its name",
+    "notUnderstood": "no class up the chain has a method for a message that was sent; define the method, or look for a slip in "
+    "its name",
     "overflow": "a result has over 64 bits; let the numbers stay smaller",
     "stackOverflow": "128 methods were open at once; look for a recursion that does not end, or use a loop",
     "tooManyActors": "there are 65,536 actors, as many as there may be; let the old ones do more",
@@ -124,4 +127,7 @@ def bad_name(command):
     """The first name of a definition that is none; that of the class if it is reserved."""
     if not re.fullmatch("[A-Z][A-Za-z0-9]{0,63}", command["name"]):
         return command["name"]
-    return next((slot for slot in command["slots"] if not re.fullmatch("[a-z][A-Za-z0-9]{0,63}", slot) or slot in RESERVED), "this")
+    for slot in command["slots"]:
+        if not re.fullmatch("[a-z][A-Za-z0-9]{0,63}", slot) or slot in RESERVED:
+            return slot
+    return "this"

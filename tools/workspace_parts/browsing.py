@@ -7,7 +7,8 @@ from .wrong import Wrong
 
 def classes(session, rest):
     found = session.known.user_classes()
-    session.tell([known.written() for known in found] or ["no class was defined yet; define one as in  Counter : Object | count |"])
+    lines = [known.written() for known in found]
+    session.tell(lines or ["no class was defined yet; define one as in  Counter : Object | count |"])
 
 
 def methods(session, rest):

@@ -44,8 +44,8 @@ class Connection:
         if reply == NOTHING_RUN:
             return
         self.close()
-        why = STARTS.get(self.process.returncode, "is not the program of actorimage") if not reply else "is not the program of actorimage"
-        raise Ended(f"{self.program} {why}")
+        why = None if reply else STARTS.get(self.process.returncode)
+        raise Ended(f"{self.program} {why or 'is not the program of actorimage'}")
 
     def ask(self, command):
         """The reply to a command."""

@@ -22,7 +22,9 @@ WELCOME = "A workspace of actorimage. :help lists what can be typed, :why says m
 
 def arguments():
     plain = argparse.RawDescriptionHelpFormatter
-    parser = argparse.ArgumentParser(prog="tools/workspace", description=__doc__, formatter_class=plain, usage=argparse.SUPPRESS)
+    parser = argparse.ArgumentParser(
+        prog="tools/workspace", description=__doc__, formatter_class=plain, usage=argparse.SUPPRESS
+    )
     parser.add_argument("files", metavar="FILE", nargs="*")
     parser.add_argument("--program", default=os.path.join(TOP, "actorimage"), help="the program (that of this repository)")
     parser.add_argument("--quantum", metavar="N", help="steps that an actor takes before the next one runs")

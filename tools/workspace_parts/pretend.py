@@ -17,8 +17,9 @@ class Terminal:
     def __init__(self, command, home, cwd=None):
         self.ours, theirs = pty.openpty()
         environment = {**os.environ, "HOME": home, "TERM": "xterm"}
+        shown = {"stdin": theirs, "stdout": theirs, "stderr": theirs}
         self.process = subprocess.Popen(
-            [sys.executable, *command], stdin=theirs, stdout=theirs, stderr=theirs, env=environment, cwd=cwd, preexec_fn=own_terminal
+            [sys.executable, *command], **shown, env=environment, cwd=cwd, preexec_fn=own_terminal
         )
         os.close(theirs)
         self.shown = ""

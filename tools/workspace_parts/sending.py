@@ -43,7 +43,8 @@ class Sending:
     def give_names(self, statement, value, actor, is_last):
         """Names the value, after it was shown: an actor that has no name yet is shown by its number."""
         if statement.names and isinstance(value, dict) and "local" in value:
-            raise Wrong(f"{show(value, self.known, actor)} stays in its actor; only numbers, symbols, classes and actors can be named")
+            shown = show(value, self.known, actor)
+            raise Wrong(f"{shown} stays in its actor; only numbers, symbols, classes and actors can be named")
         is_named = actor is None and isinstance(value, dict) and "ref" in value
         if is_last:
             self.session.say(f"actor {value['ref']}" if is_named else show(value, self.known, actor))

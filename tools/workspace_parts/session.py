@@ -14,8 +14,8 @@ from .wrong import Faulted, Refused, Stopped, Wrong
 
 
 class Session:
-    """`say` takes each line that is told. `loading` are the files that are being loaded, `last_name` is what `:why` explains, and
-    `told` is where in the log the last entry begins."""
+    """`say` takes each line that is told. `loading` are the files that are being loaded, `last_name` is what `:why` explains,
+    and `told` is where in the log the last entry begins."""
 
     def __init__(self, program, options, breaks, say):
         self.program, self.options, self.breaks = program, options, breaks

@@ -75,7 +75,9 @@ class Fault:
         if self.token.kind == "none" and self.kind in ("BadToken", "BadPattern"):
             return no_token(self.here)
         if self.kind == "BadCharacter":
-            return no_token(self.here) if self.here.isascii() else f"{self.here} is not ASCII, and sources are, in comments too; take it out"
+            if not self.here.isascii():
+                return f"{self.here} is not ASCII, and sources are, in comments too; take it out"
+            return no_token(self.here)
         own = {
             "BadToken": self.bad_token,
             "BadPattern": self.bad_pattern,

@@ -168,7 +168,8 @@ class Parser:
         if token.text in LITERALS:
             return Literal(LITERALS[token.text])
         if token.text in RESERVED:
-            raise Wrong(f"{token.text} has a meaning in methods only; here actors are named, as in c := Counter actor", token.start)
+            sentence = f"{token.text} has a meaning in methods only; here actors are named, as in c := Counter actor"
+            raise Wrong(sentence, token.start)
         return Name(token.text, token.start)
 
     def number(self, sign):

@@ -30,8 +30,8 @@ class Transcript:
 
 
 def transcript(path):
-    """The transcript of a file. After an empty line, what comes before the next `> ` says nothing, but for a line of options, as
-    `workspace --quantum 16`."""
+    """The transcript of a file. After an empty line, what comes before the next `> ` says nothing, but for a line of options,
+    as `workspace --quantum 16`."""
     found, last, empty = Transcript(path, []), None, 0
     with open(path, encoding="utf-8") as file:
         lines = file.read().splitlines()

@@ -93,7 +93,8 @@ class Turns:
         return ends.items()
 
     def go_on(self, quanta=None, turn=None):
-        """Takes quanta until there were as many, the turn has ended, or nothing is ready; the quanta and steps that were taken."""
+        """Takes quanta until there were as many, the turn has ended, or nothing is ready. Returns the quanta and steps that
+        were taken."""
         life, taken, steps = Life(), 0, 0
         most = max(1, (HISTORY - self.items) // 2)
         try:
@@ -147,4 +148,5 @@ class Turns:
         if self.breaks.asked:
             raise BrokenOff(f"{what} was broken off after {count(taken, 'quantum')}; {GOES_ON}")
         if taken >= most:
-            raise BrokenOff(f"{what} was stopped after {count(taken, 'quantum')}, half of those left; {GOES_ON}, :restart starts anew")
+            stopped = f"{what} was stopped after {count(taken, 'quantum')}, half of those left"
+            raise BrokenOff(f"{stopped}; {GOES_ON}, :restart starts anew")

@@ -28,14 +28,11 @@ def show_object(number, known, actor):
 
 def table(rows):
     """Lines of columns: numbers to the right, other texts to the left."""
-    widths = [max(len(str(row[at])) for row in rows) for at in range(len(rows[0]))]
+    columns = list(zip(*rows))
+    widths = [max(len(str(cell)) for cell in column) for column in columns]
+    places = [str.rjust if all(isinstance(cell, int) for cell in column[1:]) else str.ljust for column in columns]
     for row in rows:
-        cells = [str(cell).rjust(width) if right else str(cell).ljust(width) for cell, width, right in zip(row, widths, numbers(rows))]
-        yield "  ".join(cells).rstrip()
-
-
-def numbers(rows):
-    return [all(isinstance(row[at], int) for row in rows[1:]) and len(rows) > 1 for at in range(len(rows[0]))]
+        yield "  ".join(place(str(cell), width) for cell, width, place in zip(row, widths, places)).rstrip()
 
 
 def count(number, thing):

@@ -12,8 +12,9 @@ Counter >> bump  count := count+1  writes a method, or replaces it
 c := Counter actor                 makes an actor, and names it
 c start. c bump                    sends messages, and shows the last answer
 A line that begins with two spaces goes on with the one before. At a terminal the prompt is blank while a bracket is open,
-and after the name of a method alone; an empty line ends that. Ctrl-C breaks a long run off, and its turn stays where it was.\
-""".split("\n")
+and after the name of a method alone; an empty line ends that. Tab completes names, and after Counter >> whole methods.
+Ctrl-C breaks a long run off, and its turn stays where it was.
+""".splitlines()
 
 
 @dataclass

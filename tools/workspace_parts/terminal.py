@@ -119,7 +119,7 @@ def words(known, before, text):
         return command_words(known, command[1], command[2].split(), text)
     method = re.match(r"\s*([A-Za-z0-9]+)\s*>>\s*$", before)
     if method:
-        return own_selectors(known, method[1])
+        return sources(known, method[1])
     return message_words(known, before)
 
 
@@ -131,6 +131,11 @@ def command_words(known, name, given, text):
     if name == "help":
         return [f":{it}" for it in COMMANDS]
     return message_words(known, " ".join(given)) if name == "post" and given else [*known.names]
+
+
+def sources(known, name):
+    """The methods of a class, to be edited; of one over several lines the first."""
+    return sorted(source.split("\n")[0] for source in known.classes[name].methods.values()) if name in known.classes else []
 
 
 def own_selectors(known, name):

@@ -55,7 +55,7 @@ def completion(program):
     known = Known()
     known.define("Counter", "Object", ["count"])
     known.define("Stepper", "Counter", [])
-    known.classes["Counter"].methods = {"bump": "bump", "by:": "by: n"}
+    known.classes["Counter"].methods = {"bump": "bump  ^count", "by:": "by: n\n  ^n"}
     known.classes["Stepper"].methods = {"bounce": "bounce"}
     known.names = {"c": {"ref": 0}, "s": {"ref": 1}, "n": 3}
     known.actor(0).class_name, known.actor(1).class_name = "Counter", "Stepper"
@@ -67,7 +67,8 @@ def completion(program):
         ("x := s ", "bo", ["bounce"]),
         ("Counter ", "", ["actor"]),
         ("c by: ", "", ["c", "s", "n", *known.classes, "bounce", "bump", "by:"]),
-        ("Counter >> ", "bu", ["bump"]),
+        ("Counter >> ", "bu", ["bump  ^count"]),
+        ("Counter >> ", "b", ["bump  ^count", "by: n"]),
         (":stats ", "St", ["Stepper"]),
         (":remove Counter ", "by", ["by:"]),
         (":post c ", "bu", ["bump"]),

@@ -43,6 +43,8 @@ def why(session, rest):
     if not sentence:
         raise Wrong(f"there is no refusal and no fault {name}{near(name, advice.names())}")
     session.say(f"{name}: {sentence}")
+    if not rest and name in advice.FAULTS:
+        session.say("to find the place, see how far the methods came, as in  :stats Counter bump")
 
 
 def help_on(session, rest):

@@ -34,7 +34,7 @@ def wants_more(text):
 def read_entry(read=input):
     """The lines of one entry. One that goes over several lines is ended by an empty line; messages are ended too where
     their brackets close."""
-    text = read(PROMPT)
+    text = "\n".join(copied(read(PROMPT).split("\n")))
     if "\n" in text or not wants_more(text):
         return text
     while True:
@@ -44,6 +44,18 @@ def read_entry(read=input):
         text += "\n" + (line if line.startswith(("  ", "\t")) else "  " + line)
         if not is_method(text) and not wants_more(text):
             return text
+
+
+def copied(lines):
+    """Of lines that were copied from a transcript, what was typed there: it comes after prompts."""
+    if not lines[0].startswith(PROMPT):
+        return lines
+    found, goes_on = [], False
+    for line in lines:
+        goes_on = line.startswith(PROMPT) or goes_on and line.startswith(MORE * 2)
+        if goes_on:
+            found.append(line[len(PROMPT) :])
+    return found
 
 
 def is_method(text):

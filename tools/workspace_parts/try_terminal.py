@@ -76,6 +76,12 @@ def pasted(program):
         terminal.type(f"\x1b[200~{text}\x1b[201~\n")
         terminal.see("j work: 3\n")
         same(terminal.see("> "), "class Job, version 1\nactor 0\n3\n> ")
+        # A listing of a document, with its prompts and what was printed there.
+        same(terminal.ask("> j work: 4"), "4\n")
+        text = "> Job >> work: n\n    | i |\n    i := 7.\n    ^i + n\n> j work: 3\n10\n> j work: 4\n11"
+        terminal.type(f"\x1b[200~{text}\x1b[201~\n")
+        terminal.see("\r11\n")
+        same(terminal.see("> "), "10\n11\n> ")
 
 
 def long_run(program):

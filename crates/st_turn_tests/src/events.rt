@@ -88,7 +88,7 @@ pub(crate) fn apply(
     match event {
         Event::Nothing => Ok(0),
         Event::Define(number, parent) => {
-            Ok(u64::from(define(alloc, image, &class_name(*number), *parent, &[])?))
+            Ok(u64::from(define(alloc, image, &class_name(*number), *parent)?))
         }
         Event::Install(class, source) => {
             Ok(u64::from(install(alloc, image, *class, source.as_slice())?))

@@ -30,28 +30,29 @@ const NAMES: &[&str] = &["go", "a", "b", "c", "d"];
 
 pub(crate) const GO: Selector = Selector(22);
 
-/// The classes of the user's in order, with their superclasses and, of A, an instance variable.
-const CLASSES: &[(&str, ClassId, &[&str])] = &[
-    ("A", OBJECT, &["s"]),
-    ("B", A, &[]),
-    ("C", B, &[]),
-    ("D", A, &[]),
-    ("E", OBJECT, &[]),
-    ("F", E, &[]),
+/// The classes of the user's in order, with their superclasses. A has an instance variable.
+const CLASSES: &[(&str, ClassId)] = &[
+    ("A", OBJECT),
+    ("B", A),
+    ("C", B),
+    ("D", A),
+    ("E", OBJECT),
+    ("F", E),
 ];
 
 fn names() -> &'static [&'static str] {
     NAMES
 }
 
-fn classes() -> &'static [(&'static str, ClassId, &'static [&'static str])] {
+fn classes() -> &'static [(&'static str, ClassId)] {
     CLASSES
 }
 
-fn slots(alloc: Global, names: &[&str]) -> Result<Vec<Seq<u8>>, AllocError> {
+/// The instance variable `s` of class A; other classes have none of their own.
+fn slots(alloc: Global, class: &[u8]) -> Result<Vec<Seq<u8>>, AllocError> {
     let mut slots = Vec::new(alloc);
-    for name in names {
-        slots.push(Seq::from_vec(Vec::from_slice(alloc, name.as_bytes())?))?;
+    if class == b"A".as_slice() {
+        slots.push(Seq::from_vec(Vec::from_slice(alloc, b"s")?))?;
     }
     Ok(slots)
 }
@@ -61,9 +62,8 @@ pub(crate) fn define(
     image: &mut Image,
     name: &[u8],
     parent: ClassId,
-    names: &[&str],
 ) -> Result<u32, Refusal> {
-    let slots = slots(alloc, names)?;
+    let slots = slots(alloc, name)?;
     image.define(alloc, name, parent, Seq::from_vec(slots))
 }
 
@@ -81,8 +81,8 @@ pub(crate) fn image_of_classes(alloc: Global) -> Result<Image, Refusal> {
     for name in names() {
         intern(alloc, &mut image, name)?;
     }
-    for (name, parent, slots) in classes() {
-        define(alloc, &mut image, name.as_bytes(), *parent, slots)?;
+    for (name, parent) in classes() {
+        define(alloc, &mut image, name.as_bytes(), *parent)?;
     }
     Ok(image)
 }
@@ -105,9 +105,27 @@ pub(crate) fn remove(
     image.remove(alloc, class, selector)
 }
 
-/// The number of a name.
-pub(crate) fn number_of(image: &Image, name: &str) -> Option<Selector> {
-    image.names().find(name.as_bytes())
+/// A class by its name.
+fn class_named(image: &Image, name: &str) -> Result<ClassId, Refusal> {
+    image
+        .version()
+        .class_named(name.as_bytes())
+        .ok_or(Refusal::UnknownClass)
+}
+
+/// Installs a method, of which the line has the name of the class and the source.
+pub(crate) fn install_line(alloc: Global, image: &mut Image, line: &str) -> Result<u32, Refusal> {
+    let (name, source) = line.split_once(' ').ok_or(Refusal::BadCommand)?;
+    let class = class_named(image, name)?;
+    install(alloc, image, class, source.as_bytes())
+}
+
+/// Removes a method, of which the line has the name of the class and the selector.
+pub(crate) fn remove_line(alloc: Global, image: &mut Image, line: &str) -> Result<u32, Refusal> {
+    let (name, selector) = line.split_once(' ').ok_or(Refusal::BadCommand)?;
+    let class = class_named(image, name)?;
+    let selector = intern(alloc, image, selector)?;
+    remove(alloc, image, class, selector)
 }
 
 pub(crate) fn create(alloc: Global, image: &mut Image, class: ClassId) -> Result<ActorId, Refusal> {
@@ -160,10 +178,6 @@ pub(crate) fn actors(image: &Image) -> u32 {
 
 pub(crate) fn body(image: &Image, actor: ActorId) -> Option<&Body> {
     image.body(actor)
-}
-
-pub(crate) fn is_class(image: &Image, class: ClassId) -> bool {
-    image.version().is_class(class)
 }
 
 /// All that happened, in order.

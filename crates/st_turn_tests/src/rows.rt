@@ -1,109 +1,74 @@
 //! Where rows of steps end. The steps of each program are counted by hand, in the code that docs/LANGUAGE.md gives it.
-use crate::images::{A, B, GO, Image, checkout, create, image_of_classes, install, post, release};
+use crate::images::{
+    A, GO, Image, checkout, create, image_of_classes, install_line, post, release,
+};
 use crate::workers::{Worker, new_worker, run};
 use st_classes::refusals::Refusal;
-use st_classes::values::{ActorId, ClassId};
+use st_classes::values::ActorId;
 use st_turn::body::Stop;
 use std::alloc::Global;
 use std::test::*;
 
-/// A program, of which the actor runs `go`, with the number of steps that the actor takes itself, and what ends them.
-struct Row {
-    sources: &'static [(ClassId, &'static str)],
-    steps: u32,
-    stop: Stop,
-}
+/// A program: the lines of its methods, each with its class; the number of steps that an actor of class A takes itself when it runs
+/// `go`; and what ends them.
+type Row = (&'static str, u32, Stop);
 
 /// The first step is the dispatch of `go`.
 const ROWS: &[Row] = &[
     // PushLit, Answer
-    Row {
-        sources: &[(A, "go ^1")],
-        steps: 3,
-        stop: Stop::Ended,
-    },
+    ("A go ^1", 3, Stop::Ended),
     // PushLit, PushLit, Send, Answer
-    Row {
-        sources: &[(A, "go ^3 + 4")],
-        steps: 5,
-        stop: Stop::Ended,
-    },
+    ("A go ^3 + 4", 5, Stop::Ended),
     // PushLit, PushLit, Send, which is a fault
-    Row {
-        sources: &[(A, "go ^9223372036854775807 + 1")],
-        steps: 4,
-        stop: Stop::Ended,
-    },
+    ("A go ^9223372036854775807 + 1", 4, Stop::Ended),
     // PushLit, JumpFalse, which is a fault
-    Row {
-        sources: &[(A, "go ^3 ifTrue: [1]")],
-        steps: 3,
-        stop: Stop::Ended,
-    },
+    ("A go ^3 ifTrue: [1]", 3, Stop::Ended),
     // the dispatch alone
-    Row {
-        sources: &[],
-        steps: 1,
-        stop: Stop::Ended,
-    },
+    ("", 1, Stop::Ended),
     // go: PushSelf, Send, Answer; a: PushSelf, Send, Answer; b: PushLit, Answer
-    Row {
-        sources: &[(A, "go ^self a"), (A, "a ^self b"), (A, "b ^7")],
-        steps: 9,
-        stop: Stop::Ended,
-    },
+    (
+        r"A go ^self a
+A a ^self b
+A b ^7",
+        9,
+        Stop::Ended,
+    ),
     // go: PushLit, Send, Send, Answer; a of B: PushSelf, SuperSend, Answer; a of A: PushSlot, Answer
-    Row {
-        sources: &[(A, "go ^B new a"), (B, "a ^super a"), (A, "a ^s")],
-        steps: 10,
-        stop: Stop::Ended,
-    },
+    (
+        r"A go ^B new a
+B a ^super a
+A a ^s",
+        10,
+        Stop::Ended,
+    ),
     // PushActor, and then the image's
-    Row {
-        sources: &[(A, "go ^thisActor close")],
-        steps: 2,
-        stop: Stop::Outer,
-    },
+    ("A go ^thisActor close", 2, Stop::Outer),
     // PushActor, PushLit, and then the image's
-    Row {
-        sources: &[(A, "go ^thisActor post: #go")],
-        steps: 3,
-        stop: Stop::Outer,
-    },
+    ("A go ^thisActor post: #go", 3, Stop::Outer),
     // PushLit, and then the image's
-    Row {
-        sources: &[(A, "go ^A newActor")],
-        steps: 2,
-        stop: Stop::Outer,
-    },
+    ("A go ^A newActor", 2, Stop::Outer),
     // 3 for i := 0; 10 for each of 3 rounds, which are PushTemp, PushLit, Send, JumpFalse, PushTemp, PushLit, Send, StoreTemp, Pop,
     // Jump; 4 for the last test; PushLit, Pop, PushTemp, Answer
-    Row {
-        sources: &[(A, "go | i | i := 0. [i < 3] whileTrue: [i := i + 1]. ^i")],
-        steps: 42,
-        stop: Stop::Ended,
-    },
+    (
+        "A go | i | i := 0. [i < 3] whileTrue: [i := i + 1]. ^i",
+        42,
+        Stop::Ended,
+    ),
     // as before, with PushActor in place of PushTemp, and then the image's
-    Row {
-        sources: &[(
-            A,
-            "go | i | i := 0. [i < 3] whileTrue: [i := i + 1]. ^thisActor close",
-        )],
-        steps: 41,
-        stop: Stop::Outer,
-    },
+    (
+        "A go | i | i := 0. [i < 3] whileTrue: [i := i + 1]. ^thisActor close",
+        41,
+        Stop::Outer,
+    ),
     // no end: PushLit, JumpFalse, PushLit, Pop, Jump again and again
-    Row {
-        sources: &[(A, "go [true] whileTrue: [1]")],
-        steps: u32::MAX,
-        stop: Stop::Limit,
-    },
+    ("A go [true] whileTrue: [1]", u32::MAX, Stop::Limit),
     // no end: PushSelf, Send, Pop, and in a PushSelf, Answer, with a test and a jump
-    Row {
-        sources: &[(A, "go [true] whileTrue: [self a]"), (A, "a ^self")],
-        steps: u32::MAX,
-        stop: Stop::Limit,
-    },
+    (
+        r"A go [true] whileTrue: [self a]
+A a ^self",
+        u32::MAX,
+        Stop::Limit,
+    ),
 ];
 
 /// The table stands behind a function without a contract, so that no proof carries anything of it.
@@ -112,19 +77,20 @@ fn rows() -> &'static [Row] {
 }
 
 /// The number of steps and what ends them, where the row may have so many.
-fn wanted(row: &Row, limit: u32) -> (u32, Stop) {
-    if limit <= row.steps {
+fn wanted(row: Row, limit: u32) -> (u32, Stop) {
+    let (_, steps, stop) = row;
+    if limit <= steps {
         (limit, Stop::More)
     } else {
-        (row.steps, row.stop)
+        (steps, stop)
     }
 }
 
 /// An image with the program and an actor that was sent `go`.
-fn image_of(alloc: Global, row: &Row) -> Result<(Image, ActorId), Refusal> {
+fn image_of(alloc: Global, program: &str) -> Result<(Image, ActorId), Refusal> {
     let mut image = image_of_classes(alloc)?;
-    for (class, source) in row.sources {
-        install(alloc, &mut image, *class, source.as_bytes())?;
+    for line in program.lines() {
+        install_line(alloc, &mut image, line)?;
     }
     let actor = create(alloc, &mut image, A)?;
     post(alloc, &mut image, 1, actor, GO)?;
@@ -137,7 +103,7 @@ fn ends_well(
     image: &mut Image,
     actor: ActorId,
     worker: &mut Worker,
-    row: &Row,
+    row: Row,
     limit: u32,
 ) -> Result<bool, Refusal> {
     let mut claim = checkout(alloc, image, actor)?;
@@ -151,8 +117,8 @@ fn ends_well(
 }
 
 /// The first limit from which a row does not end where it has to, with new caches or with those that took the same steps before.
-fn first_wrong(alloc: Global, row: &Row) -> Result<Option<u32>, Refusal> {
-    let (mut image, actor) = image_of(alloc, row)?;
+fn first_wrong(alloc: Global, row: Row) -> Result<Option<u32>, Refusal> {
+    let (mut image, actor) = image_of(alloc, row.0)?;
     let mut warm = new_worker(alloc)?;
     for limit in 0..50 {
         let mut cold = new_worker(alloc)?;
@@ -168,7 +134,7 @@ fn first_wrong(alloc: Global, row: &Row) -> Result<Option<u32>, Refusal> {
 #[test]
 fn rows_end_at_the_limit_the_end_or_an_act(rt: HostRuntime) -> Result<(), Fail> {
     for (place, row) in rows().iter().enumerate() {
-        assert_eq!(rt; first_wrong(rt.alloc(), row)?, None, "row {place}");
+        assert_eq!(rt; first_wrong(rt.alloc(), *row)?, None, "row {place}");
     }
     Ok(())
 }

@@ -3,313 +3,138 @@
 use crate::dice::Dice;
 use crate::events::{apply, begin, random_event};
 use crate::images::{
-    A, B, C, GO, Image, actors, create, image_of_classes, install, next_ready, number_of, outcome,
-    post, remove,
+    A, GO, actors, create, image_of_classes, install_line, next_ready, outcome, post, remove_line,
 };
 use crate::trials::{Part, Trial};
 use crate::workers::Counts;
-use st_classes::faults::Fault;
-use st_classes::kernel::{ACTOR_REF, SMALL_INTEGER, SYMBOL, TRUE, UNDEFINED_OBJECT};
 use st_classes::refusals::Refusal;
-use st_classes::values::{ActorId, ClassId, Value};
-use st_turn::body::Outcome;
-use std::alloc::Global;
+use st_classes::values::ActorId;
+use std::alloc::{AllocError, Global};
 use std::test::*;
 
-/// An edit before a turn.
-enum Change {
-    Install(ClassId, &'static str),
-    Remove(ClassId, &'static str),
-}
-
-/// A turn of `go` after some edits: how it ends, and how many of its sends the sites had, the lookup cache had, and a walk found.
-/// Each edit ends what was found before.
-struct Turn {
-    changes: &'static [Change],
-    outcome: Outcome,
-    counts: (u32, u32, u32),
-}
-
-/// Turns of an actor of class A, one after the other.
-type Program = &'static [Turn];
-
-const PROGRAMS: &[Program] = &[
+/// Programs, whose lines are done in turn, for an actor of class A. A line is a class and the source of a method for it; or `-`, a class
+/// and the name of a method that is removed; or `=`, how the actor's next turn, of `go`, ends, and how many of its sends their sites had,
+/// the lookup cache had, and walks found. Each edit ends what was found before.
+const PROGRAMS: &[&str] = &[
     // sums up to 2^63 - 1, and one more
-    &[Turn {
-        changes: &[Change::Install(
-            A,
-            "go | n | n := 9223372036854775800. [true] whileTrue: [n := n + 1]",
-        )],
-        outcome: Outcome::Fault(Fault::Overflow),
-        counts: (7, 0, 1),
-    }],
+    r"A go | n | n := 9223372036854775800. [true] whileTrue: [n := n + 1]
+= Fault(Overflow) 7 0 1",
     // differences down to -2^63, and one more
-    &[Turn {
-        changes: &[Change::Install(
-            A,
-            "go | n | n := -9223372036854775806. [true] whileTrue: [n := n - 1]",
-        )],
-        outcome: Outcome::Fault(Fault::Overflow),
-        counts: (2, 0, 1),
-    }],
+    r"A go | n | n := -9223372036854775806. [true] whileTrue: [n := n - 1]
+= Fault(Overflow) 2 0 1",
     // doubles up to 2^62, and one more
-    &[Turn {
-        changes: &[Change::Install(A, "go | n | n := 1. [true] whileTrue: [n := n * 2]")],
-        outcome: Outcome::Fault(Fault::Overflow),
-        counts: (62, 0, 1),
-    }],
+    r"A go | n | n := 1. [true] whileTrue: [n := n * 2]
+= Fault(Overflow) 62 0 1",
     // -2^62 * 2 is -2^63
-    &[Turn {
-        changes: &[Change::Install(A, "go ^-4611686018427387904 * 2")],
-        outcome: Outcome::Answer(Value::Int(i64::MIN)),
-        counts: (0, 0, 1),
-    }],
+    r"A go ^-4611686018427387904 * 2
+= Answer(Int(-9223372036854775808)) 0 0 1",
     // -2^63 // -1, whose first operand takes two subtractions
-    &[Turn {
-        changes: &[Change::Install(A, "go ^0 - 9223372036854775807 - 1 // -1")],
-        outcome: Outcome::Fault(Fault::Overflow),
-        counts: (0, 1, 2),
-    }],
+    r"A go ^0 - 9223372036854775807 - 1 // -1
+= Fault(Overflow) 0 1 2",
     // no remainder of 0
-    &[Turn {
-        changes: &[Change::Install(A, "go ^7 \\\\ 0")],
-        outcome: Outcome::Fault(Fault::ZeroDivide),
-        counts: (0, 0, 1),
-    }],
+    r"A go ^7 \\ 0
+= Fault(ZeroDivide) 0 0 1",
     // an argument that is no integer
-    &[Turn {
-        changes: &[Change::Install(A, "go ^3 < nil")],
-        outcome: Outcome::Fault(Fault::BadArgument),
-        counts: (0, 0, 1),
-    }],
+    r"A go ^3 < nil
+= Fault(BadArgument) 0 0 1",
     // each comparison of 0, 1 and 2 with 1: 1 + 4, 4 + 8 + 16 + 32, 2 + 8
-    &[Turn {
-        changes: &[Change::Install(
-            A,
-            "go | n i | n := 0. i := 0. [i < 3] whileTrue: [i < 1 ifTrue: [n := n + 1]. i > 1 ifTrue: [n := n + 2]. i <= 1 ifTrue: [n := n + 4]. i >= 1 ifTrue: [n := n + 8]. i = 1 ifTrue: [n := n + 16]. i == 1 ifTrue: [n := n + 32]. i := i + 1]. ^n",
-        )],
-        outcome: Outcome::Answer(Value::Int(75)),
-        counts: (19, 7, 7),
-    }],
+    r"A go | n i | n := 0. i := 0. [i < 3] whileTrue: [i < 1 ifTrue: [n := n + 1]. i > 1 ifTrue: [n := n + 2]. i <= 1 ifTrue: [n := n + 4]. i >= 1 ifTrue: [n := n + 8]. i = 1 ifTrue: [n := n + 16]. i == 1 ifTrue: [n := n + 32]. i := i + 1]. ^n
+= Answer(Int(75)) 19 7 7",
     // integers, booleans, nil, symbols, objects and actors at the site of `tag`: 1 + 2 + 4 + 8 + 16 + 32 + 1
-    &[Turn {
-        changes: &[
-            Change::Install(SMALL_INTEGER, "tag ^1"),
-            Change::Install(TRUE, "tag ^2"),
-            Change::Install(UNDEFINED_OBJECT, "tag ^4"),
-            Change::Install(SYMBOL, "tag ^8"),
-            Change::Install(A, "tag ^16"),
-            Change::Install(ACTOR_REF, "tag ^32"),
-            Change::Install(A, "ask: x ^x tag"),
-            Change::Install(
-                A,
-                "go ^(self ask: 3) + (self ask: true) + (self ask: nil) + (self ask: #x) + (self ask: self) + (self ask: thisActor) + (self ask: 4)",
-            ),
-        ],
-        outcome: Outcome::Answer(Value::Int(64)),
-        counts: (0, 12, 8),
-    }],
+    r"SmallInteger tag ^1
+True tag ^2
+UndefinedObject tag ^4
+Symbol tag ^8
+A tag ^16
+ActorRef tag ^32
+A ask: x ^x tag
+A go ^(self ask: 3) + (self ask: true) + (self ask: nil) + (self ask: #x) + (self ask: self) + (self ask: thisActor) + (self ask: 4)
+= Answer(Int(64)) 0 12 8",
     // four classes at a site, three times: 3 * (1 + 2 + 4 + 16)
-    &[Turn {
-        changes: &[
-            Change::Install(SMALL_INTEGER, "tag ^1"),
-            Change::Install(TRUE, "tag ^2"),
-            Change::Install(UNDEFINED_OBJECT, "tag ^4"),
-            Change::Install(SYMBOL, "tag ^8"),
-            Change::Install(A, "tag ^16"),
-            Change::Install(ACTOR_REF, "tag ^32"),
-            Change::Install(A, "ask: x ^x tag"),
-            Change::Install(
-                A,
-                "go | n i | n := 0. i := 0. [i < 3] whileTrue: [n := n + (self ask: i) + (self ask: true) + (self ask: nil) + (self ask: self). i := i + 1]. ^n",
-            ),
-        ],
-        outcome: Outcome::Answer(Value::Int(69)),
-        counts: (29, 7, 7),
-    }],
+    r"SmallInteger tag ^1
+True tag ^2
+UndefinedObject tag ^4
+Symbol tag ^8
+A tag ^16
+ActorRef tag ^32
+A ask: x ^x tag
+A go | n i | n := 0. i := 0. [i < 3] whileTrue: [n := n + (self ask: i) + (self ask: true) + (self ask: nil) + (self ask: self). i := i + 1]. ^n
+= Answer(Int(69)) 29 7 7",
     // five classes at a site, twice: 2 * (1 + 2 + 4 + 8 + 16)
-    &[Turn {
-        changes: &[
-            Change::Install(SMALL_INTEGER, "tag ^1"),
-            Change::Install(TRUE, "tag ^2"),
-            Change::Install(UNDEFINED_OBJECT, "tag ^4"),
-            Change::Install(SYMBOL, "tag ^8"),
-            Change::Install(A, "tag ^16"),
-            Change::Install(ACTOR_REF, "tag ^32"),
-            Change::Install(A, "ask: x ^x tag"),
-            Change::Install(
-                A,
-                "go | n i | n := 0. i := 0. [i < 2] whileTrue: [n := n + (self ask: i) + (self ask: true) + (self ask: nil) + (self ask: #x) + (self ask: self). i := i + 1]. ^n",
-            ),
-        ],
-        outcome: Outcome::Answer(Value::Int(62)),
-        counts: (13, 14, 8),
-    }],
+    r"SmallInteger tag ^1
+True tag ^2
+UndefinedObject tag ^4
+Symbol tag ^8
+A tag ^16
+ActorRef tag ^32
+A ask: x ^x tag
+A go | n i | n := 0. i := 0. [i < 2] whileTrue: [n := n + (self ask: i) + (self ask: true) + (self ask: nil) + (self ask: #x) + (self ask: self). i := i + 1]. ^n
+= Answer(Int(62)) 13 14 8",
     // 128 frames
-    &[Turn {
-        changes: &[
-            Change::Install(A, "down: n n = 0 ifTrue: [^0]. ^(self down: n - 1) + 1"),
-            Change::Install(A, "go ^self down: 126"),
-        ],
-        outcome: Outcome::Answer(Value::Int(126)),
-        counts: (501, 1, 4),
-    }],
+    r"A down: n n = 0 ifTrue: [^0]. ^(self down: n - 1) + 1
+A go ^self down: 126
+= Answer(Int(126)) 501 1 4",
     // one frame too many
-    &[Turn {
-        changes: &[
-            Change::Install(A, "down: n n = 0 ifTrue: [^0]. ^(self down: n - 1) + 1"),
-            Change::Install(A, "go ^self down: 127"),
-        ],
-        outcome: Outcome::Fault(Fault::StackOverflow),
-        counts: (378, 1, 3),
-    }],
+    r"A down: n n = 0 ifTrue: [^0]. ^(self down: n - 1) + 1
+A go ^self down: 127
+= Fault(StackOverflow) 378 1 3",
     // a loop
-    &[Turn {
-        changes: &[Change::Install(
-            A,
-            "go | i n | i := 0. n := 0. [i < 10] whileTrue: [i := i + 1. n := n + i]. ^n",
-        )],
-        outcome: Outcome::Answer(Value::Int(55)),
-        counts: (28, 1, 2),
-    }],
+    r"A go | i n | i := 0. n := 0. [i < 10] whileTrue: [i := i + 1. n := n + i]. ^n
+= Answer(Int(55)) 28 1 2",
     // super sends, three times
-    &[Turn {
-        changes: &[
-            Change::Install(A, "who ^1"),
-            Change::Install(B, "who ^super who + 10"),
-            Change::Install(C, "who ^super who + 100"),
-            Change::Install(
-                A,
-                "go | i n | i := 0. n := 0. [i < 3] whileTrue: [n := n + C new who. i := i + 1]. ^n",
-            ),
-        ],
-        outcome: Outcome::Answer(Value::Int(333)),
-        counts: (19, 3, 6),
-    }],
+    r"A who ^1
+B who ^super who + 10
+C who ^super who + 100
+A go | i n | i := 0. n := 0. [i < 3] whileTrue: [n := n + C new who. i := i + 1]. ^n
+= Answer(Int(333)) 19 3 6",
     // a method for `doesNotUnderstand:`, three times
-    &[Turn {
-        changes: &[
-            Change::Install(A, "doesNotUnderstand: m ^m"),
-            Change::Install(
-                A,
-                "go | i | i := 0. [i < 3] whileTrue: [self zork. i := i + 1]. ^i",
-            ),
-        ],
-        outcome: Outcome::Answer(Value::Int(3)),
-        counts: (7, 0, 3),
-    }],
+    r"A doesNotUnderstand: m ^m
+A go | i | i := 0. [i < 3] whileTrue: [self zork. i := i + 1]. ^i
+= Answer(Int(3)) 7 0 3",
     // it is given the selector
-    &[Turn {
-        changes: &[
-            Change::Install(A, "doesNotUnderstand: m ^m == #zork:with:"),
-            Change::Install(A, "go ^self zork: 1 with: 2"),
-        ],
-        outcome: Outcome::Answer(Value::Bool(true)),
-        counts: (0, 0, 2),
-    }],
+    r"A doesNotUnderstand: m ^m == #zork:with:
+A go ^self zork: 1 with: 2
+= Answer(Bool(true)) 0 0 2",
     // no method
-    &[Turn {
-        changes: &[Change::Install(A, "go ^3 zork")],
-        outcome: Outcome::Fault(Fault::NotUnderstood),
-        counts: (0, 0, 1),
-    }],
+    r"A go ^3 zork
+= Fault(NotUnderstood) 0 0 1",
     // methods that are removed and installed
-    &[
-        Turn {
-            changes: &[
-                Change::Install(A, "tag ^1"),
-                Change::Install(B, "tag ^2"),
-                Change::Install(
-                    A,
-                    "go | b i | b := B new. i := 0. [i < 3] whileTrue: [i := i + b tag]. ^i",
-                ),
-            ],
-            outcome: Outcome::Answer(Value::Int(4)),
-            counts: (4, 0, 4),
-        },
-        Turn {
-            changes: &[Change::Remove(B, "tag")],
-            outcome: Outcome::Answer(Value::Int(3)),
-            counts: (7, 0, 4),
-        },
-        Turn {
-            changes: &[Change::Remove(A, "tag")],
-            outcome: Outcome::Fault(Fault::NotUnderstood),
-            counts: (0, 0, 3),
-        },
-        Turn {
-            changes: &[Change::Install(B, "tag ^5")],
-            outcome: Outcome::Answer(Value::Int(5)),
-            counts: (1, 0, 4),
-        },
-        Turn {
-            changes: &[],
-            outcome: Outcome::Answer(Value::Int(5)),
-            counts: (5, 0, 0),
-        },
-    ],
+    r"A tag ^1
+B tag ^2
+A go | b i | b := B new. i := 0. [i < 3] whileTrue: [i := i + b tag]. ^i
+= Answer(Int(4)) 4 0 4
+- B tag
+= Answer(Int(3)) 7 0 4
+- A tag
+= Fault(NotUnderstood) 0 0 3
+B tag ^5
+= Answer(Int(5)) 1 0 4
+= Answer(Int(5)) 5 0 0",
     // methods of the kernel, and then the user's own in their place
-    &[
-        Turn {
-            changes: &[Change::Install(A, "go | i | i := 0. [i = 3] whileFalse: [i := i + 1]. ^i")],
-            outcome: Outcome::Answer(Value::Int(3)),
-            counts: (5, 0, 2),
-        },
-        Turn {
-            changes: &[Change::Install(SMALL_INTEGER, "= x ^self > 0")],
-            outcome: Outcome::Answer(Value::Int(1)),
-            counts: (2, 0, 3),
-        },
-        Turn {
-            changes: &[Change::Remove(SMALL_INTEGER, "=")],
-            outcome: Outcome::Answer(Value::Int(3)),
-            counts: (5, 0, 2),
-        },
-    ],
+    r"A go | i | i := 0. [i = 3] whileFalse: [i := i + 1]. ^i
+= Answer(Int(3)) 5 0 2
+SmallInteger = x ^self > 0
+= Answer(Int(1)) 2 0 3
+- SmallInteger =
+= Answer(Int(3)) 5 0 2",
     // the same for messages without arguments
-    &[
-        Turn {
-            changes: &[Change::Install(A, "go ^3 = 4 & 3 isNil & (3 class == 7)")],
-            outcome: Outcome::Answer(Value::Bool(false)),
-            counts: (0, 1, 5),
-        },
-        Turn {
-            changes: &[
-                Change::Install(SMALL_INTEGER, "= x ^true"),
-                Change::Install(SMALL_INTEGER, "isNil ^true"),
-                Change::Install(SMALL_INTEGER, "class ^7"),
-            ],
-            outcome: Outcome::Answer(Value::Bool(true)),
-            counts: (0, 1, 5),
-        },
-    ],
+    r"A go ^3 = 4 & 3 isNil & (3 class == 7)
+= Answer(Bool(false)) 0 1 5
+SmallInteger = x ^true
+SmallInteger isNil ^true
+SmallInteger class ^7
+= Answer(Bool(true)) 0 1 5",
     // a condition that is no boolean
-    &[Turn {
-        changes: &[Change::Install(A, "go ^3 ifTrue: [1]")],
-        outcome: Outcome::Fault(Fault::MustBeBoolean),
-        counts: (0, 0, 0),
-    }],
+    r"A go ^3 ifTrue: [1]
+= Fault(MustBeBoolean) 0 0 0",
     // an instance variable
-    &[Turn {
-        changes: &[Change::Install(A, "go s := 5. ^s + s")],
-        outcome: Outcome::Answer(Value::Int(10)),
-        counts: (0, 0, 1),
-    }],
+    r"A go s := 5. ^s + s
+= Answer(Int(10)) 0 0 1",
 ];
 
 /// The table stands behind a function without a contract, so that no proof carries anything of it.
-fn programs() -> &'static [Program] {
+fn programs() -> &'static [&'static str] {
     PROGRAMS
-}
-
-fn make(alloc: Global, image: &mut Image, change: &Change) -> Result<u32, Refusal> {
-    match change {
-        Change::Install(class, source) => install(alloc, image, *class, source.as_bytes()),
-        Change::Remove(class, name) => match number_of(image, name) {
-            Some(selector) => remove(alloc, image, *class, selector),
-            None => Err(Refusal::BadName),
-        },
-    }
 }
 
 /// Takes quanta of so many steps until no actor is ready, and says in what the three ways differ first.
@@ -325,34 +150,60 @@ fn finish(alloc: Global, trial: &mut Trial, quantum: u32) -> Result<Option<Part>
     Ok(None)
 }
 
-/// How a turn of a program went.
-#[derive(Clone, Copy, PartialEq, Eq, Debug)]
-struct Went {
-    difference: Option<Part>,
-    outcome: Result<Outcome, Refusal>,
-    counts: (u32, u32, u32),
-}
-
 /// Takes a turn of the first actor, the turn of this number.
 fn take_turn(
     alloc: Global,
     trial: &mut Trial,
-    turn: &Turn,
     seq: u64,
     quantum: u32,
-) -> Result<Went, Refusal> {
-    for edit in turn.changes {
-        make(alloc, &mut trial.image, edit)?;
-    }
+) -> Result<Option<Part>, Refusal> {
     trial.counts = Counts::none();
     post(alloc, &mut trial.image, seq, ActorId(0), GO)?;
-    let difference = finish(alloc, trial, quantum)?;
-    let counts = trial.counts;
-    Ok(Went {
-        difference,
-        outcome: outcome(&trial.image, ActorId(0), seq),
-        counts: (counts.by_site, counts.by_global, counts.by_walk),
-    })
+    finish(alloc, trial, quantum)
+}
+
+/// What is told of a turn: in what the three ways differ, or how it ended and how its sends were found.
+fn told(
+    alloc: Global,
+    trial: &Trial,
+    seq: u64,
+    difference: Option<Part>,
+) -> Result<String, AllocError> {
+    if let Some(part) = difference {
+        return format!(in alloc; "{part:?}");
+    }
+    let Counts {
+        by_site,
+        by_global,
+        by_walk,
+    } = trial.counts;
+    match outcome(&trial.image, ActorId(0), seq) {
+        Ok(outcome) => format!(in alloc; "{outcome:?} {by_site} {by_global} {by_walk}"),
+        Err(refusal) => format!(in alloc; "{refusal:?}"),
+    }
+}
+
+/// Does what a line says. The answer is what is told of a turn, where that is not what the line says.
+fn take_line(
+    alloc: Global,
+    trial: &mut Trial,
+    line: &str,
+    seq: u64,
+    quantum: u32,
+) -> Result<Option<String>, Refusal> {
+    if let Some(wanted) = line.strip_prefix("= ") {
+        let difference = take_turn(alloc, trial, seq, quantum)?;
+        let told = told(alloc, trial, seq, difference)?;
+        if told.as_str() == wanted {
+            return Ok(None);
+        }
+        return Ok(Some(told));
+    }
+    match line.strip_prefix("- ") {
+        Some(method) => remove_line(alloc, &mut trial.image, method)?,
+        None => install_line(alloc, &mut trial.image, line)?,
+    };
+    Ok(None)
 }
 
 fn new_trial(alloc: Global) -> Result<Trial, Refusal> {
@@ -361,24 +212,16 @@ fn new_trial(alloc: Global) -> Result<Trial, Refusal> {
     Trial::new(alloc, image)
 }
 
-/// The first turn of a program that goes otherwise than it has to, and how it goes.
-fn first_wrong(
-    alloc: Global,
-    program: Program,
-    quantum: u32,
-) -> Result<Option<(u64, Went)>, Refusal> {
+/// What is told of the first turn of a program that goes otherwise than it has to.
+fn first_wrong(alloc: Global, program: &str, quantum: u32) -> Result<Option<String>, Refusal> {
     let mut trial = new_trial(alloc)?;
-    let mut seq: u64 = 0;
-    for turn in program {
-        seq = seq.wrapping_add(1);
-        let went = take_turn(alloc, &mut trial, turn, seq, quantum)?;
-        let wanted = Went {
-            difference: None,
-            outcome: Ok(turn.outcome),
-            counts: turn.counts,
-        };
-        if went != wanted {
-            return Ok(Some((seq, went)));
+    let mut turn: u64 = 1;
+    for line in program.lines() {
+        if let Some(told) = take_line(alloc, &mut trial, line, turn, quantum)? {
+            return Ok(Some(told));
+        }
+        if line.starts_with("=") {
+            turn = turn.wrapping_add(1);
         }
     }
     Ok(None)
@@ -387,9 +230,9 @@ fn first_wrong(
 #[test]
 fn how_sends_are_found(rt: HostRuntime) -> Result<(), Fail> {
     for quantum in [1, 2, 3, 7, 100, 2000] {
-        for (place, program) in programs().iter().enumerate() {
+        for program in programs() {
             let wrong = first_wrong(rt.alloc(), program, quantum)?;
-            assert_eq!(rt; wrong, None, "program {place} by {quantum}");
+            assert!(rt; wrong.is_none(), "by {quantum}: {program} {wrong:?}");
         }
     }
     Ok(())

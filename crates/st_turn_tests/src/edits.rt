@@ -32,10 +32,10 @@ enum Part {
 /// Two images to which the same happens. A worker with its caches takes the steps of the one, those of the other are plain.
 #[derive(Drop)]
 struct Twins {
-    cached: Image,
-    plain: Image,
-    worker: Worker,
-    walker: Worker,
+    cached: Box<Image>,
+    plain: Box<Image>,
+    worker: Box<Worker>,
+    walker: Box<Worker>,
     counts: Counts,
     answers: u32,
 }

@@ -67,8 +67,13 @@ pub(crate) fn define(
     image.define(alloc, name, parent, Seq::from_vec(slots))
 }
 
-fn new_image(alloc: Global) -> Result<Image, Refusal> {
-    Image::new(alloc, Settings::DEFAULT)
+/// A new image. It is put on the heap, since the proof of a function pays for the size of what it holds.
+fn new_image(alloc: Global) -> Result<Box<Image>, Refusal> {
+    let image = Image::new(alloc, Settings::DEFAULT)?;
+    match Box::new(alloc, image) {
+        Ok(image) => Ok(image),
+        Err(_) => Err(Refusal::NoMemory),
+    }
 }
 
 fn intern(alloc: Global, image: &mut Image, name: &str) -> Result<Selector, Refusal> {
@@ -76,7 +81,7 @@ fn intern(alloc: Global, image: &mut Image, name: &str) -> Result<Selector, Refu
 }
 
 /// An image with the names and the classes.
-pub(crate) fn image_of_classes(alloc: Global) -> Result<Image, Refusal> {
+pub(crate) fn image_of_classes(alloc: Global) -> Result<Box<Image>, Refusal> {
     let mut image = new_image(alloc)?;
     for name in names() {
         intern(alloc, &mut image, name)?;

@@ -87,7 +87,7 @@ fn wanted(row: Row, limit: u32) -> (u32, Stop) {
 }
 
 /// An image with the program and an actor that was sent `go`.
-fn image_of(alloc: Global, program: &str) -> Result<(Image, ActorId), Refusal> {
+fn image_of(alloc: Global, program: &str) -> Result<(Box<Image>, ActorId), Refusal> {
     let mut image = image_of_classes(alloc)?;
     for line in program.lines() {
         install_line(alloc, &mut image, line)?;

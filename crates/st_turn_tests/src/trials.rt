@@ -30,9 +30,9 @@ pub(crate) enum Part {
 /// An image, a worker that takes rows of steps, and one that takes single steps. What the first one does is committed.
 #[derive(Drop)]
 pub(crate) struct Trial {
-    pub image: Image,
-    runner: Worker,
-    stepper: Worker,
+    pub image: Box<Image>,
+    runner: Box<Worker>,
+    stepper: Box<Worker>,
     pub counts: Counts,
 }
 
@@ -74,7 +74,7 @@ fn difference_from(taken: &Taken, plain: &PlainSteps) -> Option<Part> {
 }
 
 impl Trial {
-    pub(crate) fn new(alloc: Global, image: Image) -> Result<Trial, Refusal> {
+    pub(crate) fn new(alloc: Global, image: Box<Image>) -> Result<Trial, Refusal> {
         Ok(Trial {
             image,
             runner: new_worker(alloc)?,

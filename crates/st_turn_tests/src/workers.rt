@@ -12,8 +12,10 @@ use std::alloc::{AllocError, Global};
 
 pub(crate) type Worker = st_turn::worker::Worker<GlobalGuard>;
 
-pub(crate) fn new_worker(alloc: Global) -> Result<Worker, AllocError> {
-    Ok(Worker::new(Caches::new(alloc, GlobalGuard::new())?))
+/// A worker with empty caches, on the heap as images are.
+pub(crate) fn new_worker(alloc: Global) -> Result<Box<Worker>, AllocError> {
+    let worker = Worker::new(Caches::new(alloc, GlobalGuard::new())?);
+    Ok(Box::new(alloc, worker)?)
 }
 
 /// Whether the edits that the caches of a worker keep begin those of a claim.

@@ -112,9 +112,23 @@ impl Objects {
         self.items.as_slice()
     }
 
-    /// The class of a value.
+    /// The class of a value. Integers and objects come first, since most receivers are such.
     #[inline(always)]
     pub fn class_of(&self, value: Value) -> ClassId
+        requires { IsAmong self.now value }
+        ensures { result ≡ class_in self.now value }
+    {
+        match value {
+            Value::Int(_) => SMALL_INTEGER,
+            Value::Local(n) => self.items[n as usize].class,
+            other => self.rare_class_of(other),
+        }
+    }
+
+    /// The same, of any value.
+    #[cold]
+    #[inline(never)]
+    fn rare_class_of(&self, value: Value) -> ClassId
         requires { IsAmong self.now value }
         ensures { result ≡ class_in self.now value }
     {

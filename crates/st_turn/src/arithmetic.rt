@@ -69,8 +69,7 @@ fn floored_remainder(x: i64, y: i64) -> i64
 }
 
 /// The quotient rounded towards negative infinity, or the fault of a divisor 0 or of a quotient over 64 bits.
-#[cold]
-#[inline(never)]
+#[inline(always)]
 pub(crate) fn quotient(x: i64, y: i64) -> Result<Value, Fault>
     ensures { result ≡ quotient_of x y }
 {
@@ -84,8 +83,7 @@ pub(crate) fn quotient(x: i64, y: i64) -> Result<Value, Fault>
 }
 
 /// The remainder of that quotient, which has the sign of y, or the fault of a divisor 0.
-#[cold]
-#[inline(never)]
+#[inline(always)]
 pub(crate) fn remainder(x: i64, y: i64) -> Result<Value, Fault>
     ensures { result ≡ remainder_of x y }
 {

@@ -5,7 +5,7 @@ ghost use Rattle.st_classes.specs.declared.keys.SiteId.{SiteId as SiteIdOf};
 ghost use Rattle.st_image.specs.Tallies.{ChangesTally, HasPlaces, KeepsPlaces, SameTallies, Tallied, has_place, no_tally, sends_of, tally_at, with_act, with_send};
 
 use st_classes::keys::SiteId;
-use st_classes::values::Selector;
+use st_classes::values::{MethodId, Selector};
 use st_guard::how::How;
 use st_sites::site::SiteState;
 use st_turn::claim::Sent;
@@ -58,17 +58,20 @@ impl Tally {
     }
 
     /// One more send of a worker's.
-    #[inline]
+    #[inline(always)]
     fn add_send(&mut self, how: How, state: SiteState)
         requires { sends_of self.old + 1 < 2 ^ 64 }
         ensures { self.new ≡ with_send how state self.old }
     {
-        match how {
-            How::Site => self.by_site += 1,
-            How::Global => self.by_global += 1,
-            How::Walk => self.by_walk += 1,
-        }
         self.state = state;
+        if how == How::Site {
+            self.by_site += 1;
+            return;
+        }
+        match how {
+            How::Walk => self.by_walk += 1,
+            _ => self.by_global += 1,
+        }
     }
 
     /// One more send that the image did.
@@ -135,7 +138,7 @@ impl TallyRow {
         Ok(())
     }
 
-    #[inline]
+    #[inline(always)]
     fn add_send(&mut self, place: u16, how: How, state: SiteState)
         requires place { place < length self.old }
         requires few { sends_of (slice_index_or self.old place no_tally) + 1 < 2 ^ 64 }
@@ -204,15 +207,23 @@ impl Tallies {
         }
     }
 
+    /// How many places the row of a method has.
+    #[inline(always)]
+    fn room(&self, method: MethodId) -> usize
+        ensures { result ≡ length (slice_index_or self.now method.0 []) }
+    {
+        match self.rows.get(method.0 as usize) {
+            Some(row) => row.len(),
+            None => 0,
+        }
+    }
+
     /// Whether a site has its place.
     #[inline]
     fn has_place(&self, site: SiteId) -> bool
         ensures { result ≡ has_place self.now site }
     {
-        match self.rows.get(site.method.0 as usize) {
-            Some(row) => usize::from(site.place) < row.len(),
-            None => false,
-        }
+        usize::from(site.place) < self.room(site.method)
     }
 
     /// Makes the place of a site that has none. No tally changes.
@@ -241,13 +252,22 @@ impl Tallies {
         self.grow(site)
     }
 
-    /// Makes the place of the site of each send. No tally changes.
+    /// Makes the place of the site of each send. No tally changes. Most sends are of the method of the one before, whose row is not
+    /// looked for again.
     fn make_send_places(&mut self, sends: &[Sent]) -> Result<(), AllocError>
         ensures same { SameTallies self.old self.new }
         ensures ok { OnOk result (All (λ s. has_place self.new s.site ≡ true) sends.now) }
     {
+        let mut last = MethodId(0);
+        let mut room = self.room(last);
         for sent in sends {
-            self.make_place(sent.site)?;
+            let site = sent.site;
+            if site.method.0 == last.0 && usize::from(site.place) < room {
+                continue;
+            }
+            self.make_place(site)?;
+            last = site.method;
+            room = self.room(last);
         }
         Ok(())
     }
@@ -269,7 +289,7 @@ impl Tallies {
     }
 
     /// Counts a send.
-    #[inline]
+    #[inline(always)]
     fn count_send(&mut self, sent: Sent)
         requires place { has_place self.old sent.site ≡ true }
         requires few { sends_of (tally_at self.old sent.site) + 1 < 2 ^ 64 }
@@ -292,7 +312,7 @@ impl Tallies {
     }
 
     /// Counts sends.
-    #[inline]
+    #[inline(always)]
     fn count_sends(&mut self, sends: &[Sent])
         requires places { All (λ s. has_place self.old s.site ≡ true) sends.now }
         requires few { (id : SiteIdOf) → sends_of (tally_at self.old id) + length sends.now < 2 ^ 64 }

@@ -1,7 +1,7 @@
 //! What an actor is while it runs: its objects, and where its turn stands.
-ghost use Rattle.std.specs.Prelude.{◌≡◌, [], ◌∷◌, ◌++◌, length, replicate, slice_get, Bool, IfOk, OnOk, OnErr};
+ghost use Rattle.std.specs.Prelude.{◌≡◌, ◌<◌, [], ◌∷◌, ◌++◌, length, replicate, slice_get, Bool, IfOk, OnOk, OnErr};
 ghost use Rattle.std.specs.Option.{option_copied};
-ghost use Rattle.st_classes.specs.declared.values.Value.TheVariants.{Nil};
+ghost use Rattle.st_classes.specs.declared.values.Value.TheVariants.{Local, Nil};
 ghost use Rattle.st_turn.specs.declared.body.Phase.TheVariants as phase;
 ghost use Rattle.st_turn.specs.Effects.{slot_of, objects_after_store};
 ghost use Rattle.st_turn.specs.Objects.{class_in};
@@ -112,9 +112,32 @@ impl Objects {
         self.items.as_slice()
     }
 
-    /// The class of a value.
+    /// The class of a value. Integers and objects come first, since most receivers are such.
     #[inline(always)]
     pub fn class_of(&self, value: Value) -> ClassId
+        requires { IsAmong self.now value }
+        ensures { result ≡ class_in self.now value }
+    {
+        match value {
+            Value::Int(_) => SMALL_INTEGER,
+            Value::Local(n) => self.object_class(n),
+            other => self.rare_class_of(other),
+        }
+    }
+
+    /// The class of the object at a place.
+    #[inline(always)]
+    fn object_class(&self, place: u32) -> ClassId
+        requires { place < length self.now }
+        ensures { result ≡ class_in self.now (Local place) }
+    {
+        self.items[place as usize].class
+    }
+
+    /// The same, of any value.
+    #[cold]
+    #[inline(never)]
+    fn rare_class_of(&self, value: Value) -> ClassId
         requires { IsAmong self.now value }
         ensures { result ≡ class_in self.now value }
     {
@@ -126,7 +149,7 @@ impl Objects {
             Value::Sym(_) => SYMBOL,
             Value::Actor(_) => ACTOR_REF,
             Value::Class(_) => CLASS,
-            Value::Local(n) => self.items[n as usize].class,
+            Value::Local(n) => self.object_class(n),
         }
     }
 

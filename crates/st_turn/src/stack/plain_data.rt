@@ -39,7 +39,7 @@ impl Stack {
         ensures { IfOk result (λ stack. stack ≡ self.now) }
     {
         let size = usize::max(self.top, self.at.base + self.at.temps + OPERANDS);
-        let mut values = Vec::new(alloc);
+        let mut values = Vec::with_capacity(alloc, size)?;
         values.extend_from_slice(&self.values[..self.top])?;
         values.resize(size, Value::Nil)?;
         let callers = self.callers.copy(alloc)?;

@@ -1,4 +1,4 @@
-use Rattle.std.proofs.Common.{◌≡◌, true, ◌∙◌, subst}
+use Rattle.std.proofs.Common.{rules, ◌≡◌, true, ◌∙◌, subst}
 use Rattle.std.specs.Prelude.{All}
 use Rattle.std.proofs.lemmas.List.{take_all}
 use Rattle.st_turn.specs.declared.claim.Sent.{Sent}
@@ -8,6 +8,7 @@ use Rattle.st_image.proofs.tallies.Tallies.make_send_places.Goals as goal
 
 pub loop-sent-preserved : goal.loop-sent-preserved
 loop-sent-preserved c = record {
+  room = search rules;
   same = λ id. c.make_place.ensures.same id ∙ c.loop-sent.invariant.same id;
   places = places_more c.loop-sent.self c.make_place.new.self c.args.sends.now c.loop-sent.sent-index _ c.loop-sent-test.true c.loop-sent.invariant.places c.make_place.ensures.keeps c.in_ok-make_place.ensures.ok;
 }

@@ -1,0 +1,129 @@
+//! Quanta that are taken in three ways and compared: as a row of steps, one step after the other, and by plain steps.
+use crate::images::{Image, checkout, commit, release};
+use crate::plain::{PlainSteps, plain_steps};
+use crate::workers::{Counts, Worker, new_worker, run, step};
+use st_classes::keys::SiteId;
+use st_classes::refusals::Refusal;
+use st_classes::values::ActorId;
+use st_turn::body::Stop;
+use st_turn::claim::{Claim, Sent};
+use std::alloc::Global;
+
+/// In what two ways differ.
+#[derive(Clone, Copy, PartialEq, Eq, Debug)]
+pub(crate) enum Part {
+    /// What ended the steps.
+    Stops,
+    /// How many steps there were.
+    Steps,
+    Bodies,
+    /// How the targets of sends were found, or the states of their sites then.
+    Sends,
+    /// Which sends there were.
+    Sites,
+    /// The states of sites afterwards.
+    States,
+    /// Nothing differs, but not all ways to find a send were met.
+    Little,
+}
+
+/// An image, a worker that takes rows of steps, and one that takes single steps. What the first one does is committed.
+#[derive(Drop)]
+pub(crate) struct Trial {
+    pub image: Box<Image>,
+    runner: Box<Worker>,
+    stepper: Box<Worker>,
+    pub counts: Counts,
+}
+
+/// Steps of one claim, and what ended them.
+#[derive(Drop)]
+struct Taken {
+    claim: Claim,
+    stop: Stop,
+}
+
+fn has_sites(sends: &[Sent], sites: &[SiteId]) -> bool {
+    sends.iter().map(|s| s.site).eq(sites.iter().copied())
+}
+
+fn have_same_states(some: &Worker, other: &Worker, sends: &[Sent]) -> bool {
+    for sent in sends {
+        if some.caches().state(sent.site) != other.caches().state(sent.site) {
+            return false;
+        }
+    }
+    true
+}
+
+/// In what steps differ from plain ones.
+fn difference_from(taken: &Taken, plain: &PlainSteps) -> Option<Part> {
+    if taken.stop != plain.stop {
+        return Some(Part::Stops);
+    }
+    if taken.claim.steps() != plain.taken {
+        return Some(Part::Steps);
+    }
+    if !taken.claim.after().is_same(&plain.body) {
+        return Some(Part::Bodies);
+    }
+    if !has_sites(taken.claim.sends(), plain.sites.as_slice()) {
+        return Some(Part::Sites);
+    }
+    None
+}
+
+impl Trial {
+    pub(crate) fn new(alloc: Global, image: Box<Image>) -> Result<Trial, Refusal> {
+        Ok(Trial {
+            image,
+            runner: new_worker(alloc)?,
+            stepper: new_worker(alloc)?,
+            counts: Counts::none(),
+        })
+    }
+
+    fn take_row(&mut self, alloc: Global, actor: ActorId, limit: u32) -> Result<Taken, Refusal> {
+        let mut claim = checkout(alloc, &mut self.image, actor)?;
+        let stop = run(alloc, &mut self.runner, &mut claim, limit)?;
+        Ok(Taken { claim, stop })
+    }
+
+    fn take_single(&mut self, alloc: Global, actor: ActorId, limit: u32) -> Result<Taken, Refusal> {
+        let mut claim = checkout(alloc, &mut self.image, actor)?;
+        let stop = step(alloc, &mut self.stepper, &mut claim, limit)?;
+        Ok(Taken { claim, stop })
+    }
+
+    /// In what the steps of the two workers differ.
+    fn difference(&self, row: &Taken, single: &Taken) -> Option<Part> {
+        if row.claim.sends() != single.claim.sends() {
+            return Some(Part::Sends);
+        }
+        if !have_same_states(&self.runner, &self.stepper, row.claim.sends()) {
+            return Some(Part::States);
+        }
+        None
+    }
+
+    /// Takes up to so many steps of an actor, and says in what the three ways differ.
+    pub(crate) fn take(
+        &mut self,
+        alloc: Global,
+        actor: ActorId,
+        limit: u32,
+    ) -> Result<Option<Part>, Refusal> {
+        let start = checkout(alloc, &mut self.image, actor)?;
+        let plain = plain_steps(alloc, &start, limit)?;
+        let row = self.take_row(alloc, actor, limit)?;
+        let single = self.take_single(alloc, actor, limit)?;
+        let part = difference_from(&row, &plain)
+            .or(difference_from(&single, &plain))
+            .or(self.difference(&row, &single));
+        self.counts.add(row.claim.sends());
+        release(&mut self.image, start);
+        release(&mut self.image, single.claim);
+        commit(alloc, &mut self.image, row.claim)?;
+        Ok(part)
+    }
+}

@@ -1,0 +1,66 @@
+"""The commands that list what is known, and those on single methods."""
+
+from .known import near
+from .values import show, table
+from .wrong import Wrong
+
+
+def classes(session, rest):
+    found = session.known.user_classes()
+    lines = [known.written() for known in found]
+    session.tell(lines or ["no class was defined yet; define one as in  Counter : Object | count |"])
+
+
+def methods(session, rest):
+    known = session.known.classes
+    if rest and rest not in known:
+        raise Wrong(f"no class is named {rest} here{near(rest, known)}; :classes lists them")
+    found = [known[rest]] if rest else known.values()
+    lines = [line for it in found for line in it.method_lines() if line.strip()]
+    session.tell(lines or ["no method was written yet" + (f" in {rest}" if rest else "")])
+
+
+def remove(session, rest):
+    session.remove(*method_of(rest))
+
+
+def stats(session, rest):
+    class_name, selector = method_of(rest)
+    sites = session.turns.ask({"cmd": "stats", "class": class_name, "selector": selector})["sites"]
+    if not sites:
+        session.say(f"{class_name} >> {selector} sends nothing")
+        return
+    rows = [["send", "sends", "site", "global", "walk", "state"]]
+    for site in sites:
+        name = ("super " if site["super"] else "") + site["selector"]
+        rows.append([name, site["sends"], site["site"], site["global"], site["walk"], site["state"]])
+    session.tell(table(rows))
+
+
+def method_of(rest):
+    """The class and the selector that are written as `Counter bump` or `Counter >> bump`."""
+    words = rest.split()
+    if len(words) == 3 and words[1] == ">>":
+        del words[1]
+    if len(words) != 2:
+        raise Wrong("write a class and a selector after it, as in  Counter bump")
+    return words[0], words[1].removeprefix("#")
+
+
+def actors(session, rest):
+    known = session.known
+    rows = [["actor", "name", "class", ""]]
+    for number, actor in sorted(known.actors.items()):
+        names = [name for name, value in known.names.items() if value == {"ref": number}]
+        rows.append([number, ", ".join(names), actor.class_name or "not told", "closed" if actor.is_closed else ""])
+    session.tell(table(rows) if known.actors else ["there is no actor yet; make one as in  c := Counter actor"])
+
+
+def names(session, rest):
+    found = session.known.names.items()
+    lines = [f"{name} = {in_full(value, session)}" for name, value in found]
+    session.tell(lines or ["nothing was named yet; name an actor as in  c := Counter actor"])
+
+
+def in_full(value, session):
+    return f"actor {value['ref']}" if isinstance(value, dict) and "ref" in value else show(value, session.known)

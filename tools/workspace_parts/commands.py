@@ -1,0 +1,99 @@
+"""The commands that begin with a colon, and what `:help` says of them."""
+
+from dataclasses import dataclass
+
+from . import advice, browsing, files, running
+from .known import near
+from .wrong import Wrong
+
+HELP = """\
+Counter : Object | count |         defines a class with its variables
+Counter >> bump  count := count+1  writes a method, or replaces it
+c := Counter actor                 makes an actor, and names it
+c start. c bump                    sends messages, and shows the last answer
+A line that begins with two spaces goes on with the one before. At a terminal the prompt is blank while a bracket is open,
+and after the name of a method alone; an empty line ends that. Tab completes names, and after Counter >> whole methods.
+Ctrl-C breaks a long run off, and its turn stays where it was.
+""".splitlines()
+
+
+@dataclass
+class Described:
+    """A command as it is typed, what it does, and its function, which takes the session and the text after the name."""
+
+    form: str
+    help: str
+    function: object
+
+
+def do(session, command):
+    if command.name not in COMMANDS:
+        raise Wrong(f"there is no command :{command.name}{near(command.name, COMMANDS)}; :help lists them")
+    known = COMMANDS[command.name]
+    if command.rest and known.form == f":{command.name}":
+        raise Wrong(f"nothing comes after this command; take out {command.rest}")
+    known.function(session, command.rest)
+
+
+def why(session, rest):
+    name = rest or session.last_name
+    if not name:
+        raise Wrong("nothing was refused yet, and no turn ended with a fault")
+    sentence = advice.explain(name)
+    if not sentence:
+        raise Wrong(f"there is no refusal and no fault {name}{near(name, advice.names())}")
+    session.say(f"{name}: {sentence}")
+    if not rest and name in advice.FAULTS:
+        session.say("to find the place, see how far the methods came, as in  :stats Counter bump")
+
+
+def help_on(session, rest):
+    name = rest.removeprefix(":")
+    if name in COMMANDS:
+        session.tell(help_lines([name]))
+    elif advice.explain(rest):
+        why(session, rest)
+    elif rest:
+        raise Wrong(f"there is no help on {rest}; :help alone lists the commands")
+    else:
+        session.tell([*HELP, *help_lines(COMMANDS)])
+
+
+def help_lines(names):
+    width = max(len(it.form) for it in COMMANDS.values())
+    return [f"{COMMANDS[name].form.ljust(width)}  {COMMANDS[name].help}" for name in names]
+
+
+def restart(session, rest):
+    session.close()
+    session.start()
+    session.say("a new image, without classes and actors")
+
+
+def quit_session(session, rest):
+    session.is_over = True
+
+
+COMMANDS = {
+    known.form[1:].split()[0]: known
+    for known in (
+        Described(":post c work: 100", "sends a message, and leaves its turn to :step and :run", running.post),
+        Described(":step 1", "takes quanta; one if no number is given", running.step),
+        Described(":run", "takes quanta until nothing is left to do", running.run),
+        Described(":turn 3 of c", "shows how a turn ended", running.turn),
+        Described(":close c", "closes an actor's mailbox", running.close),
+        Described(":remove Counter bump", "removes a method", browsing.remove),
+        Described(":classes", "lists the classes that were defined", browsing.classes),
+        Described(":methods Counter", "lists the methods of a class; alone, all methods", browsing.methods),
+        Described(":actors", "lists the actors that were seen", browsing.actors),
+        Described(":names", "lists what was named", browsing.names),
+        Described(":stats Counter bump", "shows how the caches answered the sends of a method", browsing.stats),
+        Described(":load FILE", "does what a file has: definitions, messages, comments", files.load),
+        Described(":save FILE", "writes all classes and methods to a file", files.save),
+        Described(":log FILE", "writes what was sent and answered as JSON; alone, shows it for the line before", files.log),
+        Described(":why heapFull", "says what a refusal or fault means, and what to do; alone, the last one", why),
+        Described(":help :step", "helps with a command; alone, with all", help_on),
+        Described(":restart", "starts anew, with nothing defined", restart),
+        Described(":quit", "ends the workspace", quit_session),
+    )
+}

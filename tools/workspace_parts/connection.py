@@ -1,0 +1,90 @@
+"""The way to the program: commands go there, and each is answered with one reply."""
+
+import json
+import os
+import signal
+import subprocess
+
+from .wrong import Ended
+
+# A longer line would end the session (docs/LIMITS.md).
+LONGEST_LINE = 8192
+NOTHING_RUN = b'{"ok":{"quanta":0,"steps":0}}\n'
+HOW_BUILT = "./actorimage builds the program, and README.md says what that needs"
+# What a status says of a program that ends before its first reply.
+STARTS = {
+    1: f"could not be started, for the reason above; {HOW_BUILT}",
+    2: "refused its options; --quantum and --capacity are 1 to 1,024",
+}
+
+
+class Connection:
+    """A script that runs, by a pipe. A Ctrl-C does not reach the program, so that only a run is broken off."""
+
+    def __init__(self, program, options):
+        self.program = program
+        try:
+            self.process = subprocess.Popen(
+                [program, "script", *options], stdin=subprocess.PIPE, stdout=subprocess.PIPE, start_new_session=True
+            )
+        except OSError as error:
+            raise Ended(f"{program} cannot be started ({error.strerror}); {HOW_BUILT}") from None
+        self.greet()
+
+    def greet(self):
+        """Waits until the program replies, which takes long where it is built first."""
+        try:
+            self.send({"cmd": "run"})
+            reply = self.process.stdout.readline()
+        except BrokenPipeError:
+            reply = b""
+        except KeyboardInterrupt:
+            os.killpg(self.process.pid, signal.SIGTERM)
+            raise
+        if reply == NOTHING_RUN:
+            return
+        self.close()
+        why = None if reply else STARTS.get(self.process.returncode)
+        raise Ended(f"{self.program} {why or 'is not the program of actorimage'}")
+
+    def ask(self, command):
+        """The reply to a command."""
+        try:
+            if not self.send(command):
+                return {"error": "TooLong"}
+            return json.loads(self.process.stdout.readline())
+        except (BrokenPipeError, ValueError):
+            raise Ended(f"the program ended with status {self.process.wait()}; start the workspace again") from None
+
+    def send(self, command):
+        """Whether a command is short enough to be sent."""
+        line = as_line(command).encode(errors="replace")
+        if len(line) > LONGEST_LINE:
+            return False
+        self.process.stdin.write(line + b"\n")
+        self.process.stdin.flush()
+        return True
+
+    def close(self):
+        try:
+            self.process.stdin.close()
+        except BrokenPipeError:
+            pass
+        self.process.wait()
+
+
+class Log:
+    """A connection whose commands and replies are kept."""
+
+    def __init__(self, connection):
+        self.connection = connection
+        self.lines = []
+
+    def ask(self, command):
+        reply = self.connection.ask(command)
+        self.lines.append(as_line({"sent": command, "answered": reply}))
+        return reply
+
+
+def as_line(value):
+    return json.dumps(value, ensure_ascii=False, separators=(",", ":"))

@@ -1,0 +1,87 @@
+"""The commands that read and write files."""
+
+import os
+from collections import Counter
+from dataclasses import dataclass
+
+from .entries import entries
+from .values import count
+from .wrong import Wrong
+
+# So many refused entries say that a file is not meant to be loaded.
+MOST_REFUSED = 20
+
+
+@dataclass
+class Loading:
+    """A file that is being loaded, and the line at which it is."""
+
+    name: str
+    real: str
+    line: int = 0
+
+    def __str__(self):
+        return f"{self.name}, line {self.line}:"
+
+
+def load(session, rest):
+    if not rest:
+        raise Wrong("write the name of a file after it, as in  :load counter.st")
+    path = os.path.expanduser(rest)
+    real = os.path.realpath(path)
+    if any(real == it.real for it in session.loading):
+        raise Wrong(f"{rest} is being loaded already")
+    try:
+        with open(path, encoding="utf-8-sig") as file:
+            lines = file.read().split("\n")
+    except UnicodeDecodeError:
+        raise Wrong(f"{rest} cannot be read (it is no text in UTF-8)") from None
+    except OSError as error:
+        raise Wrong(f"{rest} cannot be read ({error.strerror})") from None
+    session.loading.append(Loading(rest, real))
+    try:
+        done = load_lines(session, lines)
+    finally:
+        session.loading.pop()
+    said = [count(done[kind], thing) for kind, thing in (("Definition", "class"), ("Method", "method")) if done[kind]]
+    if done["refused"]:
+        said.append(f"{done['refused']} refused")
+    session.say(f"{rest}: " + (", ".join(said) or "no definitions"))
+
+
+def load_lines(session, lines):
+    """How many entries there were of each kind."""
+    done = Counter()
+    for entry in entries(lines):
+        session.loading[-1].line = entry.line
+        if session.breaks.asked or session.is_over or done["refused"] == MOST_REFUSED:
+            session.say(f"{session.loading[-1]} not done from here on")
+            break
+        done[session.do(entry.text)] += 1
+    return done
+
+
+def save(session, rest):
+    if not rest:
+        raise Wrong("write the name of a file after it, as in  :save counter.st")
+    known, defined = session.known.classes.values(), session.known.user_classes()
+    lines = [it.written() for it in defined]
+    lines += [line for it in known for line in it.method_lines()]
+    write(rest, lines)
+    session.say(f"{rest}: {count(len(defined), 'class')}, {count(sum(len(it.methods) for it in known), 'method')}")
+
+
+def log(session, rest):
+    if rest:
+        write(rest, session.log.lines)
+        session.say(f"{rest}: {count(len(session.log.lines), 'command')} with their replies")
+    else:
+        session.tell(session.log.lines[session.told :] or ["the line before sent nothing"])
+
+
+def write(name, lines):
+    try:
+        with open(os.path.expanduser(name), "w", encoding="utf-8") as file:
+            file.writelines(line + "\n" for line in lines)
+    except OSError as error:
+        raise Wrong(f"{name} cannot be written ({error.strerror})") from None

@@ -1,0 +1,79 @@
+"""What the workspace knows of the image: the classes and methods that it defined, the actors that it saw, and the names that
+were given."""
+
+import difflib
+from dataclasses import dataclass, field
+
+KERNEL = ("Object", "SmallInteger", "True", "False", "UndefinedObject", "Symbol", "ActorRef", "Class")
+
+
+@dataclass
+class KnownClass:
+    """`methods` has the source of each selector."""
+
+    name: str
+    parent: str
+    slots: list
+    methods: dict = field(default_factory=dict)
+
+    def written(self):
+        """The definition as it is typed."""
+        return f"{self.name} : {self.parent}" + (f" | {' '.join(self.slots)} |" if self.slots else "")
+
+    def method_lines(self):
+        """The methods as they are typed."""
+        return [line for source in self.methods.values() for line in f"{self.name} >> {source}".split("\n")]
+
+
+@dataclass
+class KnownActor:
+    """`class_name` is None where an actor was made by a method."""
+
+    class_name: str = None
+    is_closed: bool = False
+
+
+class Known:
+    def __init__(self):
+        self.classes = {name: KnownClass(name, "Object", []) for name in KERNEL}
+        self.classes["Object"].parent = None
+        self.actors = {}
+        self.names = {}
+
+    def define(self, name, parent, slots):
+        self.classes[name] = KnownClass(name, parent, slots)
+
+    def user_classes(self):
+        return [known for name, known in self.classes.items() if name not in KERNEL]
+
+    def chain(self, name):
+        """The classes from this one to Object."""
+        while name in self.classes:
+            yield self.classes[name]
+            name = self.classes[name].parent
+
+    def slots(self, name):
+        return [slot for known in self.chain(name) for slot in known.slots]
+
+    def selectors(self, name):
+        """The selectors of the methods of a class and those above it; of all classes if it is not known."""
+        classes = list(self.chain(name)) or list(self.classes.values())
+        return sorted({selector for known in classes for selector in known.methods})
+
+    def actor(self, number):
+        return self.actors.setdefault(number, KnownActor())
+
+    def see(self, value):
+        """Takes note of an actor that a value is."""
+        if isinstance(value, dict) and "ref" in value:
+            self.actor(value["ref"])
+
+    def name_of(self, number):
+        """The name of an actor; None if it has none."""
+        return next((name for name, value in self.names.items() if value == {"ref": number}), None)
+
+
+def near(name, names):
+    """A question after the nearest of some names; empty if none is near."""
+    found = difflib.get_close_matches(name, list(names), 1, 0.6)
+    return f"; did you mean {found[0]}?" if found else ""

@@ -1,0 +1,80 @@
+"""A pretended terminal: the workspace runs in it as if a person typed."""
+
+import os
+import pty
+import re
+import select
+import signal
+import subprocess
+import sys
+import time
+
+# What moves the cursor or sets a mode says nothing to a reader.
+CONTROL = re.compile(r"\x1b\[[?0-9;]*[A-Za-z]")
+
+
+class Terminal:
+    def __init__(self, command, home, cwd=None):
+        self.ours, theirs = pty.openpty()
+        environment = {**os.environ, "HOME": home, "TERM": "xterm"}
+        shown = {"stdin": theirs, "stdout": theirs, "stderr": theirs}
+        self.process = subprocess.Popen(
+            [sys.executable, *command], **shown, env=environment, cwd=cwd, preexec_fn=own_terminal
+        )
+        os.close(theirs)
+        self.shown = ""
+
+    def type(self, text):
+        os.write(self.ours, text.encode())
+
+    def interrupt(self):
+        """Ctrl-C, once what was shown last is over and something is awaited: a signal just before would wait with it."""
+        time.sleep(0.2)
+        self.type("\x03")
+
+    def see(self, wanted, seconds=20):
+        """What is shown up to and with a text, which is awaited."""
+        end = time.monotonic() + seconds
+        while wanted not in self.shown:
+            ready, _, _ = select.select([self.ours], [], [], max(0, end - time.monotonic()))
+            if not ready:
+                raise AssertionError(f"{wanted!r} is not shown, but {self.shown!r}")
+            self.shown += self.read()
+        before, _, self.shown = self.shown.partition(wanted)
+        return before + wanted
+
+    def read(self):
+        try:
+            data = os.read(self.ours, 1 << 16)
+        except OSError:
+            data = b""
+        if not data:
+            raise AssertionError(f"the workspace has ended after {self.shown!r}")
+        return CONTROL.sub("", data.decode(errors="replace")).replace("\r\n", "\n")
+
+    def ask(self, line):
+        """What a typed line gives, up to the next prompt."""
+        self.type(line + "\n")
+        self.see(line[-40:] + "\n")
+        return self.see("> ")[: -len("> ")]
+
+    def end(self):
+        """The status, after the end of the input."""
+        self.type("\x04")
+        try:
+            return self.process.wait(20)
+        finally:
+            os.close(self.ours)
+
+    def kill(self):
+        self.process.send_signal(signal.SIGKILL)
+        self.process.wait()
+
+
+def own_terminal():
+    """The terminal's Ctrl-C reaches the workspace."""
+    import fcntl
+    import termios
+
+    os.setsid()
+    fcntl.ioctl(0, termios.TIOCSCTTY, 0)

@@ -1,0 +1,72 @@
+"""The commands that take quanta by hand, and those on turns and mailboxes."""
+
+import re
+
+from .sending import Sending
+from .statements import Literal, Name, Send, read_statements
+from .turns import Turn
+from .values import count
+from .wrong import Wrong
+
+
+def post(session, rest):
+    statements = read_statements(rest)
+    if not statements:
+        raise Wrong("write a message after it, as in  :post c bump")
+    sending = Sending(session)
+    sending.check_names(statements)
+    for statement in statements:
+        if statement.names or not isinstance(statement.expression, Send):
+            raise Wrong(f"{statement.text} is not a message to an actor, or its answer would be needed at once")
+        post_one(session, sending, statement.expression)
+
+
+def post_one(session, sending, send):
+    if not all(isinstance(it, (Literal, Name)) for _, arguments in send.messages for it in [send.receiver, *arguments]):
+        raise Wrong("a message that waits takes only values and names", send.place)
+    actor = sending.receiver(sending.value_of(send.receiver)[0], send.place)
+    for selector, arguments in send.messages:
+        turn = session.turns.post(actor, selector, [sending.value_of(argument)[0] for argument in arguments])
+        session.say(f"{turn} waits")
+
+
+def step(session, rest):
+    if not re.fullmatch("|[1-9][0-9]{0,6}", rest):
+        raise Wrong("write the number of quanta after it, as in  :step 3")
+    take(session, int(rest or 1))
+
+
+def run(session, rest):
+    take(session, None)
+
+
+def take(session, quanta):
+    taken, steps = session.turns.go_on(quanta)
+    session.say(f"{count(taken, 'quantum')}, {count(steps, 'step')}" if taken else "nothing is ready to run")
+    session.tell_ends()
+
+
+def turn(session, rest):
+    match = re.fullmatch(r"([0-9]{1,19})\s+of\s+(\S.*)", rest)
+    if not match:
+        raise Wrong("write which turn of which actor, as in  :turn 3 of c")
+    which = Turn(actor_of(session, match[2]), int(match[1]))
+    session.tell_end(which, session.turns.outcome(which))
+
+
+def close(session, rest):
+    number = actor_of(session, rest)
+    session.turns.ask({"cmd": "close", "actor": number})
+    session.known.actor(number).is_closed = True
+
+
+def actor_of(session, text):
+    """The number of an actor that is written as its name or as `actor 3`."""
+    match = re.fullmatch(r"actor\s+([0-9]{1,9})", text)
+    if match:
+        return int(match[1])
+    if not re.fullmatch("[a-z][A-Za-z0-9]*", text):
+        raise Wrong("write the name of an actor, or its number as in  actor 3")
+    sending = Sending(session)
+    sending.check_name(text)
+    return sending.receiver(session.known.names[text])

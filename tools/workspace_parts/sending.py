@@ -1,0 +1,111 @@
+"""Typed statements are done here: names are looked up, and messages are sent one after the other."""
+
+from .known import near
+from .statements import Literal, Name, Send
+from .values import show
+from .wrong import BrokenOff, Faulted, Stopped, Wrong
+
+MAKES_ACTOR = ("actor", "newActor")
+
+
+class Sending:
+    def __init__(self, session):
+        self.session = session
+        self.known, self.turns = session.known, session.turns
+
+    def do(self, statements):
+        """Sends all messages, and shows the answer of the last."""
+        self.check_names(statements)
+        for at, statement in enumerate(statements):
+            try:
+                if self.session.breaks.asked:
+                    raise BrokenOff(f"broken off before {statement.text}")
+                value, actor = self.value_of(statement.expression)
+                self.give_names(statement, value, actor, is_last=at == len(statements) - 1)
+            except Stopped as stopped:
+                stopped.unsent = ". ".join(later.text for later in statements[at + 1 :])
+                raise
+
+    def check_names(self, statements):
+        """Looks for names that mean nothing before anything is sent."""
+        given = set()
+        for statement in statements:
+            for name in names_in(statement.expression):
+                if not name.text[0].isupper() and name.text not in given:
+                    self.check_name(name.text, name.place)
+            given.update(statement.names)
+
+    def check_name(self, name, place=None):
+        if name not in self.known.names:
+            hint = near(name, self.known.names) or f"; make an actor of a class, as in  {name} := Counter actor"
+            raise Wrong(f"nothing is named {name}{hint}", place)
+
+    def give_names(self, statement, value, actor, is_last):
+        """Names the value, after it was shown: an actor that has no name yet is shown by its number."""
+        if statement.names and isinstance(value, dict) and "local" in value:
+            shown = show(value, self.known, actor)
+            raise Wrong(f"{shown} stays in its actor; only numbers, symbols, classes and actors can be named")
+        is_named = actor is None and isinstance(value, dict) and "ref" in value
+        if is_last:
+            self.session.say(f"actor {value['ref']}" if is_named else show(value, self.known, actor))
+        for name in statement.names:
+            self.known.names[name] = value
+
+    def value_of(self, expression):
+        """The value, and the number of the actor that answered it, if one did."""
+        if isinstance(expression, Literal):
+            return expression.value, None
+        if isinstance(expression, Name):
+            return self.named(expression), None
+        receiver, _ = self.value_of(expression.receiver)
+        for selector, arguments in expression.messages:
+            found = self.send(receiver, selector, [self.value_of(argument)[0] for argument in arguments], expression.place)
+        return found
+
+    def named(self, name):
+        return {"class": name.text} if name.text[0].isupper() else self.known.names[name.text]
+
+    def send(self, receiver, selector, arguments, place):
+        if isinstance(receiver, dict) and "class" in receiver:
+            return self.send_class(receiver["class"], selector, arguments, place), None
+        actor = self.receiver(receiver, place)
+        if any(isinstance(argument, dict) and "local" in argument for argument in arguments):
+            raise Wrong("an object of an actor's own cannot be sent to another one; send a number, a symbol or an actor", place)
+        return self.answer(self.turns.post(actor, selector, arguments)), actor
+
+    def receiver(self, value, place=None):
+        """The number of the actor that a value is."""
+        if not isinstance(value, dict) or "ref" not in value:
+            raise Wrong(f"{show(value, self.known)} is not an actor, and messages are sent to actors here", place)
+        return value["ref"]
+
+    def answer(self, turn):
+        """Runs until the turn has ended. What waited before and ended is told first."""
+        end = self.turns.end_of(turn)
+        self.session.tell_ends()
+        if "fault" in end:
+            raise Faulted(turn, end["fault"])
+        self.known.see(end.get("answer"))
+        return end.get("answer")
+
+    def send_class(self, name, selector, arguments, place):
+        if selector in MAKES_ACTOR:
+            return {"ref": self.session.make_actor(name)}
+        if name not in self.known.classes:
+            raise Wrong(f"nothing is named {name}{near(name, self.known.classes) or near(name, self.known.names)}", place)
+        if selector == "removeSelector:" and isinstance(arguments[0], dict) and "sym" in arguments[0]:
+            self.session.remove(name, arguments[0]["sym"])
+            return {"class": name}
+        if selector.startswith("subclass:"):
+            raise Wrong(f"a class is defined as  Counter : {name} | count |", place)
+        raise Wrong(f"a class only makes actors here, as in  c := {name} actor", place)
+
+
+def names_in(expression):
+    if isinstance(expression, Name):
+        yield expression
+    elif isinstance(expression, Send):
+        yield from names_in(expression.receiver)
+        for _, arguments in expression.messages:
+            for argument in arguments:
+                yield from names_in(argument)

@@ -1,0 +1,175 @@
+"""A person at a terminal: lines with history and completion, and entries over several lines."""
+
+import os
+import re
+
+from .commands import COMMANDS
+from .entries import Method, Statements, entries, form
+from .tokens import has_body, is_open
+from .wrong import Wrong
+
+try:
+    import readline
+except ImportError:
+    readline = None
+
+PROMPT, MORE = "> ", "  "
+HISTORY = "~/.actorimage_history"
+HISTORY_LINES = 1000
+# What ends a word. A colon, a slash and their like belong to commands, selectors and names of files.
+ENDS = " \t\n()[];|^\"#,=<>"
+
+
+def wants_more(text):
+    """Whether the lines so far are not the whole entry: a bracket or a comment is open, or a method has a pattern alone."""
+    try:
+        found = form(text)
+    except Wrong:
+        return False
+    if isinstance(found, Method):
+        return is_open(found.source) or not has_body(found.source)
+    return isinstance(found, Statements) and is_open(text)
+
+
+def read_entry(read=input):
+    """The lines of one entry. One that goes over several lines is ended by an empty line; messages are ended too where
+    their brackets close."""
+    text = "\n".join(copied(read(PROMPT).split("\n")))
+    if "\n" in text or not wants_more(text):
+        return text
+    while True:
+        line = read(MORE)
+        if not line.strip():
+            return text
+        text += "\n" + (line if line.startswith(("  ", "\t")) else "  " + line)
+        if not is_method(text) and not wants_more(text):
+            return text
+
+
+def copied(lines):
+    """Of lines that were copied from a transcript, what was typed there: it comes after prompts."""
+    if not lines[0].startswith(PROMPT):
+        return lines
+    found, goes_on = [], False
+    for line in lines:
+        goes_on = line.startswith(PROMPT) or goes_on and line.startswith(MORE * 2)
+        if goes_on:
+            found.append(line[len(PROMPT) :])
+    return found
+
+
+def is_method(text):
+    try:
+        return isinstance(form(text), Method)
+    except Wrong:
+        return False
+
+
+def talk(session):
+    """Reads and does entries until the end."""
+    start_reading(session)
+    try:
+        while not session.is_over:
+            try:
+                text = read_entry()
+            except KeyboardInterrupt:
+                print()
+                continue
+            except EOFError:
+                print()
+                return
+            do_text(session, text)
+    finally:
+        keep_history()
+
+
+def do_text(session, text):
+    """Does what was typed, or pasted: that may be several entries."""
+    with session.breaks:
+        for entry in entries(text.split("\n")):
+            session.do(entry.text)
+            if session.breaks.asked or session.is_over:
+                return
+
+
+def start_reading(session):
+    if not readline:
+        return
+    try:
+        readline.read_history_file(os.path.expanduser(HISTORY))
+    except OSError:
+        pass
+    readline.set_history_length(HISTORY_LINES)
+    readline.set_completer_delims(ENDS)
+    readline.set_completer(lambda text, state: nth(session, text, state))
+    readline.parse_and_bind("bind ^I rl_complete" if "libedit" in (readline.__doc__ or "") else "tab: complete")
+
+
+def keep_history():
+    if readline:
+        try:
+            readline.write_history_file(os.path.expanduser(HISTORY))
+        except OSError:
+            pass
+
+
+def nth(session, text, state):
+    found = candidates(session.known, readline.get_line_buffer()[: readline.get_begidx()], text)
+    return found[state] if state < len(found) else None
+
+
+def candidates(known, before, text):
+    """The words that a text may be the beginning of, after what is before it in the line."""
+    return [word for word in words(known, before, text) if word.startswith(text)]
+
+
+def words(known, before, text):
+    if not before.strip():
+        return [f":{name} " for name in COMMANDS] if text.startswith(":") else [*known.names, *known.classes]
+    command = re.match(r"\s*:([a-z]+)\s+(.*)$", before)
+    if command:
+        return command_words(known, command[1], command[2].split(), text)
+    method = re.match(r"\s*([A-Za-z0-9]+)\s*>>\s*$", before)
+    if method:
+        return sources(known, method[1])
+    return message_words(known, before)
+
+
+def command_words(known, name, given, text):
+    if name in ("load", "save", "log"):
+        return files(text)
+    if name in ("methods", "stats", "remove"):
+        return [*known.classes] if not given else own_selectors(known, given[0])
+    if name == "help":
+        return [f":{it}" for it in COMMANDS]
+    return message_words(known, " ".join(given)) if name == "post" and given else [*known.names]
+
+
+def sources(known, name):
+    """The methods of a class, to be edited; of one over several lines the first."""
+    return sorted(source.split("\n")[0] for source in known.classes[name].methods.values()) if name in known.classes else []
+
+
+def own_selectors(known, name):
+    return sorted(known.classes[name].methods) if name in known.classes else []
+
+
+def message_words(known, before):
+    """After the name of an actor, its messages; after a class, what makes an actor; else also the names."""
+    receiver = re.search(r"(?:^|[.;(]|:=)\s*([A-Za-z][A-Za-z0-9]*)\s*$", before)
+    if receiver and receiver[1] in known.classes:
+        return ["actor"]
+    value = known.names.get(receiver[1]) if receiver else None
+    if isinstance(value, dict) and "ref" in value:
+        return known.selectors(known.actor(value["ref"]).class_name)
+    return [*known.names, *known.classes, *known.selectors(None)]
+
+
+def files(text):
+    folder, name = os.path.split(text)
+    try:
+        found = os.listdir(os.path.expanduser(folder) or ".")
+    except OSError:
+        return []
+    paths = [os.path.join(folder, it) for it in sorted(found) if not it.startswith(".") or name.startswith(".")]
+    return [path + "/" if os.path.isdir(os.path.expanduser(path)) else path for path in paths]

@@ -1,0 +1,112 @@
+"""The tokens of what is typed. docs/LANGUAGE.md has the rules; the program is the judge of sources, and this only helps to say
+where and why."""
+
+import re
+from dataclasses import dataclass
+from itertools import takewhile
+
+SPACE = re.compile(r'(?:[\t\n\f\r ]|"[^"]*")+')
+TOKEN = re.compile(
+    r"""(?P<keyword>[A-Za-z][A-Za-z0-9]*:(?!=))
+      | (?P<word>[A-Za-z][A-Za-z0-9]*)
+      | (?P<number>[0-9]+(?![A-Za-z]|\.[0-9])(?![0-9]))
+      | (?P<symbol>\#(?:(?:[A-Za-z][A-Za-z0-9]*:(?!=))+(?![A-Za-z])
+                      |[A-Za-z][A-Za-z0-9]*(?![A-Za-z0-9]|:(?!=))
+                      |[-+*/\\<>=~&,][+*/\\<>=~&,]?))
+      | (?P<assign>:=)
+      | (?P<binary>[-+*/\\<>=~&,][+*/\\<>=~&,]?)
+      | (?P<alone>[()\[\]^.;|])""",
+    re.VERBOSE,
+)
+
+
+@dataclass(frozen=True)
+class Token:
+    """`kind` is keyword, word, number, symbol, assign, binary, a character that stands alone, end, or none: a place where no
+    token begins."""
+
+    kind: str
+    text: str
+    start: int
+    stop: int
+
+
+def tokens(text):
+    """All tokens up to the end or to the first place where none begins, which is the last one then."""
+    found, place = [], 0
+    while True:
+        space = SPACE.match(text, place)
+        place = space.end() if space else place
+        if place == len(text):
+            return found + [Token("end", "", place, place)]
+        match = TOKEN.match(text, place)
+        if not match:
+            return found + [Token("none", text[place], place, place + 1)]
+        kind = match[0] if match.lastgroup == "alone" else match.lastgroup
+        found.append(Token(kind, match[0], place, match.end()))
+        place = match.end()
+
+
+def no_token(character):
+    """What is said of a place where no token begins."""
+    if character == '"':
+        return "this comment is not closed; put a double quote at its end"
+    if character.isdigit():
+        return "no number is written like this; numbers are whole, and a blank stands before a name"
+    if character in "#:":
+        return f"nothing begins with this {character} here; symbols are written #name or #at:put:, and assignments :="
+    if character == "'":
+        return "there are no strings; take a symbol, as in #name, or double quotes for a comment"
+    shown = character if character.isprintable() else f"the character {ord(character)}"
+    return f"{shown} has no meaning here; take it out"
+
+
+def is_open(text):
+    """Whether a bracket or a comment is open at the end."""
+    found = tokens(text)
+    if found[-1].text == '"':
+        return True
+    return sum({"(": 1, "[": 1, ")": -1, "]": -1}.get(token.kind, 0) for token in found) > 0
+
+
+def without_comments(text):
+    """The text with blanks where comments were, so that places stay."""
+    return re.sub(r'"[^"]*"', lambda comment: re.sub(r"[^\n]", " ", comment[0]), text)
+
+
+def pattern(source):
+    """The selector of a method's source and the place after its pattern; None if there is no pattern."""
+    found = tokens(source)
+    first = found[0]
+    if first.kind == "word":
+        return first.text, first.stop
+    if first.kind == "binary" and found[1].kind == "word":
+        return first.text, found[1].stop
+    selector, stop = "", 0
+    for keyword, name in zip(found[::2], found[1::2]):
+        if keyword.kind != "keyword" or name.kind != "word":
+            break
+        selector, stop = selector + keyword.text, name.stop
+    return (selector, stop) if selector else None
+
+
+def temporaries(source):
+    """The temporaries of a source, and the place after them; no names and the place after the pattern if it has none."""
+    start = (pattern(source) or ("", 0))[1]
+    found = tokens(source[start:])
+    if found[0].kind != "|":
+        return [], start
+    names = [token.text for token in takewhile(lambda token: token.kind == "word", found[1:])]
+    return names, start + found[min(len(names) + 1, len(found) - 1)].stop
+
+
+def arguments(source):
+    """The arguments of a source."""
+    found = pattern(source)
+    words = tokens(source[: found[1]])[:-1] if found else []
+    return [token.text for token in words[1:] if token.kind == "word"]
+
+
+def has_body(source):
+    """Whether something stands after the pattern and the temporaries of a source."""
+    return pattern(source) is None or tokens(source[temporaries(source)[1] :])[0].kind != "end"

@@ -1,0 +1,85 @@
+"""Trials of the program below: runs that do not end, the log, and a program that is not there or is lost."""
+
+import json
+import os
+import re
+import signal
+import subprocess
+import sys
+import tempfile
+
+from .try_common import COUNTER, SPIN, WORKSPACE, piped, same, shell_program
+
+
+def endless(program):
+    """A run that nobody breaks off leaves half of the history."""
+    lines = [*SPIN, "s spin", ":run", "Spin >> goOn  ^false", ":run"]
+    found = piped(program, lines, "--quantum", "1").stdout.decode()
+    stops = re.findall(r"was stopped after ([0-9,]+) quanta, half of those left; :run or :step goes on", found)
+    quanta = [int(it.replace(",", "")) for it in stops]
+    if len(quanta) != 2 or not 499_000 < quanta[0] < 501_000 or not 249_000 < quanta[1] < 251_000:
+        raise AssertionError(f"it is stopped after {stops}")
+    same(found.endswith("turn 1 of actor 0 answers 7\n"), True)
+
+
+def interrupted(program):
+    """A run that is broken off ends a workspace that reads no terminal."""
+    with subprocess.Popen(
+        [sys.executable, WORKSPACE, "--program", program], stdin=subprocess.PIPE, stdout=subprocess.PIPE, stderr=subprocess.PIPE
+    ) as process:
+        process.stdin.write("".join(line + "\n" for line in [*SPIN, "s spin", ":quit"]).encode())
+        process.stdin.flush()
+        while b"spin\n" != process.stdout.readline()[-5:]:
+            pass
+        process.send_signal(signal.SIGINT)
+        out, err = process.communicate(timeout=60)
+        same(("broken off" in out.decode(), err, process.returncode), (True, b"", 130))
+
+
+def log(program):
+    """What was sent, sent again as a script, gets the same replies."""
+    with tempfile.TemporaryDirectory() as folder:
+        lines = [*COUNTER, "c := Counter actor", "c start. c bump", "Counter >> bad  ^(", "c foo", ":log log.jsonl"]
+        piped(program, lines, cwd=folder)
+        with open(os.path.join(folder, "log.jsonl"), encoding="utf-8") as file:
+            told = [json.loads(line) for line in file]
+    text = "".join(json.dumps(it["sent"]) + "\n" for it in told)
+    again = subprocess.run([program, "script"], input=text.encode(), capture_output=True, timeout=60).stdout.decode()
+    same([json.loads(line) for line in again.splitlines()], [it["answered"] for it in told])
+    same(len(told), 14)
+
+
+def no_program(program):
+    """A program that cannot be started, or is another one."""
+    how = "./actorimage builds the program, and README.md says what that needs"
+    for name, wanted in (
+        ("/no/such", f"/no/such cannot be started (No such file or directory); {how}"),
+        ("/bin/true", "/bin/true is not the program of actorimage"),
+        ("/bin/false", f"/bin/false could not be started, for the reason above; {how}"),
+    ):
+        ended = piped(name, [])
+        same((ended.stderr.decode(), ended.returncode), (f"tools/workspace: {wanted}\n", 1))
+    ended = piped(program, [], "--quantum", "0")
+    same(ended.stderr.decode().endswith("refused its options; --quantum and --capacity are 1 to 1,024\n"), True)
+    same(ended.returncode, 1)
+
+
+def lost_program(program):
+    """A program that ends in the middle, or replies what is no reply."""
+    greeting = """read line; echo '{"ok":{"quanta":0,"steps":0}}'; read line; """
+    with tempfile.TemporaryDirectory() as folder:
+        for more, wanted in (("exit 3", "the program ended with status 3"), ("echo no", "the program ended with status 0")):
+            ended = piped(shell_program(folder, greeting + more), ["C : Object", "C actor"])
+            same((ended.stderr.decode(), ended.returncode), (f"tools/workspace: {wanted}; start the workspace again\n", 1))
+
+
+def too_long(program):
+    """A line that would end the session is not sent."""
+    lines = ["C : Object", "C >> m  ^3" + " " * 4096 + "+ 4", "C >> m  ^3" + " " * 9000 + "+ 4", "C actor"]
+    found = piped(program, lines).stdout.decode()
+    same("^ TooLarge: the method is too long; put a part of it into another one\n" in found, True)
+    same("TooLong: this is too long for one line to the program, 8,192 bytes; make it shorter\n" in found, True)
+    same(found.endswith("actor 0\n"), True)
+
+
+TRIALS = (endless, interrupted, log, no_program, lost_program, too_long)

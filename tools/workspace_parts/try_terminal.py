@@ -1,0 +1,129 @@
+"""Trials at a terminal: typed and pasted entries, keys, and Ctrl-C."""
+
+import re
+import tempfile
+
+from .pretend import Terminal
+from .terminal import readline
+from .try_common import COUNTER, SPIN, WORKSPACE, same, shell_program
+
+
+class Typing:
+    """A terminal with a home of its own."""
+
+    def __init__(self, program, *options):
+        self.command = [WORKSPACE, "--program", program, *options]
+
+    def __enter__(self):
+        self.folder = tempfile.TemporaryDirectory()
+        return self.open()
+
+    def open(self):
+        self.terminal = Terminal(self.command, self.folder.name, self.folder.name)
+        self.terminal.see("\n> ")
+        return self.terminal
+
+    def __exit__(self, kind, *_):
+        self.terminal.kill()
+        self.folder.cleanup()
+
+
+def typed(terminal, lines):
+    for line in lines:
+        found = terminal.ask(line)
+    return found
+
+
+def session(program):
+    """A session in a terminal, and its end."""
+    typing = Typing(program)
+    with typing as terminal:
+        same(typed(terminal, [*COUNTER, "c := Counter actor"]), "actor 0\n")
+        same(typed(terminal, ["c start. c bump. c bump"]), "2\n")
+        terminal.type("Counter >> bad   ^(3 +\n")
+        terminal.see("bad   ^(3 +\n  ")
+        terminal.type("\n")
+        same(terminal.see("> "), "\n  ^(3 +\n       ^ BadToken: the method ends where an operand is expected\n> ")
+        same(terminal.ask("c bump"), "3\n")
+        same(terminal.end(), 0)
+        terminal = typing.open()
+        terminal.type(":quit\n")
+        same(terminal.process.wait(20), 0)
+
+
+def keys(program):
+    """Completion, and the history of another session."""
+    if not readline:
+        return
+    typing = Typing(program)
+    with typing as terminal:
+        typed(terminal, [*COUNTER, "c := Counter actor"])
+        terminal.type("c st\t\n")
+        terminal.see("a Counter\n> ")
+        same(terminal.end(), 0)
+        terminal = typing.open()
+        terminal.type("\x1b[A\n")
+        terminal.see("c start\n")
+        terminal.see("nothing is named c; make an actor of a class, as in  c := Counter actor\n> ")
+
+
+def pasted(program):
+    """Several entries that are pasted at once, where readline takes them as a whole."""
+    if getattr(readline, "_READLINE_LIBRARY_VERSION", "0") < "8.1":
+        return
+    with Typing(program) as terminal:
+        text = "Job : Object\nJob >> work: n\n  | i |\n  i := 0.\n\n  ^i + n\n\nj := Job actor\nj work: 3"
+        terminal.type(f"\x1b[200~{text}\x1b[201~\n")
+        terminal.see("j work: 3\n")
+        same(terminal.see("> "), "class Job, version 1\nactor 0\n3\n> ")
+        # A listing of a document, with its prompts and what was printed there.
+        same(terminal.ask("> j work: 4"), "4\n")
+        text = "> Job >> work: n\n    | i |\n    i := 7.\n    ^i + n\n> j work: 3\n10\n> j work: 4\n11"
+        terminal.type(f"\x1b[200~{text}\x1b[201~\n")
+        terminal.see("\r11\n")
+        same(terminal.see("> "), "10\n11\n> ")
+
+
+def long_run(program):
+    """A long run shows that it runs, and is broken off; an edit in the middle of the turn ends it."""
+    with Typing(program) as terminal:
+        typed(terminal, SPIN)
+        terminal.type("s spin. s spin\n")
+        terminal.see("quanta so far; Ctrl-C breaks off")
+        terminal.interrupt()
+        told = terminal.see("> ")
+        where = "turn 1 of actor 0 was broken off after [0-9,]+ quanta; :run or :step goes on where it was\n"
+        if not re.search(where + "not sent: s spin\n", told):
+            raise AssertionError(f"it says {told!r}")
+        same(terminal.ask(":step 2"), "2 quanta, 512 steps\n")
+        terminal.ask("Spin >> goOn  ^false")
+        if not terminal.ask(":run").endswith("turn 1 of actor 0 answers 7\n"):
+            raise AssertionError("the turn does not end after the edit")
+        same(terminal.ask("s spin"), "7\n")
+
+
+def broken_line(program):
+    """Ctrl-C while a line is typed leaves the line."""
+    with Typing(program) as terminal:
+        terminal.type("C >> m\n")
+        terminal.see("C >> m\n  ")
+        terminal.type("^3")
+        terminal.see("^3")
+        terminal.interrupt()
+        terminal.see("\n> ")
+        same(terminal.ask(":methods"), "no method was written yet\n")
+        same(terminal.end(), 0)
+
+
+def slow_start(program):
+    """Ctrl-C while the program is built."""
+    with tempfile.TemporaryDirectory() as folder:
+        path = shell_program(folder, "echo building >&2\nexec sleep 100")
+        terminal = Terminal([WORKSPACE, "--program", path], folder)
+        terminal.see("building\n")
+        terminal.interrupt()
+        terminal.see("tools/workspace: broken off\n")
+        same(terminal.process.wait(20), 130)
+
+
+TRIALS = (session, keys, pasted, long_run, broken_line, slow_start)

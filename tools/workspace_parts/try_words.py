@@ -1,0 +1,99 @@
+"""Trials of words: that each refusal and fault has its sentence, what completion offers, and which lines are one entry."""
+
+import os
+import re
+
+from . import advice
+from .known import Known
+from .terminal import candidates, read_entry
+from .try_common import TOP, WORKSPACE, same
+from .turns import HISTORY
+
+
+def document(name):
+    with open(os.path.join(TOP, "docs", name), encoding="utf-8") as file:
+        return file.read()
+
+
+def cells(text, after, column):
+    """The cells of a column of the first table after a text."""
+    rows = text[text.index(after) :].split("\n|---", 1)[1].split("\n\n", 1)[0].split("\n")[1:]
+    return [row.split("|")[column + 1].strip() for row in rows if row]
+
+
+def names_in(cell):
+    """The names of refusals in a cell: what begins with a capital, but for what is in brackets or begins a sentence."""
+    cell = re.sub(r"\([^()]*\)", "", cell)
+    return set(re.findall(r"(?<!\. )\b[A-Z][A-Za-z]+", cell))
+
+
+def all_refusals(program):
+    """Each refusal, kind and fault of the documents has its sentence."""
+    text = document("PROTOCOL.md")
+    refusals = set(cells(text, "In these cases a session ends", 0)) | {"BadCommand"}
+    for cell in cells(text, "## Refusals", 1) + cells(text, "Fields of refusals", 0):
+        refusals |= names_in(cell)
+    same(sorted(advice.REFUSALS), sorted(refusals))
+    values = cells(text, "Fields of refusals", 2)
+    same(sorted(advice.KINDS), sorted(re.findall("`([A-Za-z]+)`", values[0])))
+    same(sorted(advice.MOST), sorted(re.findall("`([a-z]+)`", values[2])))
+    faults = set(re.findall("`([A-Za-z]+)`", text[text.index("Names of faults:") :].split("\n")[0]))
+    faults |= set(re.findall("the fault `([A-Za-z]+)`", document("LANGUAGE.md")))
+    same(sorted(advice.FAULTS), sorted(faults))
+    for name in advice.names():
+        if "{" in advice.explain(name) or ";" not in advice.explain(name):
+            raise AssertionError(f"the sentence of {name} does not say what to do, or has braces")
+
+
+def limits(program):
+    """The history is as long as the documents say."""
+    same(f"| items of the history | {HISTORY:,} |" in document("LIMITS.md"), True)
+
+
+def completion(program):
+    """What a word may be the beginning of."""
+    known = Known()
+    known.define("Counter", "Object", ["count"])
+    known.define("Stepper", "Counter", [])
+    known.classes["Counter"].methods = {"bump": "bump  ^count", "by:": "by: n\n  ^n"}
+    known.classes["Stepper"].methods = {"bounce": "bounce"}
+    known.names = {"c": {"ref": 0}, "s": {"ref": 1}, "n": 3}
+    known.actor(0).class_name, known.actor(1).class_name = "Counter", "Stepper"
+    for before, text, wanted in (
+        ("", ":st", [":step ", ":stats "]),
+        ("", "Cou", ["Counter"]),
+        ("c ", "b", ["bump", "by:"]),
+        ("c bump. s ", "b", ["bounce", "bump", "by:"]),
+        ("x := s ", "bo", ["bounce"]),
+        ("Counter ", "", ["actor"]),
+        ("c by: ", "", ["c", "s", "n", *known.classes, "bounce", "bump", "by:"]),
+        ("Counter >> ", "bu", ["bump  ^count"]),
+        ("Counter >> ", "b", ["bump  ^count", "by: n"]),
+        (":stats ", "St", ["Stepper"]),
+        (":remove Counter ", "by", ["by:"]),
+        (":post c ", "bu", ["bump"]),
+        (":close ", "", ["c", "s", "n"]),
+        (":load ", WORKSPACE[:-4], [WORKSPACE, WORKSPACE + "_parts/"]),
+        (":load ", "/no/such/", []),
+    ):
+        same((before, text, candidates(known, before, text)), (before, text, wanted))
+
+
+def several_lines(program):
+    """What is typed over several lines."""
+    for lines, wanted in (
+        (["c bump"], "c bump"),
+        (["C >> m  ^3"], "C >> m  ^3"),
+        (["C >> m", "^3", ""], "C >> m\n  ^3"),
+        (["C >> m | a |", "  a := 3.", "^a", ""], "C >> m | a |\n  a := 3.\n  ^a"),
+        (["C >> m  [true] whileTrue: [", "nil]. ", "^3", ""], "C >> m  [true] whileTrue: [\n  nil]. \n  ^3"),
+        (["C >> m  ^(3 +", ""], "C >> m  ^(3 +"),
+        (["c say: (c", "bump)"], "c say: (c\n  bump)"),
+        (['"a', 'b" c bump'], '"a\n  b" c bump'),
+        ([""], ""),
+    ):
+        left = list(lines)
+        same((read_entry(lambda prompt: left.pop(0)), left), (wanted, []))
+
+
+TRIALS = (all_refusals, limits, completion, several_lines)

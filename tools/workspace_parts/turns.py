@@ -1,0 +1,152 @@
+"""Messages and their turns: each is posted under the next number, and a run goes on in slices, so that it can be broken off."""
+
+import sys
+import time
+from dataclasses import dataclass
+
+from .values import count
+from .wrong import BrokenOff, Refused
+
+SENDER = 1
+# Quanta of one `run`. An actor may end a turn in each, and the newest 64 outcomes are kept, so none is missed.
+SLICE = 64
+# Items of a history (docs/LIMITS.md). A run takes at most half of those that are left.
+HISTORY = 1_000_000
+GOES_ON = ":run or :step goes on where it was"
+
+
+@dataclass(frozen=True)
+class Turn:
+    actor: int
+    number: int
+
+    def __str__(self):
+        return f"turn {self.number} of actor {self.actor}"
+
+
+class Life:
+    """A sign of life on a terminal, after the first second."""
+
+    def __init__(self):
+        self.shown = False
+        self.next = time.monotonic() + 1
+
+    def tell(self, quanta):
+        now = time.monotonic()
+        if now >= self.next and sys.stderr.isatty():
+            self.next = now + 0.5
+            self.shown = True
+            print(f"\r{quanta:,} quanta so far; Ctrl-C breaks off ", end="", file=sys.stderr, flush=True)
+
+    def clear(self):
+        if self.shown:
+            print("\r\x1b[K", end="", file=sys.stderr, flush=True)
+
+
+class Turns:
+    """`waiting` are turns that were posted and have not ended yet; `ends` has those that ended and were not told of. `items`
+    counts those of the history that the commands took, as far as one can know."""
+
+    def __init__(self, connection, breaks):
+        self.connection = connection
+        self.breaks = breaks
+        self.last = 0
+        self.items = 0
+        self.waiting = []
+        self.ends = {}
+
+    def ask(self, command):
+        """What the reply has after `ok`."""
+        reply = self.connection.ask(command)
+        if "error" in reply:
+            raise Refused(command, reply)
+        self.items += command["cmd"] not in ("run", "outcome", "stats")
+        return reply["ok"]
+
+    def post(self, actor, selector, arguments):
+        command = {"cmd": "post", "actor": actor, "selector": selector, "args": arguments, "sender": SENDER}
+        try:
+            turn = self.ask({**command, "seq": self.last + 1})["turn"]
+        except Refused as refused:
+            if refused.reply["error"] != "Old":
+                raise
+            # Somebody else posts under this number.
+            self.last = refused.reply["last"]
+            turn = self.ask({**command, "seq": self.last + 1})["turn"]
+        self.last += 1
+        self.waiting.append(Turn(actor, turn))
+        return self.waiting[-1]
+
+    def outcome(self, turn):
+        return self.ask({"cmd": "outcome", "actor": turn.actor, "turn": turn.number})
+
+    def end_of(self, turn):
+        """Runs until a turn has ended, and says how."""
+        self.go_on(None, turn)
+        if turn not in self.ends:
+            raise BrokenOff(f"{turn} has not ended, though nothing is ready to run")
+        return self.ends.pop(turn)
+
+    def take_ends(self):
+        """The turns that have ended and were not told of, with how they ended."""
+        ends, self.ends = self.ends, {}
+        return ends.items()
+
+    def go_on(self, quanta=None, turn=None):
+        """Takes quanta until there were as many, the turn has ended, or nothing is ready. Returns the quanta and steps that
+        were taken."""
+        life, taken, steps = Life(), 0, 0
+        most = max(1, (HISTORY - self.items) // 2)
+        try:
+            while quanta is None or taken < quanta:
+                size = SLICE if quanta is None else min(SLICE, quanta - taken)
+                ran = self.run(size)
+                taken, steps = taken + ran["quanta"], steps + ran["steps"]
+                if turn in self.ends or ran["quanta"] < size:
+                    break
+                self.check(taken, most if quanta is None else taken + 1, self.running(turn))
+                life.tell(taken)
+        finally:
+            life.clear()
+        return taken, steps
+
+    def running(self, turn):
+        """What is said to be running while a turn is waited for: the actor may be in an earlier one."""
+        first = next((it for it in self.waiting if turn and it.actor == turn.actor), turn)
+        return "the run" if turn is None else str(turn) if first == turn else f"{first}, before turn {turn.number},"
+
+    def run(self, size):
+        """One slice; which turns have ended is seen at once."""
+        try:
+            ran = self.ask({"cmd": "run", "quanta": size})
+        finally:
+            for actor in {turn.actor for turn in self.waiting}:
+                self.see_ends(actor)
+        self.items += ran["quanta"]
+        return ran
+
+    def see_ends(self, actor):
+        """The turns of an actor end in their order."""
+        for turn in [it for it in self.waiting if it.actor == actor]:
+            end = self.ending(turn)
+            if end is None:
+                return
+            self.waiting.remove(turn)
+            self.ends[turn] = end
+
+    def ending(self, turn):
+        """How a turn ended; None if it has not, and {} if that is no longer kept."""
+        try:
+            return self.outcome(turn)
+        except Refused as refused:
+            if refused.reply["error"] not in ("Pending", "Expired"):
+                raise
+            return None if refused.reply["error"] == "Pending" else {}
+
+    def check(self, taken, most, what):
+        """Breaks off if that was asked for, or to keep room in the history."""
+        if self.breaks.asked:
+            raise BrokenOff(f"{what} was broken off after {count(taken, 'quantum')}; {GOES_ON}")
+        if taken >= most:
+            stopped = f"{what} was stopped after {count(taken, 'quantum')}, half of those left"
+            raise BrokenOff(f"{stopped}; {GOES_ON}, :restart starts anew")

@@ -4,5 +4,6 @@
 //! it leaves are the definitions of the field, exactly. None of its calls takes memory.
 #![tactic(auto)]
 
+mod entries;
 pub mod entry;
 pub mod site;

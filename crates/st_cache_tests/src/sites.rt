@@ -66,3 +66,24 @@ fn dead_entries_go(rt: HostRuntime) -> Result<(), Fail> {
     }
     Ok(())
 }
+
+#[test]
+fn a_megamorphic_site_is_left_until_its_mark_is_dead(rt: HostRuntime) -> Result<(), Fail> {
+    let mut site = Site::new();
+    assert!(rt; site.state() == SiteState::Empty);
+    for (class, state) in [
+        (8, SiteState::Mono),
+        (9, SiteState::Poly),
+        (10, SiteState::Poly),
+        (11, SiteState::Poly),
+        (12, SiteState::Mega),
+    ] {
+        site.fill(entry(class, 3));
+        assert!(rt; site.state() == state, "{class}");
+    }
+    for (floor, state) in [(3, SiteState::Mega), (4, SiteState::Empty)] {
+        site.clear_dead(floor);
+        assert!(rt; site.state() == state, "{floor}");
+    }
+    Ok(())
+}

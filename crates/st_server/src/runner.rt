@@ -88,7 +88,7 @@ fn work(
     ensures kept { IfSome worker.new.kept (λ k. k ≡ claim.edits) }
     ensures some { is_idle claim.before.phase ≡ false → IfOk result (λ n. 1 ≤ n) }
 {
-    let ran = worker.run(alloc, &mut claim, quantum.steps());
+    let ran = worker.run_known(alloc, &mut claim, quantum.steps());
     claim.known();
     let settled = settle(alloc, image, claim);
     answer(ran, settled)

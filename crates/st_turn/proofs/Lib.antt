@@ -22,3 +22,4 @@ pub mod WorkerSteps
 pub mod ActSites
 pub mod QuickSteps
 pub mod ClaimBeginnings
+pub mod WorkerMoves

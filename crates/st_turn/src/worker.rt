@@ -1,5 +1,6 @@
 //! A worker: caches, with which it takes the steps of claims.
-ghost use Rattle.std.specs.Prelude.{◌≡◌, None, IfSome};
+ghost use Rattle.std.specs.Prelude.{◌≡◌, true, false, List, None, Some, IfSome};
+ghost use Rattle.st_classes.specs.declared.edits.Edit.{Edit as EditOf};
 ghost use Rattle.st_classes.specs.EditLists.{Begins};
 ghost use Rattle.st_guard.specs.Moves.{CachesView, IsEmptied};
 ghost use Rattle.st_turn.specs.WorkerSteps.{HasMoved, Runs, StandsAt, Steps};
@@ -46,21 +47,44 @@ impl<G: Guard> Worker<G> {
         &self.finder.caches
     }
 
+    /// Whether the caches keep no edits but first ones of a version. The edits are compared one by one.
+    fn keeps_first(&self, token: &Token) -> bool
+        ensures yes { result ≡ true → IfSome self.now.kept (λ k. Begins k token.now) }
+        ensures no { result ≡ false → (k : List EditOf) → self.now.kept ≡ Some k → Begins k token.now → ⊥ }
+    {
+        match self.finder.caches.kept() {
+            Some(kept) => kept.shown().begins(token.shown()),
+            None => true,
+        }
+    }
+
     /// Brings the caches to a version whose edits those that are kept begin.
-    fn move_to(&mut self, token: &Token)
+    fn move_known(&mut self, token: &Token)
         requires { IfSome self.old.kept (λ k. Begins k token.now) }
         ensures { HasMoved G.count G.floor G.raises self.old self.new token.now }
     {
         let _moved = self.finder.caches.move_known(token);
     }
 
-    /// Takes one step of a claim, whose edits those begin that the caches keep, as the caller knows.
+    /// Brings the caches to any version.
+    fn move_to(&mut self, token: &Token)
+        ensures { HasMoved G.count G.floor G.raises self.old self.new token.now }
+    {
+        if !self.keeps_first(token) {
+            self.finder.caches.forget();
+        }
+        self.move_known(token);
+    }
+
+    /// Takes one step of a claim, with any caches.
     ///
     /// `More` says that a step was taken; `Ended` that no turn is going on, `Outer` that the next step is an act that the image
     /// does, and `Limit` that the claim can have no more steps: then the claim stays. It also stays for want of memory; then the
     /// caches may have changed. The sends of the claim tell how the caches, moved to its edits, found what a send runs.
+    ///
+    /// The edits that the caches keep are compared with the claim's, one by one, also where they are the same; the caches are
+    /// emptied where they keep others than first ones of the claim's. `step_known` does not compare them.
     pub fn step(&mut self, alloc: Global, claim: &mut Claim) -> Result<Stop, AllocError>
-        requires { IfSome self.old.kept (λ k. Begins k claim.old.edits) }
         ensures steps { (moved : CachesView G) × HasMoved G.count G.floor G.raises self.old moved claim.old.edits × Steps G.floor moved claim.old result self.new claim.new }
         ensures stands { StandsAt G.count G.floor self.new claim.new.edits }
         ensures edits { claim.new.edits ≡ claim.old.edits }
@@ -69,15 +93,42 @@ impl<G: Guard> Worker<G> {
         claim.step(alloc, &mut self.finder)
     }
 
-    /// Takes steps of a claim, one after the other, until it has taken so many (it answers `More` then, for 0 too), none is next,
-    /// or memory was refused. Else as `step`. The caches are moved once.
-    pub fn run(&mut self, alloc: Global, claim: &mut Claim, limit: u32) -> Result<Stop, AllocError>
+    /// The same for a claim whose edits those begin that the caches keep, as the caller knows. No edits are compared: where they
+    /// are as many as the claim's, it takes constant time to see that the caches stand there.
+    pub fn step_known(&mut self, alloc: Global, claim: &mut Claim) -> Result<Stop, AllocError>
         requires { IfSome self.old.kept (λ k. Begins k claim.old.edits) }
+        ensures steps { (moved : CachesView G) × HasMoved G.count G.floor G.raises self.old moved claim.old.edits × Steps G.floor moved claim.old result self.new claim.new }
+        ensures stands { StandsAt G.count G.floor self.new claim.new.edits }
+        ensures edits { claim.new.edits ≡ claim.old.edits }
+    {
+        self.move_known(claim.token());
+        claim.step(alloc, &mut self.finder)
+    }
+
+    /// Takes steps of a claim, one after the other, until it has taken so many (it answers `More` then, for 0 too), none is next,
+    /// or memory was refused. Else as `step`. The edits are compared once, and the caches are moved once.
+    pub fn run(&mut self, alloc: Global, claim: &mut Claim, limit: u32) -> Result<Stop, AllocError>
         ensures runs { (moved : CachesView G) × HasMoved G.count G.floor G.raises self.old moved claim.old.edits × Runs G.floor limit moved claim.old result self.new claim.new }
         ensures stands { StandsAt G.count G.floor self.new claim.new.edits }
         ensures edits { claim.new.edits ≡ claim.old.edits }
     {
         self.move_to(claim.token());
+        run_steps(alloc, claim, &mut self.finder, limit)
+    }
+
+    /// The same for a claim whose edits those begin that the caches keep, as the caller knows. No edits are compared.
+    pub fn run_known(
+        &mut self,
+        alloc: Global,
+        claim: &mut Claim,
+        limit: u32,
+    ) -> Result<Stop, AllocError>
+        requires { IfSome self.old.kept (λ k. Begins k claim.old.edits) }
+        ensures runs { (moved : CachesView G) × HasMoved G.count G.floor G.raises self.old moved claim.old.edits × Runs G.floor limit moved claim.old result self.new claim.new }
+        ensures stands { StandsAt G.count G.floor self.new claim.new.edits }
+        ensures edits { claim.new.edits ≡ claim.old.edits }
+    {
+        self.move_known(claim.token());
         run_steps(alloc, claim, &mut self.finder, limit)
     }
 

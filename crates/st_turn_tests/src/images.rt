@@ -149,6 +149,20 @@ pub(crate) fn post(
     image.post(alloc, 1, seq, actor, selector, none)
 }
 
+/// An image with methods, each on a line, and an actor of class A that was sent `go`.
+pub(crate) fn image_sent_go(
+    alloc: Global,
+    methods: &str,
+) -> Result<(Box<Image>, ActorId), Refusal> {
+    let mut image = image_of_classes(alloc)?;
+    for line in methods.lines() {
+        install_line(alloc, &mut image, line)?;
+    }
+    let actor = create(alloc, &mut image, A)?;
+    post(alloc, &mut image, 1, actor, GO)?;
+    Ok((image, actor))
+}
+
 pub(crate) fn checkout(alloc: Global, image: &mut Image, actor: ActorId) -> Result<Claim, Refusal> {
     image.checkout(alloc, actor)
 }

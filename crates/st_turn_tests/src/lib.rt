@@ -11,6 +11,8 @@ mod events;
 #[cfg(test)]
 mod images;
 #[cfg(test)]
+mod moves;
+#[cfg(test)]
 mod plain;
 #[cfg(test)]
 mod programs;

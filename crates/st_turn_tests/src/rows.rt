@@ -1,7 +1,5 @@
 //! Where rows of steps end. The steps of each program are counted by hand, in the code that docs/LANGUAGE.md gives it.
-use crate::images::{
-    A, GO, Image, checkout, create, image_of_classes, install_line, post, release,
-};
+use crate::images::{Image, checkout, image_sent_go, release};
 use crate::workers::{Worker, new_worker, run};
 use st_classes::refusals::Refusal;
 use st_classes::values::ActorId;
@@ -86,17 +84,6 @@ fn wanted(row: Row, limit: u32) -> (u32, Stop) {
     }
 }
 
-/// An image with the program and an actor that was sent `go`.
-fn image_of(alloc: Global, program: &str) -> Result<(Box<Image>, ActorId), Refusal> {
-    let mut image = image_of_classes(alloc)?;
-    for line in program.lines() {
-        install_line(alloc, &mut image, line)?;
-    }
-    let actor = create(alloc, &mut image, A)?;
-    post(alloc, &mut image, 1, actor, GO)?;
-    Ok((image, actor))
-}
-
 /// Whether a row of so many steps, and a second one of three more, end where they have to. None of them is committed.
 fn ends_well(
     alloc: Global,
@@ -118,7 +105,7 @@ fn ends_well(
 
 /// The first limit from which a row does not end where it has to, with new caches or with those that took the same steps before.
 fn first_wrong(alloc: Global, row: Row) -> Result<Option<u32>, Refusal> {
-    let (mut image, actor) = image_of(alloc, row.0)?;
+    let (mut image, actor) = image_sent_go(alloc, row.0)?;
     let mut warm = new_worker(alloc)?;
     for limit in 0..50 {
         let mut cold = new_worker(alloc)?;

@@ -138,7 +138,11 @@ fn programs() -> &'static [&'static str] {
 }
 
 /// Takes quanta of so many steps until no actor is ready, and says in what the three ways differ first.
-fn finish(alloc: Global, trial: &mut Trial, quantum: u32) -> Result<Option<Part>, Refusal> {
+pub(crate) fn finish(
+    alloc: Global,
+    trial: &mut Trial,
+    quantum: u32,
+) -> Result<Option<Part>, Refusal> {
     for _ in 0..3000 {
         let Some(actor) = next_ready(&trial.image) else {
             return Ok(None);
@@ -163,7 +167,7 @@ fn take_turn(
 }
 
 /// What is told of a turn: in what the three ways differ, or how it ended and how its sends were found.
-fn told(
+pub(crate) fn told(
     alloc: Global,
     trial: &Trial,
     seq: u64,

@@ -1,8 +1,4 @@
 //! Workers, and the steps of claims that they take.
-ghost use Rattle.std.specs.Prelude.{◌≡◌, None, IfSome};
-ghost use Rattle.std.specs.Bool.{OnTrue};
-ghost use Rattle.st_classes.specs.EditLists.{Begins};
-
 use st_guard::caches::Caches;
 use st_guard::global_guard::GlobalGuard;
 use st_guard::how::How;
@@ -18,25 +14,6 @@ pub(crate) fn new_worker(alloc: Global) -> Result<Box<Worker>, AllocError> {
     Ok(Box::new(alloc, worker)?)
 }
 
-/// Whether the edits that the caches of a worker keep begin those of a claim.
-fn is_before(worker: &Worker, claim: &Claim) -> bool
-    ensures { OnTrue result (IfSome worker.now.kept (λ k. Begins k claim.now.edits)) }
-{
-    match worker.caches().kept() {
-        Some(token) => token.shown().begins(claim.token().shown()),
-        None => true,
-    }
-}
-
-/// Empties the caches of a worker where their edits do not begin those of a claim, which no test leads to.
-fn stand_before(worker: &mut Worker, claim: &Claim)
-    ensures { IfSome worker.new.kept (λ k. Begins k claim.now.edits) }
-{
-    if !is_before(worker, claim) {
-        worker.forget();
-    }
-}
-
 /// Takes up to so many steps in a row.
 pub(crate) fn run(
     alloc: Global,
@@ -44,19 +21,16 @@ pub(crate) fn run(
     claim: &mut Claim,
     limit: u32,
 ) -> Result<Stop, AllocError> {
-    stand_before(worker, claim);
     worker.run(alloc, claim, limit)
 }
 
 /// Takes up to so many steps one by one.
-fn take_steps(
+pub(crate) fn step(
     alloc: Global,
     worker: &mut Worker,
     claim: &mut Claim,
     limit: u32,
-) -> Result<Stop, AllocError>
-    requires { IfSome worker.old.kept (λ k. Begins k claim.old.edits) }
-{
+) -> Result<Stop, AllocError> {
     for _ in 0..limit {
         match worker.step(alloc, claim)? {
             Stop::More => {}
@@ -64,17 +38,6 @@ fn take_steps(
         }
     }
     Ok(Stop::More)
-}
-
-/// The same from any caches.
-pub(crate) fn step(
-    alloc: Global,
-    worker: &mut Worker,
-    claim: &mut Claim,
-    limit: u32,
-) -> Result<Stop, AllocError> {
-    stand_before(worker, claim);
-    take_steps(alloc, worker, claim, limit)
 }
 
 /// Takes up to so many steps one by one, each with emptied caches, so that each send is found by a walk.

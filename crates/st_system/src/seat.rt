@@ -53,7 +53,7 @@ fn take_one<G: Guard>(
     ensures began { BeganAs claim.old claim.new }
     ensures kept { KeepsBeginning claim.new.edits worker.new }
 {
-    match worker.step(alloc, claim) {
+    match worker.step_known(alloc, claim) {
         Ok(stop) => Ok(Answer::Stopped(stop)),
         Err(_) => Err(Refusal::NoMemory),
     }

@@ -6,3 +6,4 @@ pub mod ClaimsSeen
 pub mod WorkersActing
 pub mod EventRuns
 pub mod Uncommitting
+pub mod OtherSeats

@@ -1,15 +1,16 @@
 -- Workers fit their image also where it goes on.
-use Rattle.std.proofs.Common.{refl, ◌≡◌, ◌⊎◌, ℕ, [], ◌++◌, List, Option, Some, None, ap, sym, ◌∙◌, subst, append_assoc, append-nil, inl, inr}
-use Rattle.std.specs.Prelude.{All, map, slice_set}
+use Rattle.std.proofs.Common.{refl, ◌≡◌, ◌⊎◌, ℕ, [], ◌∷◌, ◌++◌, List, Option, Some, None, ap, sym, ◌∙◌, subst, append_assoc, append-nil, inl, inr}
+use Rattle.std.specs.Prelude.{All, slice_set}
+use Rattle.std.specs.List.{AllZip}
 use Rattle.std.specs.Option.{IfSome}
-use Rattle.std.proofs.lemmas.List.Elements.{All-map, All-set, All-weaker}
+use Rattle.std.proofs.lemmas.List.Elements.{All-cons, All-nil, All-set, All-weaker}
 use Rattle.st_classes.specs.declared.edits.Edit.{Edit}
 use Rattle.st_classes.specs.EditLists.{Begins}
 use Rattle.st_guard.specs.Moves.{CachesView}
 use Rattle.st_turn.specs.Claims.{BeganAs, ClaimView}
 use Rattle.st_image.specs.Images.{ImageView, world}
 use Rattle.st_image.proofs.KnownBodies.{knows_as, knows_later, last_as_before}
-use Rattle.st_system.specs.Seats.{CanFollow, FitsClaim, FitsSeat, GoesOnIn, KeepsBeginning, SeatView, new_seat}
+use Rattle.st_system.specs.Seats.{CanFollow, FitsClaim, FitsSeat, GoesOnIn, HaveNothing, KeepsBeginning, SeatView, TakesSeat}
 
 pub begins_same : (es : List Edit) → Begins es es
 begins_same es = ([], sym (append-nil es))
@@ -78,9 +79,31 @@ pub fits_back : (c : ClaimView) (o : Option ClaimView) (i j : ImageView) → Goe
 fits_back c o i j on h (inl e) = subst (λ (x : Option ClaimView). IfSome x (FitsClaim j)) (sym e) tt
 fits_back c o i j on h (inr e) = subst (λ (x : Option ClaimView). IfSome x (FitsClaim j)) (sym e) (fits_claim_later i j c on h)
 
--- new workers fit, where what their caches keep begins the image's edits
-pub all_new : {G : Type 0} (i : ImageView) (workers : List (CachesView G)) → All (KeepsBeginning (world i).edits) workers → All (FitsSeat i) (map new_seat workers)
-all_new {G} i workers h = All-map (FitsSeat i) new_seat workers (All-weaker (KeepsBeginning (world i).edits) (λ v. FitsSeat i (new_seat v)) (λ v k. record { claim = tt; kept = k }) workers h)
+-- one more in both lists
+pub zip_push : {A B : Type 0} (R : A → B → Type 0) (xs : List A) (ys : List B) (x : A) (y : B) → AllZip R xs ys → R x y → AllZip R (xs ++ x ∷ []) (ys ++ y ∷ [])
+zip_push {A} {B} R [] [] x y h r = (r, h)
+zip_push {A} {B} R (z ∷ xs) (w ∷ ys) x y h r = (h.0, zip_push R xs ys x y h.1 r)
+zip_push {A} {B} R [] (w ∷ ys) x y h r = absurd h
+zip_push {A} {B} R (z ∷ xs) [] x y h r = absurd h
+
+-- caches that follow a class table keep a beginning of its edits, and those that were emptied keep none
+follows_seated : {G : Type 0} (edits : List Edit) (v w : CachesView G) → (KeepsBeginning edits v × (w ≡ v)) ⊎ ((¬ KeepsBeginning edits v) × HaveNothing w) → KeepsBeginning edits w
+follows_seated {G} edits v w (inl follows) = subst (λ (u : CachesView G). KeepsBeginning edits u) (sym follows.1) follows.0
+follows_seated {G} edits v w (inr emptied) = subst (λ (o : Option (List Edit)). IfSome o (λ k. Begins k edits)) (sym emptied.1.kept) tt
+
+-- a worker that takes a seat fits
+seated_fits : {G : Type 0} (i : ImageView) (v : CachesView G) (s : SeatView G) → TakesSeat (world i).edits v s → FitsSeat i s
+seated_fits {G} i v s h = record {
+  claim = subst (λ (o : Option ClaimView). IfSome o (FitsClaim i)) (sym h.claim) tt;
+  kept = follows_seated (world i).edits v s.caches h.caches;
+}
+
+-- so do all
+pub all_seated : {G : Type 0} (i : ImageView) (workers : List (CachesView G)) (seats : List (SeatView G)) → AllZip (TakesSeat (world i).edits) workers seats → All (FitsSeat i) seats
+all_seated {G} i [] [] h = All-nil (FitsSeat i)
+all_seated {G} i (v ∷ workers) (s ∷ seats) h = All-cons (FitsSeat i) s seats (seated_fits i v s h.0) (all_seated i workers seats h.1)
+all_seated {G} i [] (s ∷ seats) h = absurd h
+all_seated {G} i (v ∷ workers) [] h = absurd h
 
 -- one worker is changed, and the image goes on
 pub all_set : {G : Type 0} (i j : ImageView) (seats : List (SeatView G)) (place : ℕ) (t : SeatView G) → GoesOnIn i j → All (FitsSeat i) seats → FitsSeat j t → All (FitsSeat j) (slice_set seats place t)

@@ -1,17 +1,9 @@
 -- What an event that empties the caches of a worker leaves.
-use Rattle.std.specs.Prelude.{◌≡◌, List, [], None, slice_get}
+use Rattle.std.specs.Prelude.{List, slice_get}
 use Rattle.std.specs.Option.{IfSome}
-use Rattle.st_guard.specs.SiteTables.{NoSites}
-use Rattle.st_guard.specs.Moves.{CachesView}
 use Rattle.st_system.specs.declared.events.Event.{Event}
 use Rattle.st_system.specs.declared.events.Event.TheVariants.{Forget}
-use Rattle.st_system.specs.Seats.{SeatView}
-
--- caches have no entry, and keep no list of edits
-pub record HaveNothing {G : Type 0} (v : CachesView G) : Type 0 where
-  pub sites : NoSites v.sites
-  pub recent : v.recent ≡ []
-  pub kept : v.kept ≡ None
+use Rattle.st_system.specs.Seats.{HaveNothing, SeatView}
 
 -- the caches of the worker that forgets have nothing afterwards, where there is that worker
 abbrev pub HasForgotten : {G : Type 0} → Event → List (SeatView G) → Type 0

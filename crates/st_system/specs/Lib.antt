@@ -5,3 +5,4 @@ pub mod ImageEvents
 pub mod Acts
 pub mod Uncommitted
 pub mod Forgetting
+pub mod Others

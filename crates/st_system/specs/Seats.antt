@@ -1,10 +1,10 @@
 -- Workers of a system, and what is true of each.
-use Rattle.std.specs.Prelude.{List, Option, All}
+use Rattle.std.specs.Prelude.{◌≡◌, ◌⊎◌, ℕ, List, [], Option, None, All}
 use Rattle.std.specs.Option.{IfSome}
 use Rattle.st_classes.specs.declared.edits.Edit.{Edit}
 use Rattle.st_classes.specs.declared.values.Selector.{Selector}
-use Rattle.std.specs.Prelude.{ℕ, None}
 use Rattle.st_classes.specs.EditLists.{Begins}
+use Rattle.st_guard.specs.SiteTables.{NoSites}
 use Rattle.st_guard.specs.Moves.{CachesView, IsAt}
 use Rattle.st_turn.specs.Claims.{ClaimView}
 use Rattle.st_image.specs.Images.{ImageView, world}
@@ -48,9 +48,17 @@ pub record GoesOnIn (i j : ImageView) : Type 0 where
 abbrev pub FitSeats : {G : Type 0} → SystemView G → Type 0
 FitSeats s = All (FitsSeat s.image) s.seats
 
--- a worker without a claim
-abbrev pub new_seat : {G : Type 0} → CachesView G → SeatView G
-new_seat v = record { caches = v; claim = None }
+-- caches have no entry, and keep no list of edits
+pub record HaveNothing {G : Type 0} (v : CachesView G) : Type 0 where
+  pub sites : NoSites v.sites
+  pub recent : v.recent ≡ []
+  pub kept : v.kept ≡ None
+
+-- a worker takes a seat in a new system without a claim: as it is where what its caches keep begins the class table's
+-- edits, and else with nothing in its caches
+pub record TakesSeat {G : Type 0} (edits : List Edit) (v : CachesView G) (s : SeatView G) : Type 0 where
+  pub claim : s.claim ≡ None
+  pub caches : (KeepsBeginning edits v × (s.caches ≡ v)) ⊎ ((¬ KeepsBeginning edits v) × HaveNothing s.caches)
 
 -- caches are valid at the list of edits that they keep, where they keep one
 abbrev pub AreValidWhereKept : {G : Type 0} → (G → ℕ) → (G → Selector → ℕ) → CachesView G → Type 0

@@ -1,13 +1,12 @@
 //! A worker of a system, and what it does with its claim.
-ghost use Rattle.std.specs.Prelude.{◌≡◌, Result};
+ghost use Rattle.std.specs.Prelude.{◌≡◌, ◌↔◌, IsTrue, Result};
 ghost use Rattle.st_classes.specs.declared.refusals.Refusal.{Refusal as RefusalOf};
 ghost use Rattle.st_turn.specs.declared.body.Stop.{Stop as StopOf};
 ghost use Rattle.st_turn.specs.Claims.{BeganAs};
 ghost use Rattle.st_image.specs.Images.{ImageView};
 ghost use Rattle.st_system.specs.declared.events.Answer.TheVariants.{Stopped};
-ghost use Rattle.st_system.specs.Seats.{AreValidWhereKept, FitsSeat, GoesOnIn, KeepsBeginning, new_seat};
+ghost use Rattle.st_system.specs.Seats.{AreValidWhereKept, FitsSeat, GoesOnIn, HaveNothing, KeepsBeginning, TakesSeat};
 ghost use Rattle.st_system.specs.Schedules.{bare, claim_of};
-ghost use Rattle.st_system.specs.Forgetting.{HaveNothing};
 ghost use Rattle.st_system.specs.ImageEvents.{told};
 ghost use Rattle.st_system.specs.ClaimEvents.{CommitsClaim, KeepsClaim, OfClaim, ReleasesClaim, StepsClaim, TakesClaim, TakesOne};
 
@@ -15,6 +14,7 @@ use crate::calls;
 use crate::events::Answer;
 use st_classes::refusals::Refusal;
 use st_classes::values::ActorId;
+use st_classes::version::Version;
 use st_guard::guard::Guard;
 use st_image::image::Image;
 use st_mailbox::mailboxes::Mailbox;
@@ -42,6 +42,16 @@ impl<G: Guard> Model for Seat<G> {
     ghost invariant = { λ s. CanFollow s.worker s.claim };
 }
 
+/// Whether what a worker's caches keep, where they keep a list of edits, begins the edits of a version.
+fn keeps_beginning<G: Guard>(worker: &Worker<G>, version: &Version) -> bool
+    ensures { IsTrue result ↔ KeepsBeginning version.now worker.now }
+{
+    match worker.caches().kept() {
+        Some(kept) => kept.shown().begins(version),
+        None => true,
+    }
+}
+
 /// Takes one step of a claim, where one of the actor's own is next.
 fn take_one<G: Guard>(
     alloc: Global,
@@ -60,10 +70,18 @@ fn take_one<G: Guard>(
 }
 
 impl<G: Guard> Seat<G> {
-    /// A worker without a claim.
-    pub fn new(worker: Worker<G>) -> Seat<G>
-        ensures { result ≡ new_seat worker }
+    /// A worker without a claim, in a system whose class table this is. Where what its caches keep does not begin the table's edits,
+    /// they are emptied.
+    pub fn new(mut worker: Worker<G>, version: &Version) -> Seat<G>
+        ensures { TakesSeat version.now worker result }
     {
+        if keeps_beginning(&worker, version) {
+            return Seat {
+                worker,
+                claim: None,
+            };
+        }
+        worker.forget();
         Seat {
             worker,
             claim: None,
@@ -86,6 +104,7 @@ impl<G: Guard> Seat<G> {
     ) -> Result<Answer, Refusal>
         requires { FitsSeat image.old self.old }
         ensures acts { TakesClaim actor image.old (claim_of self.old) result image.new (claim_of self.new) }
+        ensures caches { self.new.caches ≡ self.old.caches }
         ensures later { GoesOnIn image.old image.new }
         ensures fits { FitsSeat image.new self.new }
     {
@@ -116,6 +135,7 @@ impl<G: Guard> Seat<G> {
     ) -> Result<Answer, Refusal>
         requires { FitsSeat image.old self.old }
         ensures acts { OfClaim CommitsClaim image.old (claim_of self.old) result image.new (claim_of self.new) }
+        ensures caches { self.new.caches ≡ self.old.caches }
         ensures later { GoesOnIn image.old image.new }
         ensures fits { FitsSeat image.new self.new }
     {
@@ -135,6 +155,7 @@ impl<G: Guard> Seat<G> {
     pub(crate) fn release<M: Mailbox>(&mut self, image: &mut Image<M>) -> Result<Answer, Refusal>
         requires { FitsSeat image.old self.old }
         ensures acts { OfClaim ReleasesClaim image.old (claim_of self.old) result image.new (claim_of self.new) }
+        ensures caches { self.new.caches ≡ self.old.caches }
         ensures later { GoesOnIn image.old image.new }
         ensures fits { FitsSeat image.new self.new }
     {

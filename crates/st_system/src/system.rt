@@ -1,14 +1,16 @@
 //! A system: one image and its workers. The events of the image alone are in system/image_events.rt, those of workers in
 //! system/worker_events.rt.
-ghost use Rattle.std.specs.Prelude.{◌≡◌, All, IfOk, length, map};
+ghost use Rattle.std.specs.Prelude.{◌≡◌, All, IfOk, length};
+ghost use Rattle.std.specs.List.{AllZip};
 ghost use Rattle.st_image.specs.Delivery.{HasDelivered};
 ghost use Rattle.st_image.specs.Images.{world};
 ghost use Rattle.st_image.specs.RanTargets.{EachStepRan};
 ghost use Rattle.st_image.specs.WorldInvariant.{IsLawful};
 ghost use Rattle.st_system.specs.Acts.{Acts, Leads};
 ghost use Rattle.st_system.specs.Forgetting.{HasForgotten};
+ghost use Rattle.st_system.specs.Others.{LeavesOthers};
 ghost use Rattle.st_system.specs.Schedules.{schedule};
-ghost use Rattle.st_system.specs.Seats.{AreValidWhereKept, KeepsBeginning, new_seat};
+ghost use Rattle.st_system.specs.Seats.{AreValidWhereKept, TakesSeat};
 
 mod image_events;
 mod worker_events;
@@ -16,6 +18,7 @@ mod worker_events;
 use crate::events::{Answer, Event};
 use crate::seat::Seat;
 use st_classes::refusals::Refusal;
+use st_classes::version::Version;
 use st_guard::guard::Guard;
 use st_image::image::Image;
 use st_mailbox::mailboxes::Mailbox;
@@ -41,28 +44,33 @@ impl<M: Mailbox, G: Guard> Model for System<M, G> {
     ghost invariant = { λ s. All (FitsSeat s.image) s.seats.items };
 }
 
-/// A seat for each worker.
-fn seats_of<G: Guard>(alloc: Global, workers: Vec<Worker<G>>) -> Result<Vec<Seat<G>>, AllocError>
-    ensures { IfOk result (λ seats. seats.items ≡ map new_seat workers.items) }
+/// A seat for each worker, in a system whose class table this is.
+fn seats_of<G: Guard>(
+    alloc: Global,
+    workers: Vec<Worker<G>>,
+    version: &Version,
+) -> Result<Vec<Seat<G>>, AllocError>
+    ensures { IfOk result (λ seats. AllZip (TakesSeat version.now) workers.items seats.items) }
 {
     let mut seats = Vec::with_capacity(alloc, workers.len())?;
     for worker in workers {
-        seats.push(Seat::new(worker))?;
+        seats.push(Seat::new(worker, version))?;
     }
     Ok(seats)
 }
 
 impl<M: Mailbox, G: Guard> System<M, G> {
-    /// An image, and workers without claims. What their caches keep, where they keep a list of edits, begins the image's.
+    /// An image, and workers without claims. A worker whose caches keep a list of edits that does not begin the image's forgets what
+    /// it found; the others stay as they are.
     pub fn new(
         alloc: Global,
         image: Image<M>,
         workers: Vec<Worker<G>>,
     ) -> Result<System<M, G>, AllocError>
-        requires { All (KeepsBeginning (world image).edits) workers.items }
-        ensures { IfOk result (λ s. s ≡ record { image = image; seats = map new_seat workers.items }) }
+        ensures image { IfOk result (λ s. s.image ≡ image) }
+        ensures seats { IfOk result (λ s. AllZip (TakesSeat (world image).edits) workers.items s.seats) }
     {
-        let seats = seats_of(alloc, workers)?;
+        let seats = seats_of(alloc, workers, image.version())?;
         Ok(System { image, seats })
     }
 
@@ -109,10 +117,12 @@ impl<M: Mailbox, G: Guard> System<M, G> {
     /// An event of a worker is refused by `BadArguments` where there is no such worker, as is a checkout by a worker that has a
     /// claim; a step, a commit and a release are refused by `NothingToDo` where it has none. Then come the refusals of the image's
     /// call. After a refused commit the worker keeps its claim, unless it was refused by `Stale` or `Changed`. Else a
-    /// refused event changes nothing but names. A worker that forgets has empty caches.
+    /// refused event changes nothing but names. A worker that forgets has empty caches. An event of a worker leaves the caches and the
+    /// claims of all others as they were, and one of the image those of all workers.
     pub fn apply(&mut self, alloc: Global, event: &Event) -> Result<Answer, Refusal>
         ensures acts { Acts (schedule self.old) event.now result (schedule self.new) }
         ensures forgotten { HasForgotten event.now self.new.seats }
+        ensures others { LeavesOthers event.now self.old.seats self.new.seats }
     {
         match event {
             Event::Intern(text) => self.intern(alloc, text),

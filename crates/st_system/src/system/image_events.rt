@@ -13,10 +13,12 @@ use std::alloc::Global;
 impl<M: Mailbox, G: Guard> System<M, G> {
     ghost use Rattle.st_system.specs.declared.events.Event.TheVariants.{Intern as InternOf, Define as DefineOf, Install as InstallOf, Remove as RemoveOf, Create as CreateOf, Post as PostOf, Close as CloseOf};
     ghost use Rattle.st_system.specs.Acts.{Acts};
+    ghost use Rattle.st_system.specs.Others.{LeavesOthers};
     ghost use Rattle.st_system.specs.Schedules.{schedule};
 
     pub(super) fn intern(&mut self, alloc: Global, text: &Seq<u8>) -> Result<Answer, Refusal>
-        ensures { Acts (schedule self.old) (InternOf text.now) result (schedule self.new) }
+        ensures acts { Acts (schedule self.old) (InternOf text.now) result (schedule self.new) }
+        ensures others { LeavesOthers (InternOf text.now) self.old.seats self.new.seats }
     {
         Ok(Answer::Interned(calls::intern(alloc, &mut self.image, text)?))
     }
@@ -28,7 +30,8 @@ impl<M: Mailbox, G: Guard> System<M, G> {
         parent: ClassId,
         slots: &Seq<Seq<u8>>,
     ) -> Result<Answer, Refusal>
-        ensures { Acts (schedule self.old) (DefineOf name.now parent slots.now) result (schedule self.new) }
+        ensures acts { Acts (schedule self.old) (DefineOf name.now parent slots.now) result (schedule self.new) }
+        ensures others { LeavesOthers (DefineOf name.now parent slots.now) self.old.seats self.new.seats }
     {
         Ok(Answer::Version(calls::define(alloc, &mut self.image, name, parent, slots)?))
     }
@@ -39,7 +42,8 @@ impl<M: Mailbox, G: Guard> System<M, G> {
         class: ClassId,
         source: &Seq<u8>,
     ) -> Result<Answer, Refusal>
-        ensures { Acts (schedule self.old) (InstallOf class source.now) result (schedule self.new) }
+        ensures acts { Acts (schedule self.old) (InstallOf class source.now) result (schedule self.new) }
+        ensures others { LeavesOthers (InstallOf class source.now) self.old.seats self.new.seats }
     {
         Ok(Answer::Version(calls::install(alloc, &mut self.image, class, source)?))
     }
@@ -50,13 +54,15 @@ impl<M: Mailbox, G: Guard> System<M, G> {
         class: ClassId,
         selector: Selector,
     ) -> Result<Answer, Refusal>
-        ensures { Acts (schedule self.old) (RemoveOf class selector) result (schedule self.new) }
+        ensures acts { Acts (schedule self.old) (RemoveOf class selector) result (schedule self.new) }
+        ensures others { LeavesOthers (RemoveOf class selector) self.old.seats self.new.seats }
     {
         Ok(Answer::Version(calls::remove(alloc, &mut self.image, class, selector)?))
     }
 
     pub(super) fn create(&mut self, alloc: Global, class: ClassId) -> Result<Answer, Refusal>
-        ensures { Acts (schedule self.old) (CreateOf class) result (schedule self.new) }
+        ensures acts { Acts (schedule self.old) (CreateOf class) result (schedule self.new) }
+        ensures others { LeavesOthers (CreateOf class) self.old.seats self.new.seats }
     {
         Ok(Answer::Created(calls::create(alloc, &mut self.image, class)?))
     }
@@ -70,7 +76,8 @@ impl<M: Mailbox, G: Guard> System<M, G> {
         selector: Selector,
         args: &Values,
     ) -> Result<Answer, Refusal>
-        ensures { Acts (schedule self.old) (PostOf sender seq actor selector args.now) result (schedule self.new) }
+        ensures acts { Acts (schedule self.old) (PostOf sender seq actor selector args.now) result (schedule self.new) }
+        ensures others { LeavesOthers (PostOf sender seq actor selector args.now) self.old.seats self.new.seats }
     {
         let Ok(args) = copy_values(alloc, args) else {
             return Err(Refusal::NoMemory);
@@ -87,7 +94,8 @@ impl<M: Mailbox, G: Guard> System<M, G> {
     }
 
     pub(super) fn close(&mut self, actor: ActorId) -> Result<Answer, Refusal>
-        ensures { Acts (schedule self.old) (CloseOf actor) result (schedule self.new) }
+        ensures acts { Acts (schedule self.old) (CloseOf actor) result (schedule self.new) }
+        ensures others { LeavesOthers (CloseOf actor) self.old.seats self.new.seats }
     {
         calls::close(&mut self.image, actor)?;
         Ok(Answer::Done)

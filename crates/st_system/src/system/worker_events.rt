@@ -11,7 +11,8 @@ impl<M: Mailbox, G: Guard> System<M, G> {
     ghost use Rattle.st_system.specs.declared.events.Event.TheVariants.{Checkout as CheckoutOf, Local as LocalOf, Commit as CommitOf, Release as ReleaseOf, Forget as ForgetOf};
     ghost use Rattle.std.specs.Prelude.{IfSome, slice_get};
     ghost use Rattle.st_system.specs.Acts.{Acts};
-    ghost use Rattle.st_system.specs.Forgetting.{HaveNothing};
+    ghost use Rattle.st_system.specs.Others.{LeavesOthers};
+    ghost use Rattle.st_system.specs.Seats.{HaveNothing};
     ghost use Rattle.st_system.specs.Schedules.{schedule};
 
     pub(super) fn check_out(
@@ -20,7 +21,8 @@ impl<M: Mailbox, G: Guard> System<M, G> {
         worker: u32,
         actor: ActorId,
     ) -> Result<Answer, Refusal>
-        ensures { Acts (schedule self.old) (CheckoutOf worker actor) result (schedule self.new) }
+        ensures acts { Acts (schedule self.old) (CheckoutOf worker actor) result (schedule self.new) }
+        ensures others { LeavesOthers (CheckoutOf worker actor) self.old.seats self.new.seats }
     {
         let place = worker as usize;
         if place >= self.seats.len() {
@@ -31,7 +33,8 @@ impl<M: Mailbox, G: Guard> System<M, G> {
     }
 
     pub(super) fn step(&mut self, alloc: Global, worker: u32) -> Result<Answer, Refusal>
-        ensures { Acts (schedule self.old) (LocalOf worker) result (schedule self.new) }
+        ensures acts { Acts (schedule self.old) (LocalOf worker) result (schedule self.new) }
+        ensures others { LeavesOthers (LocalOf worker) self.old.seats self.new.seats }
     {
         let place = worker as usize;
         if place >= self.seats.len() {
@@ -42,7 +45,8 @@ impl<M: Mailbox, G: Guard> System<M, G> {
     }
 
     pub(super) fn commit(&mut self, alloc: Global, worker: u32) -> Result<Answer, Refusal>
-        ensures { Acts (schedule self.old) (CommitOf worker) result (schedule self.new) }
+        ensures acts { Acts (schedule self.old) (CommitOf worker) result (schedule self.new) }
+        ensures others { LeavesOthers (CommitOf worker) self.old.seats self.new.seats }
     {
         let place = worker as usize;
         if place >= self.seats.len() {
@@ -53,7 +57,8 @@ impl<M: Mailbox, G: Guard> System<M, G> {
     }
 
     pub(super) fn release(&mut self, worker: u32) -> Result<Answer, Refusal>
-        ensures { Acts (schedule self.old) (ReleaseOf worker) result (schedule self.new) }
+        ensures acts { Acts (schedule self.old) (ReleaseOf worker) result (schedule self.new) }
+        ensures others { LeavesOthers (ReleaseOf worker) self.old.seats self.new.seats }
     {
         let place = worker as usize;
         if place >= self.seats.len() {
@@ -65,6 +70,7 @@ impl<M: Mailbox, G: Guard> System<M, G> {
 
     pub(super) fn forget(&mut self, worker: u32) -> Result<Answer, Refusal>
         ensures acts { Acts (schedule self.old) (ForgetOf worker) result (schedule self.new) }
+        ensures others { LeavesOthers (ForgetOf worker) self.old.seats self.new.seats }
         ensures forgotten { IfSome (slice_get self.new.seats worker) (λ s. HaveNothing s.caches) }
     {
         let place = worker as usize;

@@ -6,10 +6,12 @@ use Rattle.st_system.specs.declared.events.Answer.TheVariants.{Done}
 use Rattle.st_image.proofs.Places.{at_all, get_set_same}
 use Rattle.st_system.specs.ClaimEvents.{AtWorker, KeepsClaim}
 use Rattle.st_system.specs.Schedules.{bare, schedule}
-use Rattle.st_system.specs.Forgetting.{HaveNothing}
-use Rattle.st_system.specs.Seats.{FitsSeat, SeatView, SystemView}
+use Rattle.st_system.specs.Seats.{FitsSeat, HaveNothing, SeatView, SystemView}
 use Rattle.st_system.proofs.Seats.{all_set, goes_on_same}
 use Rattle.st_system.proofs.WorkersActing.{worker_acts}
+use Rattle.st_system.proofs.OtherSeats.{leaves_others}
+use Rattle.st_system.specs.declared.events.Event.TheVariants.{Forget}
+use Rattle.st_system.specs.Others.{LeavesOthers}
 use Rattle.st_system.proofs.system.System.forget.Goals as goal
 
 pub invariant_of-self : goal.invariant_of-self
@@ -32,3 +34,10 @@ returns-clause-forgotten g c =
     let there : slice_get seats c.args.worker ≡ Some c.index_mut-seat.result.now = slice_get_read seats (length seats) c.args.worker c.index_mut-seat.result.now refl (search rules) c.index_mut-seat.ensures.value in
     subst (λ (o : Option (SeatView g.row.G.Denot)). IfSome o (λ s. HaveNothing s.caches))
     (sym (get_set_same seats c.args.worker c.index_mut-seat.result.now c.forget.new.self there)) c.forget.ensures.emptied
+
+pub returns-clause-others : goal.returns-clause-others
+returns-clause-others g c =
+    let seats = c.self.inside.seats.items in
+    let there : slice_get seats c.args.worker ≡ Some c.index_mut-seat.result.now = slice_get_read seats (length seats) c.args.worker c.index_mut-seat.result.now refl (search rules) c.index_mut-seat.ensures.value in
+    let others = leaves_others (Forget c.args.worker) c.args.worker seats c.index_mut-seat.result.now c.forget.new.self refl there (λ apart. cc) in
+    subst (λ (X : SystemView g.row.G.Denot). LeavesOthers (Forget c.args.worker) X.seats (slice_set seats c.args.worker c.forget.new.self)) c.self.view_is others

@@ -6,16 +6,26 @@ use Rattle.st_system.specs.Schedules.{schedule}
 use Rattle.st_system.specs.Seats.{SystemView}
 use Rattle.st_system.proofs.Seats.{all_set}
 use Rattle.st_system.proofs.WorkersActing.{worker_acts}
+use Rattle.st_system.proofs.OtherSeats.{leaves_others}
+use Rattle.st_system.specs.declared.events.Event.TheVariants.{Release}
+use Rattle.st_system.specs.Others.{LeavesOthers}
 use Rattle.st_system.proofs.system.System.release.Goals as goal
 
 pub invariant_of-self : goal.invariant_of-self
 invariant_of-self g c =
     all_set c.self.inside.image c.release.new.image c.self.inside.seats.items c.args.worker c.release.new.self c.release.ensures.later c.self.invariant c.release.ensures.fits
 
-pub returns : goal.returns
-returns g c =
+pub returns-clause-acts : goal.returns-clause-acts
+returns-clause-acts g c =
     let there : slice_get c.self.inside.seats.items c.args.worker ≡ Some c.index_mut-seat.result.now = slice_get_read c.self.inside.seats.items (length c.self.inside.seats.items) c.args.worker c.index_mut-seat.result.now refl (search rules) c.index_mut-seat.ensures.value in
     let S : SystemView g.row.G.Denot = record { image = c.self.inside.image; seats = c.self.inside.seats.items } in
     let T : SystemView g.row.G.Denot = record { image = c.release.new.image; seats = slice_set c.self.inside.seats.items c.args.worker c.release.new.self } in
     let acts = worker_acts (OfClaim ReleasesClaim) S T c.args.worker c.index_mut-seat.result.now c.release.new.self c.release.result there refl c.release.ensures.acts in
     subst (λ (X : SystemView g.row.G.Denot). AtWorker (OfClaim ReleasesClaim) (schedule X) c.args.worker c.release.result (schedule T) (slice_get (schedule X).claims c.args.worker)) c.self.view_is acts
+
+pub returns-clause-others : goal.returns-clause-others
+returns-clause-others g c =
+    let seats = c.self.inside.seats.items in
+    let there : slice_get seats c.args.worker ≡ Some c.index_mut-seat.result.now = slice_get_read seats (length seats) c.args.worker c.index_mut-seat.result.now refl (search rules) c.index_mut-seat.ensures.value in
+    let others = leaves_others (Release c.args.worker) c.args.worker seats c.index_mut-seat.result.now c.release.new.self refl there (λ apart. c.release.ensures.caches) in
+    subst (λ (X : SystemView g.row.G.Denot). LeavesOthers (Release c.args.worker) X.seats (slice_set seats c.args.worker c.release.new.self)) c.self.view_is others

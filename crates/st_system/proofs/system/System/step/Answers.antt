@@ -7,6 +7,9 @@ use Rattle.st_system.specs.Schedules.{schedule}
 use Rattle.st_system.specs.Seats.{FitsSeat, SystemView}
 use Rattle.st_system.proofs.Seats.{all_set, goes_on_same}
 use Rattle.st_system.proofs.WorkersActing.{worker_acts}
+use Rattle.st_system.proofs.OtherSeats.{leaves_others}
+use Rattle.st_system.specs.declared.events.Event.TheVariants.{Local}
+use Rattle.st_system.specs.Others.{LeavesOthers}
 use Rattle.st_system.proofs.system.System.step.Goals as goal
 
 pub invariant_of-self : goal.invariant_of-self
@@ -15,10 +18,17 @@ invariant_of-self g c =
     let i = c.self.inside.image in
     all_set i i c.self.inside.seats.items c.args.worker c.step.new.self (goes_on_same i) c.self.invariant (c.step.ensures.fits i (at_all (FitsSeat i) c.self.inside.seats.items c.args.worker c.index_mut-seat.result.now c.self.invariant there))
 
-pub returns : goal.returns
-returns g c =
+pub returns-clause-acts : goal.returns-clause-acts
+returns-clause-acts g c =
     let there : slice_get c.self.inside.seats.items c.args.worker ≡ Some c.index_mut-seat.result.now = slice_get_read c.self.inside.seats.items (length c.self.inside.seats.items) c.args.worker c.index_mut-seat.result.now refl (search rules) c.index_mut-seat.ensures.value in
     let S : SystemView g.row.G.Denot = record { image = c.self.inside.image; seats = c.self.inside.seats.items } in
     let T : SystemView g.row.G.Denot = record { image = c.self.inside.image; seats = slice_set c.self.inside.seats.items c.args.worker c.step.new.self } in
     let acts = worker_acts (OfClaim StepsClaim) S T c.args.worker c.index_mut-seat.result.now c.step.new.self c.step.result there refl (c.step.ensures.acts c.self.inside.image) in
     subst (λ (X : SystemView g.row.G.Denot). AtWorker (OfClaim StepsClaim) (schedule X) c.args.worker c.step.result (schedule T) (slice_get (schedule X).claims c.args.worker)) c.self.view_is acts
+
+pub returns-clause-others : goal.returns-clause-others
+returns-clause-others g c =
+    let seats = c.self.inside.seats.items in
+    let there : slice_get seats c.args.worker ≡ Some c.index_mut-seat.result.now = slice_get_read seats (length seats) c.args.worker c.index_mut-seat.result.now refl (search rules) c.index_mut-seat.ensures.value in
+    let others = leaves_others (Local c.args.worker) c.args.worker seats c.index_mut-seat.result.now c.step.new.self refl there (λ apart. cc) in
+    subst (λ (X : SystemView g.row.G.Denot). LeavesOthers (Local c.args.worker) X.seats (slice_set seats c.args.worker c.step.new.self)) c.self.view_is others

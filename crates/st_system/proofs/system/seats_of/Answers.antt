@@ -1,0 +1,15 @@
+use Rattle.std.proofs.Common.{rules, arith, refl, ◌≡◌, ◌++◌, [], ◌∷◌, List, subst, sym}
+use Rattle.std.specs.List.{AllZip}
+use Rattle.std.proofs.lemmas.Grind.{common_steps}
+use Rattle.st_guard.specs.Moves.{CachesView}
+use Rattle.st_system.specs.Seats.{SeatView, TakesSeat}
+use Rattle.st_system.proofs.Seats.{zip_push}
+use Rattle.st_system.proofs.system.seats_of.Goals as goal
+
+pub loop-worker-preserved : goal.loop-worker-preserved
+loop-worker-preserved g c =
+    let edits = c.args.version.now in
+    let one : c.push.new.self.items ≡ c.loop-worker.seats.items ++ c.new.result ∷ [] = first_of (search rules, grind (arith, common_steps)) in
+    let seats : AllZip (TakesSeat {G = g.row.G.Denot} edits) (c.loop-worker.yielded ++ c.in-Some.worker ∷ []) (c.loop-worker.seats.items ++ c.new.result ∷ []) = zip_push (TakesSeat {G = g.row.G.Denot} edits) c.loop-worker.yielded c.loop-worker.seats.items c.in-Some.worker c.new.result (c.loop-worker.invariant c.loop-worker.yielded refl) c.new.ensures in
+    λ workers same. subst (λ (ws : List (CachesView g.row.G.Denot)). AllZip (TakesSeat {G = g.row.G.Denot} edits) ws c.push.new.self.items) same
+    (subst (λ (ss : List (SeatView g.row.G.Denot)). AllZip (TakesSeat {G = g.row.G.Denot} edits) (c.loop-worker.yielded ++ c.in-Some.worker ∷ []) ss) (sym one) seats)

@@ -1,0 +1,31 @@
+-- What an event leaves of workers that it is not about.
+use Rattle.std.specs.Prelude.{◌≡◌, ◌≢◌, ℕ, List, map, slice_get, Bool, true, false, Option, Some, None}
+use Rattle.st_guard.specs.Moves.{CachesView}
+use Rattle.st_system.specs.declared.events.Event.{Event}
+use Rattle.st_system.specs.declared.events.Event.TheVariants.{Checkout, Local, Commit, Release, Forget}
+use Rattle.st_system.specs.Seats.{SeatView}
+
+-- the worker whose event it is; an event of the image has none
+abbrev pub worker_of : Event → Option ℕ
+worker_of (Checkout w a) = Some w
+worker_of (Local w) = Some w
+worker_of (Commit w) = Some w
+worker_of (Release w) = Some w
+worker_of (Forget w) = Some w
+worker_of _ = None
+
+-- an event that asks caches or empties them: a step, and forgetting
+abbrev pub is_of_caches : Event → Bool
+is_of_caches (Local w) = true
+is_of_caches (Forget w) = true
+is_of_caches _ = false
+
+-- the caches of a worker
+abbrev pub caches_of : {G : Type 0} → SeatView G → CachesView G
+caches_of s = s.caches
+
+-- each worker but the one whose event it is has the caches and the claim that it had; and all workers have the caches
+-- that they had, unless the event asks caches or empties them
+pub record LeavesOthers {G : Type 0} (e : Event) (old new : List (SeatView G)) : Type 0 where
+  pub seats : (place : ℕ) → worker_of e ≢ Some place → slice_get new place ≡ slice_get old place
+  pub caches : is_of_caches e ≡ false → map caches_of new ≡ map caches_of old

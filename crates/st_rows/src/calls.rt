@@ -1,7 +1,5 @@
 //! The calls of an image, each behind a function without a contract: what a test does with several of them is then proved
 //! in seconds, since its proof carries nothing of what an image promises.
-ghost use Rattle.std.specs.Prelude.{◌≡◌, IfOk, None};
-
 use st_classes::kernel::OBJECT;
 use st_classes::refusals::Refusal;
 use st_classes::seq::Seq;
@@ -125,13 +123,8 @@ pub(crate) fn ask(alloc: Global, image: &mut Image, seq: u64) -> Result<u64, Ref
     post(alloc, image, 1, seq, IS_NIL)
 }
 
-/// A worker whose caches keep no list of edits.
-fn new_worker(alloc: Global) -> Result<Worker<GlobalGuard>, AllocError>
-    ensures { IfOk result (λ w. w.kept ≡ None) }
-{
-    let mut worker = Worker::new(Caches::new(alloc, GlobalGuard::new())?);
-    worker.forget();
-    Ok(worker)
+fn new_worker(alloc: Global) -> Result<Worker<GlobalGuard>, AllocError> {
+    Ok(Worker::new(Caches::new(alloc, GlobalGuard::new())?))
 }
 
 /// Commits a claim, or gives it back.

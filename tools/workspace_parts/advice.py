@@ -67,8 +67,8 @@ FAULTS = {
     "heapFull": "the actor has 1,024 objects, as many as it may; let it make fewer, or share the work among actors",
     "localArgument": "a message would take an object to another actor; send numbers, symbols or actors instead",
     "mustBeBoolean": "a condition was neither true nor false; look at what is asked before ifTrue:, whileTrue: and their like",
-    "notUnderstood": "no class up the chain has a method for a message that was sent; define the method, or look for a slip in "
-    "its name",
+    "notUnderstood": "no class up the chain has a method for a message that was sent, or for the one that began the turn; define "
+    "the method, or look for a slip in its name",
     "overflow": "a result has over 64 bits; let the numbers stay smaller",
     "stackOverflow": "128 methods were open at once; look for a recursion that does not end, or use a loop",
     "tooManyActors": "there are 65,536 actors, as many as there may be; let the old ones do more",

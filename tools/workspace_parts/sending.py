@@ -97,7 +97,8 @@ class Sending:
             self.session.remove(name, arguments[0]["sym"])
             return {"class": name}
         if selector.startswith("subclass:"):
-            raise Wrong(f"a class is defined as  Counter : {name} | count |", place)
+            example = "Counter" if name != "Counter" else "Clock"
+            raise Wrong(f"a class is defined as  {example} : {name} | count |", place)
         raise Wrong(f"a class only makes actors here, as in  c := {name} actor", place)
 
 

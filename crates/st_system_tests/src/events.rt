@@ -122,7 +122,7 @@ fn refuses_misplaced_events(rt: HostRuntime) -> Result<(), Fail> {
 }
 
 /// Whether the history ends with one run of three steps, and has no other.
-fn has_run_three(system: &Workers) -> bool {
+fn has_run_three(system: &TwoWorkers) -> bool {
     items(system) == 7 && ends_with_a_run(system, 3)
 }
 
@@ -180,7 +180,7 @@ fn hands_claims_back(rt: HostRuntime) -> Result<(), Fail> {
 }
 
 /// Commits a claim, and tries again where memory was refused.
-fn commit(alloc: Global, system: &mut Workers) -> Answered {
+fn commit(alloc: Global, system: &mut TwoWorkers) -> Answered {
     match apply(alloc, system, &Event::Commit(0)) {
         Err(Refusal::NoMemory) => apply(alloc, system, &Event::Commit(0)),
         answer => answer,

@@ -2,14 +2,6 @@
 #![tactic(auto)]
 
 #[cfg(test)]
-mod beside;
-#[cfg(test)]
-mod dice;
-#[cfg(test)]
 mod events;
-#[cfg(test)]
-mod lists;
-#[cfg(test)]
-mod model;
 #[cfg(test)]
 mod systems;

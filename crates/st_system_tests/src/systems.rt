@@ -1,11 +1,16 @@
-//! Systems of a few workers and their events. Each call stands behind a function without a contract: what a test does with several of
+//! A system of two workers and its events. Each call stands behind a function without a contract: what a test does with several of
 //! them is then proved in seconds.
+ghost use Rattle.std.specs.Prelude.{◌≡◌, All, IfOk, List, None};
+ghost use Rattle.st_classes.specs.declared.edits.Edit.{Edit as EditOf};
+ghost use Rattle.st_system.specs.Seats.{KeepsBeginning};
+
 use st_classes::kernel::{OBJECT, SMALL_INTEGER};
 use st_classes::refusals::Refusal;
 use st_classes::seq::Seq;
 use st_classes::values::{ActorId, ClassId, Selector};
 use st_guard::caches::Caches;
 use st_guard::global_guard::GlobalGuard;
+use st_image::image::Image;
 use st_image::items::Item;
 use st_image::settings::Settings;
 use st_mailbox::list_box::ListBox;
@@ -15,10 +20,8 @@ use st_turn::body::Stop;
 use st_turn::worker::Worker;
 use std::alloc::{AllocError, Global};
 
-/// A system of a few workers.
-pub(crate) type Workers = System<ListBox, GlobalGuard>;
-
-pub(crate) type Image = st_image::image::Image<ListBox>;
+/// A system of two workers.
+pub(crate) type TwoWorkers = System<ListBox, GlobalGuard>;
 
 /// What an event answers.
 pub(crate) type Answered = Result<Answer, Refusal>;
@@ -64,65 +67,63 @@ pub(crate) fn event(work: Work) -> Event {
     }
 }
 
-fn new_worker(alloc: Global) -> Result<Worker<GlobalGuard>, AllocError> {
-    Ok(Worker::new(Caches::new(alloc, GlobalGuard::new())?))
+/// A worker whose caches keep no list of edits.
+fn new_worker(alloc: Global) -> Result<Worker<GlobalGuard>, AllocError>
+    ensures { IfOk result (λ w. w.kept ≡ None) }
+{
+    let mut worker = Worker::new(Caches::new(alloc, GlobalGuard::new())?);
+    worker.forget();
+    Ok(worker)
 }
 
-fn new_workers(alloc: Global, count: u32) -> Result<Vec<Worker<GlobalGuard>>, AllocError> {
-    let mut workers = Vec::new(alloc);
-    for _ in 0..count {
-        workers.push(new_worker(alloc)?)?;
-    }
-    Ok(workers)
-}
-
-/// A new image with these settings, and so many workers without claims.
-pub(crate) fn system_of(
-    alloc: Global,
-    settings: Settings,
-    workers: u32,
-) -> Result<Workers, Refusal> {
-    let image = Image::new(alloc, settings)?;
-    Ok(System::new(alloc, image, new_workers(alloc, workers)?)?)
+fn two_workers(alloc: Global) -> Result<Vec<Worker<GlobalGuard>>, AllocError>
+    ensures { IfOk result (λ ws. (edits : List EditOf) → All (KeepsBeginning edits) ws.items) }
+{
+    let first = new_worker(alloc)?;
+    let second = new_worker(alloc)?;
+    Ok(vec![in alloc; first, second]?)
 }
 
 /// A new image with a history of at most so many items, and two workers without claims.
-pub(crate) fn new_system(alloc: Global, history: u32) -> Result<Workers, Refusal> {
+pub(crate) fn new_system(alloc: Global, history: u32) -> Result<TwoWorkers, Refusal> {
     let settings = Settings {
         capacity: 64,
         history,
     };
-    system_of(alloc, settings, 2)
+    let image = Image::new(alloc, settings)?;
+    let Ok(workers) = two_workers(alloc) else {
+        return Err(Refusal::NoMemory);
+    };
+    match System::new(alloc, image, workers) {
+        Ok(system) => Ok(system),
+        Err(_) => Err(Refusal::NoMemory),
+    }
 }
 
-pub(crate) fn apply(alloc: Global, system: &mut Workers, event: &Event) -> Answered {
+pub(crate) fn apply(alloc: Global, system: &mut TwoWorkers, event: &Event) -> Answered {
     system.apply(alloc, event)
 }
 
-pub(crate) fn run(alloc: Global, system: &mut Workers, events: &[Event]) {
+pub(crate) fn run(alloc: Global, system: &mut TwoWorkers, events: &[Event]) {
     system.run(alloc, events);
 }
 
-pub(crate) fn known(system: &Workers) {
+pub(crate) fn known(system: &TwoWorkers) {
     system.known();
 }
 
-pub(crate) fn image(system: &Workers) -> &Image {
-    system.image()
-}
-
 /// How many workers there are.
-pub(crate) fn workers(system: &Workers) -> usize {
+pub(crate) fn workers(system: &TwoWorkers) -> usize {
     system.workers()
 }
 
 /// How many items the history has.
-pub(crate) fn items(system: &Workers) -> usize {
+pub(crate) fn items(system: &TwoWorkers) -> usize {
     system.image().history().len()
 }
 
 /// Whether the history ends with the beginning of a turn of the actor, and so many steps of it in one item.
-pub(crate) fn ends_with_a_run(system: &Workers, wanted: u32) -> bool {
+pub(crate) fn ends_with_a_run(system: &TwoWorkers, wanted: u32) -> bool {
     match system.image().history() {
         [.., Item::Begun(begun), Item::Ran { actor, steps }] => {
             *begun == FIRST && *actor == FIRST && *steps == wanted
@@ -132,7 +133,7 @@ pub(crate) fn ends_with_a_run(system: &Workers, wanted: u32) -> bool {
 }
 
 /// Whether the history ends with the beginning of a turn of the actor.
-pub(crate) fn ends_with_a_beginning(system: &Workers) -> bool {
+pub(crate) fn ends_with_a_beginning(system: &TwoWorkers) -> bool {
     match system.image().history() {
         [.., Item::Begun(begun)] => *begun == FIRST,
         _ => false,
@@ -140,7 +141,7 @@ pub(crate) fn ends_with_a_beginning(system: &Workers) -> bool {
 }
 
 /// The place, from 0, of the first event that does not answer as it has to.
-pub(crate) fn first_wrong(alloc: Global, system: &mut Workers, rows: Rows) -> Option<usize> {
+pub(crate) fn first_wrong(alloc: Global, system: &mut TwoWorkers, rows: Rows) -> Option<usize> {
     for (place, (work, wanted)) in rows.iter().enumerate() {
         if apply(alloc, system, &event(*work)) != *wanted {
             return Some(place);
@@ -172,7 +173,7 @@ fn install_event(alloc: Global, class: ClassId, source: &str) -> Result<Event, A
 /// A method is installed.
 pub(crate) fn install(
     alloc: Global,
-    system: &mut Workers,
+    system: &mut TwoWorkers,
     class: ClassId,
     source: &str,
 ) -> Answered {
@@ -194,7 +195,7 @@ fn post(alloc: Global) -> Event {
 }
 
 /// A class with a method that sends `tag` to a number, and its number.
-fn has_classes(alloc: Global, system: &mut Workers) -> Result<bool, AllocError> {
+fn has_classes(alloc: Global, system: &mut TwoWorkers) -> Result<bool, AllocError> {
     let defined = apply(alloc, system, &define(alloc)?);
     let go = install(alloc, system, A, "go ^3 tag + 1");
     let tag = install(alloc, system, SMALL_INTEGER, "tag ^1");
@@ -208,13 +209,13 @@ fn has_classes(alloc: Global, system: &mut Workers) -> Result<bool, AllocError> 
 }
 
 /// Whether an actor of the class is made and gets a message that runs the method. The history has five items then.
-fn has_posted(alloc: Global, system: &mut Workers) -> bool {
+fn has_posted(alloc: Global, system: &mut TwoWorkers) -> bool {
     let actor = apply(alloc, system, &Event::Create(A));
     let place = apply(alloc, system, &post(alloc));
     actor == Ok(Answer::Created(FIRST)) && place == Ok(Answer::Position(1))
 }
 
 /// Whether these events answer as they have to: class A gets a method `go`, and an actor of A a message that runs it.
-pub(crate) fn is_posted(alloc: Global, system: &mut Workers) -> Result<bool, AllocError> {
+pub(crate) fn is_posted(alloc: Global, system: &mut TwoWorkers) -> Result<bool, AllocError> {
     Ok(has_classes(alloc, system)? && has_posted(alloc, system))
 }

@@ -90,7 +90,7 @@ impl<G: Guard> Worker<G> {
         ensures edits { claim.new.edits ≡ claim.old.edits }
     {
         self.move_to(claim.token());
-        claim.step(alloc, &mut self.finder)
+        claim.step(alloc, &mut self.finder, 1)
     }
 
     /// The same for a claim whose edits those begin that the caches keep, as the caller knows. No edits are compared: where they
@@ -102,7 +102,7 @@ impl<G: Guard> Worker<G> {
         ensures edits { claim.new.edits ≡ claim.old.edits }
     {
         self.move_known(claim.token());
-        claim.step(alloc, &mut self.finder)
+        claim.step(alloc, &mut self.finder, 1)
     }
 
     /// Takes steps of a claim, one after the other, until it has taken so many (it answers `More` then, for 0 too), none is next,

@@ -10,6 +10,9 @@ use st_classes::limits::OPERANDS;
 use st_classes::values::Value;
 use std::alloc::{AllocError, Global};
 
+/// The most values above the top for which a copy has room.
+const SPARE: usize = 320;
+
 impl Stack {
     /// The frames of a turn by their parts: those that wait, the last called last, and the running one. Only want of memory
     /// is an error.
@@ -34,11 +37,15 @@ impl Stack {
         })
     }
 
-    /// The same frames in memory of their own.
+    /// The same frames in memory of their own, with about as much room for calls as these have, up to a bound.
     pub fn copy(&self, alloc: Global) -> Result<Stack, AllocError>
         ensures { IfOk result (λ stack. stack ≡ self.now) }
     {
-        let size = usize::max(self.top, self.at.base + self.at.temps + OPERANDS);
+        let least = usize::max(self.top, self.at.base + self.at.temps + OPERANDS);
+        let size = usize::max(
+            least,
+            usize::min(self.values.len(), self.top.saturating_add(SPARE)),
+        );
         let mut values = Vec::with_capacity(alloc, size)?;
         values.extend_from_slice(&self.values[..self.top])?;
         values.resize(size, Value::Nil)?;

@@ -3,7 +3,7 @@ ghost use Rattle.std.specs.Prelude.{◌≡◌, ◌^◌, ℕ, List, []};
 ghost use Rattle.std.specs.Io.KnownBytes.{Appends};
 ghost use Rattle.st_wire.specs.Streams.{input_view};
 ghost use Rattle.st_session.specs.Sessions.{Replies, end_of, failures_after};
-ghost use Rattle.st_session.specs.DeviceSessions.{DeviceSession, FlushesBeforeReads};
+ghost use Rattle.st_session.specs.DeviceSessions.{DeviceSession, FlushesAsOftenAsReads};
 ghost use Rattle.st_server.specs.CommandReplies.{Serves};
 ghost use Rattle.st_server.specs.Scripts.{RunsScript, Script};
 
@@ -29,7 +29,7 @@ fn answer_input<I: Input, O: Output>(
         let after = input_view I.remaining I.failures I.reads input.new in
         (written : List ℕ) × Appends (O.contents output.old) (O.contents output.new) written
         × DeviceSession (Replies (Serves quantum)) runner before after written result.0 result.1 }
-    ensures flushes { FlushesBeforeReads (2 ^ 32) (I.reads input.old) (I.reads input.new) (O.flushes output.old) (O.flushes output.new) result.1 }
+    ensures flushes { FlushesAsOftenAsReads (2 ^ 32) (I.reads input.old) (I.reads input.new) (O.flushes output.old) (O.flushes output.new) result.1 }
     ensures failures { O.failures output.new ≡ failures_after (end_of result.1) (O.failures output.old) }
 {
     let mut handler = ImageHandler { runner, quantum };
@@ -49,7 +49,7 @@ fn run_script<I: Input, O: Output>(
         let after = input_view I.remaining I.failures I.reads input.new in
         (written : List ℕ) × Appends (O.contents output.old) (O.contents output.new) written
         × RunsScript quantum image before after written result.0 result.1 }
-    ensures flushes { FlushesBeforeReads (2 ^ 32) (I.reads input.old) (I.reads input.new) (O.flushes output.old) (O.flushes output.new) result.1 }
+    ensures flushes { FlushesAsOftenAsReads (2 ^ 32) (I.reads input.old) (I.reads input.new) (O.flushes output.old) (O.flushes output.new) result.1 }
     ensures failures { O.failures output.new ≡ failures_after (end_of result.1) (O.failures output.old) }
 {
     match Runner::new(alloc, image) {
@@ -80,7 +80,7 @@ pub fn script_on<I: Input, O: Output>(
         let after = input_view I.remaining I.failures I.reads input.new in
         (written : List ℕ) × Appends (O.contents output.old) (O.contents output.new) written
         × Script settings image before after written result.0 result.1 }
-    ensures flushes { FlushesBeforeReads (2 ^ 32) (I.reads input.old) (I.reads input.new) (O.flushes output.old) (O.flushes output.new) result.1 }
+    ensures flushes { FlushesAsOftenAsReads (2 ^ 32) (I.reads input.old) (I.reads input.new) (O.flushes output.old) (O.flushes output.new) result.1 }
     ensures failures { O.failures output.new ≡ failures_after (end_of result.1) (O.failures output.old) }
 {
     let Some(quantum) = Quantum::new(settings.quantum) else {

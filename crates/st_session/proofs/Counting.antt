@@ -2,7 +2,7 @@
 use Rattle.std.proofs.Common.{arith, ◌≡◌, ℕ, zero, suc, ◌+◌, ◌^◌, ◌<◌, ap, refl, sym, inl, inr, Result, Err, ◌∙◌, add-zero, zero-add, add-suc}
 use Rattle.st_classes.specs.declared.refusals.Refusal.{Refusal}
 use Rattle.st_classes.specs.declared.refusals.Refusal.TheVariants.{WriteFault}
-use Rattle.st_session.specs.DeviceSessions.{FlushesBeforeReads}
+use Rattle.st_session.specs.DeviceSessions.{FlushesAsOftenAsReads}
 use Rattle.st_wire.specs.Streams.{one_more, so_many_more}
 
 twice : (n m count : ℕ) → so_many_more (suc m) (so_many_more (suc n) count) ≡ so_many_more (suc (suc n + m)) count
@@ -17,7 +17,7 @@ pub one_then : (n now before after : ℕ) → now ≡ so_many_more n before → 
 one_then n now before after e f = f ∙ ap one_more e ∙ so_many_then n 1 before
 
 -- what was flushed and read before, and what was then
-pub flushed_then : {T U : Type 0} (n r s t f g h : ℕ) (e : Refusal) → n < 2 ^ 32 → s ≡ so_many_more n r → g ≡ so_many_more n f → FlushesBeforeReads {T = T} 1 s t g h (Err e) → FlushesBeforeReads {T = U} (2 ^ 32) r t f h (Err e)
+pub flushed_then : {T U : Type 0} (n r s t f g h : ℕ) (e : Refusal) → n < 2 ^ 32 → s ≡ so_many_more n r → g ≡ so_many_more n f → FlushesAsOftenAsReads {T = T} 1 s t g h (Err e) → FlushesAsOftenAsReads {T = U} (2 ^ 32) r t f h (Err e)
 flushed_then {T} {U} n r s t f g h e bound counted flushed (m, one, more, inl last) =
     (n + m, omega (arith, bound, one), more ∙ ap (so_many_more m) counted ∙ so_many_then n m r, inl (last ∙ ap (so_many_more m) flushed ∙ so_many_then n m f))
 flushed_then {T} {U} n r s t f g h e bound counted flushed (m, one, more, inr (fault, last)) =

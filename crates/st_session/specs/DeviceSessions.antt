@@ -66,10 +66,9 @@ ByteSession replies i bytes written j (Err e) = Session replies i (lines bytes) 
     × Session replies i (whole_lines taken) written j None
     × (((e ≡ NoMemory) ⊎ (e ≡ WriteFault)) ⊎ ((e ≡ ReadFault) × (2 ^ 32 ≤ length bytes))))
 
--- the output was flushed before each read of the input, of which there were no more than so many, and never else; behind a flush
--- that failed there was no read
-abbrev pub FlushesBeforeReads : {T : Type 0} → ℕ → ℕ → ℕ → ℕ → ℕ → Result T Refusal → Type 0
-FlushesBeforeReads most reads reads_after flushes flushes_after result = (n : ℕ) × (n ≤ most)
+-- the input was read no more than so many times, and the output was flushed as often; or once more, where the result is WriteFault
+abbrev pub FlushesAsOftenAsReads : {T : Type 0} → ℕ → ℕ → ℕ → ℕ → ℕ → Result T Refusal → Type 0
+FlushesAsOftenAsReads most reads reads_after flushes flushes_after result = (n : ℕ) × (n ≤ most)
     × (reads_after ≡ so_many_more n reads)
     × ((flushes_after ≡ so_many_more n flushes)
     ⊎ ((result ≡ Err WriteFault) × (flushes_after ≡ so_many_more (n + 1) flushes)))

@@ -6,7 +6,7 @@ ghost use Rattle.st_wire.specs.declared.replies.Reply.{Reply as ReplyOf};
 ghost use Rattle.st_wire.specs.Replies.{line_of};
 ghost use Rattle.st_wire.specs.Streams.{one_more};
 ghost use Rattle.st_session.specs.Sessions.{Breaks, Replies, end_of, failures_after};
-ghost use Rattle.st_session.specs.DeviceSessions.{FlushesBeforeReads};
+ghost use Rattle.st_session.specs.DeviceSessions.{FlushesAsOftenAsReads};
 ghost use Rattle.st_session.specs.Cuts.{Holds, IsOpen};
 ghost use Rattle.st_session.specs.Answering.{IsTold, Served, AnswersNext, AnswersWhole, AnswersLast, IsUnreadBy, TakesTurn};
 
@@ -171,7 +171,7 @@ fn read_piece<I: Input, O: Output>(
     ensures unfailed { OnOk result (I.failures input.new ≡ I.failures input.old) }
     ensures why { IfErr result (IsUnreadBy (I.failures input.old) (I.failures input.new)) }
     ensures read { OnOk result ((I.reads input.new ≡ one_more (I.reads input.old)) × (O.flushes output.new ≡ one_more (O.flushes output.old))) }
-    ensures flushes { FlushesBeforeReads 1 (I.reads input.old) (I.reads input.new) (O.flushes output.old) (O.flushes output.new) result }
+    ensures flushes { FlushesAsOftenAsReads 1 (I.reads input.old) (I.reads input.new) (O.flushes output.old) (O.flushes output.new) result }
     ensures failures { O.failures output.new ≡ failures_after (end_of result) (O.failures output.old) }
 {
     let Ok(()) = unread.reserve(PIECE) else {
@@ -204,7 +204,7 @@ pub(crate) fn take_turn<H: Handler, I: Input, O: Output>(
         × TakesTurn (Replies H.answers) (I.failures input.old) (I.failures input.new) pending piece handler.old part handler.new unread.new result }
     ensures end { IfOk result (λ n. IfNone n (IsAtEnd (I.remaining input.new))) }
     ensures read { OnOk result ((I.reads input.new ≡ one_more (I.reads input.old)) × (O.flushes output.new ≡ one_more (O.flushes output.old))) }
-    ensures flushes { FlushesBeforeReads 1 (I.reads input.old) (I.reads input.new) (O.flushes output.old) (O.flushes output.new) result }
+    ensures flushes { FlushesAsOftenAsReads 1 (I.reads input.old) (I.reads input.new) (O.flushes output.old) (O.flushes output.new) result }
     ensures failures { O.failures output.new ≡ failures_after (end_of result) (O.failures output.old) }
 {
     match read_piece(input, output, unread, buffer) {

@@ -3,7 +3,7 @@ ghost use Rattle.std.specs.Prelude.{◌≡◌, ◌^◌, ℕ, List};
 ghost use Rattle.std.specs.Io.KnownBytes.{Appends};
 ghost use Rattle.st_wire.specs.Streams.{input_view};
 ghost use Rattle.st_session.specs.Sessions.{Replies, end_of, failures_after};
-ghost use Rattle.st_session.specs.DeviceSessions.{DeviceSession, FlushesBeforeReads};
+ghost use Rattle.st_session.specs.DeviceSessions.{DeviceSession, FlushesAsOftenAsReads};
 
 use crate::answering::{PIECE, answer_last, take_turn};
 use crate::handlers::Handler;
@@ -15,8 +15,9 @@ use std::alloc::Global;
 /// The most reads of a session.
 const READS: u64 = 1 << 32;
 
-/// Writes to an output a reply to each line of an input, and says how many lines there were. Each line is answered before more
-/// bytes are read than came with its newline, and what was written is handed on before each read.
+/// Writes to an output a reply to each line of an input, and says how many lines there were. The output is flushed as often as
+/// the input is read, or once more where it ends with WriteFault. What no clause says, and is tested: the flush comes before the
+/// read, and each line is answered before more bytes are read than came with its newline.
 ///
 /// It ends before the last line, and says why: with TooLong or BadCommand at a line that is over 8,192 bytes or no UTF-8, which
 /// is replied to but not handled; with WriteFault where a write or a flush failed; with ReadFault where a read failed or 2^32 of
@@ -32,7 +33,7 @@ pub fn session<H: Handler, I: Input, O: Output>(
         let after = input_view I.remaining I.failures I.reads input.new in
         (written : List ℕ) × Appends (O.contents output.old) (O.contents output.new) written
         × DeviceSession (Replies H.answers) handler.old before after written handler.new result }
-    ensures flushes { FlushesBeforeReads (2 ^ 32) (I.reads input.old) (I.reads input.new) (O.flushes output.old) (O.flushes output.new) result }
+    ensures flushes { FlushesAsOftenAsReads (2 ^ 32) (I.reads input.old) (I.reads input.new) (O.flushes output.old) (O.flushes output.new) result }
     ensures failures { O.failures output.new ≡ failures_after (end_of result) (O.failures output.old) }
 {
     let mut unread = Unread::new(alloc);

@@ -148,3 +148,91 @@ fn finishes_a_buffered_device(rt: HostRuntime) -> Result<(), Fail> {
     assert!(rt; device.taken.as_slice() == b"abc".as_slice());
     Ok(())
 }
+
+/// A device that takes all bytes and counts its flushes. The first flush may fail.
+#[derive(Drop)]
+struct Flushed {
+    first: Option<ErrorKind>,
+    flushes: u32,
+    taken: usize,
+}
+
+impl Flushed {
+    /// One whose first flush ends so.
+    fn new(first: Option<ErrorKind>) -> Flushed {
+        Flushed {
+            first,
+            flushes: 0,
+            taken: 0,
+        }
+    }
+}
+
+impl Write for Flushed {
+    fn write(&mut self, bytes: &[u8]) -> io::Result<usize> {
+        self.taken = self.taken.saturating_add(bytes.len());
+        Ok(bytes.len())
+    }
+
+    fn flush(&mut self) -> io::Result<()> {
+        self.flushes = self.flushes.saturating_add(1);
+        match self.first.take() {
+            Some(kind) => Err(io::Error::from(kind)),
+            None => Ok(()),
+        }
+    }
+}
+
+/// Writes three bytes, and flushes them if that is asked for.
+fn three_bytes<O: Output>(output: &mut O, is_flushed: bool) -> Result<(), WriteFailed> {
+    write_all(output, b"abc")?;
+    if is_flushed {
+        return output.flush();
+    }
+    Ok(())
+}
+
+/// The same through a buffer before a device, as the program has it.
+fn three_buffered(
+    alloc: Global,
+    device: &mut Flushed,
+    is_flushed: bool,
+) -> Result<Result<(), WriteFailed>, Fail> {
+    let mut output = Writer::new(BufWriter::new(alloc, device)?);
+    Ok(three_bytes(&mut output, is_flushed))
+}
+
+/// How the first flush of a device ends, what that of the output above it answers, and how often the device is flushed then.
+const FLUSHES: &[(Option<ErrorKind>, Result<(), WriteFailed>, u32)] = &[
+    (None, Ok(()), 1),
+    (Some(ErrorKind::Interrupted), Ok(()), 2),
+    (Some(ErrorKind::BrokenPipe), Err(WriteFailed), 1),
+    (Some(ErrorKind::WouldBlock), Err(WriteFailed), 1),
+];
+
+/// The table behind a function without a contract, so that the proof of a test carries none of it.
+fn flushes() -> &'static [(Option<ErrorKind>, Result<(), WriteFailed>, u32)] {
+    FLUSHES
+}
+
+#[test]
+fn a_flush_reaches_the_device(rt: HostRuntime) -> Result<(), Fail> {
+    for (first, wanted, count) in flushes() {
+        let mut device = Flushed::new(*first);
+        assert!(rt; three_bytes(&mut Writer::new(&mut device), true) == *wanted);
+        assert!(rt; device.flushes == *count);
+        let mut device = Flushed::new(*first);
+        assert!(rt; three_buffered(rt.alloc(), &mut device, true)? == *wanted);
+        assert!(rt; device.flushes == *count && device.taken == 3);
+    }
+    Ok(())
+}
+
+#[test]
+fn a_write_does_not_flush(rt: HostRuntime) -> Result<(), Fail> {
+    let mut device = Flushed::new(None);
+    assert!(rt; three_bytes(&mut Writer::new(&mut device), false) == Ok(()));
+    assert!(rt; three_buffered(rt.alloc(), &mut device, false)? == Ok(()));
+    assert!(rt; device.flushes == 0);
+    Ok(())
+}

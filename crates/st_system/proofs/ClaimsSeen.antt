@@ -22,6 +22,13 @@ takes_one {G} floor v w c d Ended h = (h.0, ap bare h.2)
 takes_one {G} floor v w c d Outer h = (h.0, ap bare h.2)
 takes_one {G} floor v w c d Limit h = (h.0, ap bare h.2)
 
+-- what a step did is the same, whatever a refusal would have been
+pub steps_as : {G : Type 0} (D E : Type 0) (floor : G → Selector → ℕ) (v w : CachesView G) (c d : ClaimView) (stop : Stop) → Steps {E = D} floor v c (Ok stop) w d → Steps {E = E} floor v c (Ok stop) w d
+steps_as {G} D E floor v w c d More h = h
+steps_as {G} D E floor v w c d Ended h = h
+steps_as {G} D E floor v w c d Outer h = h
+steps_as {G} D E floor v w c d Limit h = h
+
 -- a step for which memory was refused
 pub takes_none : (c d : ClaimView) → d ≡ c → TakesOne (bare c) (Err NoMemory) (bare d)
 takes_none c d h = (refl, ap bare h)

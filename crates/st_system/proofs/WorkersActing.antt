@@ -12,6 +12,7 @@ use Rattle.st_system.specs.Schedules.{BareClaim, claim_of, schedule}
 use Rattle.st_system.specs.Seats.{SeatView, SystemView}
 use Rattle.st_system.specs.ImageEvents.{OfImage, told}
 use Rattle.st_system.specs.ClaimEvents.{AtWorker}
+use Rattle.st_system.specs.WorkerEvents.{AtSeat}
 
 -- a call of the image, which leaves the workers
 pub image_acts : {G A : Type 0} (tell : A → Answer) (Call : ImageView → Result A Refusal → ImageView → Type 0) (S T : SystemView G) (r : Result A Refusal) → Call S.image r T.image → T.seats ≡ S.seats → OfImage tell (Call S.image) (schedule S) (told tell r) (schedule T)
@@ -28,3 +29,12 @@ pub worker_acts : {G : Type 0} (Does : ImageView → Option BareClaim → Result
 worker_acts {G} Does S T w s t r there changed does =
     let some : slice_get (map claim_of S.seats) w ≡ Some (claim_of s) = slice_get-map claim_of S.seats w ∙ ap (option_map claim_of) there in
     subst (λ (o : Option (Option BareClaim)). AtWorker Does (schedule S) w r (schedule T) o) (sym some) (claim_of t, does, ap (map claim_of) changed ∙ map-set claim_of S.seats w t)
+
+-- the same, where the whole of each worker is seen
+pub no_seat : {G : Type 0} (Does : ImageView → SeatView G → Result Answer Refusal → ImageView → SeatView G → Type 0) (S T : SystemView G) (w : ℕ) (r : Result Answer Refusal) → length S.seats ≤ w → T.seats ≡ S.seats → AtSeat Does S w r T (slice_get S.seats w)
+no_seat {G} Does S T w r past same =
+    subst (λ (o : Option (SeatView G)). AtSeat Does S w r T o) (sym (slice_get_past S.seats w past)) same
+
+pub seat_acts : {G : Type 0} (Does : ImageView → SeatView G → Result Answer Refusal → ImageView → SeatView G → Type 0) (S T : SystemView G) (w : ℕ) (s t : SeatView G) (r : Result Answer Refusal) → slice_get S.seats w ≡ Some s → T.seats ≡ slice_set S.seats w t → Does S.image s r T.image t → AtSeat Does S w r T (slice_get S.seats w)
+seat_acts {G} Does S T w s t r there changed does =
+    subst (λ (o : Option (SeatView G)). AtSeat Does S w r T o) (sym there) (t, does, changed)

@@ -6,3 +6,4 @@ pub mod Acts
 pub mod Uncommitted
 pub mod Forgetting
 pub mod Others
+pub mod WorkerEvents

@@ -1,5 +1,5 @@
 //! A worker of a system, and what it does with its claim.
-ghost use Rattle.std.specs.Prelude.{◌≡◌, ◌↔◌, IsTrue, Result};
+ghost use Rattle.std.specs.Prelude.{◌≡◌, ◌↔◌, IsTrue, None, Result};
 ghost use Rattle.st_classes.specs.declared.refusals.Refusal.{Refusal as RefusalOf};
 ghost use Rattle.st_turn.specs.declared.body.Stop.{Stop as StopOf};
 ghost use Rattle.st_turn.specs.Claims.{BeganAs};
@@ -9,6 +9,7 @@ ghost use Rattle.st_system.specs.Seats.{AreValidWhereKept, FitsSeat, GoesOnIn, H
 ghost use Rattle.st_system.specs.Schedules.{bare, claim_of};
 ghost use Rattle.st_system.specs.ImageEvents.{told};
 ghost use Rattle.st_system.specs.ClaimEvents.{CommitsClaim, KeepsClaim, OfClaim, ReleasesClaim, StepsClaim, TakesClaim, TakesOne};
+ghost use Rattle.st_system.specs.WorkerEvents.{ChecksOutSeat, CommitsSeat, MovesAndSteps, StepsSeat};
 
 use crate::calls;
 use crate::events::Answer;
@@ -60,6 +61,7 @@ fn take_one<G: Guard>(
 ) -> Result<Answer, Refusal>
     requires { KeepsBeginning claim.old.edits worker.old }
     ensures takes { (stop : Result StopOf RefusalOf) × (result ≡ told Stopped stop) × TakesOne (bare claim.old) stop (bare claim.new) }
+    ensures whole { MovesAndSteps G.count G.floor G.raises worker.old claim.old result worker.new claim.new }
     ensures began { BeganAs claim.old claim.new }
     ensures kept { KeepsBeginning claim.new.edits worker.new }
 {
@@ -104,6 +106,7 @@ impl<G: Guard> Seat<G> {
     ) -> Result<Answer, Refusal>
         requires { FitsSeat image.old self.old }
         ensures acts { TakesClaim actor image.old (claim_of self.old) result image.new (claim_of self.new) }
+        ensures whole { ChecksOutSeat actor image.old self.old self.old.claim result image.new self.new }
         ensures caches { self.new.caches ≡ self.old.caches }
         ensures later { GoesOnIn image.old image.new }
         ensures fits { FitsSeat image.new self.new }
@@ -119,6 +122,7 @@ impl<G: Guard> Seat<G> {
     /// Takes one step of the claim. The image isn't asked.
     pub(crate) fn step(&mut self, alloc: Global) -> Result<Answer, Refusal>
         ensures acts { (image : ImageView) → OfClaim StepsClaim image (claim_of self.old) result image (claim_of self.new) }
+        ensures whole { StepsSeat G.count G.floor G.raises self.old self.old.claim result self.new }
         ensures fits { (image : ImageView) → FitsSeat image self.old → FitsSeat image self.new }
     {
         match &mut self.claim {
@@ -135,6 +139,7 @@ impl<G: Guard> Seat<G> {
     ) -> Result<Answer, Refusal>
         requires { FitsSeat image.old self.old }
         ensures acts { OfClaim CommitsClaim image.old (claim_of self.old) result image.new (claim_of self.new) }
+        ensures whole { CommitsSeat image.old self.old self.old.claim result image.new self.new }
         ensures caches { self.new.caches ≡ self.old.caches }
         ensures later { GoesOnIn image.old image.new }
         ensures fits { FitsSeat image.new self.new }
@@ -155,6 +160,7 @@ impl<G: Guard> Seat<G> {
     pub(crate) fn release<M: Mailbox>(&mut self, image: &mut Image<M>) -> Result<Answer, Refusal>
         requires { FitsSeat image.old self.old }
         ensures acts { OfClaim ReleasesClaim image.old (claim_of self.old) result image.new (claim_of self.new) }
+        ensures whole { self.new ≡ record self.old { claim = None } }
         ensures caches { self.new.caches ≡ self.old.caches }
         ensures later { GoesOnIn image.old image.new }
         ensures fits { FitsSeat image.new self.new }

@@ -11,6 +11,7 @@ ghost use Rattle.st_system.specs.Forgetting.{HasForgotten};
 ghost use Rattle.st_system.specs.Others.{LeavesOthers};
 ghost use Rattle.st_system.specs.Schedules.{schedule};
 ghost use Rattle.st_system.specs.Seats.{AreValidWhereKept, TakesSeat};
+ghost use Rattle.st_system.specs.WorkerEvents.{TellsWork};
 
 mod image_events;
 mod worker_events;
@@ -119,10 +120,14 @@ impl<M: Mailbox, G: Guard> System<M, G> {
     /// call. After a refused commit the worker keeps its claim, unless it was refused by `Stale` or `Changed`. Else a
     /// refused event changes nothing but names. A worker that forgets has empty caches. An event of a worker leaves the caches and the
     /// claims of all others as they were, and one of the image those of all workers.
+    ///
+    /// A step moves the worker's caches to its claim's edits, and takes the step with them. A commit commits the worker's whole claim,
+    /// with its sends and its stamp.
     pub fn apply(&mut self, alloc: Global, event: &Event) -> Result<Answer, Refusal>
         ensures acts { Acts (schedule self.old) event.now result (schedule self.new) }
         ensures forgotten { HasForgotten event.now self.new.seats }
         ensures others { LeavesOthers event.now self.old.seats self.new.seats }
+        ensures work { TellsWork G.count G.floor G.raises self.old event.now result self.new }
     {
         match event {
             Event::Intern(text) => self.intern(alloc, text),

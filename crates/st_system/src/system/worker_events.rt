@@ -13,6 +13,7 @@ impl<M: Mailbox, G: Guard> System<M, G> {
     ghost use Rattle.st_system.specs.Acts.{Acts};
     ghost use Rattle.st_system.specs.Others.{LeavesOthers};
     ghost use Rattle.st_system.specs.Seats.{HaveNothing};
+    ghost use Rattle.st_system.specs.WorkerEvents.{TellsWork};
     ghost use Rattle.st_system.specs.Schedules.{schedule};
 
     pub(super) fn check_out(
@@ -23,6 +24,7 @@ impl<M: Mailbox, G: Guard> System<M, G> {
     ) -> Result<Answer, Refusal>
         ensures acts { Acts (schedule self.old) (CheckoutOf worker actor) result (schedule self.new) }
         ensures others { LeavesOthers (CheckoutOf worker actor) self.old.seats self.new.seats }
+        ensures work { TellsWork G.count G.floor G.raises self.old (CheckoutOf worker actor) result self.new }
     {
         let place = worker as usize;
         if place >= self.seats.len() {
@@ -35,6 +37,7 @@ impl<M: Mailbox, G: Guard> System<M, G> {
     pub(super) fn step(&mut self, alloc: Global, worker: u32) -> Result<Answer, Refusal>
         ensures acts { Acts (schedule self.old) (LocalOf worker) result (schedule self.new) }
         ensures others { LeavesOthers (LocalOf worker) self.old.seats self.new.seats }
+        ensures work { TellsWork G.count G.floor G.raises self.old (LocalOf worker) result self.new }
     {
         let place = worker as usize;
         if place >= self.seats.len() {
@@ -47,6 +50,7 @@ impl<M: Mailbox, G: Guard> System<M, G> {
     pub(super) fn commit(&mut self, alloc: Global, worker: u32) -> Result<Answer, Refusal>
         ensures acts { Acts (schedule self.old) (CommitOf worker) result (schedule self.new) }
         ensures others { LeavesOthers (CommitOf worker) self.old.seats self.new.seats }
+        ensures work { TellsWork G.count G.floor G.raises self.old (CommitOf worker) result self.new }
     {
         let place = worker as usize;
         if place >= self.seats.len() {
@@ -59,6 +63,7 @@ impl<M: Mailbox, G: Guard> System<M, G> {
     pub(super) fn release(&mut self, worker: u32) -> Result<Answer, Refusal>
         ensures acts { Acts (schedule self.old) (ReleaseOf worker) result (schedule self.new) }
         ensures others { LeavesOthers (ReleaseOf worker) self.old.seats self.new.seats }
+        ensures work { TellsWork G.count G.floor G.raises self.old (ReleaseOf worker) result self.new }
     {
         let place = worker as usize;
         if place >= self.seats.len() {
@@ -71,6 +76,7 @@ impl<M: Mailbox, G: Guard> System<M, G> {
     pub(super) fn forget(&mut self, worker: u32) -> Result<Answer, Refusal>
         ensures acts { Acts (schedule self.old) (ForgetOf worker) result (schedule self.new) }
         ensures others { LeavesOthers (ForgetOf worker) self.old.seats self.new.seats }
+        ensures work { TellsWork G.count G.floor G.raises self.old (ForgetOf worker) result self.new }
         ensures forgotten { IfSome (slice_get self.new.seats worker) (λ s. HaveNothing s.caches) }
     {
         let place = worker as usize;

@@ -2,7 +2,8 @@ use Rattle.std.proofs.Common.{refl, Ok, Err}
 use Rattle.st_classes.specs.declared.refusals.Refusal.TheVariants.{NoMemory}
 use Rattle.st_turn.proofs.ClaimBeginnings.{step_began}
 use Rattle.std.specs.declared.alloc.AllocError.{AllocError}
-use Rattle.st_system.proofs.ClaimsSeen.{began_same, takes_none, takes_one}
+use Rattle.st_classes.specs.declared.refusals.Refusal.{Refusal}
+use Rattle.st_system.proofs.ClaimsSeen.{began_same, steps_as, takes_none, takes_one}
 use Rattle.st_system.proofs.Seats.{begins_by, kept_of_claim}
 use Rattle.st_system.proofs.seat.take_one.Goals as goal
 
@@ -20,3 +21,21 @@ returns-in-Ok-clause-began g c = step_began {E = AllocError} g.G.Guard.floor c.i
 
 pub returns-in-Err-clause-began : goal.returns-in-Err-clause-began
 returns-in-Err-clause-began g c = began_same c.args.claim.now c.step_known.new.claim c.in-Err.ensures.steps.2
+
+pub returns-in-Ok-clause-whole : goal.returns-in-Ok-clause-whole
+returns-in-Ok-clause-whole g c = record {
+  moved = c.in-Ok.ensures.steps.0;
+  stop = Ok c.in-Ok.stop;
+  answered = refl;
+  moves = c.in-Ok.ensures.steps.1;
+  steps = steps_as AllocError Refusal g.G.Guard.floor c.in-Ok.ensures.steps.0 c.step_known.new.self c.args.claim.now c.step_known.new.claim c.in-Ok.stop c.in-Ok.ensures.steps.2;
+}
+
+pub returns-in-Err-clause-whole : goal.returns-in-Err-clause-whole
+returns-in-Err-clause-whole g c = record {
+  moved = c.in-Err.ensures.steps.0;
+  stop = Err NoMemory;
+  answered = refl;
+  moves = c.in-Err.ensures.steps.1;
+  steps = c.in-Err.ensures.steps.2;
+}

@@ -5,7 +5,8 @@ use Rattle.st_system.specs.ClaimEvents.{AtWorker, OfClaim, CommitsClaim}
 use Rattle.st_system.specs.Schedules.{schedule}
 use Rattle.st_system.specs.Seats.{SystemView}
 use Rattle.st_system.proofs.Seats.{all_set}
-use Rattle.st_system.proofs.WorkersActing.{worker_acts}
+use Rattle.st_system.specs.WorkerEvents.{CommitsSeat, TellsWork}
+use Rattle.st_system.proofs.WorkersActing.{seat_acts, worker_acts}
 use Rattle.st_system.proofs.OtherSeats.{leaves_others}
 use Rattle.st_system.specs.declared.events.Event.TheVariants.{Commit}
 use Rattle.st_system.specs.Others.{LeavesOthers}
@@ -29,3 +30,12 @@ returns-clause-others g c =
     let there : slice_get seats c.args.worker ≡ Some c.index_mut-seat.result.now = slice_get_read seats (length seats) c.args.worker c.index_mut-seat.result.now refl (search rules) c.index_mut-seat.ensures.value in
     let others = leaves_others (Commit c.args.worker) c.args.worker seats c.index_mut-seat.result.now c.commit.new.self refl there (λ apart. c.commit.ensures.caches) in
     subst (λ (X : SystemView g.row.G.Denot). LeavesOthers (Commit c.args.worker) X.seats (slice_set seats c.args.worker c.commit.new.self)) c.self.view_is others
+
+pub returns-clause-work : goal.returns-clause-work
+returns-clause-work g c =
+    let seats = c.self.inside.seats.items in
+    let there : slice_get seats c.args.worker ≡ Some c.index_mut-seat.result.now = slice_get_read seats (length seats) c.args.worker c.index_mut-seat.result.now refl (search rules) c.index_mut-seat.ensures.value in
+    let S : SystemView g.row.G.Denot = record { image = c.self.inside.image; seats = seats } in
+    let T : SystemView g.row.G.Denot = record { image = c.commit.new.image; seats = slice_set seats c.args.worker c.commit.new.self } in
+    let work = seat_acts (λ i s answer j t. CommitsSeat i s s.claim answer j t) S T c.args.worker c.index_mut-seat.result.now c.commit.new.self c.commit.result there refl c.commit.ensures.whole in
+    subst (λ (X : SystemView g.row.G.Denot). TellsWork g.G.Guard.count g.G.Guard.floor g.G.Guard.raises X (Commit c.args.worker) c.commit.result T) c.self.view_is work

@@ -1,11 +1,12 @@
-use Rattle.std.proofs.Common.{rules, refl, subst, ◌≡◌, Some}
+use Rattle.std.proofs.Common.{rules, refl, subst, ◌≡◌, None, Some}
 use Rattle.std.specs.Prelude.{length, slice_get, slice_set}
 use Rattle.std.proofs.lemmas.Option.{slice_get_read}
 use Rattle.st_system.specs.ClaimEvents.{AtWorker, OfClaim, ReleasesClaim}
 use Rattle.st_system.specs.Schedules.{schedule}
 use Rattle.st_system.specs.Seats.{SystemView}
 use Rattle.st_system.proofs.Seats.{all_set}
-use Rattle.st_system.proofs.WorkersActing.{worker_acts}
+use Rattle.st_system.specs.WorkerEvents.{TellsWork}
+use Rattle.st_system.proofs.WorkersActing.{seat_acts, worker_acts}
 use Rattle.st_system.proofs.OtherSeats.{leaves_others}
 use Rattle.st_system.specs.declared.events.Event.TheVariants.{Release}
 use Rattle.st_system.specs.Others.{LeavesOthers}
@@ -29,3 +30,12 @@ returns-clause-others g c =
     let there : slice_get seats c.args.worker ≡ Some c.index_mut-seat.result.now = slice_get_read seats (length seats) c.args.worker c.index_mut-seat.result.now refl (search rules) c.index_mut-seat.ensures.value in
     let others = leaves_others (Release c.args.worker) c.args.worker seats c.index_mut-seat.result.now c.release.new.self refl there (λ apart. c.release.ensures.caches) in
     subst (λ (X : SystemView g.row.G.Denot). LeavesOthers (Release c.args.worker) X.seats (slice_set seats c.args.worker c.release.new.self)) c.self.view_is others
+
+pub returns-clause-work : goal.returns-clause-work
+returns-clause-work g c =
+    let seats = c.self.inside.seats.items in
+    let there : slice_get seats c.args.worker ≡ Some c.index_mut-seat.result.now = slice_get_read seats (length seats) c.args.worker c.index_mut-seat.result.now refl (search rules) c.index_mut-seat.ensures.value in
+    let S : SystemView g.row.G.Denot = record { image = c.self.inside.image; seats = seats } in
+    let T : SystemView g.row.G.Denot = record { image = c.release.new.image; seats = slice_set seats c.args.worker c.release.new.self } in
+    let work = seat_acts (λ i s answer j t. t ≡ record s { claim = None }) S T c.args.worker c.index_mut-seat.result.now c.release.new.self c.release.result there refl c.release.ensures.whole in
+    subst (λ (X : SystemView g.row.G.Denot). TellsWork g.G.Guard.count g.G.Guard.floor g.G.Guard.raises X (Release c.args.worker) c.release.result T) c.self.view_is work

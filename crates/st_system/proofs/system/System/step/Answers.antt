@@ -6,7 +6,8 @@ use Rattle.st_system.specs.ClaimEvents.{AtWorker, OfClaim, StepsClaim}
 use Rattle.st_system.specs.Schedules.{schedule}
 use Rattle.st_system.specs.Seats.{FitsSeat, SystemView}
 use Rattle.st_system.proofs.Seats.{all_set, goes_on_same}
-use Rattle.st_system.proofs.WorkersActing.{worker_acts}
+use Rattle.st_system.specs.WorkerEvents.{StepsSeat, TellsWork}
+use Rattle.st_system.proofs.WorkersActing.{seat_acts, worker_acts}
 use Rattle.st_system.proofs.OtherSeats.{leaves_others}
 use Rattle.st_system.specs.declared.events.Event.TheVariants.{Local}
 use Rattle.st_system.specs.Others.{LeavesOthers}
@@ -32,3 +33,12 @@ returns-clause-others g c =
     let there : slice_get seats c.args.worker ≡ Some c.index_mut-seat.result.now = slice_get_read seats (length seats) c.args.worker c.index_mut-seat.result.now refl (search rules) c.index_mut-seat.ensures.value in
     let others = leaves_others (Local c.args.worker) c.args.worker seats c.index_mut-seat.result.now c.step.new.self refl there (λ apart. cc) in
     subst (λ (X : SystemView g.row.G.Denot). LeavesOthers (Local c.args.worker) X.seats (slice_set seats c.args.worker c.step.new.self)) c.self.view_is others
+
+pub returns-clause-work : goal.returns-clause-work
+returns-clause-work g c =
+    let seats = c.self.inside.seats.items in
+    let there : slice_get seats c.args.worker ≡ Some c.index_mut-seat.result.now = slice_get_read seats (length seats) c.args.worker c.index_mut-seat.result.now refl (search rules) c.index_mut-seat.ensures.value in
+    let S : SystemView g.row.G.Denot = record { image = c.self.inside.image; seats = seats } in
+    let T : SystemView g.row.G.Denot = record { image = c.self.inside.image; seats = slice_set seats c.args.worker c.step.new.self } in
+    let work = seat_acts (λ i s answer j t. StepsSeat g.G.Guard.count g.G.Guard.floor g.G.Guard.raises s s.claim answer t) S T c.args.worker c.index_mut-seat.result.now c.step.new.self c.step.result there refl c.step.ensures.whole in
+    subst (λ (X : SystemView g.row.G.Denot). TellsWork g.G.Guard.count g.G.Guard.floor g.G.Guard.raises X (Local c.args.worker) c.step.result T) c.self.view_is work

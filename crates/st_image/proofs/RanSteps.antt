@@ -44,7 +44,7 @@ use Rattle.st_image.specs.ActResults.{world_after}
 use Rattle.st_image.specs.Images.{ImageView, constants, world}
 use Rattle.st_image.specs.WorldInvariant.{IsLawful}
 use Rattle.st_image.specs.SentMessages.{Sending, frame_message, instruction_message, message_in, sent_key, turn_message}
-use Rattle.st_image.specs.RanTargets.{EachStepRan, HasRun, RunsAct, RunsMessage, RunsTarget, edits_among}
+use Rattle.st_image.specs.RanTargets.{EachStepRan, HasRun, RunsAct, RunsMessage, RunsTarget, asks_of, edits_among}
 use Rattle.st_image.proofs.Stepping.{after_then, bound, cond_some, ran_after, steps_after}
 use Rattle.st_image.proofs.Replays.{replay_append}
 use Rattle.st_image.proofs.GrowingEdits.{among_append, replay_edits, steps_edits}
@@ -100,9 +100,9 @@ target_kernel es c s k there h = ap (λ (o : Option Found). or_missing es c (or_
 
 -- ---- what asks for an act is a method of the kernel
 
-asks_kernel : (objects : List Object) (v : Value) (s : Selector) (args : List Value) (act : Act) → act_of v s args ≡ Some act → (k : Kernel) × (kernel_method (class_in objects v) s ≡ Some k)
-asks_kernel objects (Actor a) s args act e = let p = bound (actor_act a args) (actor_method s.0) act e in (p.0, p.1)
-asks_kernel objects (Class c) s [] act e = let p = bound (class_act c) (class_method s.0) act e in (p.0, p.1)
+asks_kernel : (objects : List Object) (v : Value) (s : Selector) (args : List Value) (act : Act) → act_of v s args ≡ Some act → (k : Kernel) × (kernel_method (class_in objects v) s ≡ Some k) × (asks_of v args k ≡ Some act)
+asks_kernel objects (Actor a) s args act e = let p = bound (actor_act a args) (actor_method s.0) act e in p
+asks_kernel objects (Class c) s [] act e = let p = bound (class_act c) (class_method s.0) act e in p
 asks_kernel objects (Class c) s (x ∷ xs) act e = cc
 asks_kernel objects (Int z) s args act e = cc
 asks_kernel objects (Boolean b) s args act e = cc
@@ -134,6 +134,7 @@ ran_send c a w v objects fs m s n (Some act) l h e =
     record {
       kernel = p.0;
       found = subst (λ (t : Target). IsTarget w.edits class (chain w.edits class) s t) (target_kernel w.edits class s p.0 p.1 l) (target_stands.send w.edits class s);
+      asks = p.2;
       ran = sym (some_same (after_act a act (act_result c a w act)) v e);
     }
 

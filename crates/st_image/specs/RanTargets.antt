@@ -1,8 +1,10 @@
 -- What each step in a history has run: where it sent a message, the target that the walk finds at the class table of
 -- that place.
-use Rattle.std.specs.Prelude.{◌≡◌, ◌<◌, ℕ, List, [], ◌∷◌, ◌++◌, Some, MatchOption, slice_get}
+use Rattle.std.specs.Prelude.{◌≡◌, ◌<◌, ℕ, List, [], ◌∷◌, ◌++◌, Option, Some, None, MatchOption, slice_get}
 use Rattle.std.specs.Option.{option_map}
 use Rattle.st_classes.specs.declared.values.ActorId.{ActorId}
+use Rattle.st_classes.specs.declared.values.Value.{Value}
+use Rattle.st_classes.specs.declared.values.Value.TheVariants.{Actor, Class}
 use Rattle.st_classes.specs.declared.edits.Edit.{Edit}
 use Rattle.st_classes.specs.declared.kernel.Kernel.{Kernel}
 use Rattle.st_classes.specs.declared.kernel.Target.{Target}
@@ -10,7 +12,7 @@ use Rattle.st_classes.specs.declared.kernel.Target.TheVariants.{Primitive}
 use Rattle.st_classes.specs.LookupLaws.{IsTarget}
 use Rattle.st_turn.specs.declared.acts.Act.{Act}
 use Rattle.st_turn.specs.declared.body.Body.{Body}
-use Rattle.st_turn.specs.Steps.{arrival, asked}
+use Rattle.st_turn.specs.Steps.{actor_act, arrival, asked, class_act}
 use Rattle.st_image.specs.declared.items.Item.{Item}
 use Rattle.st_image.specs.declared.items.Item.TheVariants.{Edited, Created, Posted, Closed, Begun, Ran}
 use Rattle.st_image.specs.Worlds.{Constants, World, WorldActor, change}
@@ -47,10 +49,17 @@ pub record RunsTarget (a : ActorId) (b : Body) (x : Sending) (w v : World) : Typ
   pub found : IsFound w.edits b x target
   pub ran : v ≡ change (with_body (x.arrives (arrival w.edits b.objects x.selector x.receiver x.args target))) a w
 
+-- what a method of the kernel asks of the image, sent to a receiver with some arguments, where it does
+abbrev pub asks_of : Value → List Value → Kernel → Option Act
+asks_of (Actor a) args kernel = actor_act a args kernel
+asks_of (Class c) [] kernel = class_act c kernel
+asks_of _ args kernel = None
+
 -- a method of the kernel was found that asks for an act, and the act was done on the whole world
 pub record RunsAct (c : Constants) (a : ActorId) (b : Body) (x : Sending) (act : Act) (w v : World) : Type 0 where
   pub kernel : Kernel
   pub found : IsFound w.edits b x (Primitive kernel)
+  pub asks : asks_of x.receiver x.args kernel ≡ Some act
   pub ran : v ≡ after_act a act (act_result c a w act)
 
 -- by whether the message asks for an act

@@ -11,6 +11,7 @@ use Rattle.st_image.specs.declared.items.Item.{Item}
 use Rattle.st_image.specs.declared.items.Item.TheVariants.{Begun}
 use Rattle.st_image.specs.Images.{ImageView, appended, world}
 use Rattle.st_image.specs.Commits.{ChecksOut, idle_at, with_out}
+use Rattle.st_image.specs.WorldInvariant.{settings_of}
 use Rattle.st_system.specs.declared.events.Answer.{Answer}
 use Rattle.st_system.specs.declared.events.Event.{Event}
 use Rattle.st_system.specs.declared.events.Event.TheVariants.{Checkout, Local, Release, Forget}
@@ -64,6 +65,7 @@ none_begun n i j h = record {
   history = ap (λ (x : ImageView). x.history) h ∙ sym (append-nil i.history);
   base = ap (λ (x : ImageView). x.base) h;
   names = ap (λ (x : ImageView). x.names) h;
+  settings = ap settings_of h;
   tallies = ap (λ (x : ImageView). x.standing.tallies) h;
 }
 
@@ -77,6 +79,7 @@ begun_both m n i j k h g = record {
       ∙ ap (λ (xs : List Item). i.history ++ xs) (sym (map-append Begun h.begun g.begun));
   base = g.base ∙ h.base;
   names = g.names ∙ h.names;
+  settings = g.settings ∙ h.settings;
   tallies = g.tallies ∙ h.tallies;
 }
 
@@ -87,6 +90,7 @@ checked_out true i j a h = record {
   history = ap (λ (x : ImageView). x.history) h;
   base = ap (λ (x : ImageView). x.base) h;
   names = ap (λ (x : ImageView). x.names) h;
+  settings = ap settings_of h;
   tallies = ap (λ (x : ImageView). x.standing.tallies) h;
 }
 checked_out false i j a h = record {
@@ -95,6 +99,7 @@ checked_out false i j a h = record {
   history = ap (λ (x : ImageView). x.history) h ∙ sym (append-nil i.history);
   base = ap (λ (x : ImageView). x.base) h;
   names = ap (λ (x : ImageView). x.names) h;
+  settings = ap settings_of h;
   tallies = ap (λ (x : ImageView). x.standing.tallies) h;
 }
 

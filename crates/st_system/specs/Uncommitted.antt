@@ -6,6 +6,7 @@ use Rattle.st_classes.specs.declared.refusals.Refusal.{Refusal}
 use Rattle.st_image.specs.declared.items.Item.TheVariants.{Begun}
 use Rattle.st_image.specs.Images.{ImageView}
 use Rattle.st_image.specs.Commits.{with_out}
+use Rattle.st_image.specs.WorldInvariant.{settings_of}
 use Rattle.st_system.specs.declared.events.Answer.{Answer}
 use Rattle.st_system.specs.declared.events.Event.{Event}
 use Rattle.st_system.specs.declared.events.Event.TheVariants.{Checkout, Local, Release, Forget}
@@ -31,13 +32,15 @@ checkouts (Checkout w a ∷ es) = checkouts es + 1
 checkouts (_ ∷ es) = checkouts es
 
 -- turns have begun, no more than so many, and nothing else has happened: the history has their beginnings behind it, and
--- the base, the names and the statistics are the same
+-- the base, the names, the settings and the statistics are the same. What may differ besides is from where the next ready
+-- actor is looked for, and how many claims are out.
 pub record OnlyBegins (most : ℕ) (i j : ImageView) : Type 0 where
   pub begun : List ActorId
   pub few : length begun ≤ most
   pub history : j.history ≡ i.history ++ map Begun begun
   pub base : j.base ≡ i.base
   pub names : j.names ≡ i.names
+  pub settings : settings_of j ≡ settings_of i
   pub tallies : j.standing.tallies ≡ i.standing.tallies
 
 -- Whatever workers do with claims that they have, nothing of the image changes but how many claims are out. A checkout

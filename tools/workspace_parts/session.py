@@ -35,6 +35,9 @@ class Session:
     def close(self):
         self.log.connection.close()
 
+    def end(self):
+        self.log.connection.end()
+
     def do(self, text):
         """Does one entry, and returns the name of its kind, or `refused` where it was not done whole."""
         if not text.lstrip().startswith(":log"):

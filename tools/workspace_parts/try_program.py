@@ -64,6 +64,13 @@ def no_program(program):
     same(ended.returncode, 1)
 
 
+def no_file(program):
+    """A file that cannot be read."""
+    ended = piped(program, [], "nofile.st")
+    wanted = "tools/workspace: nofile.st cannot be read (No such file or directory)\n"
+    same((ended.stderr.decode(), ended.returncode), (wanted, 1))
+
+
 def lost_program(program):
     """A program that ends in the middle, or replies what is no reply."""
     greeting = """read line; echo '{"ok":{"quanta":0,"steps":0}}'; read line; """
@@ -82,4 +89,4 @@ def too_long(program):
     same(found.endswith("actor 0\n"), True)
 
 
-TRIALS = (endless, interrupted, log, no_program, lost_program, too_long)
+TRIALS = (endless, interrupted, log, no_program, no_file, lost_program, too_long)

@@ -1,6 +1,7 @@
 """Trials at a terminal: typed and pasted entries, keys, and Ctrl-C."""
 
 import re
+import signal
 import tempfile
 
 from .pretend import Terminal
@@ -116,14 +117,28 @@ def broken_line(program):
 
 
 def slow_start(program):
-    """Ctrl-C while the program is built."""
-    with tempfile.TemporaryDirectory() as folder:
-        path = shell_program(folder, "echo building >&2\nexec sleep 100")
-        terminal = Terminal([WORKSPACE, "--program", path], folder)
-        terminal.see("building\n")
-        terminal.interrupt()
-        terminal.see("tools/workspace: broken off\n")
-        same(terminal.process.wait(20), 130)
+    """Ctrl-C or a signal while the program is built: the build ends too."""
+    for number, status in ((None, 130), (signal.SIGTERM, 143)):
+        with tempfile.TemporaryDirectory() as folder:
+            path = shell_program(folder, "sleep 100 & echo building $! >&2; wait")
+            terminal = Terminal([WORKSPACE, "--program", path], folder)
+            build = int(terminal.see("\n").removeprefix("building "))
+            if number:
+                terminal.process.send_signal(number)
+            else:
+                terminal.interrupt()
+                terminal.see("tools/workspace: broken off\n")
+            same(terminal.process.wait(20), status)
+            same(lives(build), False)
+
+
+def lives(number):
+    """Whether a process runs; one that has ended and that nobody asked for does not."""
+    try:
+        with open(f"/proc/{number}/stat", encoding="utf-8") as file:
+            return file.read().rpartition(")")[2].split()[0] != "Z"
+    except OSError:
+        return False
 
 
 TRIALS = (session, keys, pasted, long_run, broken_line, slow_start)

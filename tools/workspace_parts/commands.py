@@ -12,8 +12,8 @@ Counter >> bump  count := count+1  writes a method, or replaces it
 c := Counter actor                 makes an actor, and names it
 c start. c bump                    sends messages, and shows the last answer
 A line that begins with two spaces goes on with the one before. At a terminal the prompt is blank while a bracket is open,
-and after the name of a method alone; an empty line ends that. Tab completes names, and after Counter >> whole methods.
-Ctrl-C breaks a long run off, and its turn stays where it was.
+and after the name of a method alone; an empty line or Ctrl-D ends that, so a method that is typed has no empty line inside.
+Tab completes names, and after Counter >> whole methods. Ctrl-C breaks a long run off, and its turn stays where it was.
 """.splitlines()
 
 
@@ -90,7 +90,7 @@ COMMANDS = {
         Described(":stats Counter bump", "shows how the caches answered the sends of a method", browsing.stats),
         Described(":load FILE", "does what a file has: definitions, messages, comments", files.load),
         Described(":save FILE", "writes all classes and methods to a file", files.save),
-        Described(":log FILE", "writes what was sent and answered as JSON; alone, shows it for the line before", files.log),
+        Described(":log FILE", "writes what was sent so far, and answered, as JSON; alone, shows it for the line before", files.log),
         Described(":why heapFull", "says what a refusal or fault means, and what to do; alone, the last one", why),
         Described(":help :step", "helps with a command; alone, with all", help_on),
         Described(":restart", "starts anew, with nothing defined", restart),

@@ -9,6 +9,10 @@ from .wrong import Wrong
 LEAST, MOST = -(2**63), 2**63 - 1
 MOST_LETTERS = 64
 LITERALS = {"nil": None, "true": True, "false": False}
+ANSWER = (
+    "answers stand in methods only; at a terminal an empty line ends a method, in a file begin each line of it with two blanks "
+    "or a tab"
+)
 RESERVED = ("self", "super", "thisActor", *LITERALS)
 
 
@@ -62,8 +66,10 @@ class Parser:
         token = self.token
         if token.kind == "none":
             raise Wrong(no_token(token.text), token.start)
-        if token.kind in ("[", "^"):
-            raise Wrong("blocks and answers stand in methods only; here messages are sent to actors", token.start)
+        if token.kind == "^":
+            raise Wrong(ANSWER, token.start)
+        if token.kind == "[":
+            raise Wrong("blocks stand in methods only; here messages are sent to actors", token.start)
         here = "the line ends" if token.kind == "end" else f"{token.text} stands"
         raise Wrong(f"{here} where {expected} is expected", token.start)
 

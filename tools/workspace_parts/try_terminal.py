@@ -3,6 +3,7 @@
 import re
 import signal
 import tempfile
+import time
 
 from .pretend import Terminal
 from .terminal import readline
@@ -87,7 +88,7 @@ def pasted(program):
 
 def long_run(program):
     """A long run shows that it runs, and is broken off; an edit in the middle of the turn ends it."""
-    with Typing(program) as terminal:
+    with Typing(program, "--quantum", "1024") as terminal:
         typed(terminal, SPIN)
         terminal.type("s spin. s spin\n")
         terminal.see("quanta so far; Ctrl-C breaks off")
@@ -96,7 +97,7 @@ def long_run(program):
         where = "turn 1 of actor 0 was broken off after [0-9,]+ quanta; :run or :step goes on where it was\n"
         if not re.search(where + "not sent: s spin\n", told):
             raise AssertionError(f"it says {told!r}")
-        same(terminal.ask(":step 2"), "2 quanta, 512 steps\n")
+        same(terminal.ask(":step 2"), "2 quanta, 2,048 steps\n")
         terminal.ask("Spin >> goOn  ^false")
         if not terminal.ask(":run").endswith("turn 1 of actor 0 answers 7\n"):
             raise AssertionError("the turn does not end after the edit")
@@ -129,11 +130,14 @@ def slow_start(program):
                 terminal.interrupt()
                 terminal.see("tools/workspace: broken off\n")
             same(terminal.process.wait(20), status)
+            ends = time.monotonic() + 5
+            while lives(build) and time.monotonic() < ends:
+                time.sleep(0.01)
             same(lives(build), False)
 
 
 def lives(number):
-    """Whether a process runs; one that has ended and that nobody asked for does not."""
+    """Whether a process runs; one that has ended, and whose end nobody has asked for, does not."""
     try:
         with open(f"/proc/{number}/stat", encoding="utf-8") as file:
             return file.read().rpartition(")")[2].split()[0] != "Z"

@@ -14,7 +14,7 @@ import sys
 
 from . import files
 from .breaks import Breaks
-from .entries import entries
+from .cutting import entries
 from .session import Session
 from .wrong import Ended, Wrong
 

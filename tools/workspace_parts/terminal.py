@@ -5,7 +5,8 @@ import re
 
 from .commands import COMMANDS
 from .copied import MORE, PROMPT
-from .entries import Method, entries, form, wants_more
+from .cutting import entries
+from .entries import Method, form, wants_more
 from .wrong import Wrong
 
 try:

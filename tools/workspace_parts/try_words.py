@@ -4,7 +4,7 @@ import os
 import re
 
 from . import advice
-from .entries import entries
+from .cutting import entries
 from .known import Known
 from .terminal import candidates, read_entry
 from .try_common import TOP, WORKSPACE, same
@@ -117,6 +117,7 @@ def cut(program):
         ("C >> m\nD : C", ["C >> m", "D : C"]),
         ("C >> m\nC >> n  ^1\n^3", ["C >> m", "C >> n  ^1", "^3"]),
         ('C >> m\n"why\n\nnot"\n^3', ['C >> m\n  "why\n  \n  not"\n  ^3']),
+        ('C >> m\n"why"\n  ^3', ['C >> m\n  "why"\n  ^3']),
         ('C >> m\n"why"\n\n^3', ["C >> m", '"why"', "^3"]),
         ("\ufeffc m\nc n", ["c m", "c n"]),
         ("> c m\n3\n> C >> m\n    ^3\n\n    + 4\n> c m\n    7", ["c m", "C >> m\n  ^3\n\n  + 4", "c m\n  7"]),

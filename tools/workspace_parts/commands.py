@@ -36,15 +36,19 @@ def do(session, command):
 
 
 def why(session, rest):
-    name = rest or session.last_name
-    if not name:
+    if rest:
+        explain(session, rest)
+    elif session.why:
+        session.tell(session.why)
+    else:
         raise Wrong("nothing was refused yet, and no turn ended with a fault")
+
+
+def explain(session, name):
     sentence = advice.explain(name)
     if not sentence:
         raise Wrong(f"there is no refusal and no fault {name}{near(name, advice.names())}")
     session.say(f"{name}: {sentence}")
-    if not rest and name in advice.FAULTS:
-        session.say("to find the place, see how far the methods came, as in  :stats Counter bump")
 
 
 def help_on(session, rest):
@@ -52,7 +56,7 @@ def help_on(session, rest):
     if name in COMMANDS:
         session.tell(help_lines([name]))
     elif advice.explain(rest):
-        why(session, rest)
+        explain(session, rest)
     elif rest:
         raise Wrong(f"there is no help on {rest}; :help alone lists the commands")
     else:

@@ -22,11 +22,12 @@ def post(session, rest):
 
 
 def post_one(session, sending, send):
-    if not all(isinstance(it, (Literal, Name)) for _, arguments in send.messages for it in [send.receiver, *arguments]):
+    if not all(isinstance(it, (Literal, Name)) for message in send.messages for it in [send.receiver, *message.arguments]):
         raise Wrong("a message that waits takes only values and names", send.place)
     actor = sending.receiver(sending.value_of(send.receiver)[0], send.place)
-    for selector, arguments in send.messages:
-        turn = session.turns.post(actor, selector, [sending.value_of(argument)[0] for argument in arguments])
+    for message in send.messages:
+        arguments = [sending.value_of(argument)[0] for argument in message.arguments]
+        turn = session.turns.post(actor, message.selector, arguments)
         session.say(f"{turn} waits")
 
 

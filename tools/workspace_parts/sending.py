@@ -23,7 +23,8 @@ class Sending:
                 value, actor = self.value_of(statement.expression)
                 self.give_names(statement, value, actor, is_last=at == len(statements) - 1)
             except Stopped as stopped:
-                stopped.unsent = ". ".join(later.text for later in statements[at + 1 :])
+                later = [it.text for it in statements[at + 1 :]]
+                stopped.unsent = ". ".join([stopped.unsent, *later] if stopped.unsent else later)
                 raise
 
     def check_names(self, statements):
@@ -58,8 +59,13 @@ class Sending:
         if isinstance(expression, Name):
             return self.named(expression), None
         receiver, _ = self.value_of(expression.receiver)
-        for selector, arguments in expression.messages:
-            found = self.send(receiver, selector, [self.value_of(argument)[0] for argument in arguments], expression.place)
+        for at, message in enumerate(expression.messages):
+            try:
+                arguments = [self.value_of(argument)[0] for argument in message.arguments]
+                found = self.send(receiver, message.selector, arguments, expression.place)
+            except Stopped as stopped:
+                stopped.unsent = "; ".join(later.text for later in expression.messages[at + 1 :]) or stopped.unsent
+                raise
         return found
 
     def named(self, name):
@@ -107,6 +113,6 @@ def names_in(expression):
         yield expression
     elif isinstance(expression, Send):
         yield from names_in(expression.receiver)
-        for _, arguments in expression.messages:
-            for argument in arguments:
+        for message in expression.messages:
+            for argument in message.arguments:
                 yield from names_in(argument)

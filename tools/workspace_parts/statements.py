@@ -28,8 +28,17 @@ class Name:
 
 
 @dataclass
+class Message:
+    """`text` is what was typed."""
+
+    selector: str
+    arguments: list
+    text: str
+
+
+@dataclass
 class Send:
-    """Messages to one receiver: one, or those of a cascade. Each is a selector and its arguments."""
+    """Messages to one receiver: one, or those of a cascade."""
 
     receiver: object
     messages: list
@@ -114,17 +123,28 @@ class Parser:
     def message(self):
         """One message of a cascade; None if none begins here."""
         if self.token.kind == "word":
-            return self.take().text, []
+            return self.unary_message()
         if self.token.kind == "binary":
-            return self.take().text, [self.unaries()]
+            return self.binary_message()
         return self.keyword_message()
 
+    def unary_message(self):
+        text = self.take().text
+        return Message(text, [], text)
+
+    def binary_message(self):
+        start, selector = self.token.start, self.take().text
+        return self.message_from(start, selector, [self.unaries()])
+
     def keyword_message(self):
-        selector, arguments = "", []
+        start, selector, arguments = self.token.start, "", []
         while self.token.kind == "keyword":
             selector += self.take().text
             arguments.append(self.binaries())
-        return (selector, arguments) if selector else None
+        return self.message_from(start, selector, arguments) if selector else None
+
+    def message_from(self, start, selector, arguments):
+        return Message(selector, arguments, self.text[start : self.tokens[self.at - 1].stop])
 
     def keywords(self):
         place = self.token.start
@@ -136,15 +156,14 @@ class Parser:
         place = self.token.start
         found = self.unaries()
         while self.token.kind == "binary":
-            selector = self.take().text
-            found = Send(found, [(selector, [self.unaries()])], place)
+            found = Send(found, [self.binary_message()], place)
         return found
 
     def unaries(self):
         place = self.token.start
         found = self.primary()
         while self.token.kind == "word":
-            found = Send(found, [(self.take().text, [])], place)
+            found = Send(found, [self.unary_message()], place)
         return found
 
     def primary(self):

@@ -47,8 +47,8 @@ class Life:
 
 
 class Turns:
-    """`waiting` are turns that were posted and have not ended yet; `ends` has those that ended and were not told of. `items`
-    counts those of the history that the commands took, as far as one can know."""
+    """`waiting` are turns that were posted and have not ended yet; `ends` has those that ended and were not told of.
+    `selectors` has that of each turn's message. `items` counts those of the history that the commands took, or more."""
 
     def __init__(self, connection, breaks):
         self.connection = connection
@@ -57,6 +57,7 @@ class Turns:
         self.items = 0
         self.waiting = []
         self.ends = {}
+        self.selectors = {}
 
     def ask(self, command):
         """What the reply has after `ok`."""
@@ -78,6 +79,7 @@ class Turns:
             turn = self.ask({**command, "seq": self.last + 1})["turn"]
         self.last += 1
         self.waiting.append(Turn(actor, turn))
+        self.selectors[self.waiting[-1]] = selector
         return self.waiting[-1]
 
     def outcome(self, turn):

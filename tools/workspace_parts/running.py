@@ -3,7 +3,7 @@
 import re
 
 from .sending import Sending
-from .statements import Literal, Name, Send, read_statements
+from .statements import Actor, Literal, Name, Send, read_statements
 from .turns import Turn
 from .values import count
 from .wrong import Wrong
@@ -22,7 +22,7 @@ def post(session, rest):
 
 
 def post_one(session, sending, send):
-    if not all(isinstance(it, (Literal, Name)) for message in send.messages for it in [send.receiver, *message.arguments]):
+    if not all(isinstance(it, (Actor, Literal, Name)) for message in send.messages for it in [send.receiver, *message.arguments]):
         raise Wrong("a message that waits takes only values and names", send.place)
     actor = sending.receiver(sending.value_of(send.receiver)[0], send.place)
     for message in send.messages:

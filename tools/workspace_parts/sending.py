@@ -1,7 +1,7 @@
 """Typed statements are done here: names are looked up, and messages are sent one after the other."""
 
 from .known import near
-from .statements import Literal, Name, Send
+from .statements import Actor, Literal, Name, Send
 from .values import show
 from .wrong import BrokenOff, Faulted, Stopped, Wrong
 
@@ -58,6 +58,8 @@ class Sending:
             return expression.value, None
         if isinstance(expression, Name):
             return self.named(expression), None
+        if isinstance(expression, Actor):
+            return self.numbered(expression), None
         receiver, _ = self.value_of(expression.receiver)
         for at, message in enumerate(expression.messages):
             try:
@@ -70,6 +72,14 @@ class Sending:
 
     def named(self, name):
         return {"class": name.text} if name.text[0].isupper() else self.known.names[name.text]
+
+    def numbered(self, actor):
+        """The reference to an actor by its number, if there is one: the program is asked where it was not seen yet."""
+        if actor.number not in self.known.actors:
+            self.turns.ask_for(actor.number)
+        value = {"ref": actor.number}
+        self.known.see(value)
+        return value
 
     def send(self, receiver, selector, arguments, place):
         if isinstance(receiver, dict) and "class" in receiver:

@@ -8,6 +8,7 @@ from .wrong import Wrong
 
 LEAST, MOST = -(2**63), 2**63 - 1
 MOST_LETTERS = 64
+MOST_ACTORS = 65_535
 LITERALS = {"nil": None, "true": True, "false": False}
 ANSWER = (
     "answers stand in methods only; at a terminal an empty line ends a method, in a file begin each line of it with two blanks "
@@ -24,6 +25,14 @@ class Literal:
 @dataclass
 class Name:
     text: str
+    place: int
+
+
+@dataclass
+class Actor:
+    """An actor by its number."""
+
+    number: int
     place: int
 
 
@@ -177,9 +186,17 @@ class Parser:
             return Literal({"sym": self.take().text[1:]})
         if token.kind == "(":
             return self.in_brackets()
+        if token.text == "actor" and after.kind == "number":
+            return self.numbered()
         if token.kind != "word":
             self.fail("a name or a value")
         return self.name(self.take())
+
+    def numbered(self):
+        place, number = self.take().start, int(self.take().text[:40])
+        if number > MOST_ACTORS:
+            raise Wrong("actors are numbered from 0 to 65,535", place)
+        return Actor(number, place)
 
     def in_brackets(self):
         self.take()

@@ -85,6 +85,14 @@ class Turns:
     def outcome(self, turn):
         return self.ask({"cmd": "outcome", "actor": turn.actor, "turn": turn.number})
 
+    def ask_for(self, actor):
+        """Refused if there is no such actor. Turn 0 of one that is there is never kept."""
+        try:
+            self.outcome(Turn(actor, 0))
+        except Refused as refused:
+            if refused.reply["error"] != "Expired":
+                raise
+
     def end_of(self, turn):
         """Runs until a turn has ended, and says how."""
         self.go_on(None, turn)

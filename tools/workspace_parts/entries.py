@@ -3,6 +3,7 @@
 import re
 from dataclasses import dataclass
 
+from .habits import subclass
 from .tokens import has_body, is_open, without_comments
 from .wrong import Wrong
 
@@ -92,6 +93,8 @@ def form(text):
             raise Wrong("an empty line ends the method above; in a file, no blanks stand before this", place)
         start = len(text) - len(text[method.end() :].lstrip())
         return Method(method[1], text[start:].rstrip(), start)
+    if subclass(plain):
+        raise Wrong(f"a class is defined as  {subclass(text)}")
     definition = CLASS.match(plain)
     if definition and (definition[1][0].isupper() or definition[2]):
         name, _, parent, slots = definition.groups()

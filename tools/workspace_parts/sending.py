@@ -5,6 +5,9 @@ from .statements import Actor, Literal, Name, Send
 from .values import show
 from .wrong import BrokenOff, Faulted, Stopped, Wrong
 
+# What is typed elsewhere to leave.
+LEAVE = {"exit": "quit", "bye": "quit"}
+TRY = "to try it, put it into a method"
 MAKES_ACTOR = ("actor", "newActor")
 
 
@@ -38,6 +41,9 @@ class Sending:
 
     def check_name(self, name, place=None):
         if name not in self.known.names:
+            command = LEAVE.get(name, name)
+            if command in self.session.command_names:
+                raise Wrong(f"nothing is named {name}; did you mean :{command}?", place)
             hint = near(name, self.known.names) or f"; make an actor of a class, as in  {name} := Counter actor"
             raise Wrong(f"nothing is named {name}{hint}", place)
 
@@ -92,7 +98,7 @@ class Sending:
     def receiver(self, value, place=None):
         """The number of the actor that a value is."""
         if not isinstance(value, dict) or "ref" not in value:
-            raise Wrong(f"{show(value, self.known)} is not an actor, and messages are sent to actors here", place)
+            raise Wrong(f"{show(value, self.known)} is not an actor, and messages are sent to actors here; {TRY}", place)
         return value["ref"]
 
     def answer(self, turn):
@@ -112,10 +118,8 @@ class Sending:
         if selector == "removeSelector:" and isinstance(arguments[0], dict) and "sym" in arguments[0]:
             self.session.remove(name, arguments[0]["sym"])
             return {"class": name}
-        if selector.startswith("subclass:"):
-            example = "Counter" if name != "Counter" else "Clock"
-            raise Wrong(f"a class is defined as  {example} : {name} | count |", place)
-        raise Wrong(f"a class only makes actors here, as in  c := {name} actor", place)
+        only = f"a class only makes actors here, as in  c := {name} actor"
+        raise Wrong(f"{only}; other messages to a class go into a method", place)
 
 
 def names_in(expression):

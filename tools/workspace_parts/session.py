@@ -18,6 +18,8 @@ class Session:
     """`say` takes each line that is told. `loading` are the files that are being loaded, `why` is what `:why` says, and `told`
     is where in the log the last entry begins."""
 
+    command_names = tuple(commands.COMMANDS)
+
     def __init__(self, program, options, breaks, say):
         self.program, self.options, self.breaks = program, options, breaks
         self.say = say

@@ -3,7 +3,8 @@ blocks and answers."""
 
 from dataclasses import dataclass
 
-from .tokens import no_token, tokens
+from . import habits
+from .tokens import tokens
 from .wrong import Wrong
 
 LEAST, MOST = -(2**63), 2**63 - 1
@@ -83,11 +84,16 @@ class Parser:
     def fail(self, expected):
         token = self.token
         if token.kind == "none":
-            raise Wrong(no_token(token.text), token.start)
+            raise Wrong(habits.no_token(self.text, token.start), token.start)
         if token.kind == "^":
             raise Wrong(ANSWER, token.start)
         if token.kind == "[":
             raise Wrong("blocks stand in methods only; here messages are sent to actors", token.start)
+        if token.kind == "|" and (self.at == 0 or self.tokens[self.at - 1].kind == "."):
+            raise Wrong("names are not declared here; write  x := 3", token.start)
+        habit = habits.bar_or_minus(self.text, self.tokens[: self.at], token)
+        if habit:
+            raise Wrong(habit, token.start)
         here = "the line ends" if token.kind == "end" else f"{token.text} stands"
         raise Wrong(f"{here} where {expected} is expected", token.start)
 

@@ -121,6 +121,8 @@ def cut(program):
         ('C >> m\n"why"\n\n^3', ["C >> m", '"why"', "^3"]),
         ("\ufeffc m\nc n", ["c m", "c n"]),
         ("> c m\n3\n> C >> m\n    ^3\n\n    + 4\n> c m\n    7", ["c m", "C >> m\n  ^3\n\n  + 4", "c m\n  7"]),
+        ("> C >> m\n  | a |\n    a := 3.\n  ^a\n\n  printed\n> c m", ["C >> m\n  | a |\n  a := 3.\n  ^a", "c m"]),
+        ("> C >> m  ^zork\n  ^zork\n   ^ UnknownName\n> c m", ["C >> m  ^zork", "c m"]),
         ("c m\n> C >> m\n> c n\nc m", ["c m", "C >> m", "c n"]),
     ):
         same([entry.text for entry in entries(text.split("\n"))], wanted)

@@ -22,7 +22,8 @@ def post(session, rest):
 
 
 def post_one(session, sending, send):
-    if not all(isinstance(it, (Actor, Literal, Name)) for message in send.messages for it in [send.receiver, *message.arguments]):
+    given = [send.receiver, *(it for message in send.messages for it in message.arguments)]
+    if not all(isinstance(it, (Actor, Literal, Name)) for it in given):
         raise Wrong("a message that waits takes only values and names", send.place)
     actor = sending.receiver(sending.value_of(send.receiver)[0], send.place)
     for message in send.messages:

@@ -5,6 +5,7 @@ Words in braces are what the refused command named."""
 
 import re
 
+from .in_general import IN_GENERAL
 from .statements import RESERVED
 
 REFUSALS = {
@@ -17,7 +18,7 @@ REFUSALS = {
     "BadSource": "the method is not written as the language asks; mend it at the mark and type it again",
     "ClassExists": "there is a class {class} already, and its variables stay; replace its methods, or take another name",
     "Closed": "the mailbox of {actor} is closed for ever; make a new actor",
-    "Expired": "how turn {turn} of {actor} ended is no longer kept, or it never began; ask for one of the newest 64",
+    "Expired": "how turn {turn} of {actor} ended is no longer kept, or its number is 0; ask for one of the newest 64",
     "Full": "the mailbox of {actor} is full; :run makes room",
     "HistoryFull": "the history is full, often of the quanta of an endless turn, and nothing more is accepted; :save what you "
     "need and start anew with :restart",
@@ -78,10 +79,7 @@ FAULTS = {
 
 def explain(name):
     """What is said of a name by itself; None if it is no name of a refusal or a fault."""
-    for sentences in (REFUSALS, FAULTS, KINDS):
-        if name in sentences:
-            return sentences[name].format_map(Words({"cmd": None}, {"error": name}))
-    return None
+    return next((sentences[name] for sentences in (IN_GENERAL, REFUSALS, FAULTS, KINDS) if name in sentences), None)
 
 
 def names():

@@ -1,5 +1,7 @@
 """The commands that list what is known, and those on single methods."""
 
+import re
+
 from .known import near
 from .values import show, table
 from .wrong import Wrong
@@ -21,11 +23,11 @@ def methods(session, rest):
 
 
 def remove(session, rest):
-    session.remove(*method_of(rest))
+    session.remove(*method_of(session, rest))
 
 
 def stats(session, rest):
-    class_name, selector = method_of(rest)
+    class_name, selector = method_of(session, rest)
     sites = session.turns.ask({"cmd": "stats", "class": class_name, "selector": selector})["sites"]
     if not sites:
         session.say(f"{class_name} >> {selector} sends nothing")
@@ -37,14 +39,20 @@ def stats(session, rest):
     session.tell(table(rows))
 
 
-def method_of(rest):
+METHOD = re.compile(r"([^\s>#]+)\s*(?:>>\s*|\s)#?(\S+)")
+
+
+def method_of(session, rest):
     """The class and the selector that are written as `Counter bump` or `Counter >> bump`."""
-    words = rest.split()
-    if len(words) == 3 and words[1] == ">>":
-        del words[1]
-    if len(words) != 2:
+    match = METHOD.fullmatch(rest)
+    if not match:
         raise Wrong("write a class and a selector after it, as in  Counter bump")
-    return words[0], words[1].removeprefix("#")
+    name = match[1]
+    value = session.known.names.get(name)
+    if isinstance(value, dict) and "ref" in value:
+        class_name = session.known.actor(value["ref"]).class_name
+        raise Wrong(f"{name} is an actor; write its class" + (f", {class_name}" if class_name else ""))
+    return name, match[2]
 
 
 def actors(session, rest):

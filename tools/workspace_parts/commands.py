@@ -12,8 +12,8 @@ Counter >> bump  count := count+1  writes a method, or replaces it
 c := Counter actor                 makes an actor, and names it
 c start. c bump                    sends messages, and shows the last answer
 A line that begins with two spaces goes on with the one before. At a terminal the prompt is blank while a bracket is open,
-and after the name of a method alone; an empty line ends that. Tab completes names, and after Counter >> whole methods.
-Ctrl-C breaks a long run off, and its turn stays where it was.
+and after the name of a method alone; an empty line or Ctrl-D ends that, so a method that is typed has no empty line inside.
+Tab completes names, and after Counter >> whole methods. Ctrl-C breaks a long run off, and its turn stays where it was.
 """.splitlines()
 
 
@@ -36,15 +36,19 @@ def do(session, command):
 
 
 def why(session, rest):
-    name = rest or session.last_name
-    if not name:
+    if rest:
+        explain(session, rest)
+    elif session.why:
+        session.tell(session.why)
+    else:
         raise Wrong("nothing was refused yet, and no turn ended with a fault")
+
+
+def explain(session, name):
     sentence = advice.explain(name)
     if not sentence:
         raise Wrong(f"there is no refusal and no fault {name}{near(name, advice.names())}")
     session.say(f"{name}: {sentence}")
-    if not rest and name in advice.FAULTS:
-        session.say("to find the place, see how far the methods came, as in  :stats Counter bump")
 
 
 def help_on(session, rest):
@@ -52,7 +56,7 @@ def help_on(session, rest):
     if name in COMMANDS:
         session.tell(help_lines([name]))
     elif advice.explain(rest):
-        why(session, rest)
+        explain(session, rest)
     elif rest:
         raise Wrong(f"there is no help on {rest}; :help alone lists the commands")
     else:
@@ -90,7 +94,7 @@ COMMANDS = {
         Described(":stats Counter bump", "shows how the caches answered the sends of a method", browsing.stats),
         Described(":load FILE", "does what a file has: definitions, messages, comments", files.load),
         Described(":save FILE", "writes all classes and methods to a file", files.save),
-        Described(":log FILE", "writes what was sent and answered as JSON; alone, shows it for the line before", files.log),
+        Described(":log FILE", "writes what was sent so far, and answered, as JSON; alone, shows it for the line before", files.log),
         Described(":why heapFull", "says what a refusal or fault means, and what to do; alone, the last one", why),
         Described(":help :step", "helps with a command; alone, with all", help_on),
         Described(":restart", "starts anew, with nothing defined", restart),

@@ -18,8 +18,13 @@ STARTS = {
 }
 
 
+# So long a program may take to end when it was told to.
+SECONDS_TO_END = 5
+
+
 class Connection:
-    """A script that runs, by a pipe. A Ctrl-C does not reach the program, so that only a run is broken off."""
+    """A script that runs, by a pipe. It is in a group of processes of its own: a Ctrl-C does not reach the program, so that
+    only a run is broken off, and a build that the program starts ends with the group."""
 
     def __init__(self, program, options):
         self.program = program
@@ -29,7 +34,11 @@ class Connection:
             )
         except OSError as error:
             raise Ended(f"{program} cannot be started ({error.strerror}); {HOW_BUILT}") from None
-        self.greet()
+        try:
+            self.greet()
+        except BaseException:
+            self.end()
+            raise
 
     def greet(self):
         """Waits until the program replies, which takes long where it is built first."""
@@ -38,9 +47,6 @@ class Connection:
             reply = self.process.stdout.readline()
         except BrokenPipeError:
             reply = b""
-        except KeyboardInterrupt:
-            os.killpg(self.process.pid, signal.SIGTERM)
-            raise
         if reply == NOTHING_RUN:
             return
         self.close()
@@ -71,6 +77,17 @@ class Connection:
         except BrokenPipeError:
             pass
         self.process.wait()
+
+    def end(self):
+        """Ends the program where it has not ended, with all that it started."""
+        if self.process.poll() is not None:
+            return
+        os.killpg(self.process.pid, signal.SIGTERM)
+        try:
+            self.process.wait(SECONDS_TO_END)
+        except subprocess.TimeoutExpired:
+            os.killpg(self.process.pid, signal.SIGKILL)
+            self.process.wait()
 
 
 class Log:

@@ -1,9 +1,10 @@
-"""What is typed, cut into entries, and the kind of each: a definition of a class, a method, a command, or statements."""
+"""The kinds of entries: a definition of a class, a method, a command, or statements."""
 
 import re
 from dataclasses import dataclass
 
-from .tokens import without_comments
+from .habits import subclass
+from .tokens import has_body, is_open, without_comments
 from .wrong import Wrong
 
 WORD = r"[^\s:|.;()\[\]<>=#]+"
@@ -12,6 +13,9 @@ CLASS_BEGUN = re.compile(r"\s*[A-Z][A-Za-z0-9]*\s*:(?!=)")
 METHOD = re.compile(r"\s*([A-Z][A-Za-z0-9]*)\s*>>")
 META = re.compile(r"\s*[A-Z][A-Za-z0-9]*\s+class\s*>>")
 COMMAND = re.compile(r"\s*:(?!=)([A-Za-z]*)\s*")
+JSON = re.compile(r'\s*\{\s*"')
+BEGINNINGS = (COMMAND, META, METHOD, CLASS)
+METHOD_BELOW = re.compile(r"\n[ \t]*[A-Z][A-Za-z0-9]*([ \t]+class)?[ \t]*>>")
 
 
 @dataclass
@@ -44,42 +48,29 @@ class Statements:
     text: str
 
 
-@dataclass
-class Entry:
-    """What was typed, and the number of its first line."""
-
-    text: str
-    line: int
+def begins(line):
+    """Whether a line begins a command, a definition or a method."""
+    return any(kind.match(line) for kind in BEGINNINGS)
 
 
-def continues(line):
-    """Whether a line goes on with the one before."""
-    return line.startswith(("  ", "\t"))
+def lacks_body(text):
+    """Whether a text is a method with a pattern alone."""
+    try:
+        found = form(text)
+    except Wrong:
+        return False
+    return isinstance(found, Method) and not has_body(found.source)
 
 
-def in_comment(text):
-    """Whether a text begins with a comment that is open at its end."""
-    return text.lstrip().startswith('"') and text.count('"') % 2 == 1
-
-
-def entries(lines):
-    """Entries of lines. A line that begins with two spaces or more goes on with the one before, also after empty lines. A
-    comment at the beginning of an entry goes on until it is closed."""
-    begun, empty = None, 0
-    for number, line in enumerate(lines, 1):
-        if begun and in_comment(begun.text):
-            begun.text += "\n" + line
-        elif not line.strip():
-            empty += 1
-        elif begun and continues(line):
-            begun.text += "\n" * (empty + 1) + line
-            empty = 0
-        else:
-            if begun:
-                yield begun
-            begun, empty = Entry(line, number), 0
-    if begun:
-        yield begun
+def wants_more(text):
+    """Whether the lines so far are not the whole entry: a bracket or a comment is open, or a method has a pattern alone."""
+    try:
+        found = form(text)
+    except Wrong:
+        return False
+    if isinstance(found, Method):
+        return is_open(found.source) or lacks_body(text)
+    return isinstance(found, Statements) and is_open(text)
 
 
 def form(text):
@@ -87,6 +78,8 @@ def form(text):
     plain = without_comments(text)
     if not plain.strip():
         return None
+    if JSON.match(text):
+        raise Wrong("lines of JSON go to ./actorimage script, not here; see :log")
     command = COMMAND.match(plain)
     if command:
         return Command(command[1], text[command.end() :].strip(), command.end())
@@ -94,8 +87,14 @@ def form(text):
         raise Wrong("classes have no methods of their own side; write  Name >> pattern  and a body")
     method = METHOD.match(plain)
     if method:
+        below = METHOD_BELOW.search(plain)
+        if below:
+            place = below.end() - len(below[0].lstrip())
+            raise Wrong("an empty line ends the method above; in a file, no blanks stand before this", place)
         start = len(text) - len(text[method.end() :].lstrip())
         return Method(method[1], text[start:].rstrip(), start)
+    if subclass(plain):
+        raise Wrong(f"a class is defined as  {subclass(text)}")
     definition = CLASS.match(plain)
     if definition and (definition[1][0].isupper() or definition[2]):
         name, _, parent, slots = definition.groups()

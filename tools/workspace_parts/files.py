@@ -4,7 +4,7 @@ import os
 from collections import Counter
 from dataclasses import dataclass
 
-from .entries import entries
+from .cutting import entries
 from .values import count
 from .wrong import Wrong
 

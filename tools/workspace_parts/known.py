@@ -52,6 +52,10 @@ class Known:
             yield self.classes[name]
             name = self.classes[name].parent
 
+    def holder(self, name, selector):
+        """The name of the first class from this one on with a method of the user's; None if none has one."""
+        return next((known.name for known in self.chain(name) if selector in known.methods), None)
+
     def slots(self, name):
         return [slot for known in self.chain(name) for slot in known.slots]
 

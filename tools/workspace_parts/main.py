@@ -9,12 +9,14 @@ or more goes on with the one before.
 
 import argparse
 import os
+import signal
 import sys
 
+from . import files
 from .breaks import Breaks
-from .entries import entries
+from .cutting import entries
 from .session import Session
-from .wrong import Ended
+from .wrong import Ended, Wrong
 
 TOP = os.path.dirname(os.path.dirname(os.path.dirname(os.path.realpath(__file__))))
 WELCOME = "A workspace of actorimage. :help lists what can be typed, :why says more of a fault, :quit ends."
@@ -56,24 +58,42 @@ def talk(session):
     terminal.talk(session)
 
 
-def work(session, files):
+def load(session, name):
+    try:
+        with session.breaks:
+            files.load(session, name)
+    except Wrong as wrong:
+        raise Ended(wrong.sentence) from None
+
+
+def work(session, names):
     is_terminal = sys.stdin.isatty()
     if is_terminal:
         session.say(WELCOME)
-    for name in files:
-        with session.breaks:
-            session.do(f":load {name}")
+    for name in names:
+        load(session, name)
     (talk if is_terminal else transcript)(session)
+
+
+def end_at_signals():
+    """The program that was started ends with the workspace also where a signal ends it."""
+    for number in (signal.SIGTERM, signal.SIGHUP):
+        if signal.getsignal(number) == signal.SIG_DFL:
+            signal.signal(number, lambda number, frame: sys.exit(128 + number))
 
 
 def main():
     given = arguments()
+    end_at_signals()
     sys.stdin.reconfigure(errors="replace")
     sys.stdout.reconfigure(errors="replace")
     try:
         session = Session(given.program, options(given), Breaks(), lambda line: print(line, flush=True))
-        work(session, given.files)
-        session.close()
+        try:
+            work(session, given.files)
+            session.close()
+        finally:
+            session.end()
     except Ended as ended:
         print(f"tools/workspace: {ended.sentence}", file=sys.stderr)
         sys.exit(1)

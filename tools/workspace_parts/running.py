@@ -3,7 +3,7 @@
 import re
 
 from .sending import Sending
-from .statements import Literal, Name, Send, read_statements
+from .statements import Actor, Literal, Name, Send, read_statements
 from .turns import Turn
 from .values import count
 from .wrong import Wrong
@@ -22,11 +22,13 @@ def post(session, rest):
 
 
 def post_one(session, sending, send):
-    if not all(isinstance(it, (Literal, Name)) for _, arguments in send.messages for it in [send.receiver, *arguments]):
+    given = [send.receiver, *(it for message in send.messages for it in message.arguments)]
+    if not all(isinstance(it, (Actor, Literal, Name)) for it in given):
         raise Wrong("a message that waits takes only values and names", send.place)
     actor = sending.receiver(sending.value_of(send.receiver)[0], send.place)
-    for selector, arguments in send.messages:
-        turn = session.turns.post(actor, selector, [sending.value_of(argument)[0] for argument in arguments])
+    for message in send.messages:
+        arguments = [sending.value_of(argument)[0] for argument in message.arguments]
+        turn = session.turns.post(actor, message.selector, arguments)
         session.say(f"{turn} waits")
 
 

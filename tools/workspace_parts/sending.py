@@ -1,10 +1,13 @@
 """Typed statements are done here: names are looked up, and messages are sent one after the other."""
 
 from .known import near
-from .statements import Literal, Name, Send
+from .statements import Actor, Literal, Name, Send
 from .values import show
 from .wrong import BrokenOff, Faulted, Stopped, Wrong
 
+# What is typed elsewhere to leave.
+LEAVE = {"exit": "quit", "bye": "quit"}
+TRY = "to try it, put it into a method"
 MAKES_ACTOR = ("actor", "newActor")
 
 
@@ -23,7 +26,8 @@ class Sending:
                 value, actor = self.value_of(statement.expression)
                 self.give_names(statement, value, actor, is_last=at == len(statements) - 1)
             except Stopped as stopped:
-                stopped.unsent = ". ".join(later.text for later in statements[at + 1 :])
+                later = [it.text for it in statements[at + 1 :]]
+                stopped.unsent = ". ".join([stopped.unsent, *later] if stopped.unsent else later)
                 raise
 
     def check_names(self, statements):
@@ -37,6 +41,9 @@ class Sending:
 
     def check_name(self, name, place=None):
         if name not in self.known.names:
+            command = LEAVE.get(name, name)
+            if command in self.session.command_names:
+                raise Wrong(f"nothing is named {name}; did you mean :{command}?", place)
             hint = near(name, self.known.names) or f"; make an actor of a class, as in  {name} := Counter actor"
             raise Wrong(f"nothing is named {name}{hint}", place)
 
@@ -57,13 +64,28 @@ class Sending:
             return expression.value, None
         if isinstance(expression, Name):
             return self.named(expression), None
+        if isinstance(expression, Actor):
+            return self.numbered(expression), None
         receiver, _ = self.value_of(expression.receiver)
-        for selector, arguments in expression.messages:
-            found = self.send(receiver, selector, [self.value_of(argument)[0] for argument in arguments], expression.place)
+        for at, message in enumerate(expression.messages):
+            try:
+                arguments = [self.value_of(argument)[0] for argument in message.arguments]
+                found = self.send(receiver, message.selector, arguments, expression.place)
+            except Stopped as stopped:
+                stopped.unsent = "; ".join(later.text for later in expression.messages[at + 1 :]) or stopped.unsent
+                raise
         return found
 
     def named(self, name):
         return {"class": name.text} if name.text[0].isupper() else self.known.names[name.text]
+
+    def numbered(self, actor):
+        """The reference to an actor by its number, if there is one: the program is asked where it was not seen yet."""
+        if actor.number not in self.known.actors:
+            self.turns.ask_for(actor.number)
+        value = {"ref": actor.number}
+        self.known.see(value)
+        return value
 
     def send(self, receiver, selector, arguments, place):
         if isinstance(receiver, dict) and "class" in receiver:
@@ -76,7 +98,7 @@ class Sending:
     def receiver(self, value, place=None):
         """The number of the actor that a value is."""
         if not isinstance(value, dict) or "ref" not in value:
-            raise Wrong(f"{show(value, self.known)} is not an actor, and messages are sent to actors here", place)
+            raise Wrong(f"{show(value, self.known)} is not an actor, and messages are sent to actors here; {TRY}", place)
         return value["ref"]
 
     def answer(self, turn):
@@ -96,10 +118,8 @@ class Sending:
         if selector == "removeSelector:" and isinstance(arguments[0], dict) and "sym" in arguments[0]:
             self.session.remove(name, arguments[0]["sym"])
             return {"class": name}
-        if selector.startswith("subclass:"):
-            example = "Counter" if name != "Counter" else "Clock"
-            raise Wrong(f"a class is defined as  {example} : {name} | count |", place)
-        raise Wrong(f"a class only makes actors here, as in  c := {name} actor", place)
+        only = f"a class only makes actors here, as in  c := {name} actor"
+        raise Wrong(f"{only}; other messages to a class go into a method", place)
 
 
 def names_in(expression):
@@ -107,6 +127,6 @@ def names_in(expression):
         yield expression
     elif isinstance(expression, Send):
         yield from names_in(expression.receiver)
-        for _, arguments in expression.messages:
-            for argument in arguments:
+        for message in expression.messages:
+            for argument in message.arguments:
                 yield from names_in(argument)

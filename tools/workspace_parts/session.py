@@ -3,10 +3,11 @@
 from . import advice, commands
 from .connection import Connection, Log
 from .entries import Command, Definition, Method, form
-from .known import Known, near
-from .sources import bad_source, marked
-from .statements import read_statements
+from .known import Known
+from .refused import lines as refused_lines
 from .sending import Sending
+from .sources import marked
+from .statements import read_statements
 from .tokens import pattern
 from .turns import Turns
 from .values import show
@@ -14,8 +15,10 @@ from .wrong import Faulted, Refused, Stopped, Wrong
 
 
 class Session:
-    """`say` takes each line that is told. `loading` are the files that are being loaded, `last_name` is what `:why` explains,
-    and `told` is where in the log the last entry begins."""
+    """`say` takes each line that is told. `loading` are the files that are being loaded, `why` is what `:why` says, and `told`
+    is where in the log the last entry begins."""
+
+    command_names = tuple(commands.COMMANDS)
 
     def __init__(self, program, options, breaks, say):
         self.program, self.options, self.breaks = program, options, breaks
@@ -28,12 +31,15 @@ class Session:
         """A new image, of which nothing is known."""
         self.log = Log(Connection(self.program, self.options))
         self.told = 0
-        self.last_name = None
+        self.why = []
         self.known = Known()
         self.turns = Turns(self.log, self.breaks)
 
     def close(self):
         self.log.connection.close()
+
+    def end(self):
+        self.log.connection.end()
 
     def do(self, text):
         """Does one entry, and returns the name of its kind, or `refused` where it was not done whole."""
@@ -137,24 +143,19 @@ class Session:
             self.say(f"{turn} has ended, and its answer is no longer kept")
 
     def tell_fault(self, turn, fault):
-        self.last_name = fault
+        self.why = [f"{fault}: {advice.explain(fault)}", self.place_of(turn)]
         self.say(f"fault {fault} in {turn}")
 
-    def tell_refusal(self, refused):
-        reply, command = refused.reply, refused.command
-        self.last_name = reply.get("kind", reply["error"])
-        if reply["error"] == "BadSource":
-            variables = self.known.slots(command["class"])
-            self.tell(bad_source(command["source"], reply["kind"], reply["offset"], variables, self.known.classes))
-            return
-        if reply["error"] == "UnknownClass":
-            name = self.unknown_class(command)
-            self.say(advice.refusal({**command, "class": name, "super": name}, reply) + near(name, self.known.classes))
-        else:
-            self.say(advice.refusal(command, reply))
+    def place_of(self, turn):
+        """How the place of a fault is found."""
+        name, selector = self.known.actor(turn.actor).class_name, self.turns.selectors.get(turn)
+        if not name or not selector:
+            return "to find the place, see how far the methods came, as in  :stats Counter bump"
+        for sent in (selector, "doesNotUnderstand:"):
+            if self.known.holder(name, sent):
+                return f"to find the place:  :stats {self.known.holder(name, sent)} {sent}"
+        return f"{name} has no method {selector}, and no class above it has one"
 
-    def unknown_class(self, command):
-        """The first class of a refused command that is not known."""
-        given = [command.get("super"), command.get("class")]
-        given += [it["class"] for it in command.get("args", []) if isinstance(it, dict) and "class" in it]
-        return next((name for name in given if name and name not in self.known.classes), "this")
+    def tell_refusal(self, refused):
+        self.why = refused_lines(refused.command, refused.reply, self.known, self.turns)
+        self.tell(self.why)

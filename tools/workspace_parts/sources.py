@@ -2,10 +2,11 @@
 
 import unicodedata
 
-from .advice import KINDS
+from . import habits
+from .advice import KINDS, REFUSALS
 from .known import near
 from .statements import MOST_LETTERS
-from .tokens import arguments, no_token, pattern, temporaries, tokens
+from .tokens import Token, arguments, pattern, temporaries, tokens
 
 WIDEST = 76
 BEFORE, DOTS = 40, ".."
@@ -73,18 +74,19 @@ class Fault:
 
     def sentence(self):
         if self.token.kind == "none" and self.kind in ("BadToken", "BadPattern"):
-            return no_token(self.here)
+            return habits.no_token(self.source, self.place + self.token.start)
         if self.kind == "BadCharacter":
             if not self.here.isascii():
                 return f"{self.here} is not ASCII, and sources are, in comments too; take it out"
-            return no_token(self.here)
+            return habits.no_token(self.source, self.place)
         own = {
             "BadToken": self.bad_token,
             "BadPattern": self.bad_pattern,
+            "BlockEscapes": self.block_escapes,
             "TooLarge": self.too_large,
             "UnknownName": self.unknown,
         }.get(self.kind)
-        return own() if own else KINDS[self.kind].format(token=self.here)
+        return own() if own else self.general()
 
     def bad_token(self):
         """What stands here and what is expected; for some faults what is wrong instead."""
@@ -94,7 +96,9 @@ class Fault:
             return "temporaries are names with a small letter first, between bars"
         if self.after_answer():
             return "nothing comes after an answer; take out the ^ or what comes after it"
-        return f"{self.stands()} where {self.expected()} is expected"
+        token = Token(self.token.kind, self.here, self.place, self.place + len(self.here))
+        habit = habits.bar_or_minus(self.source, self.before, token) or habits.pragma(self.source, token)
+        return habit or f"{self.stands()} where {self.expected()} is expected"
 
     def stands(self):
         return f"{self.here} stands" if self.token.kind != "end" else "the method ends"
@@ -130,9 +134,17 @@ class Fault:
             return "the method is too long; put a part of it into another one"
         return TOO_LARGE.get(self.token.kind, KINDS["TooLarge"])
 
+    def block_escapes(self):
+        return habits.block(self.source, self.before, self.place) or self.general()
+
     def unknown(self):
         names = [*arguments(self.source), *temporaries(self.source)[0], *self.variables, *self.classes]
-        return KINDS["UnknownName"].format(token=self.here) + near(self.here, names)
+        is_class = self.here[:1].isupper()
+        sentence = REFUSALS["UnknownClass"].format_map({"class": self.here}) if is_class else self.general()
+        return sentence + near(self.here, names)
+
+    def general(self):
+        return KINDS[self.kind].format(token=self.here)
 
     def expected(self):
         """What the grammar goes on with, as far as the token before tells."""

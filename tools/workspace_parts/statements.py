@@ -3,12 +3,18 @@ blocks and answers."""
 
 from dataclasses import dataclass
 
-from .tokens import no_token, tokens
+from . import habits
+from .tokens import tokens
 from .wrong import Wrong
 
 LEAST, MOST = -(2**63), 2**63 - 1
 MOST_LETTERS = 64
+MOST_ACTORS = 65_535
 LITERALS = {"nil": None, "true": True, "false": False}
+ANSWER = (
+    "answers stand in methods only; at a terminal an empty line ends a method, in a file begin each line of it with two blanks "
+    "or a tab"
+)
 RESERVED = ("self", "super", "thisActor", *LITERALS)
 
 
@@ -24,8 +30,25 @@ class Name:
 
 
 @dataclass
+class Actor:
+    """An actor by its number."""
+
+    number: int
+    place: int
+
+
+@dataclass
+class Message:
+    """`text` is what was typed."""
+
+    selector: str
+    arguments: list
+    text: str
+
+
+@dataclass
 class Send:
-    """Messages to one receiver: one, or those of a cascade. Each is a selector and its arguments."""
+    """Messages to one receiver: one, or those of a cascade."""
 
     receiver: object
     messages: list
@@ -61,9 +84,16 @@ class Parser:
     def fail(self, expected):
         token = self.token
         if token.kind == "none":
-            raise Wrong(no_token(token.text), token.start)
-        if token.kind in ("[", "^"):
-            raise Wrong("blocks and answers stand in methods only; here messages are sent to actors", token.start)
+            raise Wrong(habits.no_token(self.text, token.start), token.start)
+        if token.kind == "^":
+            raise Wrong(ANSWER, token.start)
+        if token.kind == "[":
+            raise Wrong("blocks stand in methods only; here messages are sent to actors", token.start)
+        if token.kind == "|" and (self.at == 0 or self.tokens[self.at - 1].kind == "."):
+            raise Wrong("names are not declared here; write  x := 3", token.start)
+        habit = habits.bar_or_minus(self.text, self.tokens[: self.at], token)
+        if habit:
+            raise Wrong(habit, token.start)
         here = "the line ends" if token.kind == "end" else f"{token.text} stands"
         raise Wrong(f"{here} where {expected} is expected", token.start)
 
@@ -108,17 +138,28 @@ class Parser:
     def message(self):
         """One message of a cascade; None if none begins here."""
         if self.token.kind == "word":
-            return self.take().text, []
+            return self.unary_message()
         if self.token.kind == "binary":
-            return self.take().text, [self.unaries()]
+            return self.binary_message()
         return self.keyword_message()
 
+    def unary_message(self):
+        text = self.take().text
+        return Message(text, [], text)
+
+    def binary_message(self):
+        start, selector = self.token.start, self.take().text
+        return self.message_from(start, selector, [self.unaries()])
+
     def keyword_message(self):
-        selector, arguments = "", []
+        start, selector, arguments = self.token.start, "", []
         while self.token.kind == "keyword":
             selector += self.take().text
             arguments.append(self.binaries())
-        return (selector, arguments) if selector else None
+        return self.message_from(start, selector, arguments) if selector else None
+
+    def message_from(self, start, selector, arguments):
+        return Message(selector, arguments, self.text[start : self.tokens[self.at - 1].stop])
 
     def keywords(self):
         place = self.token.start
@@ -130,15 +171,14 @@ class Parser:
         place = self.token.start
         found = self.unaries()
         while self.token.kind == "binary":
-            selector = self.take().text
-            found = Send(found, [(selector, [self.unaries()])], place)
+            found = Send(found, [self.binary_message()], place)
         return found
 
     def unaries(self):
         place = self.token.start
         found = self.primary()
         while self.token.kind == "word":
-            found = Send(found, [(self.take().text, [])], place)
+            found = Send(found, [self.unary_message()], place)
         return found
 
     def primary(self):
@@ -152,9 +192,17 @@ class Parser:
             return Literal({"sym": self.take().text[1:]})
         if token.kind == "(":
             return self.in_brackets()
+        if token.text == "actor" and after.kind == "number":
+            return self.numbered()
         if token.kind != "word":
             self.fail("a name or a value")
         return self.name(self.take())
+
+    def numbered(self):
+        place, number = self.take().start, int(self.take().text[:40])
+        if number > MOST_ACTORS:
+            raise Wrong("actors are numbered from 0 to 65,535", place)
+        return Actor(number, place)
 
     def in_brackets(self):
         self.take()

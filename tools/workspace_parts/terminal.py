@@ -4,8 +4,9 @@ import os
 import re
 
 from .commands import COMMANDS
-from .entries import Method, Statements, entries, form
-from .tokens import has_body, is_open
+from .copied import MORE, PROMPT
+from .cutting import entries
+from .entries import Method, form, wants_more
 from .wrong import Wrong
 
 try:
@@ -13,49 +14,33 @@ try:
 except ImportError:
     readline = None
 
-PROMPT, MORE = "> ", "  "
 HISTORY = "~/.actorimage_history"
 HISTORY_LINES = 1000
 # What ends a word. A colon, a slash and their like belong to commands, selectors and names of files.
 ENDS = " \t\n()[];|^\"#,=<>"
 
 
-def wants_more(text):
-    """Whether the lines so far are not the whole entry: a bracket or a comment is open, or a method has a pattern alone."""
-    try:
-        found = form(text)
-    except Wrong:
-        return False
-    if isinstance(found, Method):
-        return is_open(found.source) or not has_body(found.source)
-    return isinstance(found, Statements) and is_open(text)
-
-
 def read_entry(read=input):
-    """The lines of one entry. One that goes over several lines is ended by an empty line; messages are ended too where
-    their brackets close."""
-    text = "\n".join(copied(read(PROMPT).split("\n")))
-    if "\n" in text or not wants_more(text):
+    """The lines of one entry. One that goes over several lines is ended by an empty line, or by Ctrl-D; messages are ended too
+    where their brackets close."""
+    text = read(PROMPT)
+    if "\n" in text:
         return text
-    while True:
-        line = read(MORE)
+    text = text.removeprefix(PROMPT)
+    while wants_more(text) or is_method(text) and "\n" in text:
+        line = read_more(read)
         if not line.strip():
             return text
         text += "\n" + (line if line.startswith(("  ", "\t")) else "  " + line)
-        if not is_method(text) and not wants_more(text):
-            return text
+    return text
 
 
-def copied(lines):
-    """Of lines that were copied from a transcript, what was typed there: it comes after prompts."""
-    if not lines[0].startswith(PROMPT):
-        return lines
-    found, goes_on = [], False
-    for line in lines:
-        goes_on = line.startswith(PROMPT) or goes_on and line.startswith(MORE * 2)
-        if goes_on:
-            found.append(line[len(PROMPT) :])
-    return found
+def read_more(read):
+    try:
+        return read(MORE)
+    except EOFError:
+        print()
+        return ""
 
 
 def is_method(text):

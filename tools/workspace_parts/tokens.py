@@ -47,20 +47,6 @@ def tokens(text):
         place = match.end()
 
 
-def no_token(character):
-    """What is said of a place where no token begins."""
-    if character == '"':
-        return "this comment is not closed; put a double quote at its end"
-    if character.isdigit():
-        return "no number is written like this; numbers are whole, and a blank stands before a name"
-    if character in "#:":
-        return f"nothing begins with this {character} here; symbols are written #name or #at:put:, and assignments :="
-    if character == "'":
-        return "there are no strings; take a symbol, as in #name, or double quotes for a comment"
-    shown = character if character.isprintable() else f"the character {ord(character)}"
-    return f"{shown} has no meaning here; take it out"
-
-
 def is_open(text):
     """Whether a bracket or a comment is open at the end."""
     found = tokens(text)

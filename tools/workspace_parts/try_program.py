@@ -11,15 +11,20 @@ import tempfile
 from .try_common import COUNTER, SPIN, WORKSPACE, piped, same, shell_program
 
 
+STOPPED = "was stopped after ([0-9,]+) quanta, to save half of the history; an edit of a method that is sent, or :close, ends it"
+
+
 def endless(program):
-    """A run that nobody breaks off leaves half of the history."""
-    lines = [*SPIN, "s spin", ":run", "Spin >> goOn  ^false", ":run"]
-    found = piped(program, lines, "--quantum", "1").stdout.decode()
-    stops = re.findall(r"was stopped after ([0-9,]+) quanta, half of those left; :run or :step goes on", found)
-    quanta = [int(it.replace(",", "")) for it in stops]
-    if len(quanta) != 2 or not 499_000 < quanta[0] < 501_000 or not 249_000 < quanta[1] < 251_000:
-        raise AssertionError(f"it is stopped after {stops}")
-    same(found.endswith("turn 1 of actor 0 answers 7\n"), True)
+    """A run that nobody breaks off leaves half of the history, however many messages it begins."""
+    pair = ["P : Object | pal |", "P >> pal: p  pal := p. ^self hit", "P >> hit  ^pal post: #hit", "p := P actor. q := P actor"]
+    for lines, end in (
+        ([*SPIN, "s spin", ":run", ":step 1000000", "Spin >> goOn  ^false", ":run"], "turn 1 of actor 0 answers 7\n"),
+        ([*pair, "p pal: q. q pal: p", ":run", ":run", ":step 1000000", "P >> hit  ^7", "p hit"], "7\n"),
+    ):
+        found = piped(program, lines, "--quantum", "8").stdout.decode()
+        stops = re.findall(STOPPED, found)
+        same([int(it.replace(",", "")) // 1000 for it in stops], [249, 124, 62])
+        same(found.endswith(end), True)
 
 
 def interrupted(program):
@@ -64,6 +69,13 @@ def no_program(program):
     same(ended.returncode, 1)
 
 
+def no_file(program):
+    """A file that cannot be read."""
+    ended = piped(program, [], "nofile.st")
+    wanted = "tools/workspace: nofile.st cannot be read (No such file or directory)\n"
+    same((ended.stderr.decode(), ended.returncode), (wanted, 1))
+
+
 def lost_program(program):
     """A program that ends in the middle, or replies what is no reply."""
     greeting = """read line; echo '{"ok":{"quanta":0,"steps":0}}'; read line; """
@@ -82,4 +94,4 @@ def too_long(program):
     same(found.endswith("actor 0\n"), True)
 
 
-TRIALS = (endless, interrupted, log, no_program, lost_program, too_long)
+TRIALS = (endless, interrupted, log, no_program, no_file, lost_program, too_long)

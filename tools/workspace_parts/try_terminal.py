@@ -1,7 +1,9 @@
 """Trials at a terminal: typed and pasted entries, keys, and Ctrl-C."""
 
 import re
+import signal
 import tempfile
+import time
 
 from .pretend import Terminal
 from .terminal import readline
@@ -86,7 +88,7 @@ def pasted(program):
 
 def long_run(program):
     """A long run shows that it runs, and is broken off; an edit in the middle of the turn ends it."""
-    with Typing(program) as terminal:
+    with Typing(program, "--quantum", "1024") as terminal:
         typed(terminal, SPIN)
         terminal.type("s spin. s spin\n")
         terminal.see("quanta so far; Ctrl-C breaks off")
@@ -95,7 +97,7 @@ def long_run(program):
         where = "turn 1 of actor 0 was broken off after [0-9,]+ quanta; :run or :step goes on where it was\n"
         if not re.search(where + "not sent: s spin\n", told):
             raise AssertionError(f"it says {told!r}")
-        same(terminal.ask(":step 2"), "2 quanta, 512 steps\n")
+        same(terminal.ask(":step 2"), "2 quanta, 2,048 steps\n")
         terminal.ask("Spin >> goOn  ^false")
         if not terminal.ask(":run").endswith("turn 1 of actor 0 answers 7\n"):
             raise AssertionError("the turn does not end after the edit")
@@ -116,14 +118,31 @@ def broken_line(program):
 
 
 def slow_start(program):
-    """Ctrl-C while the program is built."""
-    with tempfile.TemporaryDirectory() as folder:
-        path = shell_program(folder, "echo building >&2\nexec sleep 100")
-        terminal = Terminal([WORKSPACE, "--program", path], folder)
-        terminal.see("building\n")
-        terminal.interrupt()
-        terminal.see("tools/workspace: broken off\n")
-        same(terminal.process.wait(20), 130)
+    """Ctrl-C or a signal while the program is built: the build ends too."""
+    for number, status in ((None, 130), (signal.SIGTERM, 143)):
+        with tempfile.TemporaryDirectory() as folder:
+            path = shell_program(folder, "sleep 100 & echo building $! >&2; wait")
+            terminal = Terminal([WORKSPACE, "--program", path], folder)
+            build = int(terminal.see("\n").removeprefix("building "))
+            if number:
+                terminal.process.send_signal(number)
+            else:
+                terminal.interrupt()
+                terminal.see("tools/workspace: broken off\n")
+            same(terminal.process.wait(20), status)
+            ends = time.monotonic() + 5
+            while lives(build) and time.monotonic() < ends:
+                time.sleep(0.01)
+            same(lives(build), False)
+
+
+def lives(number):
+    """Whether a process runs; one that has ended, and whose end nobody has asked for, does not."""
+    try:
+        with open(f"/proc/{number}/stat", encoding="utf-8") as file:
+            return file.read().rpartition(")")[2].split()[0] != "Z"
+    except OSError:
+        return False
 
 
 TRIALS = (session, keys, pasted, long_run, broken_line, slow_start)

@@ -4,6 +4,7 @@ import os
 import re
 
 from . import advice
+from .cutting import entries
 from .known import Known
 from .terminal import candidates, read_entry
 from .try_common import TOP, WORKSPACE, same
@@ -90,10 +91,41 @@ def several_lines(program):
         (["C >> m  ^(3 +", ""], "C >> m  ^(3 +"),
         (["c say: (c", "bump)"], "c say: (c\n  bump)"),
         (['"a', 'b" c bump'], '"a\n  b" c bump'),
+        (["C >> m", "^3", None], "C >> m\n  ^3"),
+        (["c say: (c", None], "c say: (c"),
+        (["> c bump"], "c bump"),
         ([""], ""),
     ):
         left = list(lines)
-        same((read_entry(lambda prompt: left.pop(0)), left), (wanted, []))
+        same((read_entry(lambda prompt: read_one(left)), left), (wanted, []))
 
 
-TRIALS = (all_refusals, limits, completion, several_lines)
+def read_one(lines):
+    """The next line; None stands for the end of the input."""
+    line = lines.pop(0)
+    if line is None:
+        raise EOFError
+    return line
+
+
+def cut(program):
+    """Which lines of a file are one entry."""
+    for text, wanted in (
+        ("C >> m\n^3\n^4\n\nc m", ["C >> m\n  ^3\n  ^4", "c m"]),
+        ("C >> m\n\nc m", ["C >> m", "c m"]),
+        ("C >> m\n:run", ["C >> m", ":run"]),
+        ("C >> m\nD : C", ["C >> m", "D : C"]),
+        ("C >> m\nC >> n  ^1\n^3", ["C >> m", "C >> n  ^1", "^3"]),
+        ('C >> m\n"why\n\nnot"\n^3', ['C >> m\n  "why\n  \n  not"\n  ^3']),
+        ('C >> m\n"why"\n  ^3', ['C >> m\n  "why"\n  ^3']),
+        ('C >> m\n"why"\n\n^3', ["C >> m", '"why"', "^3"]),
+        ("\ufeffc m\nc n", ["c m", "c n"]),
+        ("> c m\n3\n> C >> m\n    ^3\n\n    + 4\n> c m\n    7", ["c m", "C >> m\n  ^3\n\n  + 4", "c m\n  7"]),
+        ("> C >> m\n  | a |\n    a := 3.\n  ^a\n\n  printed\n> c m", ["C >> m\n  | a |\n  a := 3.\n  ^a", "c m"]),
+        ("> C >> m  ^zork\n  ^zork\n   ^ UnknownName\n> c m", ["C >> m  ^zork", "c m"]),
+        ("c m\n> C >> m\n> c n\nc m", ["c m", "C >> m", "c n"]),
+    ):
+        same([entry.text for entry in entries(text.split("\n"))], wanted)
+
+
+TRIALS = (all_refusals, limits, completion, several_lines, cut)

@@ -10,9 +10,12 @@ from .wrong import BrokenOff, Refused
 SENDER = 1
 # Quanta of one `run`. An actor may end a turn in each, and the newest 64 outcomes are kept, so none is missed.
 SLICE = 64
-# Items of a history (docs/LIMITS.md). A run takes at most half of those that are left.
+# Items of a history (docs/LIMITS.md). A run takes at most half of those that are left. A quantum may take two: it is not told
+# whether it began a message.
 HISTORY = 1_000_000
+ITEMS_OF_QUANTUM = 2
 GOES_ON = ":run or :step goes on where it was"
+ENDS_IT = "an edit of a method that is sent, or :close, ends it; :run goes on"
 
 
 @dataclass(frozen=True)
@@ -44,8 +47,8 @@ class Life:
 
 
 class Turns:
-    """`waiting` are turns that were posted and have not ended yet; `ends` has those that ended and were not told of. `items`
-    counts those of the history that the commands took, as far as one can know."""
+    """`waiting` are turns that were posted and have not ended yet; `ends` has those that ended and were not told of.
+    `selectors` has that of each turn's message. `items` counts those of the history that the commands took, or more."""
 
     def __init__(self, connection, breaks):
         self.connection = connection
@@ -54,6 +57,7 @@ class Turns:
         self.items = 0
         self.waiting = []
         self.ends = {}
+        self.selectors = {}
 
     def ask(self, command):
         """What the reply has after `ok`."""
@@ -75,10 +79,19 @@ class Turns:
             turn = self.ask({**command, "seq": self.last + 1})["turn"]
         self.last += 1
         self.waiting.append(Turn(actor, turn))
+        self.selectors[self.waiting[-1]] = selector
         return self.waiting[-1]
 
     def outcome(self, turn):
         return self.ask({"cmd": "outcome", "actor": turn.actor, "turn": turn.number})
+
+    def ask_for(self, actor):
+        """Refused if there is no such actor. Turn 0 of one that is there is never kept."""
+        try:
+            self.outcome(Turn(actor, 0))
+        except Refused as refused:
+            if refused.reply["error"] != "Expired":
+                raise
 
     def end_of(self, turn):
         """Runs until a turn has ended, and says how."""
@@ -96,15 +109,16 @@ class Turns:
         """Takes quanta until there were as many, the turn has ended, or nothing is ready. Returns the quanta and steps that
         were taken."""
         life, taken, steps = Life(), 0, 0
-        most = max(1, (HISTORY - self.items) // 2)
+        most = max(1, (HISTORY - self.items) // 2 // ITEMS_OF_QUANTUM)
+        end = most if quanta is None else min(most, quanta)
         try:
-            while quanta is None or taken < quanta:
-                size = SLICE if quanta is None else min(SLICE, quanta - taken)
+            while True:
+                size = min(SLICE, end - taken)
                 ran = self.run(size)
                 taken, steps = taken + ran["quanta"], steps + ran["steps"]
-                if turn in self.ends or ran["quanta"] < size:
+                if turn in self.ends or ran["quanta"] < size or taken == quanta:
                     break
-                self.check(taken, most if quanta is None else taken + 1, self.running(turn))
+                self.check(taken, most, self.running(turn))
                 life.tell(taken)
         finally:
             life.clear()
@@ -122,7 +136,7 @@ class Turns:
         finally:
             for actor in {turn.actor for turn in self.waiting}:
                 self.see_ends(actor)
-        self.items += ran["quanta"]
+        self.items += ITEMS_OF_QUANTUM * ran["quanta"]
         return ran
 
     def see_ends(self, actor):
@@ -148,5 +162,5 @@ class Turns:
         if self.breaks.asked:
             raise BrokenOff(f"{what} was broken off after {count(taken, 'quantum')}; {GOES_ON}")
         if taken >= most:
-            stopped = f"{what} was stopped after {count(taken, 'quantum')}, half of those left"
-            raise BrokenOff(f"{stopped}; {GOES_ON}, :restart starts anew")
+            stopped = f"{what} was stopped after {count(taken, 'quantum')}, to save half of the history"
+            raise BrokenOff(f"{stopped}; {ENDS_IT}")

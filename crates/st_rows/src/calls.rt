@@ -127,8 +127,20 @@ fn new_worker(alloc: Global) -> Result<Worker<GlobalGuard>, AllocError> {
     Ok(Worker::new(Caches::new(alloc, GlobalGuard::new())?))
 }
 
+/// A claim of the first actor, of which a new worker has taken so many steps, or fewer if no step of the actor's own is next.
+pub(crate) fn claim_of(alloc: Global, image: &mut Image, most: u32) -> Result<Claim, Refusal> {
+    let mut claim = image.checkout(alloc, FIRST)?;
+    let Ok(mut worker) = new_worker(alloc) else {
+        return Err(Refusal::NoMemory);
+    };
+    match worker.run(alloc, &mut claim, most) {
+        Ok(_) => Ok(claim),
+        Err(_) => Err(Refusal::NoMemory),
+    }
+}
+
 /// Commits a claim, or gives it back.
-fn commit(alloc: Global, image: &mut Image, claim: Claim) -> Result<u32, Refusal> {
+pub(crate) fn commit(alloc: Global, image: &mut Image, claim: Claim) -> Result<u32, Refusal> {
     match image.commit(alloc, claim) {
         Ok(steps) => Ok(steps),
         Err((refusal, Some(claim))) => {
@@ -141,13 +153,7 @@ fn commit(alloc: Global, image: &mut Image, claim: Claim) -> Result<u32, Refusal
 
 /// So many steps of the first actor at most, and the image's step where it comes next.
 pub(crate) fn advance(alloc: Global, image: &mut Image, most: u32) -> Result<u32, Refusal> {
-    let mut claim = image.checkout(alloc, FIRST)?;
-    let Ok(mut worker) = new_worker(alloc) else {
-        return Err(Refusal::NoMemory);
-    };
-    let Ok(_) = worker.run(alloc, &mut claim, most) else {
-        return Err(Refusal::NoMemory);
-    };
+    let claim = claim_of(alloc, image, most)?;
     commit(alloc, image, claim)
 }
 

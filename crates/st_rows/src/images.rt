@@ -21,6 +21,8 @@ fn refuses_settings(rt: HostRuntime) -> Result<(), Fail> {
     };
     let refused = image_with(rt.alloc(), none);
     assert!(rt; matches!(refused, Err(Refusal::BadArguments)));
+    let refused = image_set_to(rt.alloc(), none);
+    assert!(rt; matches!(refused, Err(Refusal::BadArguments)));
     Ok(())
 }
 

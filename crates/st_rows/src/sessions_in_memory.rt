@@ -95,6 +95,11 @@ const SESSIONS: &[(&[u8], &str, Result<u64, Refusal>)] = &[
         Ok(5),
     ),
     (
+        b"{\"cmd\":\"run\"}\r\n",
+        "{\"ok\":{\"quanta\":0,\"steps\":0}}\n",
+        Ok(1),
+    ),
+    (
         b"{\"cmd\":\"run\"}\r\n\r",
         "{\"ok\":{\"quanta\":0,\"steps\":0}}\n",
         Ok(1),

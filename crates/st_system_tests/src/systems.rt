@@ -100,13 +100,8 @@ pub(crate) fn new_system(alloc: Global, history: u32) -> Result<TwoWorkers, Refu
     }
 }
 
-/// Lets an event happen, and lets it happen again where memory was refused. Memory is refused where a test is run with an allocation
-/// that fails; then the event must have left everything as it was.
 pub(crate) fn apply(alloc: Global, system: &mut TwoWorkers, event: &Event) -> Answered {
-    match system.apply(alloc, event) {
-        Err(Refusal::NoMemory) => system.apply(alloc, event),
-        answer => answer,
-    }
+    system.apply(alloc, event)
 }
 
 pub(crate) fn run(alloc: Global, system: &mut TwoWorkers, events: &[Event]) {

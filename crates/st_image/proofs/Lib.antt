@@ -45,3 +45,4 @@ pub mod Committing
 pub mod GrowingEdits
 pub mod RanSteps
 pub mod CountingOnce
+pub mod Covering

@@ -43,8 +43,8 @@ covers_push rows n edits later e last k =
     record {
       few = omega (arith, longer, k.few);
       places = λ id m l h.
-        let old : slice_get later id.0 ≡ slice_get edits id.0 = ap (λ (es : List Edit). slice_get es id.0) last ∙ slice_get_old edits (e ∷ []) id.0 (omega (arith, l, k.few)) in
-        k.places id m l (ap (option_and_then installed_method) (sym old) ∙ h);
+          let old : slice_get later id.0 ≡ slice_get edits id.0 = ap (λ (es : List Edit). slice_get es id.0) last ∙ slice_get_old edits (e ∷ []) id.0 (omega (arith, l, k.few)) in
+          k.places id m l (ap (option_and_then installed_method) (sym old) ∙ h);
     }
 
 not_longer : (n m : ℕ) (b : Bool) → nat_lt n m ≡ b → (nat_lt n m ≡ true → nat_lt n n ≡ true) → m ≤ n

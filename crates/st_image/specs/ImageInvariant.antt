@@ -38,7 +38,7 @@ pub record IsImage (base : World) (names : List (List ℕ)) (edits : List Edit) 
   pub few_accepted : All (λ (k : ActorView). k.accepted ≤ length history) actors
 
 -- The history leads to what is kept; the numbers of clients are those that it leads to, the tallies count its sends and have
--- places for the methods of the edits that are covered, and each actor's number is how often it changed the actor's body.
+-- places for the methods of so many edits as are covered, and each actor's number is how often it changed the actor's body.
 pub record HoldsImage (base : World) (names : List (List ℕ)) (edits : List Edit) (actors : List ActorView)
     (history : List Item) (made : ℕ) (s : Settings) (clients : List ℕ) (tallies : List (List Tally))
     (covered : ℕ) (changes : List ℕ) : Type 0 where

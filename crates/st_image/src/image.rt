@@ -77,7 +77,7 @@ pub struct Image<M: Mailbox> {
     /// The number from which the next ready actor is looked for.
     next_from: u32,
     tallies: Tallies,
-    /// Of how many edits, from the first on, the methods have their places in the tallies.
+    /// How many edits, from the first on, are covered: the tallies have places for all code of the methods that they install.
     covered: u32,
     changes: Changes,
 }

@@ -72,7 +72,7 @@ impl Tally {
         self.add_rare(how);
     }
 
-    /// One more send of a worker's, of those that are rare: its call site did not have the target.
+    /// One more send of a worker's, which is rare where its call site did not have the target.
     #[cold]
     #[inline(never)]
     fn add_rare(&mut self, how: How)
@@ -130,7 +130,7 @@ impl TallyRow {
         }
     }
 
-    /// Makes the first places, so many. No tally changes.
+    /// Makes so many places, where there are fewer. No tally changes.
     fn make_places(&mut self, places: usize) -> Result<(), AllocError>
         ensures same { (i : ℕ) → slice_index_or self.new i no_tally ≡ slice_index_or self.old i no_tally }
         ensures keeps { (i : ℕ) → i < length self.old → i < length self.new }
@@ -236,7 +236,7 @@ impl Tallies {
         }
     }
 
-    /// Makes the first places of the row of a method. No tally changes.
+    /// Makes so many places in the row of a method, where it has fewer. No tally changes.
     fn make_row(&mut self, method: MethodId, places: usize) -> Result<(), AllocError>
         ensures same { SameTallies self.old self.new }
         ensures keeps { KeepsPlaces self.old self.new }
@@ -248,7 +248,7 @@ impl Tallies {
         row.make_places(places)
     }
 
-    /// Makes the places of the method that the next edit installs, if it installs one. No tally changes.
+    /// Makes the places of the method that the first edit past those covered installs, if it installs one. No tally changes.
     fn cover_next(&mut self, version: &Version, covered: u32) -> Result<(), AllocError>
         requires covers { Covers self.old covered version.now }
         requires more { covered < length version.now }
@@ -263,7 +263,7 @@ impl Tallies {
         }
     }
 
-    /// As `cover`, where edits were made.
+    /// As `cover`, where edits were made since.
     #[cold]
     #[inline(never)]
     fn cover_rest(&mut self, version: &Version, covered: &mut u32) -> Result<(), AllocError>
@@ -279,14 +279,10 @@ impl Tallies {
         Ok(())
     }
 
-    /// Makes the places of the methods that are installed by the edits after those that were covered. For want of memory some of these
-    /// are covered; no tally changes.
+    /// Makes a place for each instruction of the methods that were installed since the edits that are covered, and covers all edits.
+    /// It takes no time where none was made since. For want of memory it covers some of them. No tally changes.
     #[inline]
-    pub(crate) fn cover(
-        &mut self,
-        version: &Version,
-        covered: &mut u32,
-    ) -> Result<(), AllocError>
+    pub(crate) fn cover(&mut self, version: &Version, covered: &mut u32) -> Result<(), AllocError>
         requires { Covers self.old covered.old version.now }
         ensures same { SameTallies self.old self.new }
         ensures covers { Covers self.new covered.new version.now }

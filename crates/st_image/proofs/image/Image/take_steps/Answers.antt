@@ -14,7 +14,7 @@ use Rattle.st_image.specs.ActResults.{TakesOuter, constants_of}
 use Rattle.st_image.specs.Changes.{change_count}
 use Rattle.st_image.specs.ClaimsOut.{one_less}
 use Rattle.st_image.specs.Commits.{CommitAllowed, HasCommitted, act_site}
-use Rattle.st_image.specs.Tallies.{Covers, HasPlaces, Tallied, after_act_at, after_sends, tally_at}
+use Rattle.st_image.specs.Tallies.{Covers, Tallied, after_act_at, after_sends, tally_at}
 use Rattle.st_image.specs.declared.tallies.Tally.{Tally}
 use Rattle.st_image.specs.declared.items.Item.{Item}
 use Rattle.st_image.specs.declared.items.Item.TheVariants.{Ran}

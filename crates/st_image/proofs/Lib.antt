@@ -28,6 +28,7 @@ pub mod OwnSteps
 pub mod AskedSteps
 pub mod Counting
 pub mod ClaimSends
+pub mod Covering
 pub mod Sends
 pub mod Naming
 pub mod Installing

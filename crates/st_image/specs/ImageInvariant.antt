@@ -19,7 +19,7 @@ use Rattle.st_image.specs.Changes.{CountsChanges}
 use Rattle.st_image.specs.ActorViews.{ActorView, Shows}
 use Rattle.st_image.specs.ActResults.{constants_of}
 use Rattle.st_image.specs.declared.tallies.Tally.{Tally}
-use Rattle.st_image.specs.Tallies.{CountsSends}
+use Rattle.st_image.specs.Tallies.{CountsSends, Covers}
 
 -- the history leads from the base to the world that is kept, and all numbers are within their limits
 pub record IsImage (base : World) (names : List (List ℕ)) (edits : List Edit) (actors : List ActorView)
@@ -37,14 +37,15 @@ pub record IsImage (base : World) (names : List (List ℕ)) (edits : List Edit) 
   pub few_items : length history ≤ s.history
   pub few_accepted : All (λ (k : ActorView). k.accepted ≤ length history) actors
 
--- The history leads to what is kept; the numbers of clients are those that it leads to, the tallies count its sends, and
--- each actor's number is how often it changed the actor's body.
+-- The history leads to what is kept; the numbers of clients are those that it leads to, the tallies count its sends and have
+-- places for the methods of so many edits as are covered, and each actor's number is how often it changed the actor's body.
 pub record HoldsImage (base : World) (names : List (List ℕ)) (edits : List Edit) (actors : List ActorView)
     (history : List Item) (made : ℕ) (s : Settings) (clients : List ℕ) (tallies : List (List Tally))
-    (changes : List ℕ) : Type 0 where
+    (covered : ℕ) (changes : List ℕ) : Type 0 where
   pub image : IsImage base names edits actors history made s
   pub numbers_of_clients : KeepsClients clients base.clients history
   pub sends : CountsSends (constants_of names s.capacity) base history tallies
+  pub places : Covers tallies covered edits
   pub counts : CountsChanges changes history
 
 -- a body fits a table whose edits are lawful and sound, so that its steps fit it too

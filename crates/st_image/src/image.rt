@@ -77,6 +77,8 @@ pub struct Image<M: Mailbox> {
     /// The number from which the next ready actor is looked for.
     next_from: u32,
     tallies: Tallies,
+    /// How many edits, from the first on, are covered: the tallies have places for all code of the methods that they install.
+    covered: u32,
     changes: Changes,
 }
 
@@ -91,7 +93,7 @@ impl<M: Mailbox> Model for Image<M> {
 
     ghost view = { λ i. record { base = start; names = i.names; history = i.history.items; capacity = i.settings.capacity; most_items = i.settings.history; standing = record { next_from = i.next_from; claims_out = trimmed i.actors.out; tallies = i.tallies } } };
 
-    ghost invariant = { λ i. HoldsImage start i.names i.token i.actors.kept i.history.items i.edits_made i.settings i.clients i.tallies i.changes };
+    ghost invariant = { λ i. HoldsImage start i.names i.token i.actors.kept i.history.items i.edits_made i.settings i.clients i.tallies i.covered i.changes };
 }
 
 impl<M: Mailbox> Image<M> {
@@ -139,6 +141,7 @@ impl<M: Mailbox> Image<M> {
             settings,
             next_from: 0,
             tallies: Tallies::new(alloc),
+            covered: 0,
             changes: Changes::new(alloc),
         })
     }

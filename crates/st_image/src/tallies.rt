@@ -1,11 +1,12 @@
 //! Tallies of call sites: the sends that were committed.
-ghost use Rattle.std.specs.Prelude.{◌≡◌, ◌<◌, ◌+◌, ◌^◌, ℕ, [], length, slice_set, true, None, OnOk, All};
+ghost use Rattle.std.specs.Prelude.{◌≡◌, ◌<◌, ◌≤◌, ◌+◌, ◌^◌, ℕ, [], length, slice_set, true, None, OnOk, All};
 ghost use Rattle.std.specs.List.{slice_index_or};
 ghost use Rattle.st_classes.specs.declared.keys.SiteId.{SiteId as SiteIdOf};
-ghost use Rattle.st_image.specs.Tallies.{ChangesTally, HasPlaces, KeepsPlaces, SameTallies, Tallied, has_place, no_tally, sends_of, tally_at, with_act, with_send};
+ghost use Rattle.st_image.specs.Tallies.{ChangesTally, Covers, HasPlaces, KeepsPlaces, SameTallies, Tallied, has_place, no_tally, sends_of, tally_at, with_act, with_send};
 
 use st_classes::keys::SiteId;
 use st_classes::values::{MethodId, Selector};
+use st_classes::version::Version;
 use st_guard::how::How;
 use st_sites::site::SiteState;
 use st_turn::claim::Sent;
@@ -68,9 +69,20 @@ impl Tally {
             self.by_site += 1;
             return;
         }
+        self.add_rare(how);
+    }
+
+    /// One more send of a worker's, which is rare where its call site did not have the target.
+    #[cold]
+    #[inline(never)]
+    fn add_rare(&mut self, how: How)
+        requires { sends_of self.old + 1 < 2 ^ 64 }
+        ensures { self.new ≡ with_send how self.old.state self.old }
+    {
         match how {
+            How::Site => self.by_site += 1,
+            How::Global => self.by_global += 1,
             How::Walk => self.by_walk += 1,
-            _ => self.by_global += 1,
         }
     }
 
@@ -109,13 +121,6 @@ impl TallyRow {
     }
 
     #[inline]
-    fn len(&self) -> usize
-        ensures { result ≡ length self.now }
-    {
-        self.tallies.len()
-    }
-
-    #[inline]
     fn at(&self, place: u16) -> Tally
         ensures { result ≡ slice_index_or self.now place no_tally }
     {
@@ -125,15 +130,14 @@ impl TallyRow {
         }
     }
 
-    /// Makes a place. No tally changes.
-    fn make_place(&mut self, place: u16) -> Result<(), AllocError>
+    /// Makes so many places, where there are fewer. No tally changes.
+    fn make_places(&mut self, places: usize) -> Result<(), AllocError>
         ensures same { (i : ℕ) → slice_index_or self.new i no_tally ≡ slice_index_or self.old i no_tally }
         ensures keeps { (i : ℕ) → i < length self.old → i < length self.new }
-        ensures ok { OnOk result (place < length self.new) }
+        ensures ok { OnOk result (places ≤ length self.new) }
     {
-        let wanted = usize::from(place) + 1;
-        if self.tallies.len() < wanted {
-            self.tallies.resize(wanted, Tally::none())?;
+        if self.tallies.len() < places {
+            self.tallies.resize(places, Tally::none())?;
         }
         Ok(())
     }
@@ -187,6 +191,31 @@ fn make_rows(rows: &mut Vec<TallyRow>, method: usize) -> Result<(), AllocError>
     Ok(())
 }
 
+/// Counts a send.
+#[inline(always)]
+fn count_send(rows: &mut [TallyRow], sent: &Sent)
+    requires place { has_place rows.old sent.now.site ≡ true }
+    requires few { sends_of (tally_at rows.old sent.now.site) + 1 < 2 ^ 64 }
+    ensures tally { ChangesTally (with_send sent.now.how sent.now.state) sent.now.site rows.old rows.new }
+    ensures keeps { KeepsPlaces rows.old rows.new }
+{
+    let row = &mut rows[sent.site.method.0 as usize];
+    row.add_send(sent.site.place, sent.how, sent.state);
+}
+
+/// Counts sends, one after the other.
+#[inline(always)]
+fn count_each(rows: &mut [TallyRow], sends: &[Sent])
+    requires places { All (λ s. has_place rows.old s.site ≡ true) sends.now }
+    requires few { (id : SiteIdOf) → sends_of (tally_at rows.old id) + length sends.now < 2 ^ 64 }
+    ensures tallied { Tallied rows.old sends.now None rows.new }
+    ensures keeps { KeepsPlaces rows.old rows.new }
+{
+    for sent in sends {
+        count_send(rows, sent);
+    }
+}
+
 impl Tallies {
     /// Nothing was sent.
     pub(crate) fn new(alloc: Global) -> Tallies
@@ -207,97 +236,62 @@ impl Tallies {
         }
     }
 
-    /// How many places the row of a method has.
-    #[inline(always)]
-    fn room(&self, method: MethodId) -> usize
-        ensures { result ≡ length (slice_index_or self.now method.0 []) }
+    /// Makes so many places in the row of a method, where it has fewer. No tally changes.
+    fn make_row(&mut self, method: MethodId, places: usize) -> Result<(), AllocError>
+        ensures same { SameTallies self.old self.new }
+        ensures keeps { KeepsPlaces self.old self.new }
+        ensures ok { OnOk result (places ≤ length (slice_index_or self.new method.0 [])) }
     {
-        match self.rows.get(method.0 as usize) {
-            Some(row) => row.len(),
-            None => 0,
+        let number = method.0 as usize;
+        make_rows(&mut self.rows, number)?;
+        let row = &mut self.rows[number];
+        row.make_places(places)
+    }
+
+    /// Makes the places of the method that the first edit past those covered installs, if it installs one. No tally changes.
+    fn cover_next(&mut self, version: &Version, covered: u32) -> Result<(), AllocError>
+        requires covers { Covers self.old covered version.now }
+        requires more { covered < length version.now }
+        ensures same { SameTallies self.old self.new }
+        ensures covers { Covers self.new covered version.now }
+        ensures ok { OnOk result (Covers self.new (covered + 1) version.now) }
+    {
+        let id = MethodId(covered);
+        match version.method(id) {
+            Some(method) => self.make_row(id, method.code().len()),
+            None => Ok(()),
         }
     }
 
-    /// Whether a site has its place.
-    #[inline]
-    fn has_place(&self, site: SiteId) -> bool
-        ensures { result ≡ has_place self.now site }
-    {
-        usize::from(site.place) < self.room(site.method)
-    }
-
-    /// Makes the place of a site that has none. No tally changes.
+    /// As `cover`, where edits were made since.
     #[cold]
-    fn grow(&mut self, site: SiteId) -> Result<(), AllocError>
+    #[inline(never)]
+    fn cover_rest(&mut self, version: &Version, covered: &mut u32) -> Result<(), AllocError>
+        requires { Covers self.old covered.old version.now }
         ensures same { SameTallies self.old self.new }
-        ensures keeps { KeepsPlaces self.old self.new }
-        ensures ok { OnOk result (has_place self.new site ≡ true) }
+        ensures covers { Covers self.new covered.new version.now }
+        ensures ok { OnOk result (covered.new ≡ length version.now) }
     {
-        let method = site.method.0 as usize;
-        make_rows(&mut self.rows, method)?;
-        let row = &mut self.rows[method];
-        row.make_place(site.place)
+        'edits: while *covered < version.edits() {
+            self.cover_next(version, *covered)?;
+            *covered += 1;
+        }
+        Ok(())
     }
 
-    /// Makes the place of a site. No tally changes.
+    /// Makes a place for each instruction of the methods that were installed since the edits that are covered, and covers all edits.
+    /// It takes no time where none was made since. For want of memory it covers some of them. No tally changes.
     #[inline]
-    fn make_place(&mut self, site: SiteId) -> Result<(), AllocError>
+    pub(crate) fn cover(&mut self, version: &Version, covered: &mut u32) -> Result<(), AllocError>
+        requires { Covers self.old covered.old version.now }
         ensures same { SameTallies self.old self.new }
-        ensures keeps { KeepsPlaces self.old self.new }
-        ensures ok { OnOk result (has_place self.new site ≡ true) }
+        ensures covers { Covers self.new covered.new version.now }
+        ensures ok { OnOk result (covered.new ≡ length version.now) }
     {
-        if self.has_place(site) {
+        if *covered == version.edits() {
             return Ok(());
         }
-        self.grow(site)
-    }
-
-    /// Makes the place of the site of each send. No tally changes. Most sends are of the method of the one before, whose row is not
-    /// looked for again.
-    fn make_send_places(&mut self, sends: &[Sent]) -> Result<(), AllocError>
-        ensures same { SameTallies self.old self.new }
-        ensures ok { OnOk result (All (λ s. has_place self.new s.site ≡ true) sends.now) }
-    {
-        let mut last = MethodId(0);
-        let mut room = self.room(last);
-        for sent in sends {
-            let site = sent.site;
-            if site.method.0 == last.0 && usize::from(site.place) < room {
-                continue;
-            }
-            self.make_place(site)?;
-            last = site.method;
-            room = self.room(last);
-        }
-        Ok(())
-    }
-
-    /// Makes a place for the site of each send and for that of an act. For want of memory some may have one; no tally changes.
-    pub(crate) fn make_places(
-        &mut self,
-        sends: &[Sent],
-        act: Option<SiteId>,
-    ) -> Result<(), AllocError>
-        ensures same { SameTallies self.old self.new }
-        ensures ok { OnOk result (HasPlaces self.new sends.now act) }
-    {
-        self.make_send_places(sends)?;
-        if let Some(site) = act {
-            self.make_place(site)?;
-        }
-        Ok(())
-    }
-
-    /// Counts a send.
-    #[inline(always)]
-    fn count_send(&mut self, sent: Sent)
-        requires place { has_place self.old sent.site ≡ true }
-        requires few { sends_of (tally_at self.old sent.site) + 1 < 2 ^ 64 }
-        ensures tally { ChangesTally (with_send sent.how sent.state) sent.site self.old self.new }
-        ensures keeps { KeepsPlaces self.old self.new }
-    {
-        let row = &mut self.rows[sent.site.method.0 as usize];
-        row.add_send(sent.site.place, sent.how, sent.state);
+        self.cover_rest(version, covered)
     }
 
     /// Counts an act.
@@ -305,7 +299,8 @@ impl Tallies {
     fn count_act(&mut self, site: SiteId)
         requires place { has_place self.old site ≡ true }
         requires few { sends_of (tally_at self.old site) + 1 < 2 ^ 64 }
-        ensures { ChangesTally with_act site self.old self.new }
+        ensures tally { ChangesTally with_act site self.old self.new }
+        ensures keeps { KeepsPlaces self.old self.new }
     {
         let row = &mut self.rows[site.method.0 as usize];
         row.add_act(site.place);
@@ -319,16 +314,15 @@ impl Tallies {
         ensures tallied { Tallied self.old sends.now None self.new }
         ensures keeps { KeepsPlaces self.old self.new }
     {
-        for sent in sends {
-            self.count_send(*sent);
-        }
+        count_each(self.rows.as_mut_slice(), sends);
     }
 
     /// Counts the sends of a claim, and an act behind them. No memory is taken.
     pub(crate) fn count(&mut self, sends: &[Sent], act: Option<SiteId>)
         requires places { HasPlaces self.old sends.now act }
         requires few { (id : SiteIdOf) → sends_of (tally_at self.old id) + length sends.now + 1 < 2 ^ 64 }
-        ensures { Tallied self.old sends.now act self.new }
+        ensures tallied { Tallied self.old sends.now act self.new }
+        ensures keeps { KeepsPlaces self.old self.new }
     {
         self.count_sends(sends);
         if let Some(site) = act {

@@ -96,14 +96,15 @@ impl<M: Mailbox> Image<M> {
         let Ok(()) = self.changes.make_room(actor) else {
             return Err(claim);
         };
-        let Ok(()) = self.tallies.make_places(claim.sends(), site) else {
+        let version = self.token.shown();
+        let Ok(()) = self.tallies.cover(version, &mut self.covered) else {
             return Err(claim);
         };
         let (parts, after) = claim.into_parts();
         match put_steps(
             alloc,
             &self.names,
-            self.token.shown(),
+            version,
             self.settings.capacity,
             &mut self.actors,
             actor,

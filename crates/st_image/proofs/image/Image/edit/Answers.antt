@@ -15,6 +15,7 @@ use Rattle.st_image.proofs.Editing.{IsEdited, edited}
 use Rattle.st_image.proofs.ClientNumbers.{kept_other}
 use Rattle.st_image.proofs.Sends.{sends_other}
 use Rattle.st_image.proofs.CountingChanges.{counts_other}
+use Rattle.st_image.proofs.Covering.{covers_push}
 use Rattle.st_image.proofs.image.Image.edit.Goals as goal
 
 pub overflow_add-self : goal.overflow_add-self
@@ -40,7 +41,7 @@ invariant_of-self-2 g c =
     let put : c.push.new.self.items ≡ i.history.items ++ Edited c.in-Ok-again.item ∷ [] = grind (arith, common_steps) in
     let items : c.push.new.self.items ≡ i.history.items ++ Edited c.args.edit ∷ [] = subst (λ (x : Edit). c.push.new.self.items ≡ i.history.items ++ Edited x ∷ []) item put in
     let e : IsEdited start i.names c.in-Ok-publish.token i.actors.kept (i.history.items ++ Edited c.args.edit ∷ []) (i.edits_made + 1) i.settings = edited start i.names i.token c.in-Ok-publish.token i.actors.kept i.history.items i.edits_made i.settings (standing_of i.next_from i.actors.out i.tallies) c.args.edit c.self.invariant.image c.known.ensures suits allowed after in
-    rw items (record { image = e.image; numbers_of_clients = kept_other i.clients [] i.history.items (Edited c.args.edit) (λ qs. refl) c.self.invariant.numbers_of_clients; sends = sends_other start i.names i.token i.actors.kept i.history.items i.edits_made i.settings i.tallies (Edited c.args.edit) c.self.invariant.image c.self.invariant.sends refl; counts = counts_other i.changes i.history.items (Edited c.args.edit) (λ a. refl) c.self.invariant.counts })
+    rw items (record { image = e.image; numbers_of_clients = kept_other i.clients [] i.history.items (Edited c.args.edit) (λ qs. refl) c.self.invariant.numbers_of_clients; sends = sends_other start i.names i.token i.actors.kept i.history.items i.edits_made i.settings i.tallies (Edited c.args.edit) c.self.invariant.image c.self.invariant.sends refl; places = covers_push i.tallies i.covered i.token c.in-Ok-publish.token c.args.edit (after ∙ ap (λ (es : List Edit). es ++ c.args.edit ∷ []) (sym c.self.invariant.image.shows.edits_are)) c.self.invariant.places; counts = counts_other i.changes i.history.items (Edited c.args.edit) (λ a. refl) c.self.invariant.counts })
 
 pub returns : goal.returns
 returns g c =

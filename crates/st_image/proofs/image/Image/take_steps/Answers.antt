@@ -1,7 +1,8 @@
-use Rattle.std.proofs.Common.{◌≡◌, ◌==◌, ◌+◌, cond, ℕ, ◌<◌, refl, sym, ap, subst, slice_get, ◌∙◌, ◌++◌, [], ◌∷◌, false, Some, List, Option, arith}
+use Rattle.std.proofs.Common.{length, ◌≡◌, ◌==◌, ◌+◌, cond, ℕ, ◌<◌, refl, sym, ap, subst, slice_get, ◌∙◌, ◌++◌, [], ◌∷◌, false, Some, List, Option, arith}
 use Rattle.std.proofs.lemmas.Grind.{common_steps}
 use Rattle.st_classes.specs.declared.values.ActorId.{ActorId}
 use Rattle.st_classes.specs.declared.keys.SiteId.{SiteId}
+use Rattle.st_classes.specs.declared.edits.Edit.{Edit}
 use Rattle.st_turn.specs.declared.claim.Sent.{Sent}
 use Rattle.st_turn.specs.Claims.{ClaimView}
 use Rattle.st_turn.specs.Idle.{is_idle}
@@ -13,7 +14,7 @@ use Rattle.st_image.specs.ActResults.{TakesOuter, constants_of}
 use Rattle.st_image.specs.Changes.{change_count}
 use Rattle.st_image.specs.ClaimsOut.{one_less}
 use Rattle.st_image.specs.Commits.{CommitAllowed, HasCommitted, act_site}
-use Rattle.st_image.specs.Tallies.{Tallied, after_act_at, after_sends, tally_at}
+use Rattle.st_image.specs.Tallies.{Covers, Tallied, after_act_at, after_sends, tally_at}
 use Rattle.st_image.specs.declared.tallies.Tally.{Tally}
 use Rattle.st_image.specs.declared.items.Item.{Item}
 use Rattle.st_image.specs.declared.items.Item.TheVariants.{Ran}
@@ -24,6 +25,7 @@ use Rattle.st_image.proofs.Committing.{HasTaken, MayCommit, has_taken, items_are
 use Rattle.st_image.proofs.CountingOut.{counts_same_out}
 use Rattle.st_image.proofs.ClientNumbers.{kept_other}
 use Rattle.st_image.proofs.CountingChanges.{counts_one}
+use Rattle.st_image.proofs.Covering.{covers_kept, has_places}
 use Rattle.st_image.proofs.image.Image.take_steps.Goals as goal
 
 pub put_steps-requires-clause-busy : goal.put_steps-requires-clause-busy
@@ -44,7 +46,18 @@ put_steps-requires-clause-shown g c =
     let beside : Standing = standing_of i.next_from i.actors.out i.tallies in
     let allowed : CommitAllowed (seen start i.names i.history.items i.settings beside) d = subst (λ (v : ImageView). CommitAllowed v d) (sym c.self.view_is) c.requires.allowed in
     let may : MayCommit i.names i.token i.actors.kept i.history.items i.settings d = may_commit i.names i.token i.actors.kept i.history.items i.edits_made i.settings beside d c.self.invariant.image allowed c.known.ensures (subst (λ (n : ℕ). 0 < n) c.requires.steps c.requires.some) in
-    (change (with_body d.after) d.actor (world_of (constants_of i.names i.settings.capacity) start i.history.items), rw (c.shown.ensures, c.actor-actor.ensures, c.into_parts-parts.ensures.after) may.went.shown)
+    (change (with_body d.after) d.actor (world_of (constants_of i.names i.settings.capacity) start i.history.items), rw (c.shown-version.ensures, c.actor-actor.ensures, c.into_parts-parts.ensures.after) may.went.shown)
+
+pub count-requires-clause-places : goal.count-requires-clause-places
+count-requires-clause-places g c =
+    let i = c.self.inside in
+    let d : ClaimView = c.args.claim in
+    let beside : Standing = standing_of i.next_from i.actors.out i.tallies in
+    let allowed : CommitAllowed (seen start i.names i.history.items i.settings beside) d = subst (λ (v : ImageView). CommitAllowed v d) (sym c.self.view_is) c.requires.allowed in
+    let edits : c.shown-version.result.now ≡ d.edits = c.shown-version.ensures ∙ c.self.invariant.image.shows.edits_are ∙ sym allowed.survives in
+    let all : Covers c.cover.new.self (length d.edits) d.edits = subst (λ (es : List Edit). Covers c.cover.new.self (length es) es) edits (subst (λ (n : ℕ). Covers c.cover.new.self n c.shown-version.result.now) c.in-Ok-cover.ensures.ok c.cover.ensures.covers) in
+    let sent : c.as_slice.result.now ≡ d.sends = c.as_slice.ensures.value ∙ c.into_parts-parts.ensures.sends in
+    rw (c.site_to_commit-site.ensures, sent) (has_places c.cover.new.self d c.known.ensures all)
 
 pub invariant_of-self-in-Ok-put_steps : goal.invariant_of-self-in-Ok-put_steps
 invariant_of-self-in-Ok-put_steps g c =
@@ -54,18 +67,18 @@ invariant_of-self-in-Ok-put_steps g c =
     let allowed : CommitAllowed (seen start i.names i.history.items i.settings beside) d = subst (λ (v : ImageView). CommitAllowed v d) (sym c.self.view_is) c.requires.allowed in
     let may : MayCommit i.names i.token i.actors.kept i.history.items i.settings d = may_commit i.names i.token i.actors.kept i.history.items i.edits_made i.settings beside d c.self.invariant.image allowed c.known.ensures (subst (λ (n : ℕ). 0 < n) c.requires.steps c.requires.some) in
     let w : World = world_of (constants_of i.names i.settings.capacity) start i.history.items in
-    let raw = c.in-Ok-put_steps.ensures.ok (change (with_body d.after) d.actor w) (rw (c.shown.ensures, c.actor-actor.ensures, c.into_parts-parts.ensures.after) may.went.shown) in
-    let takes : TakesOuter (constants_of i.names i.settings.capacity) i.token (change_at (view_after_steps d.after) d.actor.0 i.actors.kept) c.put_steps.new.actors.kept d.actor (change (with_body d.after) d.actor w) c.in-Ok-put_steps.field-0 = rw (c.shown.ensures, c.actor-actor.ensures, c.into_parts-parts.ensures.after) at raw in
+    let raw = c.in-Ok-put_steps.ensures.ok (change (with_body d.after) d.actor w) (rw (c.shown-version.ensures, c.actor-actor.ensures, c.into_parts-parts.ensures.after) may.went.shown) in
+    let takes : TakesOuter (constants_of i.names i.settings.capacity) i.token (change_at (view_after_steps d.after) d.actor.0 i.actors.kept) c.put_steps.new.actors.kept d.actor (change (with_body d.after) d.actor w) c.in-Ok-put_steps.field-0 = rw (c.shown-version.ensures, c.actor-actor.ensures, c.into_parts-parts.ensures.after) at raw in
     let sent : c.as_slice.result.now ≡ d.sends = c.as_slice.ensures.value ∙ c.into_parts-parts.ensures.sends in
     let tallied : Tallied i.tallies d.sends (act_site d) c.count.new.self = λ id.
-    c.count.ensures id
-    ∙ ap (λ (o : Option SiteId). after_act_at id o (after_sends id c.as_slice.result.now (tally_at c.make_places.new.self id))) c.site_to_commit-site.ensures
-    ∙ ap (λ (ss : List Sent). after_act_at id (act_site d) (after_sends id ss (tally_at c.make_places.new.self id))) sent
-    ∙ ap (λ (t : Tally). after_act_at id (act_site d) (after_sends id d.sends t)) (c.make_places.ensures.same id) in
+    c.count.ensures.tallied id
+    ∙ ap (λ (o : Option SiteId). after_act_at id o (after_sends id c.as_slice.result.now (tally_at c.cover.new.self id))) c.site_to_commit-site.ensures
+    ∙ ap (λ (ss : List Sent). after_act_at id (act_site d) (after_sends id ss (tally_at c.cover.new.self id))) sent
+    ∙ ap (λ (t : Tally). after_act_at id (act_site d) (after_sends id d.sends t)) (c.cover.ensures.same id) in
     let pushed : c.push.new.self.items ≡ i.history.items ++ Ran c.actor-actor.result c.args.steps ∷ [] = grind (arith, common_steps) in
     let items : c.push.new.self.items ≡ i.history.items ++ Ran d.actor c.args.steps ∷ [] = pushed ∙ ap (λ (b : ActorId). i.history.items ++ Ran b c.args.steps ∷ []) c.actor-actor.ensures in
     let taken : HasTaken i.names i.token c.put_steps.new.actors.kept i.history.items i.edits_made i.settings c.count.new.self d.actor c.args.steps = has_taken i.names i.token i.actors.kept c.put_steps.new.actors.kept i.history.items i.edits_made i.settings beside i.tallies c.count.new.self d c.args.steps c.in-Ok-put_steps.field-0 c.self.invariant.image c.self.invariant.sends c.known.ensures allowed c.requires.steps c.requires.some may takes c.in-Ok-put_steps.ensures.grown tallied in
-    rw (items, kept_is _ _ c.release.ensures) (record { image = taken.image; numbers_of_clients = kept_other i.clients [] i.history.items (Ran d.actor c.args.steps) (λ qs. refl) c.self.invariant.numbers_of_clients; sends = taken.sends; counts = counts_one i.changes c.make_room.new.self c.raise.new.self i.history.items (Ran d.actor c.args.steps) d.actor.0 (λ a. refl) c.make_room.ensures.same (subst (λ (b : ActorId). (a : ℕ) → change_count c.raise.new.self a ≡ change_count c.make_room.new.self a + cond (a == b.0) 1 0) c.actor-actor.ensures c.raise.ensures) c.self.invariant.counts })
+    rw (items, kept_is _ _ c.release.ensures) (record { image = taken.image; numbers_of_clients = kept_other i.clients [] i.history.items (Ran d.actor c.args.steps) (λ qs. refl) c.self.invariant.numbers_of_clients; sends = taken.sends; places = covers_kept c.cover.new.self c.count.new.self c.cover.new.covered i.token c.count.ensures.keeps (subst (Covers c.cover.new.self c.cover.new.covered) c.shown-version.ensures c.cover.ensures.covers); counts = counts_one i.changes c.make_room.new.self c.raise.new.self i.history.items (Ran d.actor c.args.steps) d.actor.0 (λ a. refl) c.make_room.ensures.same (subst (λ (b : ActorId). (a : ℕ) → change_count c.raise.new.self a ≡ change_count c.make_room.new.self a + cond (a == b.0) 1 0) c.actor-actor.ensures c.raise.ensures) c.self.invariant.counts })
 
 pub returns-in-Ok-put_steps-clause-ok : goal.returns-in-Ok-put_steps-clause-ok
 returns-in-Ok-put_steps-clause-ok g c =
@@ -75,14 +88,14 @@ returns-in-Ok-put_steps-clause-ok g c =
     let allowed : CommitAllowed (seen start i.names i.history.items i.settings beside) d = subst (λ (v : ImageView). CommitAllowed v d) (sym c.self.view_is) c.requires.allowed in
     let may : MayCommit i.names i.token i.actors.kept i.history.items i.settings d = may_commit i.names i.token i.actors.kept i.history.items i.edits_made i.settings beside d c.self.invariant.image allowed c.known.ensures (subst (λ (n : ℕ). 0 < n) c.requires.steps c.requires.some) in
     let w : World = world_of (constants_of i.names i.settings.capacity) start i.history.items in
-    let raw = c.in-Ok-put_steps.ensures.ok (change (with_body d.after) d.actor w) (rw (c.shown.ensures, c.actor-actor.ensures, c.into_parts-parts.ensures.after) may.went.shown) in
-    let takes : TakesOuter (constants_of i.names i.settings.capacity) i.token (change_at (view_after_steps d.after) d.actor.0 i.actors.kept) c.put_steps.new.actors.kept d.actor (change (with_body d.after) d.actor w) c.in-Ok-put_steps.field-0 = rw (c.shown.ensures, c.actor-actor.ensures, c.into_parts-parts.ensures.after) at raw in
+    let raw = c.in-Ok-put_steps.ensures.ok (change (with_body d.after) d.actor w) (rw (c.shown-version.ensures, c.actor-actor.ensures, c.into_parts-parts.ensures.after) may.went.shown) in
+    let takes : TakesOuter (constants_of i.names i.settings.capacity) i.token (change_at (view_after_steps d.after) d.actor.0 i.actors.kept) c.put_steps.new.actors.kept d.actor (change (with_body d.after) d.actor w) c.in-Ok-put_steps.field-0 = rw (c.shown-version.ensures, c.actor-actor.ensures, c.into_parts-parts.ensures.after) at raw in
     let sent : c.as_slice.result.now ≡ d.sends = c.as_slice.ensures.value ∙ c.into_parts-parts.ensures.sends in
     let tallied : Tallied i.tallies d.sends (act_site d) c.count.new.self = λ id.
-    c.count.ensures id
-    ∙ ap (λ (o : Option SiteId). after_act_at id o (after_sends id c.as_slice.result.now (tally_at c.make_places.new.self id))) c.site_to_commit-site.ensures
-    ∙ ap (λ (ss : List Sent). after_act_at id (act_site d) (after_sends id ss (tally_at c.make_places.new.self id))) sent
-    ∙ ap (λ (t : Tally). after_act_at id (act_site d) (after_sends id d.sends t)) (c.make_places.ensures.same id) in
+    c.count.ensures.tallied id
+    ∙ ap (λ (o : Option SiteId). after_act_at id o (after_sends id c.as_slice.result.now (tally_at c.cover.new.self id))) c.site_to_commit-site.ensures
+    ∙ ap (λ (ss : List Sent). after_act_at id (act_site d) (after_sends id ss (tally_at c.cover.new.self id))) sent
+    ∙ ap (λ (t : Tally). after_act_at id (act_site d) (after_sends id d.sends t)) (c.cover.ensures.same id) in
     let pushed : c.push.new.self.items ≡ i.history.items ++ Ran c.actor-actor.result c.args.steps ∷ [] = grind (arith, common_steps) in
     let items : c.push.new.self.items ≡ i.history.items ++ Ran d.actor c.args.steps ∷ [] = pushed ∙ ap (λ (b : ActorId). i.history.items ++ Ran b c.args.steps ∷ []) c.actor-actor.ensures in
     let old : ImageView = seen start i.names i.history.items i.settings beside in

@@ -5,7 +5,7 @@ use Rattle.st_guard.specs.declared.how.How.TheVariants.{Site as BySite}
 use Rattle.st_sites.specs.declared.site.SiteState.TheVariants.{Empty}
 use Rattle.st_turn.specs.declared.claim.Sent.{Sent}
 use Rattle.st_image.proofs.Tallying.{most_sends, tallied_more}
-use Rattle.st_image.proofs.tallies.Tallies.count_sends.Goals as goal
+use Rattle.st_image.proofs.tallies.count_each.Goals as goal
 
 abbrev no_send : Sent
 no_send = record { site = record { method = record { 0 = 0 }; place = 0 }; how = BySite; state = Empty }
@@ -16,10 +16,10 @@ count_send-requires-clause-few c =
     let ss = c.args.sends.now in
     let id = (slice_index_or ss i no_send).site in
     let here : i ≤ length ss = omega (arith, c.loop-sent-test.true) in
-    omega (arith, c.loop-sent-test.true, c.requires.few id, length-take-le i ss here, most_sends c.args.self.now c.loop-sent.self (take i ss) id c.loop-sent.invariant.tallied)
+    omega (arith, c.loop-sent-test.true, c.requires.few id, length-take-le i ss here, most_sends c.args.rows.now c.loop-sent.rows (take i ss) id c.loop-sent.invariant.tallied)
 
 pub loop-sent-preserved : goal.loop-sent-preserved
 loop-sent-preserved c = record {
-  tallied = tallied_more c.args.self.now c.loop-sent.self c.count_send.new.self c.args.sends.now c.loop-sent.sent-index _ c.loop-sent-test.true c.loop-sent.invariant.tallied c.count_send.ensures.tally;
+  tallied = tallied_more c.args.rows.now c.loop-sent.rows c.count_send.new.rows c.args.sends.now c.loop-sent.sent-index _ c.loop-sent-test.true c.loop-sent.invariant.tallied c.count_send.ensures.tally;
   keeps = λ id h. c.count_send.ensures.keeps id (c.loop-sent.invariant.keeps id h);
 }

@@ -20,6 +20,7 @@ pub mod ClaimSteps
 pub mod Busy
 pub mod WorkerSteps
 pub mod ActSites
+pub mod PushRows
 pub mod QuickRows
 pub mod QuickSteps
 pub mod ClaimBeginnings

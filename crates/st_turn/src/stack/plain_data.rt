@@ -47,8 +47,8 @@ impl Stack {
             usize::min(self.values.len(), self.top.saturating_add(SPARE)),
         );
         let mut values = Vec::with_capacity(alloc, size)?;
-        values.extend_from_slice(&self.values[..self.top])?;
-        values.resize(size, Value::Nil)?;
+        // What lies above the top is copied too, as room: that is faster than to write nil there.
+        values.extend_from_slice(&self.values[..size])?;
         let callers = self.callers.copy(alloc)?;
         Ok(Stack {
             values,

@@ -41,11 +41,7 @@ impl Stack {
     pub fn copy(&self, alloc: Global) -> Result<Stack, AllocError>
         ensures { IfOk result (λ stack. stack ≡ self.now) }
     {
-        let least = usize::max(self.top, self.at.base + self.at.temps + OPERANDS);
-        let size = usize::max(
-            least,
-            usize::min(self.values.len(), self.top.saturating_add(SPARE)),
-        );
+        let size = usize::min(self.values.len(), self.top.saturating_add(SPARE));
         let mut values = Vec::with_capacity(alloc, size)?;
         // What lies above the top is copied too, as room: that is faster than to write nil there.
         values.extend_from_slice(&self.values[..size])?;

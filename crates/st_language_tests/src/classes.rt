@@ -60,6 +60,24 @@ fn texts(alloc: Global, list: &[&[u8]]) -> Result<Seq<Seq<u8>>, AllocError> {
     Ok(Seq::from_vec(texts))
 }
 
+/// Puts a table on the heap: where one stands on the stack, the proof of each function that lets it go pays for all its parts.
+pub(crate) fn boxed(alloc: Global, version: Version) -> Result<Box<Version>, Refusal> {
+    match Box::new(alloc, version) {
+        Ok(version) => Ok(version),
+        Err(_) => Err(Refusal::NoMemory),
+    }
+}
+
+/// The name of a class and those of its instance variables.
+fn named(
+    alloc: Global,
+    name: &[u8],
+    slots: &[&[u8]],
+) -> Result<(Seq<u8>, Seq<Seq<u8>>), AllocError> {
+    let slots = texts(alloc, slots)?;
+    Ok((Seq::from_vec(Vec::from_slice(alloc, name)?), slots))
+}
+
 /// One class more.
 pub(crate) fn define(
     alloc: Global,
@@ -67,22 +85,16 @@ pub(crate) fn define(
     name: &[u8],
     parent: ClassId,
     slots: &[&[u8]],
-) -> Result<Version, Refusal> {
-    let Ok(name) = Vec::from_slice(alloc, name) else {
+) -> Result<Box<Version>, Refusal> {
+    let Ok((name, slots)) = named(alloc, name, slots) else {
         return Err(Refusal::NoMemory);
     };
-    let Ok(slots) = texts(alloc, slots) else {
-        return Err(Refusal::NoMemory);
+    let edit = Edit::Define {
+        name,
+        parent,
+        slots,
     };
-    let name = Seq::from_vec(name);
-    version.with_edit(
-        alloc,
-        Edit::Define {
-            name,
-            parent,
-            slots,
-        },
-    )
+    boxed(alloc, version.with_edit(alloc, edit)?)
 }
 
 /// One method more.
@@ -91,10 +103,13 @@ fn install_method(
     version: &Version,
     class: ClassId,
     method: Method,
-) -> Result<Version, Refusal>
+) -> Result<Box<Version>, Refusal>
     requires { (names : List (List ℕ)) × (suits names version.now class method ≡ true) }
 {
-    version.with_edit(alloc, Edit::Install { class, method })
+    boxed(
+        alloc,
+        version.with_edit(alloc, Edit::Install { class, method })?,
+    )
 }
 
 fn install(
@@ -102,20 +117,23 @@ fn install(
     version: &Version,
     class: ClassId,
     selector: Selector,
-) -> Result<Version, Refusal> {
+) -> Result<Box<Version>, Refusal> {
     let Ok(method) = answering(alloc, class, selector, 1) else {
         return Err(Refusal::NoMemory);
     };
     install_method(alloc, version, class, method)
 }
 
-fn remove(
+pub(crate) fn remove(
     alloc: Global,
     version: &Version,
     class: ClassId,
     selector: Selector,
-) -> Result<Version, Refusal> {
-    version.with_edit(alloc, Edit::Remove { class, selector })
+) -> Result<Box<Version>, Refusal> {
+    boxed(
+        alloc,
+        version.with_edit(alloc, Edit::Remove { class, selector })?,
+    )
 }
 
 /// Whether a send to an instance of a class finds this.
@@ -136,8 +154,11 @@ fn finds_above(
         && version.find_super(holder, class, selector) == target
 }
 
-pub(crate) fn kernel_version(alloc: Global) -> Result<Version, AllocError> {
-    Version::kernel(alloc)
+pub(crate) fn kernel_version(alloc: Global) -> Result<Box<Version>, Refusal> {
+    match Version::kernel(alloc) {
+        Ok(version) => boxed(alloc, version),
+        Err(AllocError) => Err(Refusal::NoMemory),
+    }
 }
 
 #[test]
@@ -164,29 +185,35 @@ const B: ClassId = ClassId(9);
 
 const C: ClassId = ClassId(10);
 
+const COUNT: &[&[u8]] = &[b"count"];
+
+const NO_SLOTS: &[&[u8]] = &[];
+
 /// Classes A, B under A and C under B, with a method `who` in A and in B.
-fn three_classes(alloc: Global) -> Result<Version, Refusal> {
-    let Ok(version) = kernel_version(alloc) else {
-        return Err(Refusal::NoMemory);
-    };
-    let version = define(alloc, &version, b"A", OBJECT, &[b"count"])?;
-    let version = install(alloc, &version, A, WHO)?;
-    let version = define(alloc, &version, b"B", A, &[])?;
-    let version = install(alloc, &version, B, WHO)?;
+fn three_classes(alloc: Global) -> Result<Box<Version>, Refusal> {
+    let mut version = kernel_version(alloc)?;
+    for (class, name, parent, slots) in [(A, "A", OBJECT, COUNT), (B, "B", A, NO_SLOTS)] {
+        version = define(alloc, &version, name.as_bytes(), parent, slots)?;
+        version = install(alloc, &version, class, WHO)?;
+    }
     define(alloc, &version, b"C", B, &[b"more"])
+}
+
+/// Whether C finds its parent's method, then its own, and then its parent's again, where its own was removed.
+fn finds_before_and_after(alloc: Global, before: &Version) -> Result<bool, Refusal> {
+    let after = install(alloc, before, C, WHO)?;
+    let removed = remove(alloc, &after, C, WHO)?;
+    Ok(
+        finds(before, C, WHO, Target::Run(MethodId(3)))
+            && finds(&after, C, WHO, Target::Run(MethodId(5)))
+            && finds(&removed, C, WHO, Target::Run(MethodId(3))),
+    )
 }
 
 #[test]
 fn finds_up_a_chain(rt: HostRuntime) -> Result<(), Fail> {
     let before = three_classes(rt.alloc())?;
-    let after = install(rt.alloc(), &before, C, WHO)?;
-    let removed = remove(rt.alloc(), &after, C, WHO)?;
-    for (version, place) in [(&before, 3), (&after, 5), (&removed, 3)] {
-        assert!(rt;
-            finds(version, C, WHO, Target::Run(MethodId(place))),
-            "{place}"
-        );
-    }
+    assert!(rt; finds_before_and_after(rt.alloc(), &before)?);
     Ok(())
 }
 

@@ -16,10 +16,8 @@ use std::alloc::{AllocError, Global};
 use std::test::*;
 
 /// The kernel's classes and Counter, which is number 8.
-fn version(alloc: Global) -> Result<Version, Refusal> {
-    let Ok(kernel) = kernel_version(alloc) else {
-        return Err(Refusal::NoMemory);
-    };
+fn version(alloc: Global) -> Result<Box<Version>, Refusal> {
+    let kernel = kernel_version(alloc)?;
     define(alloc, &kernel, b"Counter", ClassId(0), &[b"count"])
 }
 
@@ -27,8 +25,12 @@ fn kernel_names(alloc: Global) -> Result<Names, AllocError> {
     Names::kernel(alloc)
 }
 
-fn read(alloc: Global, source: &str) -> Result<MethodTree, Refusal> {
-    read_method(alloc, source.as_bytes())
+/// The tree of a source, on the heap as class tables are.
+fn read(alloc: Global, source: &str) -> Result<Box<MethodTree>, Refusal> {
+    match Box::new(alloc, read_method(alloc, source.as_bytes())?) {
+        Ok(tree) => Ok(tree),
+        Err(_) => Err(Refusal::NoMemory),
+    }
 }
 
 /// What a tree in Counter is compiled to.
@@ -37,22 +39,25 @@ fn compiled_tree(
     tree: &MethodTree,
     version: &Version,
     names: &mut Names,
-) -> Result<Method, Refusal> {
+) -> Result<Box<Method>, Refusal> {
     if !version.is_class(ClassId(8)) {
         return Err(Refusal::UnknownClass);
     }
-    compile(alloc, tree, ClassId(8), version, names)
+    match Box::new(alloc, compile(alloc, tree, ClassId(8), version, names)?) {
+        Ok(method) => Ok(method),
+        Err(_) => Err(Refusal::NoMemory),
+    }
 }
 
 /// What a source in Counter is compiled to.
-fn compiled(alloc: Global, source: &str, names: &mut Names) -> Result<Method, Refusal> {
+fn compiled(alloc: Global, source: &str, names: &mut Names) -> Result<Box<Method>, Refusal> {
     let version = version(alloc)?;
     let tree = read(alloc, source)?;
     compiled_tree(alloc, &tree, &version, names)
 }
 
 /// What a source in Counter is compiled to, the first that has other names than the kernel's.
-fn compiled_first(alloc: Global, source: &str) -> Result<Method, Fail> {
+fn compiled_first(alloc: Global, source: &str) -> Result<Box<Method>, Fail> {
     let mut names = kernel_names(alloc)?;
     Ok(compiled(alloc, source, &mut names)?)
 }

@@ -1,5 +1,5 @@
-//! Tests of the public calls of names, tokens, classes and compiling. They stand in a crate of their own, below images, so that
-//! no library is proved twice for them, and that they are proved while the upper libraries still are.
+//! Tests of the public calls of names, tokens, classes, compiling, call sites and caches. They stand in a crate of their own, below
+//! images, so that no library is proved twice for them, and that they are proved while the upper libraries still are.
 #![tactic(auto)]
 
 #[cfg(test)]
@@ -7,7 +7,11 @@ mod classes;
 #[cfg(test)]
 mod compiling;
 #[cfg(test)]
+mod lookups;
+#[cfg(test)]
 mod names;
+#[cfg(test)]
+mod sites;
 #[cfg(test)]
 mod syntax;
 #[cfg(test)]

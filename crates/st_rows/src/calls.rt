@@ -21,20 +21,25 @@ pub(crate) const FIRST: ActorId = ActorId(0);
 
 pub(crate) const IS_NIL: Selector = Selector(3);
 
-/// A new image with these numbers.
-pub(crate) fn image_with(alloc: Global, settings: Settings) -> Result<Image, Refusal> {
-    Image::new(alloc, settings)
+/// Puts an image on the heap: where one stands on the stack, the proof of each function that lets it go pays for all its parts.
+fn boxed(alloc: Global, image: Image) -> Result<Box<Image>, AllocError> {
+    Ok(Box::new(alloc, image)?)
 }
 
-pub(crate) fn new_image(alloc: Global) -> Result<Image, Refusal> {
+/// A new image with these numbers.
+pub(crate) fn image_with(alloc: Global, settings: Settings) -> Result<Box<Image>, Refusal> {
+    Ok(boxed(alloc, Image::new(alloc, settings)?)?)
+}
+
+pub(crate) fn new_image(alloc: Global) -> Result<Box<Image>, Refusal> {
     image_with(alloc, Settings::DEFAULT)
 }
 
 /// A new image in which the numbers are set to these.
-pub(crate) fn image_set_to(alloc: Global, settings: Settings) -> Result<Image, Refusal> {
+pub(crate) fn image_set_to(alloc: Global, settings: Settings) -> Result<Box<Image>, Refusal> {
     let mut image = Image::new(alloc, Settings::DEFAULT)?;
     image.set(settings)?;
-    Ok(image)
+    Ok(boxed(alloc, image)?)
 }
 
 /// A class with these instance variables of its own.

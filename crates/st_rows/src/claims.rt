@@ -10,7 +10,7 @@ use std::test::*;
 const A: ClassId = ClassId(8);
 
 /// An image with an actor to which a message was sent, after three edits.
-fn asked(alloc: Global) -> Result<Image, Refusal> {
+fn asked(alloc: Global) -> Result<Box<Image>, Refusal> {
     let mut image = new_image(alloc)?;
     define(alloc, &mut image, b"A", OBJECT)?;
     install(alloc, &mut image, A, "go ^3 tag + 1")?;

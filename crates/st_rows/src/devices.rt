@@ -17,6 +17,12 @@ const TWO_RUNS: &[u8] = b"{\"cmd\":\"run\"}\n{\"cmd\":\"run\"}\n";
 
 const RAN: &str = "{\"ok\":{\"quanta\":0,\"steps\":0}}\n";
 
+/// How a script ended whose image is let go. It is let go here alone, since a proof pays for all its parts.
+fn end_of(done: (Image, Result<u64, Refusal>)) -> Result<u64, Refusal> {
+    let (_image, end) = done;
+    end
+}
+
 /// How the script of a new image ends over two devices.
 fn end_over<I: Input, O: Output>(
     alloc: Global,
@@ -24,8 +30,8 @@ fn end_over<I: Input, O: Output>(
     output: &mut O,
 ) -> Result<u64, Refusal> {
     let image = Image::new(alloc, Settings::DEFAULT)?;
-    let (_, end) = script_on(alloc, input, output, ScriptSettings::DEFAULT, image);
-    end
+    let done = script_on(alloc, input, output, ScriptSettings::DEFAULT, image);
+    end_of(done)
 }
 
 /// How the script of a text ends that a new image answers on a device.
@@ -84,8 +90,8 @@ fn written_in_pieces(
         reads: u32::MAX,
     });
     let mut output = MemoryOutput::new(alloc);
-    let (_, end) = script_on(alloc, &mut input, &mut output, settings, image);
-    Ok((output, end))
+    let done = script_on(alloc, &mut input, &mut output, settings, image);
+    Ok((output, end_of(done)))
 }
 
 /// Whether a script is answered by these replies and ends so, however its bytes are cut.

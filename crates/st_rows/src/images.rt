@@ -85,7 +85,7 @@ fn interns(rt: HostRuntime) -> Result<(), Fail> {
 }
 
 /// An image with a class of no instance variables.
-fn with_class(alloc: Global) -> Result<Image, Refusal> {
+fn with_class(alloc: Global) -> Result<Box<Image>, Refusal> {
     let mut image = new_image(alloc)?;
     define(alloc, &mut image, b"M", OBJECT)?;
     Ok(image)
@@ -138,7 +138,7 @@ fn removes(rt: HostRuntime) -> Result<(), Fail> {
 }
 
 /// An image with an actor that has a message, for which it posts one to itself.
-fn with_talker(alloc: Global) -> Result<Image, Refusal> {
+fn with_talker(alloc: Global) -> Result<Box<Image>, Refusal> {
     let mut image = new_image(alloc)?;
     create_object(alloc, &mut image)?;
     install(alloc, &mut image, OBJECT, "tell ^thisActor post: #isNil")?;

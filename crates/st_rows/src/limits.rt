@@ -230,3 +230,24 @@ fn history(rt: HostRuntime) -> Result<(), Fail> {
     }
     Ok(())
 }
+
+/// Whether a history of two items has room for a definition and an actor, and for no message.
+fn is_full_of_two(alloc: Global, image: &mut Image) -> bool {
+    define(alloc, image, b"M", OBJECT) == Ok(1)
+        && create(alloc, image, ClassId(8)) == Ok(FIRST)
+        && ask(alloc, image, 1) == Err(Refusal::HistoryFull)
+        && items(image) == 2
+        && advance(alloc, image, 1) == Err(Refusal::NothingToDo)
+}
+
+#[test]
+fn history_of_two(rt: HostRuntime) -> Result<(), Fail> {
+    let alloc = rt.alloc();
+    let two = Settings {
+        capacity: 64,
+        history: 2,
+    };
+    let mut image = image_with(alloc, two)?;
+    assert!(rt; is_full_of_two(alloc, &mut image));
+    Ok(())
+}

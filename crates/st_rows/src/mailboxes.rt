@@ -20,7 +20,7 @@ const FALSE: Result<Outcome, Refusal> = Ok(Outcome::Answer(Value::Bool(false)));
 const TRUE: Result<Outcome, Refusal> = Ok(Outcome::Answer(Value::Bool(true)));
 
 /// An image whose mailboxes hold so many messages.
-fn holding(alloc: Global, capacity: u32) -> Result<Image, Refusal> {
+fn holding(alloc: Global, capacity: u32) -> Result<Box<Image>, Refusal> {
     let settings = Settings {
         capacity,
         history: 1_000_000,
@@ -29,7 +29,7 @@ fn holding(alloc: Global, capacity: u32) -> Result<Image, Refusal> {
 }
 
 /// An image with an actor whose mailbox holds so many messages, and has them.
-fn filled(alloc: Global, capacity: u32) -> Result<Image, Refusal> {
+fn filled(alloc: Global, capacity: u32) -> Result<Box<Image>, Refusal> {
     let mut image = holding(alloc, capacity)?;
     create_object(alloc, &mut image)?;
     for number in 1..capacity.saturating_add(1) {
@@ -93,7 +93,7 @@ fn filled_by_a_client(rt: HostRuntime) -> Result<(), Fail> {
 }
 
 /// An actor that can fill its mailbox with messages to itself, of which it answers the number.
-fn with_filler(alloc: Global, capacity: u32) -> Result<Image, Refusal> {
+fn with_filler(alloc: Global, capacity: u32) -> Result<Box<Image>, Refusal> {
     let mut image = holding(alloc, capacity)?;
     let source = "fill | i | i := 0. [thisActor post: #isNil] whileTrue: [i := i + 1]. ^i";
     install(alloc, &mut image, OBJECT, source)?;

@@ -3,84 +3,13 @@ mod acts;
 mod dialogues;
 mod lookups;
 mod mailboxes;
+mod statistics;
 
-use crate::scripts::acts::{
-    BAD_ARGUMENTS, FULL_MAILBOX, HEAP_FULL, HISTORY_FULL, NEW_ACTOR_BY_STEPS, NEW_OBJECTS,
-    POSTS_AND_NEW_ACTORS, POSTS_WITH_ARGUMENTS, RUNS_A_MESSAGE,
-};
-use crate::scripts::dialogues::{
-    CASCADES, COUNTER, DIVISION, ESCAPE, LIMITS, MISSION, OVERFLOW, RECURSION, REFUSALS, TURNS,
-};
-use crate::scripts::lookups::{
-    CLASSES_OF_REFERENCES, CLASSES_OF_VALUES, DOES_NOT_UNDERSTAND, OWN_SELECTORS_OF_THE_KERNEL,
-    REMOVED_AND_MISSING, REPLACED, REPLACED_WHILE_IT_RUNS, SUPER_AND_THE_KERNEL, SUPER_CHAIN,
-    UNRELATED,
-};
-use crate::scripts::mailboxes::{
-    CLOSE_IN_A_FULL_HISTORY, CLOSE_OF_THE_KERNEL, CLOSED, NUMBERS_OVER_ACTORS, OLD_NUMBERS,
-    ORDER_OF_POST_REFUSALS, ROOM_FOR_ONE, SHUTS_ANOTHER, SHUTS_ITSELF,
-};
 use crate::sessions_in_memory::says;
 use st_image::settings::Settings;
 use st_server::settings::ScriptSettings;
 use std::alloc::{AllocError, Global};
 use std::test::*;
-
-/// Scripts with the numbers that stand where none are given.
-const DIALOGUES: &[&str] = &[
-    "",
-    MISSION,
-    DIVISION,
-    OVERFLOW,
-    RECURSION,
-    COUNTER,
-    CASCADES,
-    LIMITS,
-    ESCAPE,
-    REFUSALS,
-    SUPER_CHAIN,
-    SUPER_AND_THE_KERNEL,
-    REMOVED_AND_MISSING,
-    DOES_NOT_UNDERSTAND,
-    CLASSES_OF_VALUES,
-    CLASSES_OF_REFERENCES,
-    REPLACED,
-    UNRELATED,
-    OWN_SELECTORS_OF_THE_KERNEL,
-    NEW_OBJECTS,
-    HEAP_FULL,
-    POSTS_AND_NEW_ACTORS,
-    POSTS_WITH_ARGUMENTS,
-    BAD_ARGUMENTS,
-    RUNS_A_MESSAGE,
-    CLOSED,
-    OLD_NUMBERS,
-    NUMBERS_OVER_ACTORS,
-    ORDER_OF_POST_REFUSALS,
-    SHUTS_ITSELF,
-    SHUTS_ANOTHER,
-    CLOSE_OF_THE_KERNEL,
-];
-
-/// Scripts in quanta of so many steps, with mailboxes of so many messages, and so many items of history at most.
-const SET_DIALOGUES: &[(u32, u32, u32, &str)] = &[
-    (16, 64, 1_000_000, TURNS),
-    (1, 64, 1_000_000, REPLACED_WHILE_IT_RUNS),
-    (1, 64, 1_000_000, NEW_ACTOR_BY_STEPS),
-    (256, 1, 1_000_000, FULL_MAILBOX),
-    (256, 2, 6, HISTORY_FULL),
-    (256, 1, 1_000_000, ROOM_FOR_ONE),
-    (256, 64, 3, CLOSE_IN_A_FULL_HISTORY),
-];
-
-// The tables stand behind functions without contracts, so that the proofs of tests carry nothing of them.
-fn usual_dialogues() -> &'static [&'static str] {
-    DIALOGUES
-}
-
-fn set_dialogues() -> &'static [(u32, u32, u32, &'static str)] {
-    SET_DIALOGUES
-}
 
 /// The lines of a script, and the replies to them.
 #[derive(Drop)]
@@ -128,26 +57,62 @@ fn is_answered(alloc: Global, settings: ScriptSettings, dialogue: &str) -> Resul
     )
 }
 
-#[test]
-fn worked_scripts(rt: HostRuntime) -> Result<(), Fail> {
-    for dialogue in usual_dialogues() {
-        let said = is_answered(rt.alloc(), ScriptSettings::DEFAULT, dialogue)?;
-        assert!(rt; said, "{dialogue}");
+/// A number and what comes behind it.
+fn numbered(text: &str) -> Option<(u32, &str)> {
+    let (number, rest) = text.split_once(' ')?;
+    match number.parse() {
+        Ok(number) => Some((number, rest)),
+        Err(_) => None,
     }
-    Ok(())
+}
+
+/// What the first line of a script says: the steps of a quantum, the messages of a mailbox, the items of the history, and what the
+/// script shows.
+fn settings_of(line: &str) -> Option<ScriptSettings> {
+    let (quantum, rest) = numbered(line)?;
+    let (capacity, rest) = numbered(rest)?;
+    let (history, _shown) = numbered(rest)?;
+    Some(ScriptSettings {
+        quantum,
+        capacity,
+        history,
+    })
+}
+
+/// Whether a script with its first line goes as it has to.
+fn is_well(alloc: Global, script: &str) -> Result<bool, Fail> {
+    let Some((line, dialogue)) = script.split_once('\n') else {
+        return Ok(false);
+    };
+    match settings_of(line) {
+        Some(settings) => is_answered(alloc, settings, dialogue),
+        None => Ok(false),
+    }
+}
+
+/// The first script of a text that does not go as it has to. There is an empty line between two scripts.
+fn first_wrong(alloc: Global, text: &str) -> Result<Option<&str>, Fail> {
+    for script in text.split("\n\n") {
+        if !is_well(alloc, script)? {
+            return Ok(Some(script));
+        }
+    }
+    Ok(None)
 }
 
 #[test]
-fn scripts_with_settings(rt: HostRuntime) -> Result<(), Fail> {
-    for (quantum, capacity, history, dialogue) in set_dialogues() {
-        let settings = ScriptSettings {
-            quantum: *quantum,
-            capacity: *capacity,
-            history: *history,
-        };
-        let said = is_answered(rt.alloc(), settings, dialogue)?;
-        assert!(rt; said, "{dialogue}");
+fn worked_scripts(rt: HostRuntime) -> Result<(), Fail> {
+    for text in [
+        acts::text(),
+        dialogues::text(),
+        lookups::text(),
+        mailboxes::text(),
+        statistics::text(),
+    ] {
+        let wrong = first_wrong(rt.alloc(), text)?;
+        assert!(rt; wrong.is_none(), "{wrong:?}");
     }
+    assert!(rt; is_answered(rt.alloc(), ScriptSettings::DEFAULT, "")?);
     Ok(())
 }
 
@@ -247,6 +212,49 @@ fn kept_outcomes(rt: HostRuntime) -> Result<(), Fail> {
     dialogue.push_str(AFTER_64_TURNS)?;
     dialogue.push_str(&numbered_post(rt.alloc(), 65)?)?;
     dialogue.push_str(AFTER_65_TURNS)?;
+    assert!(rt; is_answered(rt.alloc(), ScriptSettings::DEFAULT, &dialogue)?);
+    Ok(())
+}
+
+/// The definition of a class, and as many edits as a run may have: installs of one method over and over.
+fn all_edits(alloc: Global) -> Result<String, AllocError> {
+    let mut dialogue = String::from_str(alloc, ONE_CLASS)?;
+    for version in 2..2049 {
+        dialogue.push_str(&format!(in alloc;
+            "{{\"class\":\"M\",\"cmd\":\"method\",\"source\":\"a ^3 isNil\"}}\n{{\"ok\":{{\"version\":{version}}}}}\n"
+        )?)?;
+    }
+    dialogue.push_str(AFTER_ALL_EDITS)?;
+    Ok(dialogue)
+}
+
+const ONE_CLASS: &str = r#"{"cmd":"define","name":"M","slots":[],"super":"Object"}
+{"ok":{"version":1}}
+"#;
+
+/// One edit more is refused. The second turn finds what the first one did.
+const AFTER_ALL_EDITS: &str = r#"{"class":"M","cmd":"method","source":"b ^1"}
+{"error":"TooMany","what":"edits"}
+{"class":"M","cmd":"actor"}
+{"ok":{"actor":0}}
+{"actor":0,"args":[],"cmd":"post","selector":"a","sender":1,"seq":1}
+{"ok":{"turn":1}}
+{"cmd":"run"}
+{"ok":{"quanta":1,"steps":4}}
+{"actor":0,"args":[],"cmd":"post","selector":"a","sender":1,"seq":2}
+{"ok":{"turn":2}}
+{"cmd":"run"}
+{"ok":{"quanta":1,"steps":4}}
+{"actor":0,"cmd":"outcome","turn":2}
+{"ok":{"answer":false}}
+{"class":"M","cmd":"stats","selector":"a"}
+{"ok":{"sites":[{"global":0,"selector":"isNil","sends":2,"site":1,"state":"mono","super":false,"walk":1}]}}
+"#;
+
+/// Caches serve at 2,048 edits as at one, and commits and statistics find memory.
+#[test]
+fn sends_after_all_edits(rt: HostRuntime) -> Result<(), Fail> {
+    let dialogue = all_edits(rt.alloc())?;
     assert!(rt; is_answered(rt.alloc(), ScriptSettings::DEFAULT, &dialogue)?);
     Ok(())
 }

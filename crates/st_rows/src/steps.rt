@@ -115,7 +115,7 @@ fn named_turn(
 }
 
 /// Classes A, B under A and C under B, with methods.
-fn three_classes(alloc: Global) -> Result<Image, Refusal> {
+fn three_classes(alloc: Global) -> Result<Box<Image>, Refusal> {
     let mut image = new_image(alloc)?;
     define(alloc, &mut image, b"A", OBJECT)?;
     define(alloc, &mut image, b"B", A)?;

@@ -209,12 +209,33 @@ const RUN: &[Work] = &[
     Work::Commit(0),
 ];
 
-fn events(alloc: Global) -> Result<Vec<Event>, AllocError> {
+/// A whole turn by the first worker: the dispatch, and seven instructions.
+const TURN: &[Work] = &[
+    Work::Checkout(0),
+    Work::Local(0),
+    Work::Local(0),
+    Work::Local(0),
+    Work::Local(0),
+    Work::Local(0),
+    Work::Local(0),
+    Work::Local(0),
+    Work::Local(0),
+    Work::Commit(0),
+];
+
+fn events(alloc: Global, work: &[Work]) -> Result<Vec<Event>, AllocError> {
     let mut events = Vec::new(alloc);
-    for work in RUN {
+    for work in work {
         events.push(event(*work))?;
     }
     Ok(events)
+}
+
+/// Lets a list of events happen.
+fn run_all(alloc: Global, system: &mut TwoWorkers, work: &[Work]) -> Result<(), AllocError> {
+    let events = events(alloc, work)?;
+    run(alloc, system, events.as_slice());
+    Ok(())
 }
 
 /// A run goes on after a refused event.
@@ -223,9 +244,22 @@ fn runs_events(rt: HostRuntime) -> Result<(), Fail> {
     let alloc = rt.alloc();
     let mut system = new_system(alloc, MOST)?;
     assert!(rt; is_posted(alloc, &mut system)?);
-    run(alloc, &mut system, events(alloc)?.as_slice());
+    run_all(alloc, &mut system, RUN)?;
     known(&system);
     assert!(rt; workers(&system) == 2);
     assert!(rt; items(&system) == 7 && ends_with_a_run(&system, 2));
+    Ok(())
+}
+
+/// What was found in a run is found at its site in the next one.
+#[test]
+fn runs_keep_what_they_found(rt: HostRuntime) -> Result<(), Fail> {
+    let alloc = rt.alloc();
+    let mut system = new_system(alloc, MOST)?;
+    assert!(rt; is_posted(alloc, &mut system)?);
+    run_all(alloc, &mut system, TURN)?;
+    assert!(rt; is_posted_again(alloc, &mut system));
+    run_all(alloc, &mut system, TURN)?;
+    assert!(rt; first_site_of_go(alloc, &system) == Some((1, 0, 1)));
     Ok(())
 }

@@ -1,7 +1,18 @@
-//! Tests of systems. They stand in a crate of their own, so that the library is not proved twice for them.
+//! Tests of systems: single events, and random lists of events beside a model of plain lists. They stand in a crate of their own, so
+//! that the library is not proved twice for them.
 #![tactic(auto)]
 
 #[cfg(test)]
+mod beside;
+#[cfg(test)]
+mod dice;
+#[cfg(test)]
 mod events;
 #[cfg(test)]
+mod lists;
+#[cfg(test)]
+mod model;
+#[cfg(test)]
 mod systems;
+#[cfg(test)]
+mod workers;

@@ -84,20 +84,20 @@ fn two_workers(alloc: Global) -> Result<Vec<Worker<GlobalGuard>>, AllocError>
     Ok(vec![in alloc; first, second]?)
 }
 
+/// An image with two workers without claims. It is put on the heap: where a system stands on the stack, the proof of each function
+/// that lets it go pays for all its parts.
+fn system_of(alloc: Global, image: Image<ListBox>) -> Result<Box<TwoWorkers>, AllocError> {
+    let system = System::new(alloc, image, two_workers(alloc)?)?;
+    Ok(Box::new(alloc, system)?)
+}
+
 /// A new image with a history of at most so many items, and two workers without claims.
-pub(crate) fn new_system(alloc: Global, history: u32) -> Result<TwoWorkers, Refusal> {
+pub(crate) fn new_system(alloc: Global, history: u32) -> Result<Box<TwoWorkers>, Refusal> {
     let settings = Settings {
         capacity: 64,
         history,
     };
-    let image = Image::new(alloc, settings)?;
-    let Ok(workers) = two_workers(alloc) else {
-        return Err(Refusal::NoMemory);
-    };
-    match System::new(alloc, image, workers) {
-        Ok(system) => Ok(system),
-        Err(_) => Err(Refusal::NoMemory),
-    }
+    Ok(system_of(alloc, Image::new(alloc, settings)?)?)
 }
 
 pub(crate) fn apply(alloc: Global, system: &mut TwoWorkers, event: &Event) -> Answered {
@@ -183,11 +183,11 @@ pub(crate) fn install(
     }
 }
 
-/// The message `go` of client 1, whose number is 1.
-fn post(alloc: Global) -> Event {
+/// The message `go` of client 1, of this number.
+fn post(alloc: Global, seq: u64) -> Event {
     Event::Post {
         sender: 1,
-        seq: 1,
+        seq,
         actor: FIRST,
         selector: GO,
         args: Seq::from_vec(Vec::new(alloc)),
@@ -211,11 +211,27 @@ fn has_classes(alloc: Global, system: &mut TwoWorkers) -> Result<bool, AllocErro
 /// Whether an actor of the class is made and gets a message that runs the method. The history has five items then.
 fn has_posted(alloc: Global, system: &mut TwoWorkers) -> bool {
     let actor = apply(alloc, system, &Event::Create(A));
-    let place = apply(alloc, system, &post(alloc));
+    let place = apply(alloc, system, &post(alloc, 1));
     actor == Ok(Answer::Created(FIRST)) && place == Ok(Answer::Position(1))
+}
+
+/// Whether the actor gets the message a second time.
+pub(crate) fn is_posted_again(alloc: Global, system: &mut TwoWorkers) -> bool {
+    apply(alloc, system, &post(alloc, 2)) == Ok(Answer::Position(2))
 }
 
 /// Whether these events answer as they have to: class A gets a method `go`, and an actor of A a message that runs it.
 pub(crate) fn is_posted(alloc: Global, system: &mut TwoWorkers) -> Result<bool, AllocError> {
     Ok(has_classes(alloc, system)? && has_posted(alloc, system))
+}
+
+/// How the sends of the first site of `go` were found: at their site, by the lookup cache, by walks.
+pub(crate) fn first_site_of_go(alloc: Global, system: &TwoWorkers) -> Option<(u64, u64, u64)> {
+    match system.image().stats(alloc, A, GO) {
+        Ok(sites) => match sites.first() {
+            Some(site) => Some((site.tally.by_site, site.tally.by_global, site.tally.by_walk)),
+            None => None,
+        },
+        Err(_) => None,
+    }
 }

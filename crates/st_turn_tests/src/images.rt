@@ -67,13 +67,14 @@ pub(crate) fn define(
     image.define(alloc, name, parent, Seq::from_vec(slots))
 }
 
-/// A new image. It is put on the heap, since the proof of a function pays for the size of what it holds.
+/// Puts an image on the heap: where one stands on the stack, the proof of each function that lets it go pays for all its parts. So
+/// it is with claims and bodies.
+fn boxed(alloc: Global, image: Image) -> Result<Box<Image>, AllocError> {
+    Ok(Box::new(alloc, image)?)
+}
+
 fn new_image(alloc: Global) -> Result<Box<Image>, Refusal> {
-    let image = Image::new(alloc, Settings::DEFAULT)?;
-    match Box::new(alloc, image) {
-        Ok(image) => Ok(image),
-        Err(_) => Err(Refusal::NoMemory),
-    }
+    Ok(boxed(alloc, Image::new(alloc, Settings::DEFAULT)?)?)
 }
 
 fn intern(alloc: Global, image: &mut Image, name: &str) -> Result<Selector, Refusal> {
@@ -163,17 +164,25 @@ pub(crate) fn image_sent_go(
     Ok((image, actor))
 }
 
-pub(crate) fn checkout(alloc: Global, image: &mut Image, actor: ActorId) -> Result<Claim, Refusal> {
-    image.checkout(alloc, actor)
+fn boxed_claim(alloc: Global, claim: Claim) -> Result<Box<Claim>, AllocError> {
+    Ok(Box::new(alloc, claim)?)
 }
 
-pub(crate) fn release(image: &mut Image, claim: Claim) {
-    image.release(claim);
+pub(crate) fn checkout(
+    alloc: Global,
+    image: &mut Image,
+    actor: ActorId,
+) -> Result<Box<Claim>, Refusal> {
+    Ok(boxed_claim(alloc, image.checkout(alloc, actor)?)?)
+}
+
+pub(crate) fn release(image: &mut Image, claim: Box<Claim>) {
+    image.release(Box::into_inner(claim));
 }
 
 /// Commits a claim, or gives it back.
-pub(crate) fn commit(alloc: Global, image: &mut Image, claim: Claim) -> Result<u32, Refusal> {
-    match image.commit(alloc, claim) {
+pub(crate) fn commit(alloc: Global, image: &mut Image, claim: Box<Claim>) -> Result<u32, Refusal> {
+    match image.commit(alloc, Box::into_inner(claim)) {
         Ok(steps) => Ok(steps),
         Err((refusal, Some(claim))) => {
             image.release(claim);

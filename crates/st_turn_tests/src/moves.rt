@@ -1,11 +1,21 @@
 //! Workers that go from a claim to one at other edits: on, back to fewer, and over to others that are as many.
-use crate::images::{checkout, image_of_classes, image_sent_go, release};
+ghost use Rattle.std.specs.Prelude.{◌≡◌, true, IfSome};
+ghost use Rattle.st_classes.specs.EditLists.{Begins};
+
+use crate::images::{
+    GO, Image, checkout, commit, define, image_of_classes, image_sent_go, install_line, post,
+    release, remove_line,
+};
 use crate::sends::{finish, told};
 use crate::trials::Trial;
 use crate::workers::Counts;
+use st_classes::kernel::OBJECT;
 use st_classes::refusals::Refusal;
+use st_classes::values::ActorId;
 use st_guard::caches::Caches;
 use st_guard::switch_guard::SwitchGuard;
+use st_turn::body::Stop;
+use st_turn::claim::Claim;
 use st_turn::worker::Worker;
 use std::alloc::{AllocError, Global};
 use std::test::*;
@@ -109,6 +119,99 @@ fn what_later_edits_leave_is_kept(rt: HostRuntime) -> Result<(), Fail> {
             by_walk,
         };
         assert_eq!(rt; counts, wanted);
+    }
+    Ok(())
+}
+
+/// Whether the edits that a worker's caches keep begin a claim's.
+fn keeps_first(worker: &Worker<SwitchGuard>, claim: &Claim) -> bool
+    ensures { result ≡ true → IfSome worker.now.kept (λ k. Begins k claim.now.edits) }
+{
+    match worker.caches().kept() {
+        Some(kept) => kept.shown().begins(claim.token().shown()),
+        None => true,
+    }
+}
+
+/// Takes the steps of a claim by a caller who knows that its edits go on from the worker's: in a row.
+fn run_on(
+    alloc: Global,
+    worker: &mut Worker<SwitchGuard>,
+    claim: &mut Claim,
+) -> Result<bool, AllocError> {
+    if !keeps_first(worker, claim) {
+        return Ok(false);
+    }
+    Ok(worker.run_known(alloc, claim, 100)? == Stop::Ended)
+}
+
+/// The same one by one.
+fn step_on(
+    alloc: Global,
+    worker: &mut Worker<SwitchGuard>,
+    claim: &mut Claim,
+) -> Result<bool, AllocError> {
+    for _ in 0..100 {
+        if !keeps_first(worker, claim) {
+            return Ok(false);
+        }
+        match worker.step_known(alloc, claim)? {
+            Stop::More => {}
+            stop => return Ok(stop == Stop::Ended),
+        }
+    }
+    Ok(false)
+}
+
+/// How the sends of the next turn are found.
+fn next_counts(
+    alloc: Global,
+    image: &mut Image,
+    worker: &mut Worker<SwitchGuard>,
+    in_row: bool,
+) -> Result<Counts, Refusal> {
+    let mut claim = checkout(alloc, image, ActorId(0))?;
+    let ended = if in_row {
+        run_on(alloc, worker, &mut claim)
+    } else {
+        step_on(alloc, worker, &mut claim)
+    };
+    let mut counts = Counts::none();
+    if ended == Ok(true) {
+        counts.add(claim.sends());
+    }
+    commit(alloc, image, claim)?;
+    Ok(counts)
+}
+
+/// An edit of each kind, for what no turn sends.
+fn edit(alloc: Global, image: &mut Image, kind: u64) -> Result<u32, Refusal> {
+    match kind {
+        0 => define(alloc, image, b"K", OBJECT),
+        1 => install_line(alloc, image, "A other ^0"),
+        _ => remove_line(alloc, image, "A other"),
+    }
+}
+
+/// Whether a worker finds at their sites, after an edit of each kind, what it found before.
+fn keeps_over_edits(alloc: Global, in_row: bool) -> Result<bool, Refusal> {
+    let (mut image, actor) = image_sent_go(alloc, MORE)?;
+    let mut worker = new_switching(alloc)?;
+    let first = next_counts(alloc, &mut image, &mut worker, in_row)?;
+    let mut keeps = first.by_walk == 2;
+    for kind in 0..3 {
+        edit(alloc, &mut image, kind)?;
+        post(alloc, &mut image, kind + 2, actor, GO)?;
+        let counts = next_counts(alloc, &mut image, &mut worker, in_row)?;
+        keeps = keeps && counts.by_site == 2;
+    }
+    Ok(keeps)
+}
+
+#[test]
+fn what_is_known_to_go_on_is_kept(rt: HostRuntime) -> Result<(), Fail> {
+    for in_row in [true, false] {
+        assert!(rt; keeps_over_edits(rt.alloc(), in_row)?, "in a row: {in_row}");
     }
     Ok(())
 }

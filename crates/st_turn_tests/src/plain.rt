@@ -14,7 +14,7 @@ use std::alloc::{AllocError, Global};
 /// Where plain steps led to.
 #[derive(Drop)]
 pub(crate) struct PlainSteps {
-    pub body: Body,
+    pub body: Box<Body>,
     pub taken: u32,
     pub stop: Stop,
     /// The sites of the sends among them, in order.
@@ -79,6 +79,10 @@ fn take_steps(
     Ok((limit, Stop::More))
 }
 
+fn boxed(alloc: Global, body: Body) -> Result<Box<Body>, AllocError> {
+    Ok(Box::new(alloc, body)?)
+}
+
 /// Up to so many plain steps from where a claim leads to.
 pub(crate) fn plain_steps(
     alloc: Global,
@@ -91,7 +95,7 @@ pub(crate) fn plain_steps(
     let version = claim.token().shown();
     let (taken, stop) = take_steps(alloc, &mut body, claim.actor(), version, limit, &mut sites)?;
     Ok(PlainSteps {
-        body,
+        body: boxed(alloc, body)?,
         taken,
         stop,
         sites,

@@ -39,7 +39,7 @@ pub(crate) struct Trial {
 /// Steps of one claim, and what ended them.
 #[derive(Drop)]
 struct Taken {
-    claim: Claim,
+    claim: Box<Claim>,
     stop: Stop,
 }
 
@@ -106,6 +106,49 @@ impl Trial {
         None
     }
 
+    /// Plain steps of an actor, which the image does not keep.
+    fn take_plain(
+        &mut self,
+        alloc: Global,
+        actor: ActorId,
+        limit: u32,
+    ) -> Result<PlainSteps, Refusal> {
+        let start = checkout(alloc, &mut self.image, actor)?;
+        let plain = plain_steps(alloc, &start, limit);
+        release(&mut self.image, start);
+        Ok(plain?)
+    }
+
+    /// In what single steps differ from plain ones, or from a row. The image does not keep them.
+    fn single_difference(
+        &mut self,
+        alloc: Global,
+        actor: ActorId,
+        limit: u32,
+        plain: &PlainSteps,
+        row: &Taken,
+    ) -> Result<Option<Part>, Refusal> {
+        let single = self.take_single(alloc, actor, limit)?;
+        let part = difference_from(&single, plain).or(self.difference(row, &single));
+        release(&mut self.image, single.claim);
+        Ok(part)
+    }
+
+    /// In what a row of steps differs from the other ways to take them.
+    fn row_difference(
+        &mut self,
+        alloc: Global,
+        actor: ActorId,
+        limit: u32,
+        row: &Taken,
+    ) -> Result<Option<Part>, Refusal> {
+        let plain = self.take_plain(alloc, actor, limit)?;
+        match difference_from(row, &plain) {
+            Some(part) => Ok(Some(part)),
+            None => self.single_difference(alloc, actor, limit, &plain, row),
+        }
+    }
+
     /// Takes up to so many steps of an actor, and says in what the three ways differ.
     pub(crate) fn take(
         &mut self,
@@ -113,16 +156,9 @@ impl Trial {
         actor: ActorId,
         limit: u32,
     ) -> Result<Option<Part>, Refusal> {
-        let start = checkout(alloc, &mut self.image, actor)?;
-        let plain = plain_steps(alloc, &start, limit)?;
         let row = self.take_row(alloc, actor, limit)?;
-        let single = self.take_single(alloc, actor, limit)?;
-        let part = difference_from(&row, &plain)
-            .or(difference_from(&single, &plain))
-            .or(self.difference(&row, &single));
+        let part = self.row_difference(alloc, actor, limit, &row)?;
         self.counts.add(row.claim.sends());
-        release(&mut self.image, start);
-        release(&mut self.image, single.claim);
         commit(alloc, &mut self.image, row.claim)?;
         Ok(part)
     }

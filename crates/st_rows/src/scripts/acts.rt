@@ -1,8 +1,13 @@
-//! Worked scripts of objects, actors and messages that methods make: each line is answered by the line behind it.
+//! Worked scripts of objects, actors and messages that methods make.
 
-/// Objects of an actor's own, with their instance variables nil at first. Object 0 is the actor.
-pub(crate) const NEW_OBJECTS: &str =
-    r#"{"cmd":"define","name":"Kid","slots":["count"],"super":"Object"}
+/// The text stands behind a function without a contract, so that the proofs of tests carry nothing of it.
+pub(crate) fn text() -> &'static str {
+    TEXT
+}
+
+const TEXT: &str =
+    r#"256 64 1000000 Objects of an actor's own, with their instance variables nil at first. Object 0 is the actor.
+{"cmd":"define","name":"Kid","slots":["count"],"super":"Object"}
 {"ok":{"version":1}}
 {"cmd":"define","name":"A","slots":[],"super":"Object"}
 {"ok":{"version":2}}
@@ -31,10 +36,10 @@ pub(crate) const NEW_OBJECTS: &str =
 {"actor":0,"cmd":"outcome","turn":2}
 {"ok":{"answer":true}}
 {"actor":0,"cmd":"outcome","turn":3}
-{"ok":{"answer":{"local":3}}}"#;
+{"ok":{"answer":{"local":3}}}
 
-/// An actor has 1,024 objects at most, itself among them: 1 + 1,023 * 6 + 4 steps in 24 quanta, and 3 in the next turn.
-pub(crate) const HEAP_FULL: &str = r#"{"cmd":"define","name":"Kid","slots":[],"super":"Object"}
+256 64 1000000 An actor has 1,024 objects at most, itself among them: 1 + 1,023 * 6 + 4 steps in 24 quanta, and 3 in the next turn.
+{"cmd":"define","name":"Kid","slots":[],"super":"Object"}
 {"ok":{"version":1}}
 {"cmd":"define","name":"A","slots":[],"super":"Object"}
 {"ok":{"version":2}}
@@ -53,11 +58,10 @@ pub(crate) const HEAP_FULL: &str = r#"{"cmd":"define","name":"Kid","slots":[],"s
 {"actor":0,"cmd":"outcome","turn":1}
 {"ok":{"fault":"heapFull"}}
 {"actor":0,"cmd":"outcome","turn":2}
-{"ok":{"answer":1}}"#;
+{"ok":{"answer":1}}
 
-/// A new actor, a message to it, and one with a local object. An act of the image ends its quantum.
-pub(crate) const POSTS_AND_NEW_ACTORS: &str =
-    r#"{"cmd":"define","name":"A","slots":[],"super":"Object"}
+256 64 1000000 A new actor, a message to it, and one with a local object. An act of the image ends its quantum.
+{"cmd":"define","name":"A","slots":[],"super":"Object"}
 {"ok":{"version":1}}
 {"cmd":"define","name":"Kid","slots":[],"super":"Object"}
 {"ok":{"version":2}}
@@ -90,11 +94,10 @@ pub(crate) const POSTS_AND_NEW_ACTORS: &str =
 {"cmd":"run"}
 {"ok":{"quanta":1,"steps":5}}
 {"actor":0,"cmd":"outcome","turn":3}
-{"ok":{"fault":"localArgument"}}"#;
+{"ok":{"fault":"localArgument"}}
 
-/// Messages with one argument, with two and with none, of which the receiver doesn't understand the last.
-pub(crate) const POSTS_WITH_ARGUMENTS: &str =
-    r#"{"cmd":"define","name":"A","slots":[],"super":"Object"}
+256 64 1000000 Messages with one argument, with two and with none, of which the receiver doesn't understand the last.
+{"cmd":"define","name":"A","slots":[],"super":"Object"}
 {"ok":{"version":1}}
 {"cmd":"define","name":"Kid","slots":[],"super":"Object"}
 {"ok":{"version":2}}
@@ -133,10 +136,10 @@ pub(crate) const POSTS_WITH_ARGUMENTS: &str =
 {"actor":1,"cmd":"outcome","turn":3}
 {"ok":{"fault":"notUnderstood"}}
 {"actor":1,"cmd":"outcome","turn":4}
-{"error":"Pending"}"#;
+{"error":"Pending"}
 
-/// Classes without instances, what is no selector, a selector of another number of arguments, and a local object.
-pub(crate) const BAD_ARGUMENTS: &str = r#"{"cmd":"define","name":"A","slots":[],"super":"Object"}
+256 64 1000000 Classes without instances, what is no selector, a selector of another number of arguments, and a local object.
+{"cmd":"define","name":"A","slots":[],"super":"Object"}
 {"ok":{"version":1}}
 {"class":"A","cmd":"method","source":"a ^Symbol new"}
 {"ok":{"version":2}}
@@ -185,10 +188,10 @@ pub(crate) const BAD_ARGUMENTS: &str = r#"{"cmd":"define","name":"A","slots":[],
 {"actor":0,"cmd":"outcome","turn":7}
 {"ok":{"fault":"notUnderstood"}}
 {"actor":0,"cmd":"outcome","turn":8}
-{"error":"Pending"}"#;
+{"error":"Pending"}
 
-/// In mailboxes of one message: the second of two posts is not accepted.
-pub(crate) const FULL_MAILBOX: &str = r#"{"cmd":"define","name":"A","slots":[],"super":"Object"}
+256 1 1000000 In mailboxes of one message: the second of two posts is not accepted.
+{"cmd":"define","name":"A","slots":[],"super":"Object"}
 {"ok":{"version":1}}
 {"class":"A","cmd":"method","source":"twice ^(thisActor post: #one) & (thisActor post: #one) not"}
 {"ok":{"version":2}}
@@ -205,11 +208,10 @@ pub(crate) const FULL_MAILBOX: &str = r#"{"cmd":"define","name":"A","slots":[],"
 {"actor":0,"cmd":"outcome","turn":2}
 {"ok":{"answer":1}}
 {"actor":0,"cmd":"outcome","turn":3}
-{"error":"Pending"}"#;
+{"error":"Pending"}
 
-/// In quanta of one step: the image's step is taken behind the quantum's own one.
-pub(crate) const NEW_ACTOR_BY_STEPS: &str =
-    r#"{"cmd":"define","name":"A","slots":[],"super":"Object"}
+1 64 1000000 In quanta of one step: the image's step is taken behind the quantum's own one.
+{"cmd":"define","name":"A","slots":[],"super":"Object"}
 {"ok":{"version":1}}
 {"cmd":"define","name":"Kid","slots":[],"super":"Object"}
 {"ok":{"version":2}}
@@ -228,11 +230,10 @@ pub(crate) const NEW_ACTOR_BY_STEPS: &str =
 {"cmd":"run","quanta":1}
 {"ok":{"quanta":0,"steps":0}}
 {"actor":0,"cmd":"outcome","turn":1}
-{"ok":{"answer":{"ref":1}}}"#;
+{"ok":{"answer":{"ref":1}}}
 
-/// A message to an actor, its outcome before and after it ran, and posts that are refused.
-pub(crate) const RUNS_A_MESSAGE: &str =
-    r#"{"cmd":"define","name":"M","slots":["a"],"super":"Object"}
+256 64 1000000 A message to an actor, its outcome before and after it ran, and posts that are refused.
+{"cmd":"define","name":"M","slots":["a"],"super":"Object"}
 {"ok":{"version":1}}
 {"class":"M","cmd":"actor"}
 {"ok":{"actor":0}}
@@ -251,10 +252,10 @@ pub(crate) const RUNS_A_MESSAGE: &str =
 {"actor":0,"args":[{"sym":"foo:"},{"class":"M"}],"cmd":"post","selector":"=","sender":1,"seq":2}
 {"error":"BadArguments"}
 {"actor":9,"args":[],"cmd":"post","selector":"isNil","sender":1,"seq":2}
-{"error":"UnknownActor"}"#;
+{"error":"UnknownActor"}
 
-/// A `run` that finds the history full says so and nothing else. What ran before stands, and what did not is pending.
-pub(crate) const HISTORY_FULL: &str = r#"{"class":"Object","cmd":"actor"}
+256 2 6 A `run` that finds the history full says so and nothing else. What ran before stands, and what did not is pending.
+{"class":"Object","cmd":"actor"}
 {"ok":{"actor":0}}
 {"actor":0,"args":[],"cmd":"post","selector":"isNil","sender":1,"seq":1}
 {"ok":{"turn":1}}

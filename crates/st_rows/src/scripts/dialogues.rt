@@ -1,7 +1,12 @@
-//! Worked scripts: each line is answered by the line behind it.
+//! Worked scripts of turns, of arithmetic and of refusals.
 
-/// `3 + 4 * 2` is 14, since binary messages go from the left.
-pub(crate) const MISSION: &str = r#"{"cmd":"define","name":"M","slots":[],"super":"Object"}
+/// The text stands behind a function without a contract, so that the proofs of tests carry nothing of it.
+pub(crate) fn text() -> &'static str {
+    TEXT
+}
+
+const TEXT: &str = r#"256 64 1000000 `3 + 4 * 2` is 14, since binary messages go from the left.
+{"cmd":"define","name":"M","slots":[],"super":"Object"}
 {"ok":{"version":1}}
 {"class":"M","cmd":"method","source":"a ^3 + 4 * 2"}
 {"ok":{"version":2}}
@@ -12,10 +17,10 @@ pub(crate) const MISSION: &str = r#"{"cmd":"define","name":"M","slots":[],"super
 {"cmd":"run"}
 {"ok":{"quanta":1,"steps":7}}
 {"actor":0,"cmd":"outcome","turn":1}
-{"ok":{"answer":14}}"#;
+{"ok":{"answer":14}}
 
-/// Division rounds towards negative infinity, and a remainder has the divisor's sign.
-pub(crate) const DIVISION: &str = r#"{"cmd":"define","name":"M","slots":[],"super":"Object"}
+256 64 1000000 Division rounds towards negative infinity, and a remainder has the divisor's sign.
+{"cmd":"define","name":"M","slots":[],"super":"Object"}
 {"ok":{"version":1}}
 {"class":"M","cmd":"method","source":"a ^3 + 4 * 2"}
 {"ok":{"version":2}}
@@ -40,10 +45,10 @@ pub(crate) const DIVISION: &str = r#"{"cmd":"define","name":"M","slots":[],"supe
 {"actor":0,"cmd":"outcome","turn":4}
 {"error":"Pending"}
 {"actor":0,"cmd":"outcome","turn":1}
-{"ok":{"answer":14}}"#;
+{"ok":{"answer":14}}
 
-/// A fault ends its turn, and the next message runs.
-pub(crate) const OVERFLOW: &str = r#"{"cmd":"define","name":"M","slots":[],"super":"Object"}
+256 64 1000000 A fault ends its turn, and the next message runs.
+{"cmd":"define","name":"M","slots":[],"super":"Object"}
 {"ok":{"version":1}}
 {"class":"M","cmd":"method","source":"m ^9223372036854775807 + 1"}
 {"ok":{"version":2}}
@@ -60,10 +65,10 @@ pub(crate) const OVERFLOW: &str = r#"{"cmd":"define","name":"M","slots":[],"supe
 {"actor":0,"cmd":"outcome","turn":1}
 {"ok":{"fault":"overflow"}}
 {"actor":0,"cmd":"outcome","turn":2}
-{"ok":{"answer":1}}"#;
+{"ok":{"answer":1}}
 
-/// A recursion without end faults at 128 frames: 1 + 127 * 2 + 2 steps in 2 quanta.
-pub(crate) const RECURSION: &str = r#"{"cmd":"define","name":"M","slots":[],"super":"Object"}
+256 64 1000000 A recursion without end faults at 128 frames: 1 + 127 * 2 + 2 steps in 2 quanta.
+{"cmd":"define","name":"M","slots":[],"super":"Object"}
 {"ok":{"version":1}}
 {"class":"M","cmd":"method","source":"loop ^self loop"}
 {"ok":{"version":2}}
@@ -74,11 +79,10 @@ pub(crate) const RECURSION: &str = r#"{"cmd":"define","name":"M","slots":[],"sup
 {"cmd":"run"}
 {"ok":{"quanta":2,"steps":257}}
 {"actor":0,"cmd":"outcome","turn":1}
-{"ok":{"fault":"stackOverflow"}}"#;
+{"ok":{"fault":"stackOverflow"}}
 
-/// Assignments to an instance variable; a method without a caret answers its receiver.
-pub(crate) const COUNTER: &str =
-    r#"{"cmd":"define","name":"Counter","slots":["count"],"super":"Object"}
+256 64 1000000 Assignments to an instance variable; a method without a caret answers its receiver.
+{"cmd":"define","name":"Counter","slots":["count"],"super":"Object"}
 {"ok":{"version":1}}
 {"class":"Counter","cmd":"method","source":"start count := 0"}
 {"ok":{"version":2}}
@@ -97,10 +101,10 @@ pub(crate) const COUNTER: &str =
 {"actor":0,"cmd":"outcome","turn":3}
 {"ok":{"answer":2}}
 {"actor":0,"cmd":"outcome","turn":1}
-{"ok":{"answer":{"local":0}}}"#;
+{"ok":{"answer":{"local":0}}}
 
-/// A loop that never ends keeps no other actor from its turns, in quanta of 16 steps.
-pub(crate) const TURNS: &str = r#"{"cmd":"define","name":"S","slots":[],"super":"Object"}
+16 64 1000000 A loop that never ends keeps no other actor from its turns, in quanta of 16 steps.
+{"cmd":"define","name":"S","slots":[],"super":"Object"}
 {"ok":{"version":1}}
 {"class":"S","cmd":"method","source":"spin [true] whileTrue: [nil]"}
 {"ok":{"version":2}}
@@ -119,10 +123,10 @@ pub(crate) const TURNS: &str = r#"{"cmd":"define","name":"S","slots":[],"super":
 {"actor":1,"cmd":"outcome","turn":1}
 {"ok":{"answer":7}}
 {"actor":0,"cmd":"outcome","turn":1}
-{"error":"Pending"}"#;
+{"error":"Pending"}
 
-/// Each message of a cascade goes to the same receiver; a conditional of something else than a boolean is a fault.
-pub(crate) const CASCADES: &str = r#"{"cmd":"define","name":"M","slots":[],"super":"Object"}
+256 64 1000000 Each message of a cascade goes to the same receiver; a conditional of something else than a boolean is a fault.
+{"cmd":"define","name":"M","slots":[],"super":"Object"}
 {"ok":{"version":1}}
 {"class":"M","cmd":"method","source":"c ^1 + 2; + 10; * 4"}
 {"ok":{"version":2}}
@@ -147,10 +151,10 @@ pub(crate) const CASCADES: &str = r#"{"cmd":"define","name":"M","slots":[],"supe
 {"actor":0,"cmd":"outcome","turn":2}
 {"ok":{"answer":null}}
 {"actor":0,"cmd":"outcome","turn":3}
-{"ok":{"fault":"mustBeBoolean"}}"#;
+{"ok":{"fault":"mustBeBoolean"}}
 
-/// Nesting, numbers, names and sources at and past their limits.
-pub(crate) const LIMITS: &str = r#"{"cmd":"define","name":"M","slots":[],"super":"Object"}
+256 64 1000000 Nesting, numbers, names and sources at and past their limits.
+{"cmd":"define","name":"M","slots":[],"super":"Object"}
 {"ok":{"version":1}}
 {"class":"M","cmd":"method","source":"m ^((((((((((((((((((((((((((((((((((((((((((((((((((((((((((((((((1))))))))))))))))))))))))))))))))))))))))))))))))))))))))))))))))"}
 {"ok":{"version":2}}
@@ -181,16 +185,16 @@ pub(crate) const LIMITS: &str = r#"{"cmd":"define","name":"M","slots":[],"super"
 {"class":"M","cmd":"method","source":"m ^zork"}
 {"error":"BadSource","kind":"UnknownName","offset":3}
 {"class":"M","cmd":"method","source":"m                                                                                                                                                                                                                                                                                                                                                                                                                                                                                                                                                                                                                                                                                                                                                                                                                                                                                                                                                                                                                                                                                                                                                                                                                                                                                                                                                                                                                                                                                                                                                                                                                                                                                                                                                                                                                                                                                                                                                                                                                                                                                                                                                                                                                                                                                                                                                                                                                                                                                                                                                                                                                                                                                                                                                                                                                                                                                                                                                                                                                                                                                                                                                                                                                                                                                                                                                                                                                                                                                                                                                                                                                                                                                                                                                                                                                                                                                                                                                                                                                                                                                                                                                                                                                                                                "}
-{"error":"BadSource","kind":"TooLarge","offset":4096}"#;
+{"error":"BadSource","kind":"TooLarge","offset":4096}
 
-/// A block that is no argument of an inlined message.
-pub(crate) const ESCAPE: &str = r#"{"cmd":"define","name":"M","slots":[],"super":"Object"}
+256 64 1000000 A block that is no argument of an inlined message.
+{"cmd":"define","name":"M","slots":[],"super":"Object"}
 {"ok":{"version":1}}
 {"class":"M","cmd":"method","source":"m ^[3]"}
-{"error":"BadSource","kind":"BlockEscapes","offset":3}"#;
+{"error":"BadSource","kind":"BlockEscapes","offset":3}
 
-/// Refusals of definitions, methods, actors, posts and lines.
-pub(crate) const REFUSALS: &str = r#"{"cmd":"define","name":"X","slots":[],"super":"SmallInteger"}
+256 64 1000000 Refusals of definitions, methods, actors, posts and lines.
+{"cmd":"define","name":"X","slots":[],"super":"SmallInteger"}
 {"error":"KernelClass"}
 {"cmd":"define","name":"X","slots":[],"super":"Nowhere"}
 {"error":"UnknownClass"}

@@ -1,7 +1,13 @@
-//! Worked scripts of lookups, and of edits that change what they find: each line is answered by the line behind it.
+//! Worked scripts of lookups, and of edits that change what they find.
 
-/// Each method asks the one above its own class, whichever class the receiver has.
-pub(crate) const SUPER_CHAIN: &str = r#"{"cmd":"define","name":"A","slots":[],"super":"Object"}
+/// The text stands behind a function without a contract, so that the proofs of tests carry nothing of it.
+pub(crate) fn text() -> &'static str {
+    TEXT
+}
+
+const TEXT: &str =
+    r#"256 64 1000000 Each method asks the one above its own class, whichever class the receiver has.
+{"cmd":"define","name":"A","slots":[],"super":"Object"}
 {"ok":{"version":1}}
 {"class":"A","cmd":"method","source":"who ^1"}
 {"ok":{"version":2}}
@@ -20,12 +26,10 @@ pub(crate) const SUPER_CHAIN: &str = r#"{"cmd":"define","name":"A","slots":[],"s
 {"cmd":"run"}
 {"ok":{"quanta":1,"steps":13}}
 {"actor":0,"cmd":"outcome","turn":1}
-{"ok":{"answer":111}}"#;
+{"ok":{"answer":111}}
 
-/// A super send may find a kernel method. Where it finds none, `doesNotUnderstand:` is looked up from the receiver's class,
-/// for Object's methods too, above which there is no class.
-pub(crate) const SUPER_AND_THE_KERNEL: &str =
-    r#"{"cmd":"define","name":"A","slots":[],"super":"Object"}
+256 64 1000000 A super send may find a kernel method. Where it finds none, `doesNotUnderstand:` is looked up from the receiver's class, for Object's methods too, above which there is no class.
+{"cmd":"define","name":"A","slots":[],"super":"Object"}
 {"ok":{"version":1}}
 {"class":"A","cmd":"method","source":"isNil ^super isNil == false"}
 {"ok":{"version":2}}
@@ -64,11 +68,10 @@ pub(crate) const SUPER_AND_THE_KERNEL: &str =
 {"actor":0,"cmd":"outcome","turn":5}
 {"ok":{"answer":{"sym":"up"}}}
 {"actor":0,"cmd":"outcome","turn":6}
-{"ok":{"answer":{"sym":"missing"}}}"#;
+{"ok":{"answer":{"sym":"missing"}}}
 
-/// A method of Object is found by all; once it is removed, it isn't, and can't be removed again.
-pub(crate) const REMOVED_AND_MISSING: &str =
-    r#"{"cmd":"define","name":"A","slots":[],"super":"Object"}
+256 64 1000000 A method of Object is found by all; once it is removed, it isn't, and can't be removed again.
+{"cmd":"define","name":"A","slots":[],"super":"Object"}
 {"ok":{"version":1}}
 {"class":"A","cmd":"method","source":"go ^self missing"}
 {"ok":{"version":2}}
@@ -97,11 +100,10 @@ pub(crate) const REMOVED_AND_MISSING: &str =
 {"actor":0,"cmd":"outcome","turn":3}
 {"ok":{"fault":"notUnderstood"}}
 {"class":"Object","cmd":"remove","selector":"missing"}
-{"error":"NoSuchMethod"}"#;
+{"error":"NoSuchMethod"}
 
-/// A class's own `doesNotUnderstand:` runs in place of a missing method, with the selector.
-pub(crate) const DOES_NOT_UNDERSTAND: &str =
-    r#"{"cmd":"define","name":"A","slots":[],"super":"Object"}
+256 64 1000000 A class's own `doesNotUnderstand:` runs in place of a missing method, with the selector.
+{"cmd":"define","name":"A","slots":[],"super":"Object"}
 {"ok":{"version":1}}
 {"class":"A","cmd":"method","source":"go ^self missing"}
 {"ok":{"version":2}}
@@ -120,11 +122,10 @@ pub(crate) const DOES_NOT_UNDERSTAND: &str =
 {"cmd":"run"}
 {"ok":{"quanta":1,"steps":6}}
 {"actor":0,"cmd":"outcome","turn":2}
-{"ok":{"answer":{"sym":"missing"}}}"#;
+{"ok":{"answer":{"sym":"missing"}}}
 
-/// One send finds the method of each value's class.
-pub(crate) const CLASSES_OF_VALUES: &str =
-    r#"{"cmd":"define","name":"A","slots":[],"super":"Object"}
+256 64 1000000 One send finds the method of each value's class.
+{"cmd":"define","name":"A","slots":[],"super":"Object"}
 {"ok":{"version":1}}
 {"class":"A","cmd":"method","source":"ask: x ^x tag"}
 {"ok":{"version":2}}
@@ -165,11 +166,10 @@ pub(crate) const CLASSES_OF_VALUES: &str =
 {"actor":0,"cmd":"outcome","turn":5}
 {"ok":{"answer":5}}
 {"actor":0,"cmd":"outcome","turn":6}
-{"ok":{"answer":1}}"#;
+{"ok":{"answer":1}}
 
-/// A reference to an actor is an ActorRef, any class a Class, and what has no method of its own has Object's.
-pub(crate) const CLASSES_OF_REFERENCES: &str =
-    r#"{"cmd":"define","name":"A","slots":[],"super":"Object"}
+256 64 1000000 A reference to an actor is an ActorRef, any class a Class, and what has no method of its own has Object's.
+{"cmd":"define","name":"A","slots":[],"super":"Object"}
 {"ok":{"version":1}}
 {"class":"A","cmd":"method","source":"ask: x ^x tag"}
 {"ok":{"version":2}}
@@ -198,10 +198,10 @@ pub(crate) const CLASSES_OF_REFERENCES: &str =
 {"actor":0,"cmd":"outcome","turn":3}
 {"ok":{"answer":7}}
 {"actor":0,"cmd":"outcome","turn":4}
-{"ok":{"answer":0}}"#;
+{"ok":{"answer":0}}
 
-/// A turn sees a method that was replaced before it.
-pub(crate) const REPLACED: &str = r#"{"cmd":"define","name":"A","slots":[],"super":"Object"}
+256 64 1000000 A turn sees a method that was replaced before it.
+{"cmd":"define","name":"A","slots":[],"super":"Object"}
 {"ok":{"version":1}}
 {"class":"A","cmd":"method","source":"ask: x ^x tag"}
 {"ok":{"version":2}}
@@ -222,10 +222,10 @@ pub(crate) const REPLACED: &str = r#"{"cmd":"define","name":"A","slots":[],"supe
 {"actor":0,"cmd":"outcome","turn":1}
 {"ok":{"answer":1}}
 {"actor":0,"cmd":"outcome","turn":2}
-{"ok":{"answer":2}}"#;
+{"ok":{"answer":2}}
 
-/// A method for another selector changes nothing.
-pub(crate) const UNRELATED: &str = r#"{"cmd":"define","name":"A","slots":[],"super":"Object"}
+256 64 1000000 A method for another selector changes nothing.
+{"cmd":"define","name":"A","slots":[],"super":"Object"}
 {"ok":{"version":1}}
 {"class":"A","cmd":"method","source":"ask: x ^x tag"}
 {"ok":{"version":2}}
@@ -246,11 +246,10 @@ pub(crate) const UNRELATED: &str = r#"{"cmd":"define","name":"A","slots":[],"sup
 {"actor":0,"cmd":"outcome","turn":1}
 {"ok":{"answer":1}}
 {"actor":0,"cmd":"outcome","turn":2}
-{"ok":{"answer":1}}"#;
+{"ok":{"answer":1}}
 
-/// A class may have methods for the selectors of other classes' kernel methods.
-pub(crate) const OWN_SELECTORS_OF_THE_KERNEL: &str =
-    r#"{"cmd":"define","name":"A","slots":[],"super":"Object"}
+256 64 1000000 A class may have methods for the selectors of other classes' kernel methods.
+{"cmd":"define","name":"A","slots":[],"super":"Object"}
 {"ok":{"version":1}}
 {"class":"A","cmd":"method","source":"newActor ^5"}
 {"ok":{"version":2}}
@@ -267,11 +266,10 @@ pub(crate) const OWN_SELECTORS_OF_THE_KERNEL: &str =
 {"cmd":"run"}
 {"ok":{"quanta":1,"steps":17}}
 {"actor":0,"cmd":"outcome","turn":1}
-{"ok":{"answer":18}}"#;
+{"ok":{"answer":18}}
 
-/// In quanta of one step: a method that is replaced runs to its end, and its next send sees a replaced method.
-pub(crate) const REPLACED_WHILE_IT_RUNS: &str =
-    r#"{"cmd":"define","name":"L","slots":[],"super":"Object"}
+1 64 1000000 In quanta of one step: a method that is replaced runs to its end, and its next send sees a replaced method.
+{"cmd":"define","name":"L","slots":[],"super":"Object"}
 {"ok":{"version":1}}
 {"class":"SmallInteger","cmd":"method","source":"tag ^1"}
 {"ok":{"version":2}}

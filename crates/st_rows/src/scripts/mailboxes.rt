@@ -1,8 +1,13 @@
-//! Worked scripts of mailboxes that are full or closed, of senders' numbers and of the outcomes that are kept: each
-//! line is answered by the line behind it.
+//! Worked scripts of mailboxes that are full or closed, of senders' numbers and of the outcomes that are kept.
 
-/// In a mailbox of one message: a message that it has no room for is accepted later, with the same number.
-pub(crate) const ROOM_FOR_ONE: &str = r#"{"cmd":"define","name":"M","slots":[],"super":"Object"}
+/// The text stands behind a function without a contract, so that the proofs of tests carry nothing of it.
+pub(crate) fn text() -> &'static str {
+    TEXT
+}
+
+const TEXT: &str =
+    r#"256 1 1000000 In a mailbox of one message: a message that it has no room for is accepted later, with the same number.
+{"cmd":"define","name":"M","slots":[],"super":"Object"}
 {"ok":{"version":1}}
 {"class":"M","cmd":"method","source":"a ^1"}
 {"ok":{"version":2}}
@@ -21,10 +26,10 @@ pub(crate) const ROOM_FOR_ONE: &str = r#"{"cmd":"define","name":"M","slots":[],"
 {"actor":0,"cmd":"close"}
 {"ok":{}}
 {"actor":0,"args":[],"cmd":"post","selector":"a","sender":1,"seq":3}
-{"error":"Closed"}"#;
+{"error":"Closed"}
 
-/// A closed mailbox takes no message and isn't closed again. What it accepted before still runs.
-pub(crate) const CLOSED: &str = r#"{"cmd":"define","name":"M","slots":[],"super":"Object"}
+256 64 1000000 A closed mailbox takes no message and isn't closed again. What it accepted before still runs.
+{"cmd":"define","name":"M","slots":[],"super":"Object"}
 {"ok":{"version":1}}
 {"class":"M","cmd":"method","source":"a ^1"}
 {"ok":{"version":2}}
@@ -49,10 +54,10 @@ pub(crate) const CLOSED: &str = r#"{"cmd":"define","name":"M","slots":[],"super"
 {"actor":0,"cmd":"outcome","turn":3}
 {"error":"Pending"}
 {"actor":1,"cmd":"close"}
-{"error":"UnknownActor"}"#;
+{"error":"UnknownActor"}
 
-/// The numbers of a sender rise, and some may be left out.
-pub(crate) const OLD_NUMBERS: &str = r#"{"cmd":"define","name":"M","slots":[],"super":"Object"}
+256 64 1000000 The numbers of a sender rise, and some may be left out.
+{"cmd":"define","name":"M","slots":[],"super":"Object"}
 {"ok":{"version":1}}
 {"class":"M","cmd":"method","source":"a ^1"}
 {"ok":{"version":2}}
@@ -63,10 +68,10 @@ pub(crate) const OLD_NUMBERS: &str = r#"{"cmd":"define","name":"M","slots":[],"s
 {"actor":0,"args":[],"cmd":"post","selector":"a","sender":1,"seq":5}
 {"error":"Old","last":5}
 {"actor":0,"args":[],"cmd":"post","selector":"a","sender":1,"seq":9}
-{"ok":{"turn":2}}"#;
+{"ok":{"turn":2}}
 
-/// A sender's numbers rise over all actors, and are no other sender's.
-pub(crate) const NUMBERS_OVER_ACTORS: &str = r#"{"class":"Object","cmd":"actor"}
+256 64 1000000 A sender's numbers rise over all actors, and are no other sender's.
+{"class":"Object","cmd":"actor"}
 {"ok":{"actor":0}}
 {"class":"Object","cmd":"actor"}
 {"ok":{"actor":1}}
@@ -85,11 +90,10 @@ pub(crate) const NUMBERS_OVER_ACTORS: &str = r#"{"class":"Object","cmd":"actor"}
 {"actor":0,"args":[],"cmd":"post","selector":"isNil","sender":65535,"seq":18446744073709551615}
 {"ok":{"turn":2}}
 {"actor":1,"args":[],"cmd":"post","selector":"isNil","sender":65535,"seq":18446744073709551615}
-{"error":"Old","last":18446744073709551615}"#;
+{"error":"Old","last":18446744073709551615}
 
-/// An unknown actor and arguments that don't fit are told before an old number, and a closed mailbox after it. None
-/// of these refusals takes the number.
-pub(crate) const ORDER_OF_POST_REFUSALS: &str = r#"{"class":"Object","cmd":"actor"}
+256 64 1000000 An unknown actor and arguments that don't fit are told before an old number, and a closed mailbox after it. None of these refusals takes the number.
+{"class":"Object","cmd":"actor"}
 {"ok":{"actor":0}}
 {"class":"Object","cmd":"actor"}
 {"ok":{"actor":1}}
@@ -110,11 +114,10 @@ pub(crate) const ORDER_OF_POST_REFUSALS: &str = r#"{"class":"Object","cmd":"acto
 {"actor":0,"args":[],"cmd":"post","selector":"isNil","sender":1,"seq":4}
 {"error":"Old","last":4}
 {"actor":0,"args":[],"cmd":"post","selector":"isNil","sender":1,"seq":5}
-{"error":"Closed"}"#;
+{"error":"Closed"}
 
-/// An actor closes its own mailbox, and is told whether it was open. Each turn is 3 steps, of which the last
-/// closes, and then 1.
-pub(crate) const SHUTS_ITSELF: &str = r#"{"cmd":"define","name":"M","slots":[],"super":"Object"}
+256 64 1000000 An actor closes its own mailbox, and is told whether it was open. Each turn is 3 steps, of which the last closes, and then 1.
+{"cmd":"define","name":"M","slots":[],"super":"Object"}
 {"ok":{"version":1}}
 {"class":"M","cmd":"method","source":"shut ^thisActor close"}
 {"ok":{"version":2}}
@@ -131,10 +134,10 @@ pub(crate) const SHUTS_ITSELF: &str = r#"{"cmd":"define","name":"M","slots":[],"
 {"actor":0,"cmd":"outcome","turn":2}
 {"ok":{"answer":false}}
 {"actor":0,"args":[],"cmd":"post","selector":"shut","sender":1,"seq":3}
-{"error":"Closed"}"#;
+{"error":"Closed"}
 
-/// An actor closes the mailbox of another, which takes no message then, of an actor or a client. Its own stays open.
-pub(crate) const SHUTS_ANOTHER: &str = r#"{"cmd":"define","name":"A","slots":[],"super":"Object"}
+256 64 1000000 An actor closes the mailbox of another, which takes no message then, of an actor or a client. Its own stays open.
+{"cmd":"define","name":"A","slots":[],"super":"Object"}
 {"ok":{"version":1}}
 {"class":"A","cmd":"method","source":"shut: r ^r close"}
 {"ok":{"version":2}}
@@ -171,11 +174,10 @@ pub(crate) const SHUTS_ANOTHER: &str = r#"{"cmd":"define","name":"A","slots":[],
 {"actor":1,"cmd":"close"}
 {"error":"Closed"}
 {"actor":0,"args":[],"cmd":"post","selector":"isNil","sender":1,"seq":5}
-{"ok":{"turn":5}}"#;
+{"ok":{"turn":5}}
 
-/// `close` of actor references is the kernel's, and any other class may have a method of that name.
-pub(crate) const CLOSE_OF_THE_KERNEL: &str =
-    r#"{"class":"ActorRef","cmd":"method","source":"close ^3"}
+256 64 1000000 `close` of actor references is the kernel's, and any other class may have a method of that name.
+{"class":"ActorRef","cmd":"method","source":"close ^3"}
 {"error":"KernelMethod"}
 {"class":"ActorRef","cmd":"remove","selector":"close"}
 {"error":"KernelMethod"}
@@ -196,11 +198,10 @@ pub(crate) const CLOSE_OF_THE_KERNEL: &str =
 {"actor":0,"cmd":"outcome","turn":2}
 {"ok":{"answer":false}}
 {"actor":0,"args":[],"cmd":"post","selector":"isNil","sender":1,"seq":3}
-{"error":"Closed"}"#;
+{"error":"Closed"}
 
-/// In a history of three items: a close that finds no room for its own is refused, and the mailbox stays open. An
-/// unknown actor and a closed mailbox are told before.
-pub(crate) const CLOSE_IN_A_FULL_HISTORY: &str = r#"{"class":"Object","cmd":"actor"}
+256 64 3 In a history of three items: a close that finds no room for its own is refused, and the mailbox stays open. An unknown actor and a closed mailbox are told before.
+{"class":"Object","cmd":"actor"}
 {"ok":{"actor":0}}
 {"class":"Object","cmd":"actor"}
 {"ok":{"actor":1}}

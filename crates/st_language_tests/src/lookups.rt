@@ -1,0 +1,391 @@
+//! How many rows lookups read, and what serves them.
+ghost use Rattle.std.specs.Prelude.{◌≡◌, [], ◌∷◌, ℕ, List, Some, true, IfOk, IfSome};
+ghost use Rattle.st_classes.specs.MethodSuits.{suits};
+ghost use Rattle.st_classes.specs.declared.instructions.Instruction.TheVariants.{PushSelf, Send, Answer};
+ghost use Rattle.st_classes.specs.Classes.{is_class};
+ghost use Rattle.st_guard.specs.Moves.{IsAt};
+ghost use Rattle.st_guard.specs.ValidCaches.{asks};
+
+use crate::classes::{boxed, define, kernel_version, remove};
+use st_classes::counted_rows::CountedRows;
+use st_classes::edits::Edit;
+use st_classes::instructions::Instruction;
+use st_classes::kernel::OBJECT;
+use st_classes::keys::{Key, SiteId};
+use st_classes::methods::{Method, MethodParts};
+use st_classes::refusals::Refusal;
+use st_classes::seq::Seq;
+use st_classes::values::{ClassId, MethodId, Selector};
+use st_classes::version::Version;
+use st_guard::caches::{Caches, Moved};
+use st_guard::global_guard::GlobalGuard;
+use st_guard::guard::Guard;
+use st_guard::how::How;
+use st_guard::switch_guard::SwitchGuard;
+use st_sites::site::SiteState;
+use std::alloc::{AllocError, Global};
+use std::test::*;
+
+const A: ClassId = ClassId(8);
+
+const B: ClassId = ClassId(9);
+
+const C: ClassId = ClassId(10);
+
+const WHO: Selector = Selector(22);
+
+const MISSING: Selector = Selector(23);
+
+/// A method that sends a message without arguments to itself.
+fn asking(
+    alloc: Global,
+    holder: ClassId,
+    selector: Selector,
+    asked: Selector,
+) -> Result<Method, AllocError>
+    ensures holder { IfOk result (λ m. m.holder ≡ holder) }
+    ensures selector { IfOk result (λ m. m.selector ≡ selector) }
+    ensures arguments { IfOk result (λ m. m.arguments ≡ 0) }
+    ensures code { IfOk result (λ m. m.code ≡ PushSelf ∷ Send asked 0 ∷ Answer ∷ []) }
+{
+    let code = vec![in alloc;
+        Instruction::PushSelf,
+        Instruction::Send(asked, 0),
+        Instruction::Answer,
+    ]?;
+    let depths = vec![in alloc; 0u8, 1u8, 1u8]?;
+    let sites = vec![in alloc; 1u16]?;
+    Ok(Method::new(MethodParts {
+        holder,
+        selector,
+        arguments: 0,
+        temporaries: 0,
+        code: Seq::from_vec(code),
+        depths: Seq::from_vec(depths),
+        sites: Seq::from_vec(sites),
+        source: Seq::from_vec(Vec::new(alloc)),
+    }))
+}
+
+/// One method more.
+fn install_method(
+    alloc: Global,
+    version: &Version,
+    class: ClassId,
+    method: Method,
+) -> Result<Box<Version>, Refusal>
+    requires { (names : List (List ℕ)) × (suits names version.now class method ≡ true) }
+{
+    boxed(
+        alloc,
+        version.with_edit(alloc, Edit::Install { class, method })?,
+    )
+}
+
+/// One method more, which sends a message to itself.
+fn install(
+    alloc: Global,
+    version: &Version,
+    class: ClassId,
+    selector: Selector,
+    asked: Selector,
+) -> Result<Box<Version>, Refusal> {
+    let Ok(method) = asking(alloc, class, selector, asked) else {
+        return Err(Refusal::NoMemory);
+    };
+    install_method(alloc, version, class, method)
+}
+
+/// Classes A, B under A and C under B, each with a method `who` that sends `missing`.
+fn three_classes(alloc: Global) -> Result<Box<Version>, Refusal> {
+    let mut version = kernel_version(alloc)?;
+    for (name, parent) in [("A", OBJECT), ("B", A), ("C", B)] {
+        version = define(alloc, &version, name.as_bytes(), parent, &[])?;
+    }
+    for class in [A, B, C] {
+        version = install(alloc, &version, class, WHO, MISSING)?;
+    }
+    Ok(version)
+}
+
+/// The site of `missing` in the method `who` of C.
+const SITE: SiteId = SiteId {
+    method: MethodId(5),
+    place: 1,
+};
+
+/// What a site looks up.
+fn asked_at(version: &Version, site: SiteId) -> Option<(Option<ClassId>, Selector)>
+    ensures { result ≡ asks version.now site }
+{
+    let method = version.method(site.method)?;
+    match method.code().get(site.place as usize)? {
+        Instruction::Send(selector, _) => Some((None, *selector)),
+        Instruction::SuperSend(selector, _) => Some((Some(method.holder()), *selector)),
+        _ => None,
+    }
+}
+
+/// Whether there is the holder of a super send.
+fn has_holder(version: &Version, key: Key) -> bool
+    ensures { result ≡ true → IfSome key.holder (λ h. is_class version.now h ≡ true) }
+{
+    match key.holder {
+        Some(holder) => version.is_class(holder),
+        None => true,
+    }
+}
+
+/// Whether a site looks up this, where there is a site.
+fn has_site(version: &Version, site: Option<SiteId>, key: Key) -> bool
+    ensures { result ≡ true → IfSome site (λ id. asks version.now id ≡ Some (key.holder, key.selector)) }
+{
+    let Some(id) = site else {
+        return true;
+    };
+    match asked_at(version, id) {
+        Some((holder, selector)) => holder == key.holder && selector == key.selector,
+        None => false,
+    }
+}
+
+/// How a lookup goes and how many rows it reads, where it may be asked.
+fn look<G: Guard>(
+    caches: &mut Caches<G>,
+    version: &Version,
+    site: Option<SiteId>,
+    key: Key,
+) -> Option<(How, u64)>
+    requires at { IsAt (G.count caches.old.guard) (G.floor caches.old.guard) caches.old.sites caches.old.recent caches.old.edits version.now }
+    requires kept { IfSome caches.old.kept (λ k. k ≡ version.now) }
+    ensures at { IsAt (G.count caches.new.guard) (G.floor caches.new.guard) caches.new.sites caches.new.recent caches.new.edits version.now }
+    ensures kept { IfSome caches.new.kept (λ k. k ≡ version.now) }
+{
+    if !version.is_class(key.class) || !has_holder(version, key) || !has_site(version, site, key) {
+        return None;
+    }
+    let mut rows = CountedRows::new(version);
+    let (_target, how) = caches.lookup(site, key, &mut rows);
+    Some((how, rows.reads()))
+}
+
+/// A send to an instance of C, or a super send in a method of a holder.
+fn key(holder: Option<ClassId>, selector: Selector) -> Key {
+    Key {
+        holder,
+        class: C,
+        selector,
+    }
+}
+
+/// What six lookups answer one after the other.
+fn looks<G: Guard>(
+    caches: &mut Caches<G>,
+    alloc: Global,
+    version: &Version,
+) -> [Option<(How, u64)>; 6] {
+    let _moved = caches.move_to(alloc, version);
+    [
+        look(caches, version, None, key(None, WHO)),
+        look(caches, version, None, key(Some(B), WHO)),
+        look(caches, version, Some(SITE), key(None, MISSING)),
+        look(caches, version, Some(SITE), key(None, MISSING)),
+        look(caches, version, None, key(None, MISSING)),
+        look(caches, version, Some(SITE), key(None, MISSING)),
+    ]
+}
+
+/// What they answer while nothing was found yet.
+const FIRST: [Option<(How, u64)>; 6] = [
+    Some((How::Walk, 1)),
+    Some((How::Walk, 2)),
+    Some((How::Walk, 8)),
+    Some((How::Site, 0)),
+    Some((How::Global, 0)),
+    Some((How::Site, 0)),
+];
+
+/// What the first six lookups of new caches answer, and how many classes the site has met then.
+fn first_looks(alloc: Global, version: &Version) -> Result<bool, AllocError> {
+    let mut caches = Caches::new(alloc, GlobalGuard::new())?;
+    let answers = looks(&mut caches, alloc, version);
+    Ok(answers == FIRST && caches.state(SITE) == SiteState::Mono)
+}
+
+#[test]
+fn rows_are_read_by_walks_alone(rt: HostRuntime) -> Result<(), Fail> {
+    let version = three_classes(rt.alloc())?;
+    assert!(rt; first_looks(rt.alloc(), &version)?);
+    Ok(())
+}
+
+/// Whether new caches follow a version and one that goes on from it, and are emptied by the way back.
+fn moves(alloc: Global, version: &Version, later: &Version) -> Result<bool, AllocError> {
+    let mut caches = Caches::new(alloc, GlobalGuard::new())?;
+    for (to, moved) in [
+        (version, Moved::Followed),
+        (version, Moved::Followed),
+        (later, Moved::Followed),
+        (version, Moved::Emptied),
+    ] {
+        if caches.move_to(alloc, to) != moved {
+            return Ok(false);
+        }
+    }
+    Ok(true)
+}
+
+/// Whether caches find again what they found, and nothing is left once they have forgotten it.
+fn forgets(alloc: Global, version: &Version) -> Result<bool, AllocError> {
+    let mut caches = Caches::new(alloc, GlobalGuard::new())?;
+    let _answers = looks(&mut caches, alloc, version);
+    let again = looks(&mut caches, alloc, version);
+    caches.forget();
+    let state = caches.state(SITE);
+    Ok(
+        again[0] == Some((How::Global, 0))
+            && again[2] == Some((How::Site, 0))
+            && state == SiteState::Empty
+            && looks(&mut caches, alloc, version) == FIRST,
+    )
+}
+
+#[test]
+fn caches_follow_the_edits(rt: HostRuntime) -> Result<(), Fail> {
+    let version = three_classes(rt.alloc())?;
+    let later = define(rt.alloc(), &version, b"D", C, &[])?;
+    assert!(rt; moves(rt.alloc(), &version, &later)?);
+    assert!(rt; forgets(rt.alloc(), &later)?);
+    Ok(())
+}
+
+/// How a lookup goes, where it may be asked, in caches that are moved to the version first.
+fn ask<G: Guard>(
+    caches: &mut Caches<G>,
+    alloc: Global,
+    version: &Version,
+    site: Option<SiteId>,
+    key: Key,
+) -> Option<How> {
+    let _moved = caches.move_to(alloc, version);
+    match look(caches, version, site, key) {
+        Some((how, _)) => Some(how),
+        None => None,
+    }
+}
+
+/// Whether messages with these selectors, of which none is at a site, all are looked up like this.
+fn all_go<G: Guard>(
+    caches: &mut Caches<G>,
+    alloc: Global,
+    version: &Version,
+    selectors: (u16, u16),
+    how: How,
+) -> bool {
+    for selector in selectors.0..selectors.1 {
+        if ask(caches, alloc, version, None, key(None, Selector(selector))) != Some(how) {
+            return false;
+        }
+    }
+    true
+}
+
+/// Whether the lookup cache has the newest 1,024 of 1,025 keys.
+fn keeps_the_newest(alloc: Global, version: &Version) -> Result<bool, AllocError> {
+    let mut caches = Caches::new(alloc, GlobalGuard::new())?;
+    Ok(
+        all_go(&mut caches, alloc, version, (0, 1025), How::Walk)
+            && all_go(&mut caches, alloc, version, (1, 1025), How::Global)
+            && all_go(&mut caches, alloc, version, (0, 1), How::Walk),
+    )
+}
+
+#[test]
+fn newest_keys_are_kept(rt: HostRuntime) -> Result<(), Fail> {
+    let version = three_classes(rt.alloc())?;
+    assert!(rt; keeps_the_newest(rt.alloc(), &version)?);
+    Ok(())
+}
+
+/// Three classes, and a hundred methods of A behind the three.
+fn hundred_methods(alloc: Global) -> Result<Box<Version>, Refusal> {
+    let mut version = three_classes(alloc)?;
+    for number in 0..100 {
+        version = install(alloc, &version, A, Selector(24 + number), MISSING)?;
+    }
+    Ok(version)
+}
+
+/// Whether no send at the sites of the hundred methods is found at its site, or each is.
+fn are_at_sites<G: Guard>(
+    caches: &mut Caches<G>,
+    alloc: Global,
+    version: &Version,
+    are: bool,
+) -> bool {
+    for method in 6..106 {
+        let site = SiteId {
+            method: MethodId(method),
+            place: 1,
+        };
+        match ask(caches, alloc, version, Some(site), key(None, MISSING)) {
+            Some(how) if (how == How::Site) == are => {}
+            _ => return false,
+        }
+    }
+    true
+}
+
+fn keeps_all_sites(alloc: Global, version: &Version) -> Result<bool, AllocError> {
+    let mut caches = Caches::new(alloc, GlobalGuard::new())?;
+    let first = are_at_sites(&mut caches, alloc, version, false);
+    Ok(first && are_at_sites(&mut caches, alloc, version, true))
+}
+
+#[test]
+fn each_site_is_kept(rt: HostRuntime) -> Result<(), Fail> {
+    let version = hundred_methods(rt.alloc())?;
+    assert!(rt; keeps_all_sites(rt.alloc(), &version)?);
+    Ok(())
+}
+
+/// An edit of each kind: a definition, an install, a removal.
+fn next_edit(alloc: Global, version: &Version, kind: u32) -> Result<Box<Version>, Refusal> {
+    match kind {
+        0 => define(alloc, version, b"D", C, &[]),
+        1 => install(alloc, version, B, MISSING, WHO),
+        _ => remove(alloc, version, B, MISSING),
+    }
+}
+
+/// Whether caches go on from one version to the next by an edit of each kind.
+fn follow_each_kind<G: Guard>(alloc: Global, caches: &mut Caches<G>) -> Result<bool, Refusal> {
+    let mut version = three_classes(alloc)?;
+    let mut follow = ask(caches, alloc, &version, None, key(None, WHO)) == Some(How::Walk);
+    for kind in 0..3 {
+        version = next_edit(alloc, &version, kind)?;
+        follow = caches.move_to(alloc, &version) == Moved::Followed && follow;
+    }
+    Ok(follow)
+}
+
+fn global_guard_follows(alloc: Global) -> Result<bool, Refusal> {
+    match Caches::new(alloc, GlobalGuard::new()) {
+        Ok(mut caches) => follow_each_kind(alloc, &mut caches),
+        Err(AllocError) => Err(Refusal::NoMemory),
+    }
+}
+
+fn switch_guard_follows(alloc: Global) -> Result<bool, Refusal> {
+    match Caches::new(alloc, SwitchGuard::new(alloc)) {
+        Ok(mut caches) => follow_each_kind(alloc, &mut caches),
+        Err(AllocError) => Err(Refusal::NoMemory),
+    }
+}
+
+#[test]
+fn caches_follow_each_kind_of_edit(rt: HostRuntime) -> Result<(), Fail> {
+    assert!(rt; global_guard_follows(rt.alloc())?);
+    assert!(rt; switch_guard_follows(rt.alloc())?);
+    Ok(())
+}

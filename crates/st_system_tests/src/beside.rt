@@ -1,0 +1,284 @@
+//! Random lists of events: a system beside its model.
+use crate::lists::random_list;
+use crate::model::{Done, Model, ModelActor};
+use crate::workers::*;
+use st_classes::edits::Edit;
+use st_classes::refusals::Refusal;
+use st_classes::values::ActorId;
+use st_image::items::Item;
+use st_mailbox::list_box::ListBox;
+use st_mailbox::messages::{Message, Sender};
+use st_system::events::Event;
+use st_turn::body::Outcome;
+use std::alloc::Global;
+use std::test::*;
+
+/// How many names there are: the kernel's, and those of lists.
+const NAMES: u32 = 29;
+
+/// Whether an edit is the one that an event says.
+fn is_edit_of(event: &Event, edit: &Edit) -> bool {
+    match (event, edit) {
+        (
+            Event::Define {
+                name,
+                parent,
+                slots,
+            },
+            Edit::Define {
+                name: edit_name,
+                parent: edit_parent,
+                slots: edit_slots,
+            },
+        ) => {
+            name.as_slice() == edit_name.as_slice()
+                && parent == edit_parent
+                && slots.len() == edit_slots.len()
+        }
+        (
+            Event::Install { class, source },
+            Edit::Install {
+                class: edit_class,
+                method,
+            },
+        ) => class == edit_class && source.as_slice() == method.source(),
+        (
+            Event::Remove { class, selector },
+            Edit::Remove {
+                class: edit_class,
+                selector: edit_selector,
+            },
+        ) => class == edit_class && selector == edit_selector,
+        _ => false,
+    }
+}
+
+/// Whether an item is that of an event.
+fn is_item_of(event: &Event, item: &Item) -> bool {
+    match (event, item) {
+        (_, Item::Edited(edit)) => is_edit_of(event, edit.edit()),
+        (Event::Create(class), Item::Created(created)) => class == created,
+        (
+            Event::Post {
+                sender,
+                seq,
+                actor,
+                selector,
+                args,
+            },
+            Item::Posted {
+                actor: posted_to,
+                message,
+            },
+        ) => {
+            actor == posted_to
+                && message.sender == Sender::Client(*sender)
+                && message.seq == *seq
+                && message.selector == *selector
+                && message.args.as_slice() == args.as_slice()
+        }
+        (Event::Close(actor), Item::Closed(closed)) => actor == closed,
+        _ => false,
+    }
+}
+
+/// Whether an item is that of the model.
+fn is_done(events: &[Event], done: Done, item: &Item) -> bool {
+    match (done, item) {
+        (Done::Begun(actor), Item::Begun(begun)) => actor == *begun,
+        (
+            Done::Ran(actor, steps),
+            Item::Ran {
+                actor: ran,
+                steps: taken,
+            },
+        ) => actor == *ran && steps == *taken,
+        (Done::Event(place), _) => match events.get(place) {
+            Some(event) => is_item_of(event, item),
+            None => false,
+        },
+        _ => false,
+    }
+}
+
+fn is_same_history(events: &[Event], model: &[Done], history: &[Item]) -> bool {
+    for (done, item) in model.iter().zip(history) {
+        if !is_done(events, *done, item) {
+            return false;
+        }
+    }
+    model.len() == history.len()
+}
+
+/// How many of the events that happened, from the first on, say the edits of the class table one after another.
+fn same_edits(events: &[Event], model: &[Done], image: &Image) -> u32 {
+    let mut place = 0;
+    for done in model {
+        if let Done::Event(event) = *done
+            && is_edit_at(events, event, image, place)
+        {
+            place = place.saturating_add(1);
+        }
+    }
+    place
+}
+
+/// Whether an event is the edit at a place of the class table.
+fn is_edit_at(events: &[Event], event: usize, image: &Image, place: u32) -> bool {
+    match (events.get(event), edit(image, place)) {
+        (Some(event), Some(edit)) => is_edit_of(event, edit),
+        _ => false,
+    }
+}
+
+fn is_same_message(one: &Message, other: &Message) -> bool {
+    one.sender == other.sender
+        && one.seq == other.seq
+        && one.selector == other.selector
+        && one.args.as_slice() == other.args.as_slice()
+}
+
+/// Whether messages wait in a mailbox in the model's order.
+fn is_same_pending(mailbox: &ListBox, messages: &[Message]) -> bool {
+    let mut place = 0;
+    for message in messages {
+        match item(mailbox, place) {
+            Some(item) if is_same_message(item, message) => {}
+            _ => return false,
+        }
+        place = place.saturating_add(1);
+    }
+    waiting(mailbox) == messages.len()
+}
+
+/// How a turn ended, of which the first is number 1: the newest 64 are kept.
+fn model_outcome(kept: &ModelActor, turn: usize) -> Result<Outcome, Refusal> {
+    if turn == 0 || turn.saturating_add(64) <= kept.results.len() {
+        return Err(Refusal::Expired);
+    }
+    match kept.results.get(turn.saturating_sub(1)) {
+        Some(outcome) => Ok(*outcome),
+        None => Err(Refusal::Pending),
+    }
+}
+
+/// Whether the turns of an actor ended alike, up to one that has not begun.
+fn is_same_outcomes(image: &Image, actor: ActorId, kept: &ModelActor) -> bool {
+    for turn in 0..kept.accepted.len().saturating_add(2) {
+        if outcome(image, actor, turn as u64) != model_outcome(kept, turn) {
+            return false;
+        }
+    }
+    true
+}
+
+/// In what an actor differs.
+fn actor_difference(image: &Image, actor: ActorId, kept: &ModelActor) -> Option<&'static str> {
+    let (Some(body), Some(mailbox)) = (body(image, actor), mailbox(image, actor)) else {
+        return Some("actors");
+    };
+    if !is_same_body(body, &kept.body) {
+        return Some("bodies");
+    }
+    if !is_same_pending(mailbox, kept.pending()) {
+        return Some("pending messages");
+    }
+    if is_open(mailbox) != kept.is_open {
+        return Some("flags");
+    }
+    if class_and_last(image, actor) != (Some(kept.class), Some(kept.last)) {
+        return Some("classes or numbers");
+    }
+    if !is_same_outcomes(image, actor, kept) {
+        return Some("outcomes");
+    }
+    None
+}
+
+/// In what some actor differs.
+fn actors_difference(image: &Image, actors: &[ModelActor]) -> Option<&'static str> {
+    let mut number = 0;
+    for kept in actors {
+        let difference = actor_difference(image, ActorId(number), kept);
+        if difference.is_some() {
+            return difference;
+        }
+        number = number.saturating_add(1);
+    }
+    None
+}
+
+/// In what an image's history or edits differ from the model's.
+fn history_difference(image: &Image, model: &[Done], events: &[Event]) -> Option<&'static str> {
+    if !is_same_history(events, model, history(image)) {
+        return Some("histories");
+    }
+    let (edits, _, _) = counts(image);
+    if same_edits(events, model, image) != edits {
+        return Some("edits");
+    }
+    None
+}
+
+/// Whether an image has other numbers of edits, names or actors.
+fn has_other_counts(image: &Image, edits: u32, actors: usize) -> bool {
+    let (the_edits, the_names, the_actors) = counts(image);
+    the_edits != edits || the_names != NAMES || the_actors as usize != actors
+}
+
+/// In what an image differs from the model.
+fn image_difference(image: &Image, model: &Model, events: &[Event]) -> Option<&'static str> {
+    let first = history_difference(image, model.history.as_slice(), events);
+    if first.is_some() {
+        return first;
+    }
+    if has_other_counts(image, model.edits, model.actors.len()) {
+        return Some("counts");
+    }
+    actors_difference(image, model.actors.as_slice())
+}
+
+/// The first event after which a system differs from its model, and in what. After the last one all that the image has is compared.
+fn first_difference(
+    alloc: Global,
+    system: &mut Workers,
+    model: &mut Model,
+    events: &[Event],
+) -> Option<(usize, &'static str)> {
+    for (place, event) in events.iter().enumerate() {
+        let answer = apply(alloc, system, event);
+        if model.apply(alloc, place, event, image(system)) != answer {
+            return Some((place, "answers"));
+        }
+    }
+    Some((
+        events.len(),
+        image_difference(image(system), model, events)?,
+    ))
+}
+
+/// The same for the list of a seed.
+fn difference_beside(
+    alloc: Global,
+    system: &mut Workers,
+    seed: u64,
+) -> Result<Option<(usize, &'static str)>, Refusal> {
+    let events = random_list(alloc, seed, 600)?;
+    let mut model = Model::new(alloc, 3)?;
+    Ok(first_difference(alloc, system, &mut model, events.as_slice()))
+}
+
+/// The same of a new system, whose mailboxes hold three messages.
+fn difference_of(alloc: Global, seed: u64) -> Result<Option<(usize, &'static str)>, Refusal> {
+    let mut system = new_system(alloc, 3)?;
+    difference_beside(alloc, &mut system, seed)
+}
+
+#[test]
+fn random_events(rt: HostRuntime) -> Result<(), Fail> {
+    for seed in 0..24 {
+        let difference = difference_of(rt.alloc(), seed)?;
+        assert!(rt; difference.is_none(), "seed {seed}: {difference:?}");
+    }
+    Ok(())
+}

@@ -1,0 +1,159 @@
+//! A model of a system, of plain lists: each event does what its definition says. Of the program it uses the plain step of an actor's
+//! own, and no call that changes an image, a mailbox or a worker. The class table of a step is that of the image. What actors do on
+//! one another is in model/acts.rt; the other events are in model/edits.rt, model/calls.rt and model/turns.rt.
+
+mod acts;
+mod calls;
+mod edits;
+mod turns;
+
+use crate::workers::{Answered, Image};
+use st_classes::refusals::Refusal;
+use st_classes::seq::Seq;
+use st_classes::values::{ActorId, ClassId, Selector};
+use st_mailbox::messages::{Message, Sender};
+use st_system::events::Event;
+use st_turn::body::{Body, Outcome};
+use st_turn::claim::Claim;
+use std::alloc::{AllocError, Global};
+
+/// An actor.
+#[derive(Drop)]
+pub(crate) struct ModelActor {
+    pub class: ClassId,
+    pub is_open: bool,
+    pub body: Body,
+    /// The number of the last message that it sent.
+    pub last: u64,
+    /// All that its mailbox accepted.
+    pub accepted: Vec<Message>,
+    /// How many of these it has begun.
+    pub begun: usize,
+    /// How its turns ended.
+    pub results: Vec<Outcome>,
+}
+
+/// What a worker has: the body that was handed out, at the class table of that time, and how many steps it took since.
+#[derive(Drop)]
+pub(crate) struct ModelClaim {
+    /// It has no steps. It is on the heap: where a claim stands on the stack, the proof of each function that lets it go pays for all
+    /// its parts.
+    pub start: Box<Claim>,
+    pub steps: u32,
+}
+
+/// An item of a history.
+#[derive(Clone, Copy, Drop)]
+pub(crate) enum Done {
+    /// The event at a place of the list happened.
+    Event(usize),
+    Begun(ActorId),
+    Ran(ActorId, u32),
+}
+
+#[derive(Drop)]
+pub(crate) struct Model {
+    /// The capacity of each mailbox.
+    pub capacity: usize,
+    /// The methods that there are.
+    pub methods: Vec<(ClassId, Selector)>,
+    /// The number of edits.
+    pub edits: u32,
+    pub actors: Vec<ModelActor>,
+    /// The number of the last message of each client.
+    pub clients: Vec<u64>,
+    pub history: Vec<Done>,
+    /// The claim of each worker, if it has one.
+    pub claims: Vec<Option<ModelClaim>>,
+}
+
+impl Model {
+    /// Three workers, two clients, and nothing else.
+    pub(crate) fn new(alloc: Global, capacity: usize) -> Result<Model, AllocError> {
+        let mut claims = Vec::new(alloc);
+        for _ in 0..3 {
+            claims.push(None)?;
+        }
+        Ok(Model {
+            capacity,
+            methods: Vec::new(alloc),
+            edits: 0,
+            actors: Vec::new(alloc),
+            clients: vec![in alloc; 0; 2]?,
+            history: Vec::new(alloc),
+            claims,
+        })
+    }
+
+    /// Lets the event at a place of a list happen. The image is the one after it: a claim's body has to be known to fit its table.
+    pub(crate) fn apply(
+        &mut self,
+        alloc: Global,
+        place: usize,
+        event: &Event,
+        image: &Image,
+    ) -> Answered {
+        match event {
+            Event::Checkout { worker, actor } => self.check_out(alloc, *worker, *actor, image),
+            Event::Local(worker) => self.step(alloc, *worker),
+            Event::Commit(worker) => self.commit(alloc, *worker),
+            Event::Release(worker) => self.release(*worker),
+            Event::Forget(worker) => self.forget(*worker),
+            call => self.call(alloc, place, call),
+        }
+    }
+
+    /// Lets a call of the image happen. One that is not refused enters the history.
+    fn call(&mut self, alloc: Global, place: usize, event: &Event) -> Answered {
+        let answer = self.image_call(alloc, event)?;
+        self.note(Done::Event(place))?;
+        Ok(answer)
+    }
+
+    fn image_call(&mut self, alloc: Global, event: &Event) -> Answered {
+        match event {
+            Event::Define { .. } => self.edited(),
+            Event::Install { class, source } => self.install(*class, source.as_slice()),
+            Event::Remove { class, selector } => self.remove(*class, *selector),
+            Event::Create(class) => self.create(alloc, *class),
+            Event::Post {
+                sender,
+                seq,
+                actor,
+                selector,
+                args,
+            } => {
+                let message = Message {
+                    sender: Sender::Client(*sender),
+                    seq: *seq,
+                    selector: *selector,
+                    args: Seq::from_vec(args.as_slice().to_vec(alloc)?),
+                };
+                self.post(*sender, *actor, message)
+            }
+            Event::Close(actor) => self.close(*actor),
+            _ => Err(Refusal::BadArguments),
+        }
+    }
+
+    /// An item goes last in the history.
+    fn note(&mut self, done: Done) -> Result<(), AllocError> {
+        self.history.push(done)?;
+        Ok(())
+    }
+
+    pub(crate) fn actor(&self, actor: ActorId) -> Option<&ModelActor> {
+        self.actors.get(actor.0 as usize)
+    }
+
+    fn actor_mut(&mut self, actor: ActorId) -> Option<&mut ModelActor> {
+        self.actors.get_mut(actor.0 as usize)
+    }
+}
+
+impl ModelActor {
+    /// What it accepted and has not begun.
+    pub(crate) fn pending(&self) -> &[Message] {
+        self.accepted.get(self.begun..).unwrap_or(&[])
+    }
+}

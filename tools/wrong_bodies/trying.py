@@ -1,0 +1,98 @@
+"""Trying edits: by the prover, or by the test that an edit names."""
+
+import os
+import re
+import shutil
+import subprocess
+import tempfile
+
+from wrong_bodies.edits import TOP, apply, crates_of, test_of
+
+# What a check says where a stored proof no longer fits the code: that shows nothing about the clauses.
+UNFIT = re.compile(r"has no field|not in scope|no such name|unknown name|that can be named")
+# The most goals that are named of one edit.
+MOST = 3
+
+
+def link(old, new):
+    """The same file again, where that can be."""
+    try:
+        os.link(old, new)
+    except OSError:
+        shutil.copy2(old, new)
+
+
+def copy_of(top, crate=None):
+    """Copies the repository without its results, but with those of a crate, and with links to the libraries."""
+    shutil.copytree(TOP, top, symlinks=True, ignore=shutil.ignore_patterns(".git", "out"))
+    for name in crates_of(TOP) if crate else []:
+        out = f"{TOP}/crates/{name}/out"
+        if name == crate and os.path.isdir(out):
+            shutil.copytree(out, f"{top}/crates/{name}/out")
+        elif os.path.isdir(f"{out}/rlib"):
+            shutil.copytree(f"{out}/rlib", f"{top}/crates/{name}/out/rlib", copy_function=link)
+
+
+def run(words, folder):
+    return subprocess.run(words, cwd=folder, stdin=subprocess.DEVNULL, stdout=subprocess.PIPE, stderr=subprocess.STDOUT, text=True, errors="replace")
+
+
+def goals_of(lines):
+    """The goals that are not proved, as far as a line names them."""
+    goals = []
+    for line in lines:
+        found = re.search(r": error: `([\w+-]+)`", line) or re.search(r"^note: src/.*not proved.*\(`([\w+-]+)`\)", line)
+        if found and not UNFIT.search(line) and found[1] not in goals:
+            goals.append(found[1])
+    return goals
+
+
+def by_the_prover(edit, crate):
+    """Whether the prover refuses the crate in a folder with an edit by a clause, what refuses it, and what it said."""
+    back = apply(edit, crate)
+    try:
+        ended = run(["rt", "check", "--jobs", "1"], crate)
+    finally:
+        back()
+    lines = ended.stdout.rstrip("\n").split("\n")
+    told = [line for line in lines if re.match(r"(note: )?(\./)?\w+/\S+:\d+:\d+: ", line) or re.match(r"fn \S+: (not proved|no proof)", line)]
+    if ended.returncode == 0:
+        return False, "NOT REFUSED", told
+    if not any(line.startswith("logic=not-proved") for line in lines):
+        return False, "BAD EDIT: it did not reach the prover", lines
+    functions = re.findall(r"^fn \w+::(\S+): not proved$", ended.stdout, re.M)
+    goals = goals_of(told)
+    if not goals:
+        return False, "NOT REFUSED BY A CLAUSE: a stored proof names what it took away, or the prover does not cover it", told
+    more = f" and {len(goals) - MOST} more" if len(goals) > MOST else ""
+    names = ", ".join(f"`{goal}`" for goal in goals[:MOST])
+    return True, f"`{functions[0]}`: {names}{more}" if functions else f"{names}{more}", told
+
+
+def by_a_test(edit, top, crate):
+    """The same of the test that an edit names. The tests of its crate are run without proofs."""
+    test_crate, name = test_of(edit)
+    back = apply(edit, f"{top}/crates/{crate}")
+    try:
+        ended = run(["rt", "try", "--test"], f"{top}/crates/{test_crate}")
+    finally:
+        back()
+    lines = ended.stdout.rstrip("\n").split("\n")
+    failed = re.findall(r"^test (\S+) \.\.\. FAILED", ended.stdout, re.M)
+    is_well = name in failed
+    return is_well, f"the test `{test_crate}::{name}`" if is_well else "NOT REFUSED BY ITS TEST", lines
+
+
+def try_edits(crate, edits):
+    """Tries edits of one crate in a copy, and gives for each whether it is refused, by what, and what was said."""
+    by_tests = [edit for edit in edits if test_of(edit)]
+    by_clauses = [edit for edit in edits if not test_of(edit)]
+    with tempfile.TemporaryDirectory(prefix="wrong-bodies-") as room:
+        if by_clauses:
+            copy_of(f"{room}/proved", crate)
+            for edit in by_clauses:
+                yield edit, *by_the_prover(edit, f"{room}/proved/crates/{crate}")
+        if by_tests:
+            copy_of(f"{room}/run")
+            for edit in by_tests:
+                yield edit, *by_a_test(edit, f"{room}/run", crate)

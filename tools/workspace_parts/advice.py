@@ -30,7 +30,7 @@ REFUSALS = {
     "Pending": "turn {turn} of {actor} has not ended, or not begun; :run goes on with it",
     "ReadFault": "the program could not read what was sent; start anew with :restart",
     "SlotClash": "a variable is named twice, here or in a class above; take another name",
-    "Stale": "classes were edited meanwhile, and this was not done; try again",
+    "Stale": "a method that this used was edited meanwhile, and this was not done; try again",
     "TooDeep": "the chain of classes above {class} would be over 64 long; take a class nearer to Object",
     "TooLong": "this is too long for one line to the program, 8,192 bytes; make it shorter",
     "TooMany": "there would be too many {what}; start anew with :restart",

@@ -1,10 +1,10 @@
 -- The bodies of actors: only the beginning of their messages and their own steps change them.
-use Rattle.std.proofs.Common.{arith, ◌≡◌, ◌≢◌, ◌+◌, ◌≤◌, ◌<◌, ◌==◌, ◌^◌, ◌++◌, ℕ, zero, suc, [], ◌∷◌, List, Option, Some, None, Ok, refl, ap, sym, ◌∙◌, subst, length, slice_get, Bool, true, false, cond, inl, inr}
-use Rattle.std.specs.Prelude.{not, nat_le, nat_lt, count_by}
+use Rattle.std.proofs.Common.{arith, ◌≡◌, ◌+◌, ◌==◌, ◌++◌, ℕ, zero, suc, [], ◌∷◌, List, Option, Some, None, Ok, refl, ap, sym, ◌∙◌, subst, length, slice_get, Bool, true, false, cond, inl, inr}
+use Rattle.std.specs.Prelude.{not, nat_le, nat_lt}
 use Rattle.std.specs.List.{list_any}
 use Rattle.std.specs.Option.{option_map}
 use Rattle.std.proofs.lemmas.Bool.Decides.{nat_tests}
-use Rattle.std.proofs.lemmas.List.Sums.{count_by-le-length, sum_by-append}
+use Rattle.std.proofs.lemmas.List.Sums.{sum_by-append}
 use Rattle.st_classes.specs.declared.values.ActorId.{ActorId}
 use Rattle.st_classes.specs.declared.values.ClassId.{ClassId}
 use Rattle.st_classes.specs.declared.values.Selector.{Selector}
@@ -16,14 +16,13 @@ use Rattle.st_classes.specs.MethodSuits.{arity_at, is_number}
 use Rattle.st_classes.proofs.LawLists.{slice_get_kept}
 use Rattle.st_turn.specs.declared.acts.Act.{Act}
 use Rattle.st_turn.specs.declared.acts.Act.TheVariants.{Post, Close, Create}
-use Rattle.st_turn.specs.declared.body.Body.{Body}
 use Rattle.st_turn.specs.Steps.{Step, next as leads, ended, outer, reply_body, step}
 use Rattle.st_mailbox.specs.declared.messages.Message.{Message}
 use Rattle.st_mailbox.specs.declared.messages.Sender.{Sender}
 use Rattle.st_mailbox.specs.declared.messages.Sender.TheVariants.{Client, Actor}
 use Rattle.st_image.specs.declared.items.Item.{Item}
 use Rattle.st_image.specs.declared.items.Item.TheVariants.{Edited, Created, Posted, Closed, Begun, Ran}
-use Rattle.st_image.specs.Worlds.{Constants, World, WorldActor, change, change_at}
+use Rattle.st_image.specs.Worlds.{Constants, World, WorldActor, change}
 use Rattle.st_image.specs.Replay.{ActResult, after_act, after_close, after_post, after_post_by, after_step, after_step_of, act_result, attempted_act, create_result, failed_act, is_local, new_world_actor, next, next_message, post_result, replay, with_accepted, with_begun, with_body, with_last, with_new}
 use Rattle.st_image.specs.ActResults.{world_after}
 use Rattle.st_image.specs.Changes.{changes_body, changes_in}

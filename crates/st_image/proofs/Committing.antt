@@ -1,6 +1,6 @@
 -- Commits: the steps of a claim, as those of the world.
-use Rattle.std.proofs.Common.{arith, ◌≡◌, ℕ, zero, suc, ◌+◌, ◌<◌, ◌≤◌, ◌++◌, [], ◌∷◌, List, length, Option, Some, None, Bool, true, false, cond, refl, ap, sym, ◌∙◌, subst, slice_get, slice_set, option_and_then, map, append-nil, inr}
-use Rattle.std.specs.Prelude.{All, ◌==◌, if◌then◌else◌}
+use Rattle.std.proofs.Common.{arith, ◌≡◌, ℕ, zero, suc, ◌+◌, ◌<◌, ◌≤◌, ◌++◌, [], ◌∷◌, List, length, Option, Some, None, Bool, true, false, cond, refl, ap, ap₂, sym, ◌∙◌, subst, slice_get, slice_set, option_and_then, map, append-nil, inr}
+use Rattle.std.specs.Prelude.{All, ◌==◌, if◌then◌else◌, is_some}
 use Rattle.std.proofs.Math.Dec.{eqb-suc-zero}
 use Rattle.std.specs.Option.{option_to_list}
 use Rattle.st_classes.specs.declared.values.ActorId.{ActorId}
@@ -18,7 +18,10 @@ use Rattle.st_image.specs.Images.{ImageView, Standing, no_room, world, world_of}
 use Rattle.st_classes.specs.declared.refusals.Refusal.TheVariants.{HistoryFull}
 use Rattle.st_classes.specs.Refusals.{first_of}
 use Rattle.st_turn.specs.declared.claim.Sent.{Sent}
+use Rattle.st_turn.specs.declared.acts.Act.{Act}
+use Rattle.st_turn.specs.Surviving.{SameSteps}
 use Rattle.st_turn.proofs.ActSites.{next_site_is}
+use Rattle.st_turn.proofs.ClaimsLater.{claims_survive}
 use Rattle.st_image.specs.declared.items.Item.{Item}
 use Rattle.st_image.specs.declared.items.Item.TheVariants.{Ran}
 use Rattle.st_image.specs.declared.settings.Settings.{Settings}
@@ -195,7 +198,7 @@ pub record HasTaken (names : List (List ℕ)) (edits : List Edit) (new : List Ac
 pub record MayCommit (names : List (List ℕ)) (edits : List Edit) (actors : List ActorView) (h : List Item) (s : Settings) (c : ClaimView) : Type 0 where
   pub went : Went names s.capacity edits actors c.actor (world_of (constants_of names s.capacity) start h) c.steps c.after
   pub before : went.being.body ≡ c.before
-  pub edits_are : c.edits ≡ (world_of (constants_of names s.capacity) start h).edits
+  pub same : SameSteps (world_of (constants_of names s.capacity) start h).edits c
 
 pub may_commit : (names : List (List ℕ)) (edits : List Edit) (actors : List ActorView) (h : List Item) (made : ℕ) (s : Settings) (beside : Standing) (c : ClaimView)
     → IsImage start names edits actors h made s → CommitAllowed (seen start names h s beside) c → IsSound c.actor c.edits c.before c.after c.steps c.sends → 0 < steps_of c → MayCommit names edits actors h s c
@@ -204,18 +207,19 @@ may_commit names edits actors h made s beside c k allowed sound some =
     let w : World = world_of (constants_of names s.capacity) start h in
     let b = unchanged (seen start names h s beside) c allowed.unchanged in
     let busy : is_idle b.0.body.phase ≡ false = ap (λ (x : Body). is_idle x.phase) b.2 ∙ claim_busy c sound some in
-    let own : own_steps w.edits c.actor c.steps b.0.body ≡ Some c.after = subst (λ (es : List Edit). own_steps es c.actor c.steps b.0.body ≡ Some c.after) allowed.survives (subst (λ (x : Body). own_steps c.edits c.actor c.steps x ≡ Some c.after) (sym b.2) sound.taken) in
+    let same : SameSteps w.edits c = claims_survive w.edits c k.world.lawful k.world.sound sound allowed.survives in
+    let own : own_steps w.edits c.actor c.steps b.0.body ≡ Some c.after = subst (λ (x : Body). own_steps w.edits c.actor c.steps x ≡ Some c.after) (sym b.2) same.taken in
     record {
       went = went names s.capacity edits actors c.actor w c.steps b.0 c.after (record { shows = k.shows; world = k.world }) b.1 busy own;
       before = b.2;
-      edits_are = allowed.survives;
+      same = same;
     }
 
-steps_at : (c : ClaimView) (es : List Edit) → c.edits ≡ es → steps_of c ≡ c.steps + (if is_outer (step es c.actor c.after) then 1 else 0)
-steps_at c es e = ap (λ (x : List Edit). c.steps + (if is_outer (step x c.actor c.after) then 1 else 0)) e
+steps_at : (c : ClaimView) (es : List Edit) → SameSteps es c → steps_of c ≡ c.steps + (if is_outer (step es c.actor c.after) then 1 else 0)
+steps_at c es e = ap (λ (x : Option Act). c.steps + (if is_some x then 1 else 0)) (sym e.act)
 
-site_at_is : (c : ClaimView) (es : List Edit) → c.edits ≡ es → act_site c ≡ (if is_outer (step es c.actor c.after) then option_and_then (λ (q : Asked). q.site) (asked es c.after) else None)
-site_at_is c es e = ap (λ (x : List Edit). if is_outer (step x c.actor c.after) then option_and_then (λ (q : Asked). q.site) (asked x c.after) else None) e
+site_at_is : (c : ClaimView) (es : List Edit) → SameSteps es c → act_site c ≡ (if is_outer (step es c.actor c.after) then option_and_then (λ (q : Asked). q.site) (asked es c.after) else None)
+site_at_is c es e = ap₂ (λ (x : Option Act) (o : Option Asked). if is_some x then option_and_then (λ (q : Asked). q.site) o else None) (sym e.act) (sym e.next)
 
 outer_world : (c : Constants) (edits : List Edit) (mid new : List ActorView) (a : ActorId) (w : World) (after : Body) (b : WorldActor) (t u : Bool) → TakesOuter c edits mid new a w t → slice_get w.actors a.0 ≡ Some b → is_outer (step w.edits a b.body) ≡ u → u ≡ true → (v : World) × (after_step c a w ≡ Some v)
 outer_world c edits mid new a w after b true u o at next e = (o.1.0, o.1.1)
@@ -232,11 +236,11 @@ has_taken names edits actors new h made s beside rows rows' c m t k counts sound
     let w : World = world_of cs start h in
     let u : Bool = is_outer (step w.edits c.actor c.after) in
     let run : HasRun names s.capacity edits new c.actor w (c.steps + (if u then 1 else 0)) = has_run names s.capacity edits actors new c.actor w c.steps c.after t g.went o in
-    let steps : m ≡ c.steps + (if u then 1 else 0) = count ∙ steps_at c w.edits g.edits_are in
+    let steps : m ≡ c.steps + (if u then 1 else 0) = count ∙ steps_at c w.edits g.same in
     let room : length h + 1 ≤ s.history = has_room s.history (length h) 1 HistoryFull (room_of (seen start names h s beside) c (steps_of c) refl (subst (λ (n : ℕ). 0 < n) count some) allowed.room) in
-    let sites : map (λ (x : Sent). x.site) c.sends ≡ sites_asked (own_asked w.edits c.actor c.steps g.went.being.body) = sound.sites ∙ ap (λ (es : List Edit). sites_asked (own_asked es c.actor c.steps c.before)) g.edits_are ∙ ap (λ (b : Body). sites_asked (own_asked w.edits c.actor c.steps b)) (sym g.before) in
+    let sites : map (λ (x : Sent). x.site) c.sends ≡ sites_asked (own_asked w.edits c.actor c.steps g.went.being.body) = sound.sites ∙ ap sites_asked (sym g.same.asks) ∙ ap (λ (b : Body). sites_asked (own_asked w.edits c.actor c.steps b)) (sym g.before) in
     let same : map (λ (x : Sent). x.site) c.sends ++ option_to_list (act_site c) ≡ sites_asked (asked_by_item cs w (Ran c.actor (c.steps + cond u 1 0))) =
-    ap (λ (x : Option SiteId). map (λ (y : Sent). y.site) c.sends ++ option_to_list x) (site_at_is c w.edits g.edits_are)
+    ap (λ (x : Option SiteId). map (λ (y : Sent). y.site) c.sends ++ option_to_list x) (site_at_is c w.edits g.same)
     ∙ sites_by cs c.actor c.steps w g.went.being c.after c.sends u g.went.at g.went.busy g.went.own sites refl (outer_world cs edits (change_at (view_after_steps c.after) c.actor.0 actors) new c.actor (change (with_body c.after) c.actor w) c.after (with_body c.after g.went.being) t u o g.went.there refl) in
     let few : length c.sends ≤ c.steps = few_sends c.edits c.actor c.steps c.before c.sends sound.sites in
     let image : IsImage start names edits new (h ++ Ran c.actor (c.steps + (if u then 1 else 0)) ∷ []) made s = (ran_kept start names edits actors new h made s c.actor (c.steps + (if u then 1 else 0)) run.last k (subst (λ (n : ℕ). 0 < n) steps some) run.taken room run.shows (grown (length h) k.few_accepted)).image in

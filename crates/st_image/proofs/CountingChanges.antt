@@ -1,11 +1,10 @@
 -- How often bodies were changed, along a history.
-use Rattle.std.proofs.Common.{arith, ◌≡◌, ◌+◌, ◌≤◌, ◌<◌, ◌==◌, ◌^◌, ◌++◌, ℕ, [], ◌∷◌, List, refl, ap, sym, ◌∙◌, length, Bool, true, false, cond, append-nil}
-use Rattle.std.specs.Prelude.{count_by}
+use Rattle.std.proofs.Common.{arith, ◌≡◌, ◌+◌, ◌≤◌, ◌==◌, ◌++◌, ℕ, [], ◌∷◌, List, ap, ◌∙◌, length, Bool, true, false, cond, append-nil}
 use Rattle.std.proofs.lemmas.Bool.Decides.{nat_tests}
 use Rattle.std.proofs.lemmas.List.Sums.{count_by-le-length}
 use Rattle.st_classes.specs.declared.values.ActorId.{ActorId}
 use Rattle.st_image.specs.declared.items.Item.{Item}
-use Rattle.st_image.specs.declared.items.Item.TheVariants.{Begun, Ran}
+use Rattle.st_image.specs.declared.items.Item.TheVariants.{Begun}
 use Rattle.st_image.specs.Changes.{CountsChanges, change_count, changes_body, changes_in}
 use Rattle.st_image.proofs.BodyChanges.{changes_append}
 use Rattle.st_image.proofs.CheckingOut.{begun_items}

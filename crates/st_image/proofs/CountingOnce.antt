@@ -9,6 +9,8 @@ use Rattle.st_classes.specs.declared.refusals.Refusal.{Refusal}
 use Rattle.st_classes.specs.declared.refusals.Refusal.TheVariants.{Stale, Changed, HistoryFull, NoMemory}
 use Rattle.st_turn.specs.declared.body.Body.{Body}
 use Rattle.st_turn.specs.Claims.{ClaimView, IsSound}
+use Rattle.st_turn.specs.Surviving.{SameSteps, SurvivesAt}
+use Rattle.st_turn.proofs.ClaimsLater.{claims_survive}
 use Rattle.st_turn.specs.Steps.{own_steps}
 use Rattle.st_image.specs.declared.items.Item.{Item}
 use Rattle.st_image.specs.declared.items.Item.TheVariants.{Ran}
@@ -18,7 +20,7 @@ use Rattle.st_image.specs.ActResults.{world_after}
 use Rattle.st_image.specs.Images.{ImageView, constants, world}
 use Rattle.st_image.specs.WorldInvariant.{IsLawful}
 use Rattle.st_image.specs.RanTargets.{edits_among}
-use Rattle.st_image.specs.Commits.{Commits, HasCommitted, RefusesCommit, body_at, items_of, stands_before_act, steps_of}
+use Rattle.st_image.specs.Commits.{Commits, HasCommitted, RefusesCommit, Survives, body_at, items_of, stands_before_act, steps_of}
 use Rattle.st_image.specs.OneClaim.{CountsOnItsBody, IsLost}
 use Rattle.st_image.proofs.Changing.{get-change}
 use Rattle.st_image.proofs.Stepping.{bound, cond_some, mapped, ran_after}
@@ -28,14 +30,14 @@ use Rattle.st_image.proofs.GrowingEdits.{edits_longer}
 
 -- ---- a claim of another body
 
-refused_lost : (i j : ImageView) (c : ClaimView) (e : Refusal) (back : Option ClaimView) → c.edits ≡ (world i).edits → body_at i c.actor ≢ Some c.before → RefusesCommit i c e back j → IsLost i c (Err (e, back)) j
+refused_lost : (i j : ImageView) (c : ClaimView) (e : Refusal) (back : Option ClaimView) → Survives i c → body_at i c.actor ≢ Some c.before → RefusesCommit i c e back j → IsLost i c (Err (e, back)) j
 refused_lost i j c (Stale version) back same other h = absurd (h.0.0 same)
 refused_lost i j c Changed back same other h = (ap (λ (o : Option ClaimView). Err (Changed, o)) h.1, h.2)
 refused_lost i j c HistoryFull back same other h = absurd (other h.0.1)
 refused_lost i j c NoMemory back same other h = absurd (other h.0.unchanged)
 refused_lost i j c e back same other h = absurd h
 
-is_lost : (i j : ImageView) (c : ClaimView) (result : Result ℕ (Refusal × Option ClaimView)) → c.edits ≡ (world i).edits → body_at i c.actor ≢ Some c.before → Commits i c result j → IsLost i c result j
+is_lost : (i j : ImageView) (c : ClaimView) (result : Result ℕ (Refusal × Option ClaimView)) → Survives i c → body_at i c.actor ≢ Some c.before → Commits i c result j → IsLost i c result j
 is_lost i j c (Ok n) same other h = absurd (other h.allowed.unchanged)
 is_lost i j c (Err refused) same other h = refused_lost i j c refused.0 refused.1 same other h
 
@@ -51,9 +53,9 @@ same_edits i j c n li lj h =
     ∙ ap (λ (es : List Edit). (world i).edits ++ es) (no_edits (steps_of c == 0) c.actor (steps_of c))
     ∙ append-nil (world i).edits
 
-second_lost : (i j k : ImageView) (c d : ClaimView) (n : ℕ) (result : Result ℕ (Refusal × Option ClaimView)) → IsLawful i → IsLawful j → Commits i c (Ok n) j → body_at j c.actor ≢ body_at i c.actor → d.actor ≡ c.actor → d.before ≡ c.before → d.edits ≡ c.edits → Commits j d result k → IsLost j d result k
-second_lost i j k c d n result li lj h other actor before edits g =
-    let present : d.edits ≡ (world j).edits = edits ∙ h.allowed.survives ∙ sym (same_edits i j c n li lj h) in
+second_lost : (i j k : ImageView) (c d : ClaimView) (n : ℕ) (result : Result ℕ (Refusal × Option ClaimView)) → IsLawful i → IsLawful j → Commits i c (Ok n) j → body_at j c.actor ≢ body_at i c.actor → d.actor ≡ c.actor → d.before ≡ c.before → Survives i d → Commits j d result k → IsLost j d result k
+second_lost i j k c d n result li lj h other actor before survives g =
+    let present : Survives j d = subst (λ (es : List Edit). SurvivesAt es d) (sym (same_edits i j c n li lj h)) survives in
     let changed : body_at j d.actor ≢ Some d.before = λ e. other (ap (body_at j) (sym actor) ∙ e ∙ ap (λ (b : Body). Some b) before ∙ sym h.allowed.unchanged) in
     is_lost j k d result present changed g
 
@@ -76,10 +78,10 @@ ran_world i j a n li lj base numbers history =
     let last : q.0 ≡ world j = cc in
     ap (λ (w : World). next c w (Ran a n)) (sym there) ∙ q.1 ∙ ap (λ (w : World). Some w) last
 
-body_ran : (i j : ImageView) (a : ActorId) (edits : List Edit) (n : ℕ) (b last : Body) → body_at i a ≡ Some b → edits ≡ (world i).edits → own_steps edits a (suc n) b ≡ Some last → after_run (constants i) (world i) a (suc n) ≡ Some (world j) → body_at j a ≡ Some last
-body_ran i j a edits n b last at same steps ran =
+body_ran : (i j : ImageView) (a : ActorId) (n : ℕ) (b last : Body) → body_at i a ≡ Some b → own_steps (world i).edits a (suc n) b ≡ Some last → after_run (constants i) (world i) a (suc n) ≡ Some (world j) → body_at j a ≡ Some last
+body_ran i j a n b last at steps ran =
     let x = body_there i a b at in
-    let own : own_steps (world i).edits a (suc n) x.0.body ≡ Some last = ap (λ (y : Body). own_steps (world i).edits a (suc n) y) x.2 ∙ ap (λ (es : List Edit). own_steps es a (suc n) b) (sym same) ∙ steps in
+    let own : own_steps (world i).edits a (suc n) x.0.body ≡ Some last = ap (λ (y : Body). own_steps (world i).edits a (suc n) y) x.2 ∙ steps in
     let busy = own_busy (world i).edits a n x.0.body last own in
     let by : world_after (constants i) a (suc n) (world i) ≡ Some (change (with_body last) a (world i)) = own_world (constants i) a (suc n) (world i) x.0 last x.1 busy own in
     let led : world_after (constants i) a (suc n) (world i) ≡ Some (world j) = (cond_some (nat_lt 0 (suc n)) (world_after (constants i) a (suc n) (world i)) (world j) (sym (ran_after (constants i) (world i) a (suc n)) ∙ ran)).1 in
@@ -89,7 +91,7 @@ body_ran i j a edits n b last at same steps ran =
     ∙ ap (option_map (λ (y : WorldActor). y.body)) (get-change (with_body last) a.0 (world i).actors x.0 x.1)
 
 -- so many steps of a claim without an act behind them
-after_steps : (i j : ImageView) (c : ClaimView) (steps : ℕ) → c.steps ≡ steps → IsLawful i → IsLawful j → own_steps c.edits c.actor steps c.before ≡ Some c.after → stands_before_act c ≡ false → HasCommitted i c (steps_of c) j → body_at j c.actor ≡ Some c.after
+after_steps : (i j : ImageView) (c : ClaimView) (steps : ℕ) → c.steps ≡ steps → IsLawful i → IsLawful j → own_steps (world i).edits c.actor steps c.before ≡ Some c.after → stands_before_act c ≡ false → HasCommitted i c (steps_of c) j → body_at j c.actor ≡ Some c.after
 after_steps i j c zero none li lj steps last h =
     let all : steps_of c ≡ 0 = ap (λ (b : Bool). c.steps + (if b then 1 else 0)) last ∙ ap (λ (m : ℕ). m + 0) none in
     let items : items_of c ≡ [] = ap (λ (m : ℕ). if m == 0 then [] else Ran c.actor m ∷ []) all in
@@ -104,12 +106,16 @@ after_steps i j c (suc n) some li lj steps last h =
     let items : items_of c ≡ Ran c.actor (suc n) ∷ [] = ap (λ (m : ℕ). if m == 0 then [] else Ran c.actor m ∷ []) all ∙ ap (λ (b : Bool). if b then [] else Ran c.actor (suc n) ∷ []) more in
     let history : j.history ≡ i.history ++ Ran c.actor (suc n) ∷ [] = ap (λ (x : ImageView). x.history) h.image ∙ ap (λ (is : List Item). i.history ++ is) items in
     let ran = ran_world i j c.actor (suc n) li lj (ap (λ (x : ImageView). x.base) h.image) (ap constants h.image) history in
-    body_ran i j c.actor c.edits n c.before c.after h.allowed.unchanged h.allowed.survives steps ran
+    body_ran i j c.actor n c.before c.after h.allowed.unchanged steps ran
+
+-- the steps of a claim that survives are steps of the present table
+at_present : (i : ImageView) (c : ClaimView) → IsLawful i → IsSound c.actor c.edits c.before c.after c.steps c.sends → Survives i c → SameSteps (world i).edits c
+at_present i c li sound survives = claims_survive (world i).edits c li.standing.lawful li.standing.sound sound survives
 
 body_after_commit : (i j : ImageView) (c : ClaimView) (n : ℕ) → IsLawful i → IsLawful j → IsSound c.actor c.edits c.before c.after c.steps c.sends → Commits i c (Ok n) j → stands_before_act c ≡ false → body_at j c.actor ≡ Some c.after
 body_after_commit i j c n li lj sound h last =
     let committed : HasCommitted i c (steps_of c) j = subst (λ (m : ℕ). HasCommitted i c m j) h.steps h in
-    after_steps i j c c.steps refl li lj sound.taken last committed
+    after_steps i j c c.steps refl li lj (at_present i c li sound h.allowed.survives).taken last committed
 
 pub counts_on_its_body : CountsOnItsBody
 counts_on_its_body = record {
@@ -117,4 +123,5 @@ counts_on_its_body = record {
   after = body_after_commit;
   lost = is_lost;
   second = second_lost;
+  present = at_present;
 }

@@ -23,6 +23,7 @@ use Rattle.st_turn.specs.declared.claim.Sent.{Sent}
 use Rattle.st_turn.specs.Effects.{FrameView}
 use Rattle.st_turn.specs.Steps.{Asked, asked, asked_by, asked_in, body_after, step}
 use Rattle.st_turn.specs.Claims.{ClaimView, IsSound, asked_from, own_asked, sites_asked}
+use Rattle.st_turn.specs.Surviving.{SameSteps}
 use Rattle.st_image.specs.declared.tallies.Tally.{Tally}
 use Rattle.st_image.specs.Commits.{act_site, stands_before_act}
 use Rattle.st_image.specs.Tallies.{Covers, HasPlaces, KeepsPlaces, has_place}
@@ -149,7 +150,9 @@ act_placed rows edits b false o e k = tt
 act_placed rows edits b true None e k = tt
 act_placed rows edits b true (Some q) e k = placed_in rows edits b.objects b.phase q k e
 
--- the site of each send of a claim has its place where the methods of its edits have theirs, and so has that of the image's step
-pub has_places : (rows : List (List Tally)) (c : ClaimView) → IsSound c.actor c.edits c.before c.after c.steps c.sends → Covers rows (length c.edits) c.edits → HasPlaces rows c.sends (act_site c)
-has_places rows c sound k =
-    (sends_placed rows c.sends (subst (AllPlaced rows) (sym sound.sites) (steps_placed rows c.edits c.actor c.steps c.before k)), act_placed rows c.edits c.after (stands_before_act c) (asked c.edits c.after) refl k)
+-- the site of each send of a claim has its place where the methods of a table have theirs at which its steps are the same, and
+-- so has that of the image's step
+pub has_places : (rows : List (List Tally)) (es : List Edit) (c : ClaimView) → IsSound c.actor c.edits c.before c.after c.steps c.sends → SameSteps es c → Covers rows (length es) es → HasPlaces rows c.sends (act_site c)
+has_places rows es c sound same k =
+    let sites : sites_asked (own_asked es c.actor c.steps c.before) ≡ map (λ (s : Sent). s.site) c.sends = ap sites_asked same.asks ∙ sym sound.sites in
+    (sends_placed rows c.sends (subst (AllPlaced rows) sites (steps_placed rows es c.actor c.steps c.before k)), act_placed rows es c.after (stands_before_act c) (asked c.edits c.after) same.next k)

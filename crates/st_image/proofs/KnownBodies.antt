@@ -10,7 +10,7 @@ use Rattle.st_image.specs.Replay.{replay}
 use Rattle.st_image.specs.Images.{ImageView, constants, world}
 use Rattle.st_image.specs.WorldInvariant.{IsLawful}
 use Rattle.st_image.specs.Changes.{changes_in}
-use Rattle.st_image.specs.Commits.{BodiesLast, HasCheckedOut, IsUnchanged, KnowsBody, body_at, new_claim}
+use Rattle.st_image.specs.Commits.{BodiesLast, HasCheckedOut, KnowsBody, body_at, new_claim}
 use Rattle.st_image.proofs.BodyChanges.{body_stays, changes_append}
 use Rattle.st_image.proofs.Replays.{replay_append}
 

@@ -1,5 +1,5 @@
 -- The statistics of a method tell of few enough sends.
-use Rattle.std.proofs.Common.{arith, ◌≡◌, ℕ, ◌^◌, ◌<◌, ◌≤◌, List, [], ◌∷◌, Option, Some, None, length, refl, subst, sym}
+use Rattle.std.proofs.Common.{arith, ◌≡◌, ℕ, ◌^◌, ◌<◌, List, [], ◌∷◌, Option, Some, None, refl, subst, sym}
 use Rattle.std.specs.Prelude.{All, IfOk, Ok, Err, Result, slice_get}
 use Rattle.std.specs.List.{filter_map}
 use Rattle.std.specs.Option.{IfSome}

@@ -10,6 +10,7 @@ use Rattle.st_classes.specs.Refusals.{Rule, first_of}
 use Rattle.st_turn.specs.declared.body.Body.{Body}
 use Rattle.st_turn.specs.Idle.{is_idle}
 use Rattle.st_turn.specs.Claims.{ClaimView}
+use Rattle.st_turn.specs.Surviving.{SurvivesAt}
 use Rattle.st_turn.specs.Steps.{Asked, asked, is_outer, step}
 use Rattle.st_image.specs.declared.items.Item.{Item}
 use Rattle.st_image.specs.declared.items.Item.TheVariants.{Begun, Ran}
@@ -95,9 +96,9 @@ abbrev pub act_site : ClaimView → Option SiteId
 act_site c =
     if stands_before_act c then option_and_then (λ (q : Asked). q.site) (asked c.edits c.after) else None
 
--- a claim survives where nothing was edited since
+-- a claim survives where no edit since touched a selector that its steps used
 abbrev pub Survives : ImageView → ClaimView → Type 0
-Survives i c = c.edits ≡ (world i).edits
+Survives i c = SurvivesAt (world i).edits c
 
 -- the actor is there, and its body is the one that the claim began with
 abbrev pub IsUnchanged : ImageView → ClaimView → Type 0
@@ -144,10 +145,10 @@ pub record IsAsBefore (i j : ImageView) : Type 0 where
   pub image : j ≡ record i { standing = record i.standing { tallies = j.standing.tallies } }
   pub tallies : SameTallies i.standing.tallies j.standing.tallies
 
--- Why a commit is refused, memory aside: the table is another, with the present number of edits; else the actor is not
+-- Why a commit is refused, memory aside: the claim does not survive, with the present number of edits; else the actor is not
 -- there or has another body; else the history has no place.
 abbrev pub CommitRefused : ImageView → ClaimView → Refusal → Type 0
-CommitRefused i c (Stale version) = (c.edits ≢ (world i).edits) × (version ≡ length (world i).edits)
+CommitRefused i c (Stale version) = (Survives i c → ⊥) × (version ≡ length (world i).edits)
 CommitRefused i c Changed = Survives i c × (body_at i c.actor ≢ Some c.before)
 CommitRefused i c HistoryFull = Survives i c × IsUnchanged i c × (commit_room i c ≡ Some HistoryFull)
 CommitRefused i c e = ⊥

@@ -1,5 +1,5 @@
-//! The image: construction, readers, interning and new actors. Edits, installs, posts, closing, turns and the list of
-//! clients are in image/.
+//! The image: construction, readers, interning, new actors, and the laws of images. Edits and installs, posts, closing, checkouts
+//! and commits, statistics, and the list of clients are in image/.
 ghost use Rattle.st_image.specs.Changes.{BodiesStay};
 ghost use Rattle.st_image.specs.Delivery.{Delivers};
 ghost use Rattle.st_image.specs.OneClaim.{CountsOnItsBody};
@@ -52,8 +52,8 @@ pub fn bodies_stay()
     ensures { BodiesStay }
 {}
 
-/// The steps of a claim count only if its actor still has the body that the claim began with. So after a commit that changed the
-/// body, a second claim on the body before is refused as `Changed`.
+/// The steps of a claim count only if its actor still has the body that the claim began with, and they are then steps of the present
+/// class table. So after a commit that changed the body, a second claim on the body before is refused as `Changed` if it survives.
 pub fn one_claim_counts()
     ensures { CountsOnItsBody }
 {}

@@ -219,9 +219,13 @@ fn rows_are_read_by_walks_alone(rt: HostRuntime) -> Result<(), Fail> {
     Ok(())
 }
 
-/// Whether new caches follow a version and one that goes on from it, and are emptied by the way back.
-fn moves(alloc: Global, version: &Version, later: &Version) -> Result<bool, AllocError> {
-    let mut caches = Caches::new(alloc, GlobalGuard::new())?;
+/// Whether caches follow a version and one that goes on from it, and are emptied by the way back.
+fn moves<G: Guard>(
+    caches: &mut Caches<G>,
+    alloc: Global,
+    version: &Version,
+    later: &Version,
+) -> bool {
     for (to, moved) in [
         (version, Moved::Followed),
         (version, Moved::Followed),
@@ -229,33 +233,35 @@ fn moves(alloc: Global, version: &Version, later: &Version) -> Result<bool, Allo
         (version, Moved::Emptied),
     ] {
         if caches.move_to(alloc, to) != moved {
-            return Ok(false);
+            return false;
         }
     }
-    Ok(true)
+    true
 }
 
 /// Whether caches find again what they found, and nothing is left once they have forgotten it.
-fn forgets(alloc: Global, version: &Version) -> Result<bool, AllocError> {
-    let mut caches = Caches::new(alloc, GlobalGuard::new())?;
-    let _answers = looks(&mut caches, alloc, version);
-    let again = looks(&mut caches, alloc, version);
+fn forgets<G: Guard>(caches: &mut Caches<G>, alloc: Global, version: &Version) -> bool {
+    let _answers = looks(caches, alloc, version);
+    let again = looks(caches, alloc, version);
     caches.forget();
     let state = caches.state(SITE);
-    Ok(
-        again[0] == Some((How::Global, 0))
-            && again[2] == Some((How::Site, 0))
-            && state == SiteState::Empty
-            && looks(&mut caches, alloc, version) == FIRST,
-    )
+    again[0] == Some((How::Global, 0))
+        && again[2] == Some((How::Site, 0))
+        && state == SiteState::Empty
+        && looks(caches, alloc, version) == FIRST
+}
+
+/// Whether new caches move so, and those that were emptied by a move are filled again, and forget.
+fn move_and_forget(alloc: Global, version: &Version, later: &Version) -> Result<bool, AllocError> {
+    let mut caches = Caches::new(alloc, GlobalGuard::new())?;
+    Ok(moves(&mut caches, alloc, version, later) && forgets(&mut caches, alloc, version))
 }
 
 #[test]
 fn caches_follow_the_edits(rt: HostRuntime) -> Result<(), Fail> {
     let version = three_classes(rt.alloc())?;
     let later = define(rt.alloc(), &version, b"D", C, &[])?;
-    assert!(rt; moves(rt.alloc(), &version, &later)?);
-    assert!(rt; forgets(rt.alloc(), &later)?);
+    assert!(rt; move_and_forget(rt.alloc(), &version, &later)?);
     Ok(())
 }
 
@@ -349,12 +355,13 @@ fn each_site_is_kept(rt: HostRuntime) -> Result<(), Fail> {
     Ok(())
 }
 
-/// An edit of each kind: a definition, an install, a removal.
+/// An edit of each kind: a definition, an install, a removal, and an install of a method for the last name that a table can have.
 fn next_edit(alloc: Global, version: &Version, kind: u32) -> Result<Box<Version>, Refusal> {
     match kind {
         0 => define(alloc, version, b"D", C, &[]),
         1 => install(alloc, version, B, MISSING, WHO),
-        _ => remove(alloc, version, B, MISSING),
+        2 => remove(alloc, version, B, MISSING),
+        _ => install(alloc, version, B, Selector(8191), WHO),
     }
 }
 
@@ -362,7 +369,7 @@ fn next_edit(alloc: Global, version: &Version, kind: u32) -> Result<Box<Version>
 fn follow_each_kind<G: Guard>(alloc: Global, caches: &mut Caches<G>) -> Result<bool, Refusal> {
     let mut version = three_classes(alloc)?;
     let mut follow = ask(caches, alloc, &version, None, key(None, WHO)) == Some(How::Walk);
-    for kind in 0..3 {
+    for kind in 0..4 {
         version = next_edit(alloc, &version, kind)?;
         follow = caches.move_to(alloc, &version) == Moved::Followed && follow;
     }

@@ -15,21 +15,28 @@ use crate::parser::patterns::{pattern, temporaries};
 use crate::tokens::Lexeme;
 use crate::trees::{MethodSyntax, Statements};
 use st_classes::limits;
-use std::alloc::{AllocError, Global};
+use std::alloc::{AllocFailed, Global};
 
 /// Why there is no tree.
-#[derive(Clone, Copy, PartialEq, Eq, Debug)]
+#[derive(Clone, Copy, PartialEq, Eq)]
 pub enum Wrong {
     NoTree,
     NoMemory,
 }
 
-impl From<AllocError> for Wrong {
-    fn from(_: AllocError) -> Wrong
+impl<T: Drop> From<AllocFailed<T>> for Wrong {
+    fn from(_failed: AllocFailed<T>) -> Wrong
         ensures { result ≡ Wrong.NoMemory }
     {
         Wrong::NoMemory
     }
+}
+
+/// Lets go of what was read where no more can be. A large value is dropped here and not on each path that gives up.
+pub(crate) fn let_go<T: Drop, E>(_read: T, error: E) -> E
+    ensures { result ≡ error }
+{
+    error
 }
 
 /// What was read, and the tokens after it.
@@ -47,7 +54,7 @@ fn body(alloc: Global, source: &[u8], lexemes: &[Lexeme]) -> Result<Option<State
     if rest.is_empty() {
         Ok(Some(statements))
     } else {
-        Err(Wrong::NoTree)
+        Err(let_go(statements, Wrong::NoTree))
     }
 }
 
@@ -61,11 +68,15 @@ pub(crate) fn method(
     ensures { Gives method_view result (method_of (tokens_of source.now lexemes.now)) }
 {
     let (pattern, rest) = pattern(alloc, source, lexemes)?;
-    let (temporaries, rest) = temporaries(alloc, source, rest)?;
-    let body = body(alloc, source, rest)?;
-    Ok(MethodSyntax {
-        pattern,
-        temporaries,
-        body,
-    })
+    match temporaries(alloc, source, rest) {
+        Ok((temporaries, rest)) => match body(alloc, source, rest) {
+            Ok(body) => Ok(MethodSyntax {
+                pattern,
+                temporaries,
+                body,
+            }),
+            Err(wrong) => Err(let_go((pattern, temporaries), wrong)),
+        },
+        Err(wrong) => Err(let_go(pattern, wrong)),
+    }
 }

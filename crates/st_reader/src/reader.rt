@@ -8,7 +8,7 @@ ghost use Rattle.st_reader.specs.Faults.{IsBadSource, IsWithin};
 
 use crate::characters;
 use crate::faults::source_fault;
-use crate::parser::{self, Wrong};
+use crate::parser::{self, Wrong, let_go};
 use crate::rules::keeps_rules;
 use crate::tokens::{self, Tokens};
 use crate::trees::{MethodSyntax, MethodTree};
@@ -64,10 +64,10 @@ pub fn read_method(alloc: Global, source: &[u8]) -> Result<MethodTree, Refusal>
 {
     let syntax = read_syntax(alloc, source)?;
     if !keeps_rules(&syntax) {
-        return Err(source_fault(alloc, source));
+        return Err(let_go(syntax, source_fault(alloc, source)));
     }
-    let Ok(copy) = Vec::from_slice(alloc, source) else {
-        return Err(Refusal::NoMemory);
-    };
-    Ok(MethodTree::new(syntax, Seq::from_vec(copy)))
+    match Vec::from_slice(alloc, source) {
+        Ok(copy) => Ok(MethodTree::new(syntax, Seq::from_vec(copy))),
+        Err(_) => Err(let_go(syntax, Refusal::NoMemory)),
+    }
 }

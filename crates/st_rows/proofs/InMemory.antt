@@ -5,17 +5,16 @@ use Rattle.st_classes.specs.declared.refusals.Refusal.TheVariants.{NoMemory}
 use Rattle.st_image.specs.Images.{ImageView}
 use Rattle.st_wire.specs.Streams.{InputView}
 use Rattle.st_guard.specs.Moves.{CachesView}
-use Rattle.st_guard.specs.declared.global_guard.GlobalGuard.{GlobalGuard}
 use Rattle.st_session.specs.Sessions.{Replies}
 use Rattle.st_session.specs.DeviceSessions.{ByteSession}
 use Rattle.st_session.proofs.KnownBytes.{byte_session}
 use Rattle.st_server.specs.CommandReplies.{Serves}
-use Rattle.st_server.specs.Runners.{AreNew, RunnerView}
+use Rattle.st_server.specs.Runners.{AreNew, GuardView, RunnerView}
 use Rattle.st_server.specs.Scripts.{RunsScript}
 
 abbrev Whole : ℕ → ImageView → List ℕ → List ℕ → ImageView → Result ℕ Refusal → Type 0
 Whole quantum i bytes out j r =
-    ((v : CachesView GlobalGuard) × (k : RunnerView) × AreNew v
+    ((v : CachesView GuardView) × (k : RunnerView) × AreNew v
     × ByteSession (Replies (Serves quantum)) (record { image = i; caches = v }) bytes out k r
     × (j ≡ k.image))
     ⊎ ((r ≡ Err NoMemory) × (out ≡ []) × (j ≡ i))

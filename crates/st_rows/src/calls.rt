@@ -5,15 +5,12 @@ use st_classes::refusals::Refusal;
 use st_classes::seq::Seq;
 use st_classes::values::{ActorId, ClassId, Selector};
 use st_guard::caches::Caches;
-use st_guard::global_guard::GlobalGuard;
 use st_image::settings::Settings;
-use st_mailbox::list_box::ListBox;
-use st_mailbox::mailboxes::Mailbox;
+use st_mailbox::mailboxes::Mailbox as _;
 use st_mailbox::messages::{Message, Sender};
-use st_server::images::Image;
+use st_server::images::{Guard, Image, Mailbox, Worker};
 use st_turn::body::Outcome;
 use st_turn::claim::Claim;
-use st_turn::worker::Worker;
 use std::alloc::{AllocError, Global};
 
 /// The actor of the calls that name none.
@@ -128,8 +125,8 @@ pub(crate) fn ask(alloc: Global, image: &mut Image, seq: u64) -> Result<u64, Ref
     post(alloc, image, 1, seq, IS_NIL)
 }
 
-fn new_worker(alloc: Global) -> Result<Worker<GlobalGuard>, AllocError> {
-    Ok(Worker::new(Caches::new(alloc, GlobalGuard::new())?))
+fn new_worker(alloc: Global) -> Result<Worker, AllocError> {
+    Ok(Worker::new(Caches::new(alloc, Guard::new(alloc))?))
 }
 
 /// A claim of the first actor, of which a new worker has taken so many steps, or fewer if no step of the actor's own is next.
@@ -205,7 +202,7 @@ pub(crate) fn is_idle(image: &Image) -> Option<bool> {
 }
 
 /// The mailbox of the first actor.
-fn mailbox(image: &Image) -> Option<&ListBox> {
+fn mailbox(image: &Image) -> Option<&Mailbox> {
     image.mailbox(FIRST)
 }
 

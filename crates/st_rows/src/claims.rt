@@ -1,4 +1,4 @@
-//! Claims that come too late: the actor's body was changed, or the class table was edited.
+//! Claims that come too late, since the actor's body was changed or a selector that they used was edited; and claims that survive edits.
 use crate::calls::*;
 use st_classes::kernel::{OBJECT, SMALL_INTEGER};
 use st_classes::refusals::Refusal;
@@ -37,32 +37,96 @@ fn one_of_two_claims_counts(rt: HostRuntime) -> Result<(), Fail> {
     Ok(())
 }
 
-/// Methods that are installed while a claim is out: one for a message that the claim has sent, and one for a message that nobody
-/// sends.
-const INSTALLS: &[(ClassId, &str)] = &[(SMALL_INTEGER, "tag ^2"), (A, "bump ^0")];
+/// Methods that are installed while a claim is out, and what the claim's commit answers: one for a message that it has sent, one
+/// for a message that nobody sends, one for messages that are not understood, and one for the message that it has dispatched.
+const INSTALLS: &[(ClassId, &str, Result<u32, Refusal>)] = &[
+    (SMALL_INTEGER, "tag ^2", Err(Refusal::Stale { version: 4 })),
+    (A, "bump ^0", Ok(3)),
+    (
+        A,
+        "doesNotUnderstand: s ^s",
+        Err(Refusal::Stale { version: 4 }),
+    ),
+    (A, "go ^4", Err(Refusal::Stale { version: 4 })),
+];
 
 /// The table behind a function without a contract, so that the proof of a test carries none of it.
-fn installs() -> &'static [(ClassId, &'static str)] {
+fn installs() -> &'static [(ClassId, &'static str, Result<u32, Refusal>)] {
     INSTALLS
 }
 
-/// What the commit of a claim answers after an install.
+/// What the commit of a claim of so many steps answers after an install, where others were committed before it.
 fn commit_after(
     alloc: Global,
+    before: u32,
+    steps: u32,
     class: ClassId,
     source: &str,
 ) -> Result<Result<u32, Refusal>, Refusal> {
     let mut image = asked(alloc)?;
-    let claim = claim_of(alloc, &mut image, 3)?;
+    if before > 0 {
+        advance(alloc, &mut image, before)?;
+    }
+    let claim = claim_of(alloc, &mut image, steps)?;
     install(alloc, &mut image, class, source)?;
     Ok(commit(alloc, &mut image, claim))
 }
 
 #[test]
-fn any_edit_makes_a_claim_stale(rt: HostRuntime) -> Result<(), Fail> {
-    for (class, source) in installs() {
-        let answer = commit_after(rt.alloc(), *class, source)?;
-        assert!(rt; answer == Err(Refusal::Stale { version: 4 }), "{source}");
+fn an_edit_of_a_used_selector_makes_a_claim_stale(rt: HostRuntime) -> Result<(), Fail> {
+    for (class, source, wanted) in installs() {
+        let answer = commit_after(rt.alloc(), 0, 3, *class, source)?;
+        assert!(rt; answer == *wanted, "{source}");
+    }
+    Ok(())
+}
+
+/// What the commit of a claim answers after a removal of `tag`, and after a definition.
+fn commits_after_others(alloc: Global) -> Result<[Result<u32, Refusal>; 2], Refusal> {
+    let mut image = asked(alloc)?;
+    let claim = claim_of(alloc, &mut image, 3)?;
+    let tag = intern(alloc, &mut image, b"tag")?;
+    remove(alloc, &mut image, SMALL_INTEGER, tag)?;
+    let removed = commit(alloc, &mut image, claim);
+    let claim = claim_of(alloc, &mut image, 1)?;
+    define(alloc, &mut image, b"D", OBJECT)?;
+    Ok([removed, commit(alloc, &mut image, claim)])
+}
+
+#[test]
+fn a_removal_touches_and_a_definition_does_not(rt: HostRuntime) -> Result<(), Fail> {
+    let answers = commits_after_others(rt.alloc())?;
+    assert!(rt; answers == [Err(Refusal::Stale { version: 4 }), Ok(1)]);
+    Ok(())
+}
+
+/// What the commit of a claim answers that took no step, and of one whose third step was a super send, where the method above was
+/// installed anew.
+fn commits_of_others(alloc: Global) -> Result<[Result<u32, Refusal>; 2], Refusal> {
+    let mut image = asked(alloc)?;
+    let none = claim_of(alloc, &mut image, 0)?;
+    install(alloc, &mut image, A, "go ^4")?;
+    let nothing = commit(alloc, &mut image, none);
+    install(alloc, &mut image, A, "go ^super above")?;
+    install(alloc, &mut image, OBJECT, "above ^1")?;
+    let above = claim_of(alloc, &mut image, 3)?;
+    install(alloc, &mut image, OBJECT, "above ^2")?;
+    Ok([nothing, commit(alloc, &mut image, above)])
+}
+
+#[test]
+fn no_step_uses_nothing_and_a_super_send_its_selector(rt: HostRuntime) -> Result<(), Fail> {
+    let answers = commits_of_others(rt.alloc())?;
+    assert!(rt; answers == [Ok(0), Err(Refusal::Stale { version: 7 })]);
+    Ok(())
+}
+
+/// Behind its last send the turn of `go` has one step, its answer.
+#[test]
+fn a_claim_that_used_nothing_survives_every_edit(rt: HostRuntime) -> Result<(), Fail> {
+    for (class, source, _) in installs() {
+        let answer = commit_after(rt.alloc(), 7, 8, *class, source)?;
+        assert!(rt; answer == Ok(1), "{source}");
     }
     Ok(())
 }

@@ -3,11 +3,10 @@ ghost use Rattle.std.specs.Prelude.{◌≡◌, ◌⊎◌, [], Err, IfNone, IfSom
 ghost use Rattle.st_classes.specs.Refusals.{first_of};
 ghost use Rattle.st_classes.specs.declared.refusals.Refusal.TheVariants.{NoMemory};
 ghost use Rattle.st_guard.specs.Moves.{CachesView};
-ghost use Rattle.st_guard.specs.declared.global_guard.GlobalGuard.{GlobalGuard as GuardOf};
 ghost use Rattle.st_session.specs.Sessions.{Replies};
 ghost use Rattle.st_session.specs.DeviceSessions.{ByteSession};
 ghost use Rattle.st_server.specs.CommandReplies.{Serves};
-ghost use Rattle.st_server.specs.Runners.{AreNew, RunnerView};
+ghost use Rattle.st_server.specs.Runners.{AreNew, GuardView, RunnerView};
 ghost use Rattle.st_server.specs.Scripts.{script_rules, with_settings};
 
 use crate::devices::says_in_pieces;
@@ -33,7 +32,7 @@ fn in_memory(
     ensures refused { IfSome (first_of (script_rules settings))
         (λ e. (result.2 ≡ Err e) × (result.1.bytes.items ≡ []) × (result.0 ≡ image)) }
     ensures answered { IfNone (first_of (script_rules settings))
-        (((v : CachesView GuardOf) × (k : RunnerView) × AreNew v
+        (((v : CachesView GuardView) × (k : RunnerView) × AreNew v
         × ByteSession (Replies (Serves settings.quantum)) (record { image = with_settings image settings; caches = v }) bytes.items result.1.bytes.items k result.2
         × (result.0 ≡ k.image))
         ⊎ ((result.2 ≡ Err NoMemory) × (result.1.bytes.items ≡ []) × (result.0 ≡ with_settings image settings))) }

@@ -6,7 +6,6 @@ use Rattle.st_classes.specs.declared.edits.Edit.{Edit}
 use Rattle.st_classes.specs.declared.refusals.Refusal.{Refusal}
 use Rattle.st_classes.specs.declared.refusals.Refusal.TheVariants.{Stale, Changed, HistoryFull, NoMemory}
 use Rattle.st_classes.specs.EditLists.{Begins}
-use Rattle.st_guard.specs.declared.global_guard.GlobalGuard.{GlobalGuard}
 use Rattle.st_guard.specs.Moves.{CachesView}
 use Rattle.st_turn.specs.Claims.{ClaimView}
 use Rattle.st_image.specs.declared.items.Item.TheVariants.{Begun}
@@ -14,7 +13,7 @@ use Rattle.st_image.specs.Images.{ImageView, appended, world}
 use Rattle.st_image.specs.WorldInvariant.{IsLawful}
 use Rattle.st_image.specs.Commits.{HasCheckedOut, RefusesCommit, idle_at, items_of, with_out}
 use Rattle.st_image.proofs.GrowingEdits.{GoesOn, edits_grow, goes_both, goes_from}
-use Rattle.st_server.specs.Runners.{KeepsFirst, ReleasesBack, Settles}
+use Rattle.st_server.specs.Runners.{GuardView, KeepsFirst, ReleasesBack, Settles}
 
 -- ---- what goes on
 
@@ -75,7 +74,7 @@ claim_edits : (i k : ImageView) (a : ActorId) (c : ClaimView) → HasCheckedOut 
 claim_edits i k a c h = ap (λ (d : ClaimView). d.edits) h.claim
 
 -- the worker may run a claim that was checked out
-pub claim_follows : (i k : ImageView) (a : ActorId) (c : ClaimView) (v : CachesView GlobalGuard) → KeepsFirst i v → HasCheckedOut i a c k → IfSome v.kept (λ es. Begins es c.edits)
+pub claim_follows : (i k : ImageView) (a : ActorId) (c : ClaimView) (v : CachesView GuardView) → KeepsFirst i v → HasCheckedOut i a c k → IfSome v.kept (λ es. Begins es c.edits)
 claim_follows i k a c v h out = subst (λ es. IfSome v.kept (λ x. Begins x es)) (sym (claim_edits i k a c out)) h
 
 -- the image may commit it
@@ -87,6 +86,6 @@ kept_first None es fs gs h e b = tt
 kept_first (Some k) es fs gs h e b = subst (λ x. Begins x gs) (sym (h ∙ e)) b
 
 -- what the worker keeps after it begins the edits of the image
-pub settled_keeps : (i k j : ImageView) (a : ActorId) (c d : ClaimView) (r : Result ℕ Refusal) (w : CachesView GlobalGuard) → IsLawful i → IsLawful j → HasCheckedOut i a c k → IfSome w.kept (λ es. es ≡ c.edits) → Settles k d r j → KeepsFirst j w
+pub settled_keeps : (i k j : ImageView) (a : ActorId) (c d : ClaimView) (r : Result ℕ Refusal) (w : CachesView GuardView) → IsLawful i → IsLawful j → HasCheckedOut i a c k → IfSome w.kept (λ es. es ≡ c.edits) → Settles k d r j → KeepsFirst j w
 settled_keeps i k j a c d r w l m out kept settled =
     kept_first w.kept c.edits (world i).edits (world j).edits kept (claim_edits i k a c out) (edits_grow i j l m (goes_both i k j (checkout_goes i k a c out) (settles_goes k d r j settled)))

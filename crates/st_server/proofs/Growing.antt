@@ -11,7 +11,6 @@ use Rattle.st_classes.specs.declared.refusals.Refusal.{Refusal}
 use Rattle.st_classes.specs.declared.refusals.Refusal.TheVariants.{UnknownClass}
 use Rattle.st_classes.specs.Classes.{class_named}
 use Rattle.st_classes.specs.EditLists.{Begins}
-use Rattle.st_guard.specs.declared.global_guard.GlobalGuard.{GlobalGuard}
 use Rattle.st_guard.specs.Moves.{CachesView}
 use Rattle.st_image.specs.declared.items.Item.TheVariants.{Edited, Created, Posted, Closed}
 use Rattle.st_image.specs.Worlds.{World}
@@ -27,7 +26,7 @@ use Rattle.st_wire.specs.declared.commands.Command.TheVariants as command
 use Rattle.st_wire.specs.declared.replies.Reply.{Reply}
 use Rattle.st_wire.specs.declared.replies.Reply.TheVariants as reply
 use Rattle.st_server.specs.ArgumentValues.{Resolves, AllResolve, found_selector}
-use Rattle.st_server.specs.Runners.{KeepsFirst}
+use Rattle.st_server.specs.Runners.{GuardView, KeepsFirst}
 use Rattle.st_server.specs.CommandReplies.{Asks, PostsArguments, PostsNamed, RemovesNamed, RepliesTo}
 
 -- ---- lists of edits
@@ -43,7 +42,7 @@ first_on None es fs h b = tt
 first_on (Some k) es fs h b = begins_on k es fs h b
 
 -- what begins the edits of an image begins those that they begin
-pub keeps_on : (i j : ImageView) (v : CachesView GlobalGuard) → KeepsFirst i v → Begins (world i).edits (world j).edits → KeepsFirst j v
+pub keeps_on : (i j : ImageView) (v : CachesView GuardView) → KeepsFirst i v → Begins (world i).edits (world j).edits → KeepsFirst j v
 keeps_on i j v h b = first_on v.kept (world i).edits (world j).edits h b
 
 -- ---- the commands

@@ -13,7 +13,6 @@ use Rattle.st_classes.specs.declared.refusals.Refusal.TheVariants.{HistoryFull, 
 use Rattle.st_classes.specs.EditLists.{method_at}
 use Rattle.st_classes.specs.Refusals.{first_of}
 use Rattle.st_classes.specs.declared.refusals.Refusal.{Refusal}
-use Rattle.st_guard.specs.declared.global_guard.GlobalGuard.{GlobalGuard}
 use Rattle.st_guard.specs.Moves.{CachesView}
 use Rattle.st_turn.specs.declared.acts.Act.{Act}
 use Rattle.st_turn.specs.declared.body.Body.{Body}
@@ -37,7 +36,7 @@ use Rattle.st_image.specs.Replay.{next, next_message, with_begun}
 use Rattle.st_image.specs.Images.{ImageView, appended, constants, world}
 use Rattle.st_image.specs.WorldInvariant.{IsLawful}
 use Rattle.st_image.specs.Commits.{HasCheckedOut, body_at, checkout_rules, idle_at, steps_of, with_out}
-use Rattle.st_server.specs.Runners.{Settles, Steps, floor_of, quantum_answer}
+use Rattle.st_server.specs.Runners.{GuardView, Settles, Steps, floor_of, quantum_answer}
 use Rattle.st_image.proofs.Lists.{off}
 use Rattle.st_image.proofs.Changing.{get-change}
 use Rattle.st_image.proofs.Replays.{lawful_push}
@@ -174,12 +173,12 @@ checkout_busy i k a c l rules h =
 
 -- ---- the answer of a quantum
 
-answered_some : (r : Result ℕ Refusal) (ran : Result Stop AllocError) (settled : Result ℕ Refusal) (limit : ℕ) (v : CachesView GlobalGuard) (c : ClaimView) (w : CachesView GlobalGuard) (d : ClaimView) (k j : ImageView) → 1 ≤ limit → is_idle c.before.phase ≡ false → IsSound d.actor d.edits d.before d.after d.steps d.sends → Runs floor_of limit v c ran w d → Settles k d settled j → IfOk (quantum_answer ran settled) (λ n. 1 ≤ n)
+answered_some : (r : Result ℕ Refusal) (ran : Result Stop AllocError) (settled : Result ℕ Refusal) (limit : ℕ) (v : CachesView GuardView) (c : ClaimView) (w : CachesView GuardView) (d : ClaimView) (k j : ImageView) → 1 ≤ limit → is_idle c.before.phase ≡ false → IsSound d.actor d.edits d.before d.after d.steps d.sends → Runs floor_of limit v c ran w d → Settles k d settled j → IfOk (quantum_answer ran settled) (λ n. 1 ≤ n)
 answered_some r (Ok stop) (Ok n) limit v c w d k j l busy sound runs settles = let some = some_steps floor_of limit v c stop w d l busy sound runs in omega (arith, some, settles.steps)
 answered_some r (Ok stop) (Err e) limit v c w d k j l busy sound runs settles = tt
 answered_some r (Err f) (Ok n) limit v c w d k j l busy sound runs settles = tt
 answered_some r (Err f) (Err e) limit v c w d k j l busy sound runs settles = tt
 
 -- a quantum of an actor that is in a turn, where memory was there, has a step
-pub quantum_some : (r : Result ℕ Refusal) (ran : Result Stop AllocError) (settled : Result ℕ Refusal) (limit : ℕ) (v : CachesView GlobalGuard) (c : ClaimView) (w : CachesView GlobalGuard) (d : ClaimView) (k j : ImageView) → 1 ≤ limit → is_idle c.before.phase ≡ false → IsSound d.actor d.edits d.before d.after d.steps d.sends → Steps limit v c ran w d → Settles k d settled j → r ≡ quantum_answer ran settled → IfOk r (λ n. 1 ≤ n)
+pub quantum_some : (r : Result ℕ Refusal) (ran : Result Stop AllocError) (settled : Result ℕ Refusal) (limit : ℕ) (v : CachesView GuardView) (c : ClaimView) (w : CachesView GuardView) (d : ClaimView) (k j : ImageView) → 1 ≤ limit → is_idle c.before.phase ≡ false → IsSound d.actor d.edits d.before d.after d.steps d.sends → Steps limit v c ran w d → Settles k d settled j → r ≡ quantum_answer ran settled → IfOk r (λ n. 1 ≤ n)
 quantum_some r ran settled limit v c w d k j l busy sound steps settles is = subst (λ x. IfOk x (λ n. 1 ≤ n)) (sym is) (answered_some r ran settled limit steps.0 c w d k j l busy sound steps.2 settles)

@@ -1,5 +1,5 @@
 -- A runner: an image, and the caches of the worker that takes the steps of its actors; and what one quantum of it is.
-use Rattle.std.specs.Prelude.{◌≡◌, ◌≤◌, ℕ, [], Bool, true, false, Option, None, Some, Result, Ok, Err, IfOk, MatchResult}
+use Rattle.std.specs.Prelude.{◌≡◌, ◌≤◌, ℕ, [], Bool, false, Option, None, Some, Result, Ok, Err, IfOk, MatchResult}
 use Rattle.std.specs.Option.{IfSome}
 use Rattle.std.specs.declared.alloc.AllocError.{AllocError}
 use Rattle.st_classes.specs.declared.values.ActorId.{ActorId}
@@ -8,8 +8,9 @@ use Rattle.st_classes.specs.declared.edits.Edit.{Edit}
 use Rattle.st_classes.specs.declared.refusals.Refusal.{Refusal}
 use Rattle.st_classes.specs.declared.refusals.Refusal.TheVariants.{NoMemory}
 use Rattle.st_classes.specs.EditLists.{Begins}
-use Rattle.st_guard.specs.declared.global_guard.GlobalGuard.{GlobalGuard}
 use Rattle.st_guard.specs.SiteTables.{NoSites}
+use Rattle.st_guard.specs.Switching.{SwitchView, floor_in}
+use Rattle.st_guard.specs.Touching.{touches}
 use Rattle.st_guard.specs.Moves.{CachesView}
 use Rattle.st_turn.specs.declared.body.Stop.{Stop}
 use Rattle.st_turn.specs.Claims.{ClaimView}
@@ -18,43 +19,48 @@ use Rattle.st_image.specs.Images.{ImageView, world}
 use Rattle.st_image.specs.Scheduling.{IsNextReady, is_free_at}
 use Rattle.st_image.specs.Commits.{ChecksOut, Commits, IsReleased}
 
+-- ---- the guard of the worker's caches: an edit raises the floors of the selectors that it touches
+
+abbrev pub GuardView : Type 0
+GuardView = SwitchView
+
+-- how many edits it has noted
+abbrev pub noted : GuardView → ℕ
+noted g = g.edits
+
+-- the floor of a selector
+abbrev pub floor_of : GuardView → Selector → ℕ
+floor_of g s = floor_in g s
+
+-- which selectors' floors an edit raises
+abbrev pub raises : Edit → Selector → Bool
+raises e s = touches e s
+
+-- ---- the runner
+
 -- an image, and the caches of a worker
 pub record RunnerView : Type 0 where
   pub image : ImageView
-  pub caches : CachesView GlobalGuard
+  pub caches : CachesView GuardView
 
 -- what the caches keep, where they keep a list of edits, begins the image's
-abbrev pub KeepsFirst : ImageView → CachesView GlobalGuard → Type 0
+abbrev pub KeepsFirst : ImageView → CachesView GuardView → Type 0
 KeepsFirst i v = IfSome v.kept (λ k. Begins k (world i).edits)
 
 -- new caches: nothing was found yet, and the list of edits that they keep is empty, as the kernel's is
-pub record AreNew (v : CachesView GlobalGuard) : Type 0 where
-  pub no_edits : v.guard.edits ≡ 0
+pub record AreNew (v : CachesView GuardView) : Type 0 where
+  pub no_edits : v.guard ≡ record { edits = 0; all = 0; each = [] }
   pub no_site : NoSites v.sites
   pub no_recent : v.recent ≡ []
   pub count : v.edits ≡ 0
   pub kept : v.kept ≡ Some []
 
--- ---- the guard of the worker's caches: each edit raises every floor to the number of edits
-
--- how many edits it has noted
-abbrev pub noted : GlobalGuard → ℕ
-noted g = g.edits
-
--- each floor
-abbrev pub floor_of : GlobalGuard → Selector → ℕ
-floor_of g s = g.edits
-
--- which selectors' floors an edit raises: all
-abbrev pub raises : Edit → Selector → Bool
-raises e s = true
-
 -- ---- a quantum
 
 -- the caches move to the edits of a claim, and it takes steps, up to so many
-abbrev pub Steps : ℕ → CachesView GlobalGuard → ClaimView → Result Stop AllocError → CachesView GlobalGuard
+abbrev pub Steps : ℕ → CachesView GuardView → ClaimView → Result Stop AllocError → CachesView GuardView
     → ClaimView → Type 0
-Steps quantum v c ran w d = (moved : CachesView GlobalGuard) × HasMoved noted floor_of raises v moved c.edits
+Steps quantum v c ran w d = (moved : CachesView GuardView) × HasMoved noted floor_of raises v moved c.edits
     × TakesSteps floor_of quantum moved c ran w d
 
 -- a claim that was handed back is released

@@ -6,9 +6,8 @@ use Rattle.st_classes.specs.Refusals.{Rule, first_of}
 use Rattle.st_image.specs.Images.{ImageView, settings_rules}
 use Rattle.st_wire.specs.Streams.{InputView}
 use Rattle.st_server.specs.declared.settings.ScriptSettings.{ScriptSettings}
-use Rattle.st_guard.specs.declared.global_guard.GlobalGuard.{GlobalGuard}
 use Rattle.st_guard.specs.Moves.{CachesView}
-use Rattle.st_server.specs.Runners.{RunnerView, AreNew}
+use Rattle.st_server.specs.Runners.{AreNew, GuardView, RunnerView}
 use Rattle.st_session.specs.Sessions.{Replies}
 use Rattle.st_session.specs.DeviceSessions.{DeviceSession}
 use Rattle.st_server.specs.CommandReplies.{Serves}
@@ -30,7 +29,7 @@ with_settings i s = record i { capacity = s.capacity; most_items = s.history }
 -- a script is run with new caches, or finds no memory for them, and then nothing is read or written
 abbrev pub RunsScript : ℕ → ImageView → InputView → InputView → List ℕ → ImageView → Result ℕ Refusal → Type 0
 RunsScript quantum i before after written j result =
-    ((v : CachesView GlobalGuard) × (k : RunnerView) × AreNew v
+    ((v : CachesView GuardView) × (k : RunnerView) × AreNew v
     × DeviceSession (Replies (Serves quantum)) (record { image = i; caches = v }) before after written k result
     × (j ≡ k.image))
     ⊎ ((result ≡ Err NoMemory) × (after ≡ before) × (written ≡ []) × (j ≡ i))

@@ -1,9 +1,16 @@
-//! The image that the program runs, and the worker that takes its actors' steps.
-use st_guard::global_guard::GlobalGuard;
-use st_mailbox::list_box::ListBox;
+//! The image that the program runs, and the worker that takes its actors' steps: here alone it is said which mailboxes and which guard
+//! they have.
+use st_guard::switch_guard::SwitchGuard;
+use st_mailbox::ring_box::RingBox;
 
-/// An image whose mailboxes are queues.
-pub type Image = st_image::image::Image<ListBox>;
+/// The guard of a worker's caches: an edit ends what was found for the selectors that it touches.
+pub type Guard = SwitchGuard;
 
-/// A worker for whose caches each edit ends all that was found before.
-pub type Worker = st_turn::worker::Worker<GlobalGuard>;
+/// The mailbox of an actor.
+pub type Mailbox = RingBox;
+
+/// An image.
+pub type Image = st_image::image::Image<Mailbox>;
+
+/// A worker that takes the steps of actors.
+pub type Worker = st_turn::worker::Worker<Guard>;

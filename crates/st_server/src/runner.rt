@@ -8,12 +8,11 @@ ghost use Rattle.st_server.specs.CommandReplies.{Asks};
 ghost use Rattle.st_server.specs.Runners.{AreNew, NextAdvances, NoneReady, Settles, TakesQuantum, Works, quantum_answer};
 
 use crate::asking::ask;
-use crate::images::{Image, Worker};
+use crate::images::{Guard, Image, Worker};
 use crate::quantum::Quantum;
 use st_classes::refusals::Refusal;
 use st_classes::values::ActorId;
 use st_guard::caches::Caches;
-use st_guard::global_guard::GlobalGuard;
 use st_turn::body::Stop;
 use st_turn::claim::Claim;
 use st_wire::commands::Command;
@@ -42,7 +41,7 @@ impl Model for Runner {
 fn new_worker(alloc: Global) -> Result<Worker, AllocError>
     ensures { IfOk result AreNew }
 {
-    let caches = Caches::new(alloc, GlobalGuard::new())?;
+    let caches = Caches::new(alloc, Guard::new(alloc))?;
     Ok(Worker::new(caches))
 }
 

@@ -1,14 +1,21 @@
-//! Random lists of events: a system beside its model.
+//! Random lists of events: systems beside their model.
 use crate::lists::random_list;
 use crate::model::{Done, Model, ModelActor};
 use crate::workers::*;
 use st_classes::edits::Edit;
 use st_classes::refusals::Refusal;
 use st_classes::values::ActorId;
+use st_guard::global_guard::GlobalGuard;
+use st_guard::guard::Guard;
+use st_guard::switch_guard::SwitchGuard;
+use st_image::image::Image;
 use st_image::items::Item;
 use st_mailbox::list_box::ListBox;
+use st_mailbox::mailboxes::Mailbox;
 use st_mailbox::messages::{Message, Sender};
+use st_mailbox::ring_box::RingBox;
 use st_system::events::Event;
+use st_system::system::System;
 use st_turn::body::Outcome;
 use std::alloc::Global;
 use std::test::*;
@@ -111,7 +118,7 @@ fn is_same_history(events: &[Event], model: &[Done], history: &[Item]) -> bool {
 }
 
 /// How many of the events that happened, from the first on, say the edits of the class table one after another.
-fn same_edits(events: &[Event], model: &[Done], image: &Image) -> u32 {
+fn same_edits<M: Mailbox>(events: &[Event], model: &[Done], image: &Image<M>) -> u32 {
     let mut place = 0;
     for done in model {
         if let Done::Event(event) = *done
@@ -124,14 +131,14 @@ fn same_edits(events: &[Event], model: &[Done], image: &Image) -> u32 {
 }
 
 /// Whether an event is the edit at a place of the class table.
-fn is_edit_at(events: &[Event], event: usize, image: &Image, place: u32) -> bool {
+fn is_edit_at<M: Mailbox>(events: &[Event], event: usize, image: &Image<M>, place: u32) -> bool {
     match (events.get(event), edit(image, place)) {
         (Some(event), Some(edit)) => is_edit_of(event, edit),
         _ => false,
     }
 }
 
-fn is_same_message(one: &Message, other: &Message) -> bool {
+pub(crate) fn is_same_message(one: &Message, other: &Message) -> bool {
     one.sender == other.sender
         && one.seq == other.seq
         && one.selector == other.selector
@@ -139,7 +146,7 @@ fn is_same_message(one: &Message, other: &Message) -> bool {
 }
 
 /// Whether messages wait in a mailbox in the model's order.
-fn is_same_pending(mailbox: &ListBox, messages: &[Message]) -> bool {
+fn is_same_pending<M: Mailbox>(mailbox: &M, messages: &[Message]) -> bool {
     let mut place = 0;
     for message in messages {
         match item(mailbox, place) {
@@ -163,7 +170,7 @@ fn model_outcome(kept: &ModelActor, turn: usize) -> Result<Outcome, Refusal> {
 }
 
 /// Whether the turns of an actor ended alike, up to one that has not begun.
-fn is_same_outcomes(image: &Image, actor: ActorId, kept: &ModelActor) -> bool {
+fn is_same_outcomes<M: Mailbox>(image: &Image<M>, actor: ActorId, kept: &ModelActor) -> bool {
     for turn in 0..kept.accepted.len().saturating_add(2) {
         if outcome(image, actor, turn as u64) != model_outcome(kept, turn) {
             return false;
@@ -173,7 +180,11 @@ fn is_same_outcomes(image: &Image, actor: ActorId, kept: &ModelActor) -> bool {
 }
 
 /// In what an actor differs.
-fn actor_difference(image: &Image, actor: ActorId, kept: &ModelActor) -> Option<&'static str> {
+fn actor_difference<M: Mailbox>(
+    image: &Image<M>,
+    actor: ActorId,
+    kept: &ModelActor,
+) -> Option<&'static str> {
     let (Some(body), Some(mailbox)) = (body(image, actor), mailbox(image, actor)) else {
         return Some("actors");
     };
@@ -196,7 +207,7 @@ fn actor_difference(image: &Image, actor: ActorId, kept: &ModelActor) -> Option<
 }
 
 /// In what some actor differs.
-fn actors_difference(image: &Image, actors: &[ModelActor]) -> Option<&'static str> {
+fn actors_difference<M: Mailbox>(image: &Image<M>, actors: &[ModelActor]) -> Option<&'static str> {
     let mut number = 0;
     for kept in actors {
         let difference = actor_difference(image, ActorId(number), kept);
@@ -209,7 +220,11 @@ fn actors_difference(image: &Image, actors: &[ModelActor]) -> Option<&'static st
 }
 
 /// In what an image's history or edits differ from the model's.
-fn history_difference(image: &Image, model: &[Done], events: &[Event]) -> Option<&'static str> {
+fn history_difference<M: Mailbox>(
+    image: &Image<M>,
+    model: &[Done],
+    events: &[Event],
+) -> Option<&'static str> {
     if !is_same_history(events, model, history(image)) {
         return Some("histories");
     }
@@ -221,13 +236,17 @@ fn history_difference(image: &Image, model: &[Done], events: &[Event]) -> Option
 }
 
 /// Whether an image has other numbers of edits, names or actors.
-fn has_other_counts(image: &Image, edits: u32, actors: usize) -> bool {
+fn has_other_counts<M: Mailbox>(image: &Image<M>, edits: u32, actors: usize) -> bool {
     let (the_edits, the_names, the_actors) = counts(image);
     the_edits != edits || the_names != NAMES || the_actors as usize != actors
 }
 
 /// In what an image differs from the model.
-fn image_difference(image: &Image, model: &Model, events: &[Event]) -> Option<&'static str> {
+fn image_difference<M: Mailbox>(
+    image: &Image<M>,
+    model: &Model,
+    events: &[Event],
+) -> Option<&'static str> {
     let first = history_difference(image, model.history.as_slice(), events);
     if first.is_some() {
         return first;
@@ -239,9 +258,9 @@ fn image_difference(image: &Image, model: &Model, events: &[Event]) -> Option<&'
 }
 
 /// The first event after which a system differs from its model, and in what. After the last one all that the image has is compared.
-fn first_difference(
+fn first_difference<M: Mailbox, G: Guard>(
     alloc: Global,
-    system: &mut Workers,
+    system: &mut System<M, G>,
     model: &mut Model,
     events: &[Event],
 ) -> Option<(usize, &'static str)> {
@@ -258,9 +277,9 @@ fn first_difference(
 }
 
 /// The same for the list of a seed.
-fn difference_beside(
+fn difference_beside<M: Mailbox, G: Guard>(
     alloc: Global,
-    system: &mut Workers,
+    system: &mut System<M, G>,
     seed: u64,
 ) -> Result<Option<(usize, &'static str)>, Refusal> {
     let events = random_list(alloc, seed, 600)?;
@@ -268,17 +287,36 @@ fn difference_beside(
     Ok(first_difference(alloc, system, &mut model, events.as_slice()))
 }
 
-/// The same of a new system, whose mailboxes hold three messages.
-fn difference_of(alloc: Global, seed: u64) -> Result<Option<(usize, &'static str)>, Refusal> {
-    let mut system = new_system(alloc, 3)?;
+/// The same of a new system, whose mailboxes are queues for three messages.
+fn difference_of_queues(
+    alloc: Global,
+    seed: u64,
+) -> Result<Option<(usize, &'static str)>, Refusal> {
+    let mut system: Box<System<ListBox, GlobalGuard>> = new_system(
+        alloc,
+        3,
+        global_workers(alloc)?,
+    )?;
+    difference_beside(alloc, &mut system, seed)
+}
+
+/// The same of a new system, whose mailboxes are rings for three messages.
+fn difference_of_rings(alloc: Global, seed: u64) -> Result<Option<(usize, &'static str)>, Refusal> {
+    let mut system: Box<System<RingBox, SwitchGuard>> = new_system(
+        alloc,
+        3,
+        switch_workers(alloc)?,
+    )?;
     difference_beside(alloc, &mut system, seed)
 }
 
 #[test]
 fn random_events(rt: HostRuntime) -> Result<(), Fail> {
     for seed in 0..24 {
-        let difference = difference_of(rt.alloc(), seed)?;
-        assert!(rt; difference.is_none(), "seed {seed}: {difference:?}");
+        let queues = difference_of_queues(rt.alloc(), seed)?;
+        assert!(rt; queues.is_none(), "queues, seed {seed}: {queues:?}");
+        let rings = difference_of_rings(rt.alloc(), seed)?;
+        assert!(rt; rings.is_none(), "rings, seed {seed}: {rings:?}");
     }
     Ok(())
 }

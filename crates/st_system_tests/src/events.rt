@@ -69,8 +69,11 @@ const THREE_STEPS: Rows = &[
     (Work::Local(0), STEPPED),
 ];
 
-/// A claim of an older class table is refused, and spent.
+/// A claim that does not survive an edit is refused, and spent.
 const STALE_CLAIM: Rows = &[(Work::Commit(0), STALE), (Work::Commit(0), NOTHING)];
+
+/// One that survives it is committed.
+const SURVIVING_CLAIM: Rows = &[(Work::Commit(0), THREE), (Work::Commit(0), NOTHING)];
 
 /// A commit that the history has no place for is refused again, until the claim is given back.
 const FULL_HISTORY: Rows = &[
@@ -107,6 +110,10 @@ fn stale_claim() -> Rows {
     STALE_CLAIM
 }
 
+fn surviving_claim() -> Rows {
+    SURVIVING_CLAIM
+}
+
 fn full_history() -> Rows {
     FULL_HISTORY
 }
@@ -138,33 +145,44 @@ fn commits_one_of_two_claims(rt: HostRuntime) -> Result<(), Fail> {
     Ok(())
 }
 
-/// Whether a claim of three steps is stale where a method was installed since.
-fn is_stale(alloc: Global, class: ClassId, source: &str) -> Result<bool, Refusal> {
+/// Whether the events behind a claim of three steps and an install answer as they have to, and leave so many items.
+fn is_answered(
+    alloc: Global,
+    class: ClassId,
+    source: &str,
+    rows: Rows,
+    wanted: usize,
+) -> Result<bool, Refusal> {
     let mut system = new_system(alloc, MOST)?;
     let Ok(true) = is_posted(alloc, &mut system) else {
         return Ok(false);
     };
     let stepped = first_wrong(alloc, &mut system, three_steps());
     let installed = install(alloc, &mut system, class, source);
-    let refused = first_wrong(alloc, &mut system, stale_claim());
+    let wrong = first_wrong(alloc, &mut system, rows);
     Ok(
         stepped.is_none()
             && installed == Ok(Answer::Version(4))
-            && refused.is_none()
-            && items(&system) == 7,
+            && wrong.is_none()
+            && items(&system) == wanted,
     )
 }
 
-/// The second of two claims is refused, and so is one after an edit, whether its steps sent what was edited or not.
+/// The second of two claims is refused, and so is one after an edit of a message that its steps sent, or of the one for messages
+/// that are not understood; one after an edit of another message is committed.
 #[test]
 fn by_events(rt: HostRuntime) -> Result<(), Fail> {
     let alloc = rt.alloc();
     let mut system = new_system(alloc, MOST)?;
     assert!(rt; is_posted(alloc, &mut system)?);
     assert_eq!(rt; first_wrong(alloc, &mut system, two_claims()), None);
-    for (class, source) in [(SMALL_INTEGER, "tag ^2"), (A, "bump ^0")] {
-        assert!(rt; is_stale(alloc, class, source)?, "{source}");
+    for (class, source) in [(SMALL_INTEGER, "tag ^2"), (A, "doesNotUnderstand: s ^s")] {
+        assert!(rt;
+            is_answered(alloc, class, source, stale_claim(), 7)?,
+            "{source}"
+        );
     }
+    assert!(rt; is_answered(alloc, A, "bump ^0", surviving_claim(), 8)?);
     Ok(())
 }
 

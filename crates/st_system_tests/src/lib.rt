@@ -1,9 +1,11 @@
-//! Tests of systems: single events, and random lists of events beside a model of plain lists. They stand in a crate of their own, so
-//! that the library is not proved twice for them.
+//! Tests of systems: single events, random lists of events beside a model of plain lists, and one list on two kinds of mailbox. They
+//! stand in a crate of their own, so that the library is not proved twice for them.
 #![tactic(auto)]
 
 #[cfg(test)]
 mod beside;
+#[cfg(test)]
+mod boxes;
 #[cfg(test)]
 mod dice;
 #[cfg(test)]
@@ -12,6 +14,8 @@ mod events;
 mod lists;
 #[cfg(test)]
 mod model;
+#[cfg(test)]
+mod rounds;
 #[cfg(test)]
 mod systems;
 #[cfg(test)]

@@ -197,7 +197,7 @@ fn random_event(alloc: Global, dice: &mut Dice, round: u16) -> Result<Event, All
 }
 
 /// Two classes, their methods, and three actors.
-fn first_events(alloc: Global) -> Result<Vec<Event>, AllocError> {
+pub(crate) fn first_events(alloc: Global) -> Result<Vec<Event>, AllocError> {
     let mut events = Vec::new(alloc);
     events.push(define(alloc, "A", OBJECT)?)?;
     events.push(define(alloc, "B", A)?)?;

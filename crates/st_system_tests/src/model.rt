@@ -1,16 +1,20 @@
 //! A model of a system, of plain lists: each event does what its definition says. Of the program it uses the plain step of an actor's
 //! own, and no call that changes an image, a mailbox or a worker. The class table of a step is that of the image. What actors do on
-//! one another is in model/acts.rt; the other events are in model/edits.rt, model/calls.rt and model/turns.rt.
+//! one another is in model/acts.rt; the other events are in model/edits.rt, model/calls.rt and model/turns.rt, and what a claim
+//! used in model/surviving.rt.
 
 mod acts;
 mod calls;
 mod edits;
+mod surviving;
 mod turns;
 
-use crate::workers::{Answered, Image};
+use crate::workers::Answered;
 use st_classes::refusals::Refusal;
 use st_classes::seq::Seq;
 use st_classes::values::{ActorId, ClassId, Selector};
+use st_image::image::Image;
+use st_mailbox::mailboxes::Mailbox;
 use st_mailbox::messages::{Message, Sender};
 use st_system::events::Event;
 use st_turn::body::{Body, Outcome};
@@ -86,17 +90,17 @@ impl Model {
     }
 
     /// Lets the event at a place of a list happen. The image is the one after it: a claim's body has to be known to fit its table.
-    pub(crate) fn apply(
+    pub(crate) fn apply<M: Mailbox>(
         &mut self,
         alloc: Global,
         place: usize,
         event: &Event,
-        image: &Image,
+        image: &Image<M>,
     ) -> Answered {
         match event {
             Event::Checkout { worker, actor } => self.check_out(alloc, *worker, *actor, image),
             Event::Local(worker) => self.step(alloc, *worker),
-            Event::Commit(worker) => self.commit(alloc, *worker),
+            Event::Commit(worker) => self.commit(alloc, *worker, image.version()),
             Event::Release(worker) => self.release(*worker),
             Event::Forget(worker) => self.forget(*worker),
             call => self.call(alloc, place, call),

@@ -1,13 +1,16 @@
-//! Systems of three workers. Each call stands behind a function without a contract, so that no proof carries anything of it.
+//! Systems of three workers, with mailboxes and guards of any kind. Each call stands behind a function without a contract, so that no
+//! proof carries anything of it.
 use crate::lists::names;
 use st_classes::edits::Edit;
 use st_classes::refusals::Refusal;
-use st_classes::values::{ActorId, ClassId};
+use st_classes::values::{ActorId, ClassId, Selector};
 use st_guard::caches::Caches;
+use st_guard::global_guard::GlobalGuard;
+use st_guard::guard::Guard;
 use st_guard::switch_guard::SwitchGuard;
+use st_image::image::Image;
 use st_image::items::Item;
 use st_image::settings::Settings;
-use st_mailbox::list_box::ListBox;
 use st_mailbox::mailboxes::Mailbox;
 use st_mailbox::messages::Message;
 use st_system::events::{Answer, Event};
@@ -16,15 +19,20 @@ use st_turn::body::{Body, Outcome};
 use st_turn::worker::Worker;
 use std::alloc::{AllocError, Global};
 
-/// Workers whose caches keep, over an edit, what it does not touch.
-pub(crate) type Workers = System<ListBox, SwitchGuard>;
-
-pub(crate) type Image = st_image::image::Image<ListBox>;
-
 /// What an event answers.
 pub(crate) type Answered = Result<Answer, Refusal>;
 
-fn new_workers(alloc: Global) -> Result<Vec<Worker<SwitchGuard>>, AllocError> {
+/// Workers whose caches are emptied by every edit.
+pub(crate) fn global_workers(alloc: Global) -> Result<Vec<Worker<GlobalGuard>>, AllocError> {
+    let mut workers = Vec::new(alloc);
+    for _ in 0..3 {
+        workers.push(Worker::new(Caches::new(alloc, GlobalGuard::new())?))?;
+    }
+    Ok(workers)
+}
+
+/// Workers whose caches keep, over an edit, what it does not touch.
+pub(crate) fn switch_workers(alloc: Global) -> Result<Vec<Worker<SwitchGuard>>, AllocError> {
     let mut workers = Vec::new(alloc);
     for _ in 0..3 {
         workers.push(Worker::new(Caches::new(alloc, SwitchGuard::new(alloc))?))?;
@@ -34,12 +42,12 @@ fn new_workers(alloc: Global) -> Result<Vec<Worker<SwitchGuard>>, AllocError> {
 
 /// Puts an image on the heap: where one stands on the stack, the proof of each function that lets it go pays for all its parts. So it
 /// is with systems.
-fn boxed(alloc: Global, image: Image) -> Result<Box<Image>, AllocError> {
+fn boxed<M: Mailbox>(alloc: Global, image: Image<M>) -> Result<Box<Image<M>>, AllocError> {
     Ok(Box::new(alloc, image)?)
 }
 
 /// A new image whose mailboxes hold so many messages, with the names of lists.
-fn new_image(alloc: Global, capacity: u32) -> Result<Box<Image>, Refusal> {
+fn new_image<M: Mailbox>(alloc: Global, capacity: u32) -> Result<Box<Image<M>>, Refusal> {
     let settings = Settings {
         capacity,
         history: 1_000_000,
@@ -51,75 +59,138 @@ fn new_image(alloc: Global, capacity: u32) -> Result<Box<Image>, Refusal> {
     Ok(image)
 }
 
-/// A system of an image and three workers without claims.
-fn system_of(alloc: Global, image: Image) -> Result<Box<Workers>, AllocError> {
-    let system = System::new(alloc, image, new_workers(alloc)?)?;
+/// A system of an image and workers without claims.
+fn system_of<M: Mailbox, G: Guard>(
+    alloc: Global,
+    image: Image<M>,
+    workers: Vec<Worker<G>>,
+) -> Result<Box<System<M, G>>, AllocError> {
+    let system = System::new(alloc, image, workers)?;
     Ok(Box::new(alloc, system)?)
 }
 
 /// A system of such an image.
-pub(crate) fn new_system(alloc: Global, capacity: u32) -> Result<Box<Workers>, Refusal> {
+pub(crate) fn new_system<M: Mailbox, G: Guard>(
+    alloc: Global,
+    capacity: u32,
+    workers: Vec<Worker<G>>,
+) -> Result<Box<System<M, G>>, Refusal> {
     let image = new_image(alloc, capacity)?;
-    Ok(system_of(alloc, Box::into_inner(image))?)
+    Ok(system_of(alloc, Box::into_inner(image), workers)?)
 }
 
-pub(crate) fn apply(alloc: Global, system: &mut Workers, event: &Event) -> Answered {
+pub(crate) fn apply<M: Mailbox, G: Guard>(
+    alloc: Global,
+    system: &mut System<M, G>,
+    event: &Event,
+) -> Answered {
     system.apply(alloc, event)
 }
 
-pub(crate) fn image(system: &Workers) -> &Image {
+pub(crate) fn image<M: Mailbox, G: Guard>(system: &System<M, G>) -> &Image<M> {
     system.image()
 }
 
-pub(crate) fn history(image: &Image) -> &[Item] {
+pub(crate) fn history<M: Mailbox>(image: &Image<M>) -> &[Item] {
     image.history()
 }
 
 /// The edit of the class table at a place.
-pub(crate) fn edit(image: &Image, place: u32) -> Option<&Edit> {
+pub(crate) fn edit<M: Mailbox>(image: &Image<M>, place: u32) -> Option<&Edit> {
     image.version().edit(place)
 }
 
 /// How many edits, names and actors an image has.
-pub(crate) fn counts(image: &Image) -> (u32, u32, u32) {
+pub(crate) fn counts<M: Mailbox>(image: &Image<M>) -> (u32, u32, u32) {
     (image.version().edits(), image.names().len(), image.actors())
 }
 
 /// The body of an actor, if it is there.
-pub(crate) fn body(image: &Image, actor: ActorId) -> Option<&Body> {
+pub(crate) fn body<M: Mailbox>(image: &Image<M>, actor: ActorId) -> Option<&Body> {
     image.body(actor)
 }
 
 /// The mailbox of an actor, if it is there.
-pub(crate) fn mailbox(image: &Image, actor: ActorId) -> Option<&ListBox> {
+pub(crate) fn mailbox<M: Mailbox>(image: &Image<M>, actor: ActorId) -> Option<&M> {
     image.mailbox(actor)
 }
 
 /// The class of an actor, and the number of the last message that it sent.
-pub(crate) fn class_and_last(image: &Image, actor: ActorId) -> (Option<ClassId>, Option<u64>) {
+pub(crate) fn class_and_last<M: Mailbox>(
+    image: &Image<M>,
+    actor: ActorId,
+) -> (Option<ClassId>, Option<u64>) {
     (image.class(actor), image.last_sent(actor))
 }
 
 /// How a turn of an actor ended.
-pub(crate) fn outcome(image: &Image, actor: ActorId, turn: u64) -> Result<Outcome, Refusal> {
+pub(crate) fn outcome<M: Mailbox>(
+    image: &Image<M>,
+    actor: ActorId,
+    turn: u64,
+) -> Result<Outcome, Refusal> {
     image.outcome(actor, turn)
 }
 
 /// A message that waits in a mailbox.
-pub(crate) fn item(mailbox: &ListBox, place: u32) -> Option<&Message> {
+pub(crate) fn item<M: Mailbox>(mailbox: &M, place: u32) -> Option<&Message> {
     mailbox.item(place)
 }
 
 /// How many messages wait in a mailbox.
-pub(crate) fn waiting(mailbox: &ListBox) -> usize {
+pub(crate) fn waiting<M: Mailbox>(mailbox: &M) -> usize {
     mailbox.len() as usize
 }
 
-pub(crate) fn is_open(mailbox: &ListBox) -> bool {
+pub(crate) fn is_open<M: Mailbox>(mailbox: &M) -> bool {
     mailbox.is_open()
 }
 
 /// Whether two bodies are the same.
 pub(crate) fn is_same_body(one: &Body, other: &Body) -> bool {
     one.is_same(other)
+}
+
+/// How many messages wait in a mailbox, how many it holds, and whether it is open.
+pub(crate) fn shape<M: Mailbox>(mailbox: &M) -> (u32, u32, bool) {
+    (mailbox.len(), mailbox.capacity(), mailbox.is_open())
+}
+
+/// Whether two images have the same edits.
+pub(crate) fn has_same_edits<M: Mailbox, N: Mailbox>(one: &Image<M>, other: &Image<N>) -> bool {
+    one.version().begins(other.version()) && other.version().begins(one.version())
+}
+
+/// Whether two images have the same clients, with the same last numbers.
+pub(crate) fn has_same_clients<M: Mailbox, N: Mailbox>(
+    alloc: Global,
+    one: &Image<M>,
+    other: &Image<N>,
+) -> bool {
+    match (one.clients(alloc), other.clients(alloc)) {
+        (Ok(one), Ok(other)) => one.as_slice() == other.as_slice(),
+        _ => false,
+    }
+}
+
+/// The actor that is to be checked out next.
+pub(crate) fn next_ready<M: Mailbox>(image: &Image<M>) -> Option<ActorId> {
+    image.next_ready()
+}
+
+/// How many sends of a method were counted, or why none is told.
+pub(crate) fn sends<M: Mailbox>(
+    alloc: Global,
+    image: &Image<M>,
+    class: ClassId,
+    selector: Selector,
+) -> Result<u64, Refusal> {
+    let mut sends = 0u64;
+    for site in &image.stats(alloc, class, selector)? {
+        let tally = site.tally;
+        for count in [tally.by_site, tally.by_global, tally.by_walk] {
+            sends = sends.saturating_add(count);
+        }
+    }
+    Ok(sends)
 }

@@ -25,3 +25,6 @@ pub mod QuickRows
 pub mod QuickSteps
 pub mod ClaimBeginnings
 pub mod WorkerMoves
+pub mod LaterTables
+pub mod ClaimsLater
+pub mod UsedSelectors

@@ -11,5 +11,7 @@ pub mod Idle
 pub mod StepResults
 pub mod Lookups
 pub mod Claims
+pub mod Surviving
+pub mod UsedSelectors
 pub mod WorkerSteps
 pub mod QuickSteps

@@ -5,6 +5,7 @@ ghost use Rattle.st_turn.specs.Claims.{IsSound};
 ghost use Rattle.st_turn.specs.Steps.{is_outer, step};
 
 pub(crate) mod stepping;
+mod using;
 
 use crate::acts::is_act_next;
 use crate::body::Body;

@@ -19,5 +19,6 @@ pub mod lookup;
 pub mod plain;
 mod quick;
 pub mod stack;
+pub mod surviving;
 mod value_lists;
 pub mod worker;

@@ -33,16 +33,18 @@ impl<M: Mailbox> Image<M> {
         }
     }
 
-    /// Why a claim whose edits begin those of the class table is stale, if it is.
+    /// Why a claim whose edits begin those of the class table is stale, if it is. It looks through the edits since alone.
     fn stale_refusal(&self, claim: &Claim) -> Option<Refusal>
         requires { Begins claim.now.edits (world self.now).edits }
         ensures { MatchOption result (Survives self.now claim.now) (λ e. CommitRefused self.now claim.now e) }
     {
-        let version = self.version().edits();
-        if claim.token().shown().edits() != version {
-            return Some(Refusal::Stale { version });
+        let version = self.version();
+        if claim.survives(version) {
+            return None;
         }
-        None
+        Some(Refusal::Stale {
+            version: version.edits(),
+        })
     }
 
     /// Why the history has no place for what a commit adds, if it has none.
@@ -133,7 +135,7 @@ impl<M: Mailbox> Image<M> {
         (refusal, None)
     }
 
-    /// Commits a claim of the present class table, whose actor still has the body that it began with.
+    /// Commits a claim that survives, whose actor still has the body that it began with.
     fn commit_unchanged(
         &mut self,
         alloc: Global,
@@ -158,8 +160,8 @@ impl<M: Mailbox> Image<M> {
         }
     }
 
-    /// As `commit`, of a claim whose edits begin those of the class table, and whose stamp tells its body, as the caller knows. The
-    /// edits are not compared, nor are the bodies where the actor's was not changed since the checkout.
+    /// As `commit`, of a claim whose edits begin those of the class table, and whose stamp tells its body, as the caller knows. No
+    /// lists of edits are compared, nor are the bodies where the actor's was not changed since the checkout.
     pub fn commit_known(
         &mut self,
         alloc: Global,
@@ -181,7 +183,8 @@ impl<M: Mailbox> Image<M> {
     /// The steps of a claim become the actor's, and enter the history as one item; no item is added for no steps. Where the claim
     /// stands before a step that the image takes, that is taken too. The answer is how many steps that were.
     ///
-    /// Refusals, in this order: `Stale` where the class table was edited since the checkout; `Changed` where the actor is not
+    /// Refusals, in this order: `Stale` where an edit since the checkout touched a selector that the steps used: that of the first
+    /// message, if it was dispatched, or of a send, super sends among them; `Changed` where the actor is not
     /// there or has another body than the claim began with; either spends the claim. Then `HistoryFull`. Memory can run out only
     /// where none of these applies. Either of the last two hands the claim back, and nothing changes.
     pub fn commit(&mut self, alloc: Global, claim: Claim) -> Result<u32, (Refusal, Option<Claim>)>

@@ -7,7 +7,7 @@ use crate::faults::stop::Stop;
 use crate::faults::term::Term;
 
 /// What an operand is to the messages of its expression.
-#[derive(Clone, Copy, PartialEq, Eq, Debug)]
+#[derive(Clone, Copy, PartialEq, Eq)]
 enum Role {
     /// The first operand, which all messages go to.
     Receiver,

@@ -1,6 +1,7 @@
 //! Keyword messages, and which of them are compiled in place.
 use crate::faults::checks::{Check, Faults};
 use crate::faults::term::Term;
+use crate::inlining::Inlining;
 use st_classes::limits;
 
 /// What the keywords so far say of compiling in place.
@@ -23,16 +24,12 @@ pub enum Selector {
 impl Selector {
     /// Of a first keyword.
     pub fn new(keyword: &[u8]) -> Self {
-        if keyword == b"ifTrue:".as_slice() {
-            Selector::IfTrue
-        } else if keyword == b"ifFalse:".as_slice() {
-            Selector::IfFalse
-        } else if keyword == b"and:".as_slice() || keyword == b"or:".as_slice() {
-            Selector::Logical
-        } else if keyword == b"whileTrue:".as_slice() || keyword == b"whileFalse:".as_slice() {
-            Selector::Loop
-        } else {
-            Selector::Sent
+        match Inlining::of_one(keyword) {
+            Some(Inlining::IfTrue) => Selector::IfTrue,
+            Some(Inlining::IfFalse) => Selector::IfFalse,
+            Some(Inlining::And | Inlining::Or) => Selector::Logical,
+            Some(Inlining::WhileTrue | Inlining::WhileFalse) => Selector::Loop,
+            Some(Inlining::IfTrueIfFalse | Inlining::IfFalseIfTrue) | None => Selector::Sent,
         }
     }
 
@@ -58,7 +55,7 @@ impl Selector {
 }
 
 /// What the arguments so far are.
-#[derive(Clone, Copy, PartialEq, Eq, Debug)]
+#[derive(Clone, Copy, PartialEq, Eq)]
 enum Arguments {
     Blocks,
     Mixed,

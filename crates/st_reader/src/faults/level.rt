@@ -2,7 +2,7 @@
 use crate::faults::expression::Expression;
 
 /// The brackets round a level.
-#[derive(Clone, Copy, PartialEq, Eq, Debug)]
+#[derive(Clone, Copy, PartialEq, Eq)]
 pub enum Bracket {
     /// The whole method, which has none.
     Method,

@@ -1,12 +1,13 @@
 //! Makes trees from their parts, each part as the parser returned it.
 ghost use Rattle.std.specs.Prelude.{◌≡◌, IfErr, MatchResult, ℕ, List, option_map};
-ghost use Rattle.st_reader.specs.Lexemes.{tokens_of, seen};
-ghost use Rattle.st_reader.specs.Syntax.{send, parenthesis, block};
+ghost use Rattle.st_reader.specs.Lexemes.{tokens_of, seen, name_at};
+ghost use Rattle.st_reader.specs.Syntax.{Message as Shown, send, parenthesis, block};
 ghost use Rattle.st_reader.specs.TreeViews.{operand_view, chain_view, message_view, expression_view, statements_view, assigns, thens, last_of, seen_parts, seen_further, seen_sentences, behind_sentences};
 ghost use Rattle.st_reader.specs.Parser.{Gives, with_parts, with_further, answered};
 
-use crate::parser::Wrong;
 use crate::parser::fronts::next;
+use crate::parser::leaves::name;
+use crate::parser::{Wrong, let_go};
 use crate::tokens::{Kind, Lexeme, Mark};
 use crate::trees::{Chain, Expression, Message, Name, Operand, Span, Statements, Target};
 use st_classes::seq::Seq;
@@ -21,10 +22,26 @@ pub fn push(chain: Chain, message: Message) -> Result<Chain, Wrong>
         operand,
         mut messages,
     } = chain;
-    let Ok(()) = messages.push(message) else {
-        return Err(Wrong::NoMemory);
-    };
-    Ok(Chain { operand, messages })
+    match messages.push(message) {
+        Ok(()) => Ok(Chain { operand, messages }),
+        Err(failed) => Err(let_go((operand, messages), Wrong::from(failed))),
+    }
+}
+
+/// Sends a binary message, whose selector is at a place.
+pub fn push_binary(
+    alloc: Global,
+    source: &[u8],
+    chain: Chain,
+    operator: Span,
+    argument: Chain,
+) -> Result<Chain, Wrong>
+    ensures { MatchResult result (λ c. chain_view c ≡ send (chain_view chain) (Shown.binary (name_at source.now operator) (chain_view argument))) (λ e. e ≡ Wrong.NoMemory) }
+{
+    match name(alloc, source, operator) {
+        Ok(selector) => push(chain, Message::Binary(selector, argument)),
+        Err(wrong) => Err(let_go((chain, argument), wrong)),
+    }
 }
 
 /// Sends a keyword message, where there are keywords.
@@ -125,14 +142,14 @@ pub fn parenthesized(
 ) -> Result<Operand, Wrong>
     ensures { MatchResult result (λ o. operand_view o ≡ parenthesis opening (expression_view inside) closing) (λ e. e ≡ Wrong.NoMemory) }
 {
-    let Ok(inside) = Box::new(alloc, inside) else {
-        return Err(Wrong::NoMemory);
-    };
-    Ok(Operand::Parenthesis {
-        opening,
-        inside,
-        closing,
-    })
+    match Box::new(alloc, inside) {
+        Ok(inside) => Ok(Operand::Parenthesis {
+            opening,
+            inside,
+            closing,
+        }),
+        Err(failed) => Err(Wrong::from(failed)),
+    }
 }
 
 /// A block of statements.
@@ -145,12 +162,12 @@ pub fn bracketed(
 ) -> Result<Operand, Wrong>
     ensures { MatchResult result (λ o. operand_view o ≡ block opening (statements_view inside) closing) (λ e. e ≡ Wrong.NoMemory) }
 {
-    let Ok(inside) = Box::new(alloc, inside) else {
-        return Err(Wrong::NoMemory);
-    };
-    Ok(Operand::Block {
-        opening,
-        inside: Some(inside),
-        closing,
-    })
+    match Box::new(alloc, inside) {
+        Ok(inside) => Ok(Operand::Block {
+            opening,
+            inside: Some(inside),
+            closing,
+        }),
+        Err(failed) => Err(Wrong::from(failed)),
+    }
 }

@@ -2,14 +2,14 @@
 ghost use Rattle.std.specs.Prelude.{◌≡◌, length, map, MatchResult};
 ghost use Rattle.st_reader.specs.Lexemes.{tokens_of, seen};
 ghost use Rattle.st_reader.specs.TreeViews.{operand_view, chain_view, message_view, expression_view, statements_view, sends, seen_parts, seen_further};
-ghost use Rattle.st_reader.specs.Parser.{Gives, unaries_of, targets_of, operand_of, term_of, binary_of, keyword_parts_of, message_of, further_messages_of, expression_of, group_of, block_of, statements_with};
+ghost use Rattle.st_reader.specs.Parser.{Gives, unaries_of, targets_of, operand_of, term_of, binary_of, keyword_parts_of, message_of, further_messages_of, expression_of, filled_block_with, group_of, block_of, statements_with};
 
 use crate::parser::building::{
-    answered, bracketed, parenthesized, push, unanswered, with_further, with_parts,
+    answered, bracketed, parenthesized, push_binary, unanswered, with_further, with_parts,
 };
 use crate::parser::fronts::{block_end, is_end, next, next_target, parenthesis_end};
 use crate::parser::leaves::{name, negative, number, symbol};
-use crate::parser::{Parsed, Wrong};
+use crate::parser::{Parsed, Wrong, let_go};
 use crate::tokens::{Kind, Lexeme, Mark, text};
 use crate::trees::{Chain, Expression, Message, Name, Operand, Span, Statements, Target};
 use st_classes::limits;
@@ -24,10 +24,10 @@ fn unaries<'t>(alloc: Global, source: &[u8], lexemes: &'t [Lexeme]) -> Parsed<'t
     let mut rest = lexemes;
     while let Some((first, after)) = next(Kind::Identifier, rest) {
         let selector = name(alloc, source, first.span)?;
-        let Ok(()) = messages.push(Message::Unary(selector)) else {
-            return Err(Wrong::NoMemory);
-        };
-        rest = after;
+        match messages.push(Message::Unary(selector)) {
+            Ok(()) => rest = after,
+            Err(failed) => return Err(Wrong::from(failed)),
+        }
     }
     Ok((messages, rest))
 }
@@ -40,10 +40,10 @@ fn targets<'t>(alloc: Global, source: &[u8], lexemes: &'t [Lexeme]) -> Parsed<'t
     let mut rest = lexemes;
     while let Some((variable, assign, after)) = next_target(rest) {
         let name = name(alloc, source, variable.span)?;
-        let Ok(()) = targets.push(Target { name, assign }) else {
-            return Err(Wrong::NoMemory);
-        };
-        rest = after;
+        match targets.push(Target { name, assign }) {
+            Ok(()) => rest = after,
+            Err(failed) => return Err(Wrong::from(failed)),
+        }
     }
     Ok((Seq::from_vec(targets), rest))
 }
@@ -90,12 +90,14 @@ fn group<'t>(
         return Err(Wrong::NoTree);
     }
     let (inside, rest) = expression(alloc, source, nesting - 1, lexemes)?;
-    let (closing, rest) = parenthesis_end(rest)?;
-    Ok((parenthesized(alloc, opening, inside, closing)?, rest))
+    match parenthesis_end(rest) {
+        Ok((closing, rest)) => Ok((parenthesized(alloc, opening, inside, closing)?, rest)),
+        Err(wrong) => Err(let_go(inside, wrong)),
+    }
 }
 
 /// A block, after the opening bracket.
-#[tactic(auto, unfolding(crate::specs::Parser::block_with, crate::specs::Parser::filled_block_with))]
+#[tactic(auto, unfolding(crate::specs::Parser::block_with))]
 #[cycle(read)]
 fn block<'t>(
     alloc: Global,
@@ -119,9 +121,26 @@ fn block<'t>(
             rest,
         ));
     }
-    let (inside, rest) = statements(alloc, source, nesting - 1, lexemes)?;
-    let (closing, rest) = block_end(rest)?;
-    Ok((bracketed(alloc, opening, inside, closing)?, rest))
+    filled_block(alloc, source, nesting - 1, opening, lexemes)
+}
+
+/// A block with statements, in which brackets may nest so deep, after the opening bracket.
+#[tactic(auto, unfolding(crate::specs::Parser::filled_block_with))]
+#[cycle(read)]
+fn filled_block<'t>(
+    alloc: Global,
+    source: &[u8],
+    nesting: u8,
+    opening: Span,
+    lexemes: &'t [Lexeme],
+) -> Parsed<'t, Operand>
+    ensures { Gives (seen operand_view source.now) result (filled_block_with (expression_of nesting) opening (tokens_of source.now lexemes.now)) }
+{
+    let (inside, rest) = statements(alloc, source, nesting, lexemes)?;
+    match block_end(rest) {
+        Ok((closing, rest)) => Ok((bracketed(alloc, opening, inside, closing)?, rest)),
+        Err(wrong) => Err(let_go(inside, wrong)),
+    }
 }
 
 /// An operand and its unary messages.
@@ -131,8 +150,10 @@ fn term<'t>(alloc: Global, source: &[u8], nesting: u8, lexemes: &'t [Lexeme]) ->
     ensures { Gives (seen chain_view source.now) result (term_of (group_of nesting) (block_of nesting) (tokens_of source.now lexemes.now)) }
 {
     let (operand, rest) = operand(alloc, source, nesting, lexemes)?;
-    let (messages, rest) = unaries(alloc, source, rest)?;
-    Ok((Chain { operand, messages }, rest))
+    match unaries(alloc, source, rest) {
+        Ok((messages, rest)) => Ok((Chain { operand, messages }, rest)),
+        Err(wrong) => Err(let_go(operand, wrong)),
+    }
 }
 
 /// A term and its binary messages.
@@ -143,8 +164,7 @@ fn binary<'t>(alloc: Global, source: &[u8], nesting: u8, lexemes: &'t [Lexeme]) 
     let (mut chain, mut rest) = term(alloc, source, nesting, lexemes)?;
     while let Some((operator, after)) = next(Kind::Binary, rest) {
         let (argument, behind) = term(alloc, source, nesting, after)?;
-        let selector = name(alloc, source, operator.span)?;
-        chain = push(chain, Message::Binary(selector, argument))?;
+        chain = push_binary(alloc, source, chain, operator.span, argument)?;
         rest = behind;
     }
     Ok((chain, rest))
@@ -168,10 +188,10 @@ fn parts<'t>(
         }
         let (argument, behind) = binary(alloc, source, nesting, after)?;
         let keyword = name(alloc, source, keyword.span)?;
-        let Ok(()) = parts.push((keyword, argument)) else {
-            return Err(Wrong::NoMemory);
-        };
-        rest = behind;
+        match parts.push((keyword, argument)) {
+            Ok(()) => rest = behind,
+            Err(failed) => return Err(Wrong::from(failed)),
+        }
     }
     Ok((parts, rest))
 }
@@ -194,8 +214,10 @@ fn message<'t>(
         Kind::Identifier => Ok((Message::Unary(name(alloc, source, first.span)?), rest)),
         Kind::Binary => {
             let (argument, rest) = term(alloc, source, nesting, rest)?;
-            let selector = name(alloc, source, first.span)?;
-            Ok((Message::Binary(selector, argument), rest))
+            match name(alloc, source, first.span) {
+                Ok(selector) => Ok((Message::Binary(selector, argument), rest)),
+                Err(wrong) => Err(let_go(argument, wrong)),
+            }
         }
         Kind::Keyword => {
             let (parts, rest) = parts(alloc, source, nesting, lexemes)?;
@@ -219,10 +241,10 @@ fn further<'t>(
     let mut rest = lexemes;
     while let Some((semicolon, after)) = next(Kind::Mark(Mark::Semicolon), rest) {
         let (message, behind) = message(alloc, source, nesting, after)?;
-        let Ok(()) = further.push((semicolon.span, message)) else {
-            return Err(Wrong::NoMemory);
-        };
-        rest = behind;
+        match further.push((semicolon.span, message)) {
+            Ok(()) => rest = behind,
+            Err(failed) => return Err(Wrong::from(failed)),
+        }
     }
     Ok((further, rest))
 }
@@ -269,9 +291,9 @@ pub fn statements<'t>(
         if is_end(behind) {
             return Ok((unanswered(before, sentence, Some(period.span)), behind));
         }
-        let Ok(()) = before.push((sentence, period.span)) else {
-            return Err(Wrong::NoMemory);
-        };
-        rest = behind;
+        match before.push((sentence, period.span)) {
+            Ok(()) => rest = behind,
+            Err(failed) => return Err(Wrong::from(failed)),
+        }
     }
 }

@@ -34,10 +34,10 @@ fn parameters<'t>(alloc: Global, source: &[u8], lexemes: &'t [Lexeme]) -> Parsed
         }
         let (argument, behind) = parameter(alloc, source, after)?;
         let keyword = name(alloc, source, keyword.span)?;
-        let Ok(()) = parameters.push(Parameter { keyword, argument }) else {
-            return Err(Wrong::NoMemory);
-        };
-        rest = behind;
+        match parameters.push(Parameter { keyword, argument }) {
+            Ok(()) => rest = behind,
+            Err(failed) => return Err(Wrong::from(failed)),
+        }
     }
     Ok((Seq::from_vec(parameters), rest))
 }
@@ -72,10 +72,10 @@ fn names<'t>(alloc: Global, source: &[u8], lexemes: &'t [Lexeme]) -> Parsed<'t, 
     let mut rest = lexemes;
     while let Some((first, after)) = next(Kind::Identifier, rest) {
         let name = name(alloc, source, first.span)?;
-        let Ok(()) = names.push(name) else {
-            return Err(Wrong::NoMemory);
-        };
-        rest = after;
+        match names.push(name) {
+            Ok(()) => rest = after,
+            Err(failed) => return Err(Wrong::from(failed)),
+        }
     }
     Ok((Seq::from_vec(names), rest))
 }

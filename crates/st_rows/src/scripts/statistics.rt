@@ -112,7 +112,7 @@ const TEXT: &str =
 {"class":"A","cmd":"stats","selector":"ask:"}
 {"ok":{"sites":[{"global":0,"selector":"tag","sends":2,"site":0,"state":"mono","super":false,"walk":2}]}}
 
-256 64 1000000 An edit for another selector.
+256 64 1000000 An edit for another selector ends nothing.
 {"cmd":"define","name":"A","slots":[],"super":"Object"}
 {"ok":{"version":1}}
 {"class":"A","cmd":"method","source":"ask: x ^x tag"}
@@ -136,7 +136,7 @@ const TEXT: &str =
 {"actor":0,"cmd":"outcome","turn":2}
 {"ok":{"answer":1}}
 {"class":"A","cmd":"stats","selector":"ask:"}
-{"ok":{"sites":[{"global":0,"selector":"tag","sends":2,"site":0,"state":"mono","super":false,"walk":2}]}}
+{"ok":{"sites":[{"global":0,"selector":"tag","sends":2,"site":1,"state":"mono","super":false,"walk":1}]}}
 
 256 64 1000000 A super send is found as other sends are, and looked up for itself. A step of the image is a walk, and no class is met there. A turn of `who` is the dispatch and seven instructions, two of them of A; one of `tell` three steps, the post, and in the next quantum the answer.
 {"cmd":"define","name":"A","slots":[],"super":"Object"}

@@ -3,12 +3,15 @@ ghost use Rattle.std.specs.Prelude.{◌≡◌, IfOk, IsTrue};
 ghost use Rattle.st_turn.specs.BodyFits.{FitsSome};
 ghost use Rattle.st_image.specs.Images.{world};
 
+use crate::model::surviving::is_touched;
 use crate::model::{Done, Model, ModelActor, ModelClaim};
-use crate::workers::{Answered, Image};
+use crate::workers::Answered;
 use st_classes::refusals::Refusal;
 use st_classes::token::Token;
 use st_classes::values::ActorId;
 use st_classes::version::Version;
+use st_image::image::Image;
+use st_mailbox::mailboxes::Mailbox;
 use st_system::events::Answer;
 use st_turn::acts::{next_act, reply};
 use st_turn::body::{Body, Phase, Stop};
@@ -17,7 +20,7 @@ use st_turn::plain::step_plain;
 use std::alloc::{AllocError, Global};
 
 /// Whether an actor of the image has this body: then the body is known to fit the image's class table.
-fn is_the_images(image: &Image, actor: ActorId, body: &Body) -> bool
+fn is_the_images<M: Mailbox>(image: &Image<M>, actor: ActorId, body: &Body) -> bool
     ensures { IsTrue result → FitsSome (world image.now).edits actor body.now }
 {
     image.known();
@@ -28,7 +31,12 @@ fn is_the_images(image: &Image, actor: ActorId, body: &Body) -> bool
 }
 
 /// A claim of no steps, of a body that is the image's, or `Changed` is answered.
-fn claim_of(alloc: Global, actor: ActorId, body: &Body, image: &Image) -> Result<Claim, Refusal> {
+fn claim_of<M: Mailbox>(
+    alloc: Global,
+    actor: ActorId,
+    body: &Body,
+    image: &Image<M>,
+) -> Result<Claim, Refusal> {
     if !is_the_images(image, actor, body) {
         return Err(Refusal::Changed);
     }
@@ -45,7 +53,7 @@ fn start_of(alloc: Global, claim: Claim) -> Result<ModelClaim, AllocError> {
     })
 }
 
-fn take_step(
+pub(super) fn take_step(
     alloc: Global,
     body: &mut Body,
     actor: ActorId,
@@ -136,11 +144,11 @@ impl Model {
     }
 
     /// What an actor is at now is handed out.
-    fn hand_out(
+    fn hand_out<M: Mailbox>(
         &self,
         alloc: Global,
         actor: ActorId,
-        image: &Image,
+        image: &Image<M>,
     ) -> Result<ModelClaim, Refusal> {
         let Some(kept) = self.actor(actor) else {
             return Err(Refusal::UnknownActor);
@@ -149,12 +157,12 @@ impl Model {
         Ok(start_of(alloc, claim)?)
     }
 
-    pub(super) fn check_out(
+    pub(super) fn check_out<M: Mailbox>(
         &mut self,
         alloc: Global,
         worker: u32,
         actor: ActorId,
-        image: &Image,
+        image: &Image<M>,
     ) -> Answered {
         if self.claim(worker)?.is_some() {
             return Err(Refusal::BadArguments);
@@ -177,16 +185,22 @@ impl Model {
     }
 
     /// Why a claim is refused, if it is.
-    fn refused_claim(&self, start: &Claim) -> Option<Refusal> {
-        if start.token().shown().edits() != self.edits {
-            return Some(Refusal::Stale {
+    fn refused_claim(
+        &self,
+        alloc: Global,
+        claim: &ModelClaim,
+        version: &Version,
+    ) -> Result<Option<Refusal>, AllocError> {
+        let start: &Claim = &claim.start;
+        if is_touched(alloc, start, claim.steps, version)? {
+            return Ok(Some(Refusal::Stale {
                 version: self.edits,
-            });
+            }));
         }
-        match self.actor(start.actor()) {
+        Ok(match self.actor(start.actor()) {
             Some(kept) if kept.body.is_same(start.before()) => None,
             _ => Some(Refusal::Changed),
-        }
+        })
     }
 
     /// The act that is next after the steps of a claim is done, if there is one, and how many steps it is.
@@ -228,9 +242,9 @@ impl Model {
         }
     }
 
-    pub(super) fn commit(&mut self, alloc: Global, worker: u32) -> Answered {
+    pub(super) fn commit(&mut self, alloc: Global, worker: u32, version: &Version) -> Answered {
         let claim = self.take_claim(worker)?;
-        if let Some(refusal) = self.refused_claim(&claim.start) {
+        if let Some(refusal) = self.refused_claim(alloc, &claim, version)? {
             return Err(refusal);
         }
         Ok(Answer::Steps(self.take(alloc, &claim)?))

@@ -19,4 +19,4 @@ more_behind s (l ∷ ls) rest ss some more e =
     ap (λ (o : Read Statements). option_map (λ x. Some x) (option_and_then whole o)) e ∙ ap (option_map (λ x. Some x)) (not_whole s ss rest more)
 
 pub returns-else-is_empty-2 : goal.returns-else-is_empty-2
-returns-else-is_empty-2 c = more_behind c.args.source.now c.args.lexemes.now c.in_ok-statements.rest.now (statements_view c.in_ok-statements.statements) c.if-is_empty.ensures c.if-is_empty-2.ensures c.in_ok-statements.ensures
+returns-else-is_empty-2 c = rw c.let_go.ensures (more_behind c.args.source.now c.args.lexemes.now c.in_ok-statements.rest.now (statements_view c.in_ok-statements.statements) c.if-is_empty.ensures c.if-is_empty-2.ensures c.in_ok-statements.ensures)

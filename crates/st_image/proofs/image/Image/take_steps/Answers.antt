@@ -5,6 +5,8 @@ use Rattle.st_classes.specs.declared.keys.SiteId.{SiteId}
 use Rattle.st_classes.specs.declared.edits.Edit.{Edit}
 use Rattle.st_turn.specs.declared.claim.Sent.{Sent}
 use Rattle.st_turn.specs.Claims.{ClaimView}
+use Rattle.st_turn.specs.Surviving.{SameSteps}
+use Rattle.st_turn.proofs.ClaimsLater.{claims_survive}
 use Rattle.st_turn.specs.Idle.{is_idle}
 use Rattle.st_image.specs.Worlds.{World, change, change_at, start}
 use Rattle.st_image.specs.Replay.{with_body}
@@ -54,10 +56,12 @@ count-requires-clause-places g c =
     let d : ClaimView = c.args.claim in
     let beside : Standing = standing_of i.next_from i.actors.out i.tallies in
     let allowed : CommitAllowed (seen start i.names i.history.items i.settings beside) d = subst (λ (v : ImageView). CommitAllowed v d) (sym c.self.view_is) c.requires.allowed in
-    let edits : c.shown-version.result.now ≡ d.edits = c.shown-version.ensures ∙ c.self.invariant.image.shows.edits_are ∙ sym allowed.survives in
-    let all : Covers c.cover.new.self (length d.edits) d.edits = subst (λ (es : List Edit). Covers c.cover.new.self (length es) es) edits (subst (λ (n : ℕ). Covers c.cover.new.self n c.shown-version.result.now) c.in-Ok-cover.ensures.ok c.cover.ensures.covers) in
+    let w : World = world_of (constants_of i.names i.settings.capacity) start i.history.items in
+    let same : SameSteps w.edits d = claims_survive w.edits d c.self.invariant.image.world.lawful c.self.invariant.image.world.sound c.known.ensures allowed.survives in
+    let edits : c.shown-version.result.now ≡ w.edits = c.shown-version.ensures ∙ c.self.invariant.image.shows.edits_are in
+    let all : Covers c.cover.new.self (length w.edits) w.edits = subst (λ (es : List Edit). Covers c.cover.new.self (length es) es) edits (subst (λ (n : ℕ). Covers c.cover.new.self n c.shown-version.result.now) c.in-Ok-cover.ensures.ok c.cover.ensures.covers) in
     let sent : c.as_slice.result.now ≡ d.sends = c.as_slice.ensures.value ∙ c.into_parts-parts.ensures.sends in
-    rw (c.site_to_commit-site.ensures, sent) (has_places c.cover.new.self d c.known.ensures all)
+    rw (c.site_to_commit-site.ensures, sent) (has_places c.cover.new.self w.edits d c.known.ensures same all)
 
 pub invariant_of-self-in-Ok-put_steps : goal.invariant_of-self-in-Ok-put_steps
 invariant_of-self-in-Ok-put_steps g c =

@@ -1,4 +1,4 @@
-use Rattle.std.proofs.Common.{◌≡◌, ◌-◌, length, length-append, suc, Some, sym, ap, ◌∙◌, arith}
+use Rattle.std.proofs.Common.{◌≡◌, ◌-◌, length, length-append, suc, Some, refl, sym, ap, ◌∙◌, arith}
 use Rattle.std.specs.Prelude.{option_map}
 use Rattle.std.proofs.lemmas.List.{map-append}
 use Rattle.std.specs.declared.vec.Vec.{Vec}
@@ -7,12 +7,10 @@ use Rattle.st_reader.specs.declared.trees.Span.{Span}
 use Rattle.st_reader.specs.declared.trees.Name.{Name}
 use Rattle.st_reader.specs.declared.trees.Chain.{Chain}
 use Rattle.st_reader.specs.declared.trees.Message.{Message as Sent}
-use Rattle.st_reader.specs.Syntax.{send}
 use Rattle.st_reader.specs.TreeViews.{chain_view, message_view, expression_view, assigns, seen_parts, seen_further, seen_sentences}
-use Rattle.st_reader.specs.Lexemes.{tokens_of, seen}
+use Rattle.st_reader.specs.Lexemes.{tokens_of, seen, name_at}
 use Rattle.st_reader.specs.Parser.{term_of, binary_of, keyword_parts_of, message_of, further_messages_of, with_further, expression_of, statements_with, group_of, block_of}
 use Rattle.st_reader.proofs.Shorter.{with_tokens, expression_of-shortens, group_of-keeps, block_of-keeps}
-use Rattle.st_reader.proofs.Seen.{binary_is}
 use Rattle.st_reader.proofs.Results.{gives_err}
 use Rattle.st_reader.proofs.Operations.{operations_begin, operations_none, operations_fail, operations_step, operations_smaller, operations_done}
 use Rattle.st_reader.proofs.Parts.{parts_full, parts_fail, parts_step, parts_smaller, parts_done}
@@ -54,7 +52,7 @@ binary-loop-operator-preserved t c =
     let s = c.args.source.now in
     let n = c.args.nesting in
     let l = c.loop-operator in
-    operations_step s (group_of n) (block_of n) (group_of-keeps n) (block_of-keeps n) (binary_of (group_of n) (block_of n) (tokens_of s c.args.lexemes.now)) (chain_view l.chain) (chain_view c.in_ok-chain-2.chain) l.rest.now c.in-Some.operator c.in-Some.after.now c.in_ok-selector.selector (chain_view c.in_ok-argument.argument) c.in_ok-argument.behind.now c.in-Some.ensures.0 c.in-Some.ensures.1 c.in_ok-argument.ensures c.in_ok-selector.ensures (c.in_ok-chain-2.ensures ∙ ap (send (chain_view l.chain)) (binary_is c.in_ok-selector.selector c.in_ok-argument.argument)) l.invariant
+    operations_step s (group_of n) (block_of n) (group_of-keeps n) (block_of-keeps n) (binary_of (group_of n) (block_of n) (tokens_of s c.args.lexemes.now)) (chain_view l.chain) (chain_view c.in_ok-chain-2.chain) l.rest.now c.in-Some.operator c.in-Some.after.now (name_at s c.in-Some.operator.span) (chain_view c.in_ok-argument.argument) c.in_ok-argument.behind.now c.in-Some.ensures.0 c.in-Some.ensures.1 c.in_ok-argument.ensures refl c.in_ok-chain-2.ensures l.invariant
 
 pub binary-returns : goal.binary-returns
 binary-returns t c =

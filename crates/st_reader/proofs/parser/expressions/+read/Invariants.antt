@@ -35,6 +35,9 @@ decreases-expression l = 12 * l.nesting + 8
 abbrev pub decreases-statements : goal.decreases-statements
 decreases-statements l = 12 * l.nesting + 9
 
+abbrev pub decreases-filled_block : goal.decreases-filled_block
+decreases-filled_block l = 12 * l.nesting + 10
+
 abbrev pub invariant-binary-loop-operator : goal.invariant-binary-loop-operator
 invariant-binary-loop-operator l =
     (n : ℕ) × (length (tokens_of l.source l.rest) ≤ n) × (binary_of (group_of l.nesting) (block_of l.nesting) (tokens_of l.source l.lexemes) ≡ operations_of (group_of l.nesting) (block_of l.nesting) n (chain_view l.chain) (tokens_of l.source l.rest))

@@ -1,0 +1,16 @@
+use Rattle.std.proofs.Common.{ℕ, ◌≡◌, ◌+◌, vec_len}
+use Rattle.std.specs.List.{sum_by}
+use Rattle.st_pool.proofs.books.gather_workers.Given as goal
+
+-- what was taken in and what is left is all
+abbrev pub invariant-loop-share : goal.invariant-loop-share
+invariant-loop-share g l =
+    record {
+      book : l.steps.total ≡ l.fn.steps.total;
+      taken : l.sum + sum_by (λ (n : ℕ). n) l.workers.items ≡ sum_by (λ (n : ℕ). n) l.fn.workers.items;
+      amount : l.left.amount ≡ l.sum;
+      parts : l.left.parts + vec_len l.workers ≡ l.fn.left.parts + vec_len l.fn.workers;
+    }
+
+abbrev pub decreases-loop-share : goal.decreases-loop-share
+decreases-loop-share g l = goal.left-loop-share g l

@@ -1,0 +1,12 @@
+use Rattle.st_pool.proofs.Weights.{kept_same}
+use Rattle.st_pool.proofs.Knowing.{front_ended, front_later}
+use Rattle.st_pool.proofs.office.Office.check_out.Goals as goal
+
+pub note-requires : goal.note-requires
+note-requires g c = front_later c.self.inside.front c.self.inside.image c.check_out.new.image c.in-Ok.ensures.later c.self.invariant.1
+
+pub invariant_of-self : goal.invariant_of-self
+invariant_of-self g c = (
+  kept_same g.K.Naming.start c.self.inside.image c.check_out.new.image c.self.inside.books c.self.invariant.0 c.in-Ok.ensures.grows,
+  front_ended c.note.new.front c.check_out.new.image c.note.ensures,
+)

@@ -1,0 +1,13 @@
+use Rattle.st_pool.specs.Done.{committed}
+use Rattle.st_pool.proofs.Weights.{kept_ran}
+use Rattle.st_pool.proofs.Knowing.{claim_known, front_later}
+use Rattle.st_pool.proofs.office.Office.commit.Goals as goal
+
+pub settle-answer-requires : goal.settle-answer-requires
+settle-answer-requires g c = λ yes. claim_known c.held.inside.seen c.self.inside.front c.held.inside.claim c.self.inside.image (c.precedes-is_known.ensures yes) c.held.invariant c.self.invariant.1
+
+pub invariant_of-self : goal.invariant_of-self
+invariant_of-self g c = (
+  kept_ran g.K.Naming.start c.self.inside.image c.settle-answer.new.image c.self.inside.books c.run.new.self (committed c.settle-answer.result) c.self.invariant.0 c.settle-answer.ensures.grows c.run.ensures.books,
+  front_later c.self.inside.front c.self.inside.image c.settle-answer.new.image c.settle-answer.ensures.later c.self.invariant.1,
+)

@@ -1,0 +1,307 @@
+//! The books of a pool: accepted posts, accepted edits and committed steps. Three ledgers of the library, as one.
+ghost use Rattle.std.specs.Prelude.{◌≡◌, ℕ, ◌+◌, ◌<◌, ◌≤◌, ◌^◌, length, vec_len};
+ghost use Rattle.std.specs.List.{sum_by};
+ghost use Rattle.st_pool.specs.Done.{Done};
+
+use crate::naming::{Edits, Naming, Posts, Steps};
+use crate::shares::{CallerShare, WorkerShare};
+use crate::totals::Totals;
+use st_classes::refusals::Refusal;
+use std::alloc::Global;
+use std::marker::Model;
+use std::sync::ledger::{Blank, Book, Share};
+
+/// The number of parts of a ledger: one for each share that may be given out, and one that stays.
+pub const PARTS: u64 = 1 << 32;
+
+/// Three ledgers that no type stands for yet, of 2^32 parts each.
+pub struct Blanks {
+    pub posts: Blank,
+    pub edits: Blank,
+    pub steps: Blank,
+    pub ghost parts: { (posts.parts ≡ 4294967296) × (edits.parts ≡ 4294967296) × (steps.parts ≡ 4294967296) },
+}
+
+impl Blanks {
+    /// New ledgers.
+    pub fn new() -> Blanks {
+        Blanks {
+            posts: Blank::new(PARTS),
+            edits: Blank::new(PARTS),
+            steps: Blank::new(PARTS),
+        }
+    }
+}
+
+/// The books under the lock, and what was not given out of each ledger.
+#[derive(Drop)]
+pub struct Books<K: Naming> {
+    posts: Book<Posts<K>>,
+    edits: Book<Edits<K>>,
+    steps: Book<Steps<K>>,
+    posts_left: Share<Posts<K>>,
+    edits_left: Share<Edits<K>>,
+    steps_left: Share<Steps<K>>,
+    callers: u64,
+    workers: u64,
+}
+
+impl<K: Naming> Model for Books<K> {
+    ghost use Rattle.std.specs.Prelude.{◌≡◌, ◌+◌, ◌<◌};
+    ghost use Rattle.st_pool.specs.Books.{BooksView};
+
+    ghost Value = { BooksView };
+
+    ghost view = { λ b. record { posts = b.posts.total; edits = b.edits.total; steps = b.steps.total; callers = b.callers; workers = b.workers } };
+
+    ghost invariant = { λ b. (b.posts_left.parts + b.callers ≡ 4294967296) × (b.edits_left.parts + b.callers ≡ 4294967296) × (b.steps_left.parts + b.workers ≡ 4294967296)
+        × (b.posts_left.amount ≡ 0) × (b.edits_left.amount ≡ 0) × (b.steps_left.amount ≡ 0) × (b.callers < 4294967296) × (b.workers < 4294967296) };
+}
+
+/// Takes in the callers' shares, and answers the sums of their posts and edits.
+fn gather_callers<K: Naming>(
+    posts: &mut Book<Posts<K>>,
+    edits: &mut Book<Edits<K>>,
+    posts_left: &mut Share<Posts<K>>,
+    edits_left: &mut Share<Edits<K>>,
+    mut callers: Vec<CallerShare<K>>,
+) -> (u64, u64)
+    requires few { (posts.old.total < 2 ^ 60) × (edits.old.total < 2 ^ 60) }
+    requires empty { (posts_left.old.amount ≡ 0) × (edits_left.old.amount ≡ 0) }
+    requires some { (0 < posts_left.old.parts) × (0 < edits_left.old.parts) }
+    ensures books { (posts.new.total ≡ posts.old.total) × (edits.new.total ≡ edits.old.total) }
+    ensures posts { (result.0 ≡ sum_by (λ (d : Done). length d.receipts) callers.items) × (posts_left.new.amount ≡ result.0) }
+    ensures edits { (result.1 ≡ sum_by (λ (d : Done). d.edits) callers.items) × (edits_left.new.amount ≡ result.1) }
+    ensures parts { (posts_left.new.parts ≡ posts_left.old.parts + vec_len callers) × (edits_left.new.parts ≡ edits_left.old.parts + vec_len callers) }
+{
+    let mut posted_sum: u64 = 0;
+    let mut edited_sum: u64 = 0;
+    while let Some(share) = callers.pop() {
+        let CallerShare {
+            edits: made,
+            receipts,
+            posted,
+            edited,
+        } = share;
+        posts_left.merge(posted);
+        edits_left.merge(edited);
+        posts.audit(posts_left);
+        edits.audit(edits_left);
+        posted_sum += receipts.len() as u64;
+        edited_sum += made;
+    }
+    (posted_sum, edited_sum)
+}
+
+/// Takes in the workers' shares, and answers the sum of their steps.
+fn gather_workers<K: Naming>(
+    steps: &mut Book<Steps<K>>,
+    left: &mut Share<Steps<K>>,
+    mut workers: Vec<WorkerShare<K>>,
+) -> u64
+    requires few { steps.old.total < 2 ^ 60 }
+    requires empty { left.old.amount ≡ 0 }
+    requires some { 0 < left.old.parts }
+    ensures book { steps.new.total ≡ steps.old.total }
+    ensures steps { (result ≡ sum_by (λ (n : ℕ). n) workers.items) × (left.new.amount ≡ result) }
+    ensures parts { left.new.parts ≡ left.old.parts + vec_len workers }
+{
+    let mut sum: u64 = 0;
+    while let Some(share) = workers.pop() {
+        let WorkerShare { steps: taken, ran } = share;
+        left.merge(ran);
+        steps.audit(left);
+        sum += taken;
+    }
+    sum
+}
+
+impl<K: Naming> Books<K> {
+    ghost use Rattle.std.specs.Prelude.{◌≡◌, ◌+◌, ◌<◌, ◌≤◌, ◌^◌, length, vec_len, is_ok};
+    ghost use Rattle.st_pool.specs.Books.{counted, no_books};
+    ghost use Rattle.st_pool.specs.Done.{committed, nothing_done};
+    ghost use Rattle.st_pool.specs.Settled.{AreSums};
+
+    /// Empty books.
+    pub(crate) fn open(blanks: Blanks) -> Books<K>
+        requires posts { blanks.posts.name ≡ K.posts }
+        requires edits { blanks.edits.name ≡ K.edits }
+        requires steps { blanks.steps.name ≡ K.steps }
+        ensures { result ≡ no_books }
+    {
+        let Blanks {
+            posts,
+            edits,
+            steps,
+        } = blanks;
+        let (posts, posts_left) = posts.open::<Posts<K>>();
+        let (edits, edits_left) = edits.open::<Edits<K>>();
+        let (steps, steps_left) = steps.open::<Steps<K>>();
+        Books {
+            posts,
+            edits,
+            steps,
+            posts_left,
+            edits_left,
+            steps_left,
+            callers: 0,
+            workers: 0,
+        }
+    }
+
+    /// How many callers there have been.
+    pub(crate) fn callers(&self) -> u64
+        ensures value { result ≡ self.now.callers }
+        ensures few { result < 4294967296 }
+    {
+        let _workers = self.workers;
+        self.callers
+    }
+
+    /// How many workers there have been.
+    pub(crate) fn workers(&self) -> u64
+        ensures value { result ≡ self.now.workers }
+        ensures few { result < 4294967296 }
+    {
+        let _callers = self.callers;
+        self.workers
+    }
+
+    /// A share for one caller more.
+    pub(crate) fn give(&mut self, alloc: Global) -> CallerShare<K>
+        requires { self.old.callers + 1 < 4294967296 }
+        ensures books { self.new ≡ record self.old { callers = self.old.callers + 1 } }
+        ensures share { result ≡ nothing_done }
+    {
+        let posted = self.posts_left.split_off(1, 0);
+        let edited = self.edits_left.split_off(1, 0);
+        self.callers += 1;
+        CallerShare {
+            edits: 0,
+            receipts: Vec::new(alloc),
+            posted,
+            edited,
+        }
+    }
+
+    /// A share for one worker more.
+    pub(crate) fn employ(&mut self) -> WorkerShare<K>
+        requires { self.old.workers + 1 < 4294967296 }
+        ensures books { self.new ≡ record self.old { workers = self.old.workers + 1 } }
+        ensures share { result ≡ 0 }
+    {
+        let ran = self.steps_left.split_off(1, 0);
+        self.workers += 1;
+        WorkerShare { steps: 0, ran }
+    }
+
+    /// Books a post, where it was accepted. The books have at least what the two shares say.
+    pub(crate) fn post(
+        &mut self,
+        posted: &mut Share<Posts<K>>,
+        edited: &mut Share<Edits<K>>,
+        answer: &Result<u64, Refusal>,
+    )
+        requires some { (0 < posted.old.parts) × (0 < edited.old.parts) }
+        ensures books { self.new ≡ record self.old { posts = self.old.posts + counted (is_ok answer.now) } }
+        ensures amount { posted.new.amount ≡ posted.old.amount + counted (is_ok answer.now) }
+        ensures parts { posted.new.parts ≡ posted.old.parts }
+        ensures same { (edited.new.amount ≡ edited.old.amount) × (edited.new.parts ≡ edited.old.parts) }
+        ensures posts { posted.old.amount ≤ self.old.posts }
+        ensures edits { edited.old.amount ≤ self.old.edits }
+    {
+        self.posts.audit(posted);
+        self.edits.audit(edited);
+        if answer.is_ok() {
+            self.posts.add(posted, 1);
+        }
+    }
+
+    /// Books an edit, where it was accepted.
+    pub(crate) fn edit(&mut self, mine: &mut CallerShare<K>, answer: &Result<u32, Refusal>)
+        requires { self.old.edits < 2 ^ 60 }
+        ensures books { self.new ≡ record self.old { edits = self.old.edits + counted (is_ok answer.now) } }
+        ensures share { mine.new ≡ record mine.old { edits = mine.old.edits + counted (is_ok answer.now) } }
+        ensures within { mine.old.edits ≤ self.old.edits }
+    {
+        let CallerShare { edits, edited, .. } = mine;
+        self.edits.audit(edited);
+        if answer.is_ok() {
+            self.edits.add(edited, 1);
+            *edits += 1;
+        }
+    }
+
+    /// Books the steps of a commit.
+    pub(crate) fn run(&mut self, mine: &mut WorkerShare<K>, answer: &Result<u32, Refusal>)
+        requires { self.old.steps < 2 ^ 60 }
+        ensures books { self.new ≡ record self.old { steps = self.old.steps + committed answer.now } }
+        ensures share { mine.new ≡ mine.old + committed answer.now }
+        ensures within { mine.old ≤ self.old.steps }
+    {
+        let WorkerShare { steps, ran } = mine;
+        self.steps.audit(ran);
+        if let Ok(count) = answer {
+            self.steps.add(ran, *count as u64);
+            *steps += *count as u64;
+        }
+    }
+
+    /// The books have at least what a caller has done.
+    pub(crate) fn audit(&mut self, mine: &mut CallerShare<K>)
+        ensures same { self.new ≡ self.old }
+        ensures share { mine.new ≡ mine.old }
+        ensures posts { length mine.old.receipts ≤ self.old.posts }
+        ensures edits { mine.old.edits ≤ self.old.edits }
+    {
+        let CallerShare { posted, edited, .. } = mine;
+        self.posts.audit(posted);
+        self.edits.audit(edited);
+    }
+
+    /// The books have at least what a worker has done.
+    pub(crate) fn audit_worker(&mut self, mine: &mut WorkerShare<K>)
+        ensures same { self.new ≡ self.old }
+        ensures share { mine.new ≡ mine.old }
+        ensures steps { mine.old ≤ self.old.steps }
+    {
+        self.steps.audit(&mut mine.ran);
+    }
+
+    /// The totals of all shares, which are here.
+    pub(crate) fn close(self, callers: Vec<CallerShare<K>>, workers: Vec<WorkerShare<K>>) -> Totals
+        requires few { (self.posts < 2 ^ 60) × (self.edits < 2 ^ 60) × (self.steps < 2 ^ 60) }
+        requires callers { vec_len callers ≡ self.callers }
+        requires workers { vec_len workers ≡ self.workers }
+        ensures sums { AreSums result callers.items workers.items }
+        ensures posts { result.posts ≡ self.posts }
+        ensures edits { result.edits ≡ self.edits }
+        ensures steps { result.steps ≡ self.steps }
+    {
+        let Books {
+            mut posts,
+            mut edits,
+            mut steps,
+            mut posts_left,
+            mut edits_left,
+            mut steps_left,
+            ..
+        } = self;
+        let (posts_sum, edits_sum) = gather_callers(
+            &mut posts,
+            &mut edits,
+            &mut posts_left,
+            &mut edits_left,
+            callers,
+        );
+        let steps_sum = gather_workers(&mut steps, &mut steps_left, workers);
+        posts.audit(&mut posts_left);
+        edits.audit(&mut edits_left);
+        steps.audit(&mut steps_left);
+        Totals {
+            posts: posts_sum,
+            edits: edits_sum,
+            steps: steps_sum,
+        }
+    }
+}

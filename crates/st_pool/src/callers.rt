@@ -1,0 +1,288 @@
+//! Callers: who posts and edits, by one hold of the lock a call.
+ghost use Rattle.std.specs.Prelude.{◌≡◌, ◌⊎◌, ◌+◌, ◌++◌, [], ◌∷◌, ℕ, Err, IfOk, OnOk, OnErr, is_ok};
+ghost use Rattle.std.specs.Borrow.{Bor};
+ghost use Rattle.std.specs.Fn.{FnOnceReturnsAt};
+ghost use Rattle.st_classes.specs.declared.refusals.Refusal.TheVariants.{NoMemory};
+ghost use Rattle.st_classes.specs.Refusals.{first_of};
+ghost use Rattle.st_image.specs.Calls.{AnswersExactly, Closes, Creates, InstallsIn, Posts, Removes};
+ghost use Rattle.st_image.specs.Images.{ImageView, world};
+ghost use Rattle.st_image.specs.Outcomes.{image_outcome};
+ghost use Rattle.st_image.specs.PostRules.{from_client};
+ghost use Rattle.st_image.specs.Stats.{installed_own, method_stats, stats_rules};
+ghost use Rattle.st_pool.specs.Books.{counted};
+ghost use Rattle.st_pool.specs.Done.{HasAtLeast, receipt};
+ghost use Rattle.st_pool.specs.Going.{Interns};
+
+use crate::naming::Naming;
+use crate::receipts::Receipt;
+use crate::shared::Shared;
+use crate::shares::CallerShare;
+use st_classes::refusals::Refusal;
+use st_classes::seq::Seq;
+use st_classes::values::{ActorId, ClassId, Selector, Values};
+use st_image::image::Image;
+use st_image::tallies::SiteStats;
+use st_mailbox::mailboxes::Mailbox;
+use st_mailbox::messages::{Message, Sender};
+use st_mailbox::ring_box::RingBox;
+use st_turn::body::Outcome;
+use std::alloc::{AllocError, Global};
+use std::marker::Model;
+use std::sync::Wait;
+
+/// Who posts and edits, by one hold of the lock a call. Contracts see what it has done: how many of its edits were accepted, and a
+/// receipt for each of its posts that was.
+///
+/// Each call answers as the image's call of its name does, in an image that has at least what this caller has done. A call that is
+/// refused leaves the caller as it was.
+#[derive(Drop)]
+pub struct Caller<'a, K: Naming, M: Mailbox> {
+    shared: &'a Shared<K, M>,
+    share: CallerShare<K>,
+}
+
+impl<'a, K: Naming, M: Mailbox> Model for Caller<'a, K, M> {
+    ghost use Rattle.st_pool.specs.Done.{Done};
+
+    ghost Value = { Done };
+
+    ghost view = { λ s. s.share };
+}
+
+/// A copy of arguments.
+fn copied(alloc: Global, args: &Values) -> Result<Values, AllocError>
+    ensures { IfOk result (λ v. v ≡ args.now) }
+{
+    Ok(Seq::from_vec(args.as_slice().to_vec(alloc)?))
+}
+
+impl<'a, K: Naming, M: Mailbox> Caller<'a, K, M> {
+    /// A caller that holds a share.
+    pub(crate) fn new(shared: &'a Shared<K, M>, share: CallerShare<K>) -> Caller<'a, K, M>
+        ensures { result ≡ share }
+    {
+        Caller { shared, share }
+    }
+
+    /// Interns a text: the answer is its number. It is refused by `BadName` where the text is no selector, and by `TooMany` names
+    /// where it is new and there are 8,192.
+    pub fn intern<R: Wait>(
+        &mut self,
+        rt: &R,
+        alloc: Global,
+        text: &[u8],
+    ) -> Result<Selector, Refusal>
+        ensures same { self.new ≡ self.old }
+        ensures answers { (i : ImageView) × (j : ImageView) × HasAtLeast K.start self.old i × Interns i text.now result j }
+    {
+        let Caller { shared, share } = self;
+        let mut office = shared.office.lock(rt);
+        office.audit(share);
+        office.intern(alloc, text)
+    }
+
+    /// Posts a message of a client, and answers the number of its turn: its place, from 1, among all that the actor's mailbox
+    /// accepted. Where it is accepted a receipt goes last; its room and its copy of the arguments are made before the lock is taken.
+    ///
+    /// It is refused, with the first that applies, by `UnknownActor`, `BadArguments`, `Old`, `Closed`, `Full` and `HistoryFull`, and
+    /// by `NoMemory` where memory ran out. One worker that waits is woken where it is accepted.
+    pub fn post<R: Wait>(
+        &mut self,
+        rt: &R,
+        alloc: Global,
+        sender: u16,
+        seq: u64,
+        actor: ActorId,
+        selector: Selector,
+        args: Values,
+    ) -> Result<u64, Refusal>
+        ensures ok { OnOk result ((place : ℕ) × (self.new ≡ record self.old { receipts = self.old.receipts ++ receipt place actor (from_client sender seq selector args) ∷ [] })) }
+        ensures err { OnErr result (self.new ≡ self.old) }
+        ensures answers { (result ≡ Err NoMemory) ⊎ ((i : ImageView) × (j : ImageView) × HasAtLeast K.start self.old i × Posts i actor (from_client sender seq selector args) result j) }
+    {
+        let Caller { shared, share } = self;
+        let CallerShare {
+            receipts,
+            posted,
+            edited,
+            ..
+        } = share;
+        let Ok(copy) = copied(alloc, &args) else {
+            return Err(Refusal::NoMemory);
+        };
+        if receipts.reserve(1).is_err() {
+            return Err(Refusal::NoMemory);
+        }
+        let (answer, place) = shared
+            .office
+            .lock(rt)
+            .post(alloc, posted, edited, sender, seq, actor, selector, args);
+        let turn = match answer {
+            Ok(turn) => turn,
+            Err(refusal) => return Err(refusal),
+        };
+        shared.moved.notify_one();
+        receipts.push_reserved(Receipt {
+            place,
+            actor,
+            message: Message {
+                sender: Sender::Client(sender),
+                seq,
+                selector,
+                args: copy,
+            },
+        });
+        Ok(turn)
+    }
+
+    /// Defines a class, and answers the version: the number of edits in the class table.
+    pub fn define<R: Wait>(
+        &mut self,
+        rt: &R,
+        alloc: Global,
+        name: &[u8],
+        parent: ClassId,
+        slots: Seq<Seq<u8>>,
+    ) -> Result<u32, Refusal>
+        ensures edits { self.new ≡ record self.old { edits = self.old.edits + counted (is_ok result) } }
+    {
+        let Caller { shared, share } = self;
+        let mut office = shared.office.lock(rt);
+        office.audit(share);
+        let answer = office.define(alloc, share, name, parent, slots);
+        drop(office);
+        shared.moved.notify_one();
+        answer
+    }
+
+    /// Compiles a method and installs it, and answers the version. A refused source may leave names (`InstallsIn`).
+    pub fn install<R: Wait>(
+        &mut self,
+        rt: &R,
+        alloc: Global,
+        class: ClassId,
+        source: &[u8],
+    ) -> Result<u32, Refusal>
+        ensures edits { self.new ≡ record self.old { edits = self.old.edits + counted (is_ok result) } }
+        ensures answers { (i : ImageView) × (j : ImageView) × HasAtLeast K.start self.old i × InstallsIn i class source.now result j }
+    {
+        let Caller { shared, share } = self;
+        let mut office = shared.office.lock(rt);
+        office.audit(share);
+        let answer = office.install(alloc, share, class, source);
+        drop(office);
+        shared.moved.notify_one();
+        answer
+    }
+
+    /// Removes a method, and answers the version.
+    pub fn remove<R: Wait>(
+        &mut self,
+        rt: &R,
+        alloc: Global,
+        class: ClassId,
+        selector: Selector,
+    ) -> Result<u32, Refusal>
+        ensures edits { self.new ≡ record self.old { edits = self.old.edits + counted (is_ok result) } }
+        ensures answers { (i : ImageView) × (j : ImageView) × HasAtLeast K.start self.old i × Removes i class selector result j }
+    {
+        let Caller { shared, share } = self;
+        let mut office = shared.office.lock(rt);
+        office.audit(share);
+        let answer = office.remove(alloc, share, class, selector);
+        drop(office);
+        shared.moved.notify_one();
+        answer
+    }
+
+    /// Makes an actor of a class, and answers its number, from 0.
+    pub fn create<R: Wait>(
+        &mut self,
+        rt: &R,
+        alloc: Global,
+        class: ClassId,
+    ) -> Result<ActorId, Refusal>
+        ensures same { self.new ≡ self.old }
+        ensures answers { (i : ImageView) × (j : ImageView) × HasAtLeast K.start self.old i × Creates i class result j }
+    {
+        let Caller { shared, share } = self;
+        let mut office = shared.office.lock(rt);
+        office.audit(share);
+        let answer = office.create(alloc, class);
+        drop(office);
+        shared.moved.notify_one();
+        answer
+    }
+
+    /// Closes a mailbox. What waits in it is still run.
+    pub fn close<R: Wait>(&mut self, rt: &R, actor: ActorId) -> Result<(), Refusal>
+        ensures same { self.new ≡ self.old }
+        ensures answers { (i : ImageView) × (j : ImageView) × HasAtLeast K.start self.old i × Closes i actor result j }
+    {
+        let Caller { shared, share } = self;
+        let mut office = shared.office.lock(rt);
+        office.audit(share);
+        let answer = office.close(actor);
+        drop(office);
+        shared.moved.notify_one();
+        answer
+    }
+
+    /// How a turn of an actor ended. It is refused by `Pending` where the turn has not ended, and by `Expired` where it is no longer
+    /// kept.
+    pub fn outcome<R: Wait>(
+        &mut self,
+        rt: &R,
+        actor: ActorId,
+        turn: u64,
+    ) -> Result<Outcome, Refusal>
+        ensures same { self.new ≡ self.old }
+        ensures answers { (i : ImageView) × HasAtLeast K.start self.old i × (result ≡ image_outcome i actor turn) }
+    {
+        let Caller { shared, share } = self;
+        let mut office = shared.office.lock(rt);
+        office.audit(share);
+        office.image().outcome(actor, turn)
+    }
+
+    /// What was counted of the sites of a method, in the order of its code.
+    pub fn stats<R: Wait>(
+        &mut self,
+        rt: &R,
+        alloc: Global,
+        class: ClassId,
+        selector: Selector,
+    ) -> Result<Vec<SiteStats>, Refusal>
+        ensures same { self.new ≡ self.old }
+        ensures answers { (i : ImageView) × HasAtLeast K.start self.old i × AnswersExactly (first_of (stats_rules i class selector)) result (λ list. list.items ≡ method_stats i (installed_own (world i).edits class selector)) }
+    {
+        let Caller { shared, share } = self;
+        let mut office = shared.office.lock(rt);
+        office.audit(share);
+        office.image().stats(alloc, class, selector)
+    }
+
+    /// What this caller has done: its share, for `settle`. No memory is taken, and nothing is waited for.
+    pub fn end(self) -> CallerShare<K>
+        ensures { result ≡ self.entry }
+    {
+        let Caller { share, .. } = self;
+        share
+    }
+}
+
+// The bound on a reader must name the image's type whole, so the mailbox is no parameter here.
+impl<'a, K: Naming> Caller<'a, K, RingBox> {
+    /// Lends the image for reading, and answers what the reader gives. The image is lawful and has at least what this caller has done.
+    /// The lock is held as long as the reader runs.
+    pub fn look<R: Wait, T, F: FnOnce(&Image<RingBox>) -> T>(&mut self, rt: &R, f: F) -> T
+        requires { (i : Bor ImageView) → HasAtLeast K.start self.old i.now → F.pre f i }
+        ensures same { self.new ≡ self.old }
+        ensures looks { (i : ImageView) × HasAtLeast K.start self.old i × FnOnceReturnsAt F.FnOnce f i result }
+    {
+        let Caller { shared, share } = self;
+        let mut office = shared.office.lock(rt);
+        office.audit(share);
+        f(office.image())
+    }
+}

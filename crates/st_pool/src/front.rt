@@ -1,0 +1,218 @@
+//! The images that were seen under the lock, as far as each thread knows them.
+//!
+//! The list stands in proofs alone. At run time it is one number under the lock, its length, and one in each claim and each worker:
+//! the length of the beginning that is known there. So that the edits of a claim begin those of the present class table is known by
+//! comparing two numbers, and not two lists of edits.
+ghost use Rattle.std.specs.Prelude.{◌≡◌, ◌+◌, ◌<◌, ◌≤◌, ◌^◌, ◌++◌, ◌∷◌, [], length, true, MatchBool};
+ghost use mathlib.Core.List.{IsPrefix};
+ghost use Rattle.std.specs.Option.{option_copied};
+ghost use Rattle.st_pool.specs.Seen.{Along, MayFollow, Precedes, head_of};
+
+use crate::naming::Naming;
+use logbook::{Gain, Offer, Plain, Play, Rule, Seen, Start, Word};
+use st_image::image::Image;
+use st_mailbox::list_box::ListBox;
+use st_mailbox::mailboxes::Mailbox;
+use std::marker::{Model, PhantomData};
+
+/// What stands for an image in the list: contracts see images of every kind of mailbox alike.
+type Shot = Image<ListBox>;
+
+/// The rule of the list.
+pub struct Law;
+
+impl Rule<Shot, u64> for Law {
+    ghost use Rattle.std.specs.Prelude.{[]};
+    ghost use base.Fml.{ftrue};
+    ghost use Rattle.st_pool.specs.Seen.{IsKept};
+
+    ghost holds = { λ cells log. IsKept cells log };
+
+    ghost first = { [] };
+
+    ghost hinted = { λ n log. Unit {0} };
+
+    ghost shows = { λ log. [] };
+
+    ghost keeps = { λ names log. ftrue };
+
+    ghost moves = { λ ask before after answer. Unit {0} };
+}
+
+/// Threads trade nothing.
+pub struct Nothing;
+
+impl Gain<Shot, u64> for Nothing {
+    ghost use base.Fml.{ftrue};
+
+    ghost after = { λ names about answer. ftrue };
+}
+
+/// A step that adds an image.
+pub struct Add;
+
+impl Play<Shot, u64> for Add {
+    ghost use Rattle.st_pool.specs.Seen.{Adds};
+
+    ghost then = { Adds };
+}
+
+impl<M: Mailbox> Plain<Image<M>, Shot, u64> for Add {
+    ghost use Rattle.std.specs.Prelude.{None};
+
+    ghost ask = { λ image. image };
+
+    ghost state = { λ image. None };
+}
+
+/// No images yet, and no name.
+pub struct Opened {
+    head: Word<Shot, u64, Law>,
+    pub seen: Seen<Shot, u64, Law>,
+    pub ghost empty: { seen.log ≡ [] },
+    pub ghost head_is: { head ≡ head_of seen.book },
+}
+
+impl Opened {
+    /// A list of no images.
+    pub fn new() -> Opened {
+        let (seen, mut first, _second) = Seen::open(Start::alone(), 0, 0);
+        Opened {
+            head: Word::tracked(0, &mut first),
+            seen,
+        }
+    }
+
+    /// The word under a name, and the front that has seen nothing.
+    pub(crate) fn named<K: Naming>(self) -> (Head<K>, Front<K>)
+        requires { self.seen.book ≡ K.book }
+        ensures { result.1 ≡ [] }
+    {
+        let Opened { head, seen } = self;
+        (
+            Head {
+                head,
+                of: PhantomData,
+            },
+            Front {
+                count: 0,
+                seen,
+                of: PhantomData,
+            },
+        )
+    }
+}
+
+/// The word that lies under the lock: how many images there are.
+#[derive(Drop)]
+pub struct Head<K: Naming> {
+    head: Word<Shot, u64, Law>,
+    of: PhantomData<K>,
+    ghost head_is: { head ≡ head_of K.book },
+}
+
+/// A beginning of the images that was seen. Contracts see it as these images.
+#[derive(Drop)]
+pub struct Front<K: Naming> {
+    count: u64,
+    seen: Seen<Shot, u64, Law>,
+    of: PhantomData<K>,
+}
+
+impl<K: Naming> Model for Front<K> {
+    ghost use Rattle.std.specs.Prelude.{◌≡◌, List, length};
+    ghost use Rattle.st_image.specs.Images.{ImageView};
+    ghost use Rattle.st_pool.specs.Seen.{Along};
+
+    ghost Value = { List ImageView };
+
+    ghost view = { λ f. f.seen.log };
+
+    ghost invariant = { λ f. (f.count ≡ length f.seen.log) × (f.seen.book ≡ K.book) × Along f.seen.log };
+}
+
+impl<K: Naming> Front<K> {
+    /// A copy.
+    pub(crate) fn again(&self) -> Front<K>
+        ensures { result ≡ self.now }
+    {
+        Front {
+            count: self.count,
+            seen: self.seen.again(),
+            of: PhantomData,
+        }
+    }
+
+    /// The images of a front begin those of one that has no fewer.
+    fn compare(&self, other: &Front<K>)
+        requires { length self.now ≤ length other.now }
+        ensures prefix { IsPrefix self.now other.now }
+        ensures along { Along other.now }
+    {
+        let mut both = self.seen.again();
+        both.learn(&other.seen);
+    }
+
+    /// Whether there are no more images than another front has; then they begin those.
+    pub(crate) fn begins(&self, other: &Front<K>) -> bool
+        ensures prefix { result ≡ true → IsPrefix self.now other.now }
+        ensures along { result ≡ true → Along other.now }
+    {
+        if self.len() > other.len() {
+            return false;
+        }
+        self.compare(other);
+        true
+    }
+
+    /// Adds an image to all that was seen, and says whether it did. It did not where there are more.
+    pub(crate) fn add<M: Mailbox>(&mut self, head: &Head<K>, image: &Image<M>) -> bool
+        requires room { length self.old < 2 ^ 62 }
+        requires follows { MayFollow self.old image.now }
+        ensures { result ≡ true → self.new ≡ self.old ++ image.now ∷ [] }
+    {
+        let mut offer: Offer<Shot, u64, Law, Nothing> = self
+            .seen
+            .plain::<Nothing, Image<M>, Add>(image);
+        let mut pen = self.seen.no_pen();
+        let count = self.count;
+        let found = head
+            .head
+            .compare_exchange::<Add, Nothing>(
+                count,
+                count + 1,
+                &mut self.seen,
+                &mut offer,
+                &mut pen,
+            );
+        self.count = if found == count { count + 1 } else { found };
+        found == count
+    }
+
+    /// How many images there are.
+    pub(crate) fn len(&self) -> u64
+        ensures { result ≡ length self.now }
+    {
+        self.count
+    }
+}
+
+/// Whether of two fronts that are there the first begins the second.
+pub(crate) fn precedes<K: Naming>(first: &Option<Front<K>>, later: &Option<Front<K>>) -> bool
+    ensures { result ≡ true → Precedes first.now later.now }
+{
+    match (first, later) {
+        (Some(first), Some(later)) => first.begins(later),
+        _ => false,
+    }
+}
+
+/// A copy of a front, where there is one.
+pub(crate) fn again<K: Naming>(front: &Option<Front<K>>) -> Option<Front<K>>
+    ensures { result ≡ front.now }
+{
+    match front {
+        Some(front) => Some(front.again()),
+        None => None,
+    }
+}

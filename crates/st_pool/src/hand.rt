@@ -1,0 +1,81 @@
+//! A worker of a pool: one that knows an image whose edits its caches follow.
+ghost use Rattle.std.specs.Prelude.{◌≡◌, true};
+ghost use Rattle.std.specs.Option.{IfSome};
+ghost use Rattle.st_classes.specs.EditLists.{Begins};
+ghost use Rattle.st_guard.specs.Moves.{CachesView};
+ghost use Rattle.st_turn.specs.WorkerSteps.{HasMoved, Runs, StandsAt};
+
+use crate::front::{Front, again, precedes};
+use crate::held::Held;
+use crate::naming::Naming;
+use st_guard::guard::Guard;
+use st_turn::body::Stop;
+use st_turn::claim::Claim;
+use st_turn::worker::Worker;
+use std::alloc::{AllocError, Global};
+use std::marker::Model;
+
+/// A worker, and the images that were seen up to one at whose class table its caches stand, where they are known. Contracts see
+/// its caches.
+#[derive(Drop)]
+pub struct Hand<K: Naming, G: Guard> {
+    worker: Worker<G>,
+    seen: Option<Front<K>>,
+}
+
+impl<K: Naming, G: Guard> Model for Hand<K, G> {
+    ghost use Rattle.std.specs.Option.{IfSome};
+    ghost use Rattle.st_guard.specs.Moves.{CachesView};
+    ghost use Rattle.st_pool.specs.Seen.{Follows};
+
+    ghost Value = { CachesView G };
+
+    ghost view = { λ h. h.worker };
+
+    ghost invariant = { λ h. IfSome h.seen (λ l. Follows l h.worker) };
+}
+
+/// Takes steps of a claim. No edits are compared where what the caches keep is known to begin the claim's.
+fn run_with<G: Guard>(
+    worker: &mut Worker<G>,
+    alloc: Global,
+    claim: &mut Claim,
+    limit: u32,
+    is_known: bool,
+) -> Result<Stop, AllocError>
+    requires { is_known ≡ true → IfSome worker.old.kept (λ k. Begins k claim.old.edits) }
+    ensures runs { (moved : CachesView G) × HasMoved G.count G.floor G.raises worker.old moved claim.old.edits × Runs G.floor limit moved claim.old result worker.new claim.new }
+    ensures stands { StandsAt G.count G.floor worker.new claim.new.edits }
+    ensures edits { claim.new.edits ≡ claim.old.edits }
+{
+    if is_known {
+        return worker.run_known(alloc, claim, limit);
+    }
+    worker.run(alloc, claim, limit)
+}
+
+impl<K: Naming, G: Guard> Hand<K, G> {
+    /// A worker with any caches.
+    pub fn new(worker: Worker<G>) -> Hand<K, G>
+        ensures { result ≡ worker }
+    {
+        Hand { worker, seen: None }
+    }
+
+    /// Takes steps of a claim, as `Worker::run`. Where it ran a claim of the same pool before, no edits are compared.
+    pub fn run(&mut self, alloc: Global, held: &mut Held<K>, limit: u32) -> Result<Stop, AllocError>
+        ensures runs { (moved : CachesView G) × HasMoved G.count G.floor G.raises self.old moved held.old.edits × Runs G.floor limit moved held.old result self.new held.new }
+        ensures stands { StandsAt G.count G.floor self.new held.new.edits }
+        ensures edits { held.new.edits ≡ held.old.edits }
+    {
+        let Hand { worker, seen } = self;
+        let Held {
+            claim,
+            seen: at_checkout,
+        } = held;
+        let is_known = precedes(seen, at_checkout);
+        let stop = run_with(worker, alloc, claim, limit, is_known);
+        *seen = again(at_checkout);
+        stop
+    }
+}

@@ -1,0 +1,35 @@
+//! A claim of a pool: one that knows the image of its checkout.
+use crate::front::Front;
+use crate::naming::Naming;
+use st_turn::claim::Claim;
+use std::marker::Model;
+
+/// A claim, and the images that were seen up to that of its checkout, where they are known. Contracts see the claim.
+#[derive(Drop)]
+pub struct Held<K: Naming> {
+    pub(crate) claim: Claim,
+    pub(crate) seen: Option<Front<K>>,
+}
+
+impl<K: Naming> Model for Held<K> {
+    ghost use Rattle.std.specs.Option.{IfSome};
+    ghost use Rattle.st_turn.specs.Claims.{ClaimView};
+    ghost use Rattle.st_pool.specs.Seen.{Fits};
+
+    ghost Value = { ClaimView };
+
+    ghost view = { λ h. h.claim };
+
+    ghost invariant = { λ h. IfSome h.seen (λ l. Fits l h.claim) };
+}
+
+impl<K: Naming> Held<K> {
+    ghost use Rattle.std.specs.Prelude.{◌≡◌};
+
+    /// The claim.
+    pub fn claim(&self) -> &Claim
+        ensures { result.now ≡ self.now }
+    {
+        &self.claim
+    }
+}

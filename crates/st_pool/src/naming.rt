@@ -1,0 +1,65 @@
+//! Which ledgers and which list of images a pool has.
+use std::marker::{Brand, PhantomData};
+use std::sync::ledger::Ledger;
+
+/// What names a pool in proofs: its three ledgers, the place in the history from which on they count, and the book of the images that
+/// were seen. A call of a generic function picks them, so `Brand` is what a program passes.
+pub trait Naming {
+    ghost use Rattle.std.specs.Prelude.{ℕ};
+    ghost use Rattle.logbook.specs.Pages.{Book};
+
+    ghost posts: { ℕ };
+
+    ghost edits: { ℕ };
+
+    ghost steps: { ℕ };
+
+    ghost start: { ℕ };
+
+    ghost book: { Book };
+}
+
+impl Naming for Brand {
+    ghost posts = { 0 };
+
+    ghost edits = { 0 };
+
+    ghost steps = { 0 };
+
+    ghost start = { 0 };
+
+    ghost book = { record { number = 0; log_name = 0; cells_name = 0 } };
+}
+
+/// The ledger of accepted posts.
+pub struct Posts<K: Naming> {
+    of: PhantomData<K>,
+}
+
+impl<K: Naming> Ledger for Posts<K> {
+    ghost name = { K.posts };
+
+    ghost parts = { 4294967296 };
+}
+
+/// The ledger of accepted edits.
+pub struct Edits<K: Naming> {
+    of: PhantomData<K>,
+}
+
+impl<K: Naming> Ledger for Edits<K> {
+    ghost name = { K.edits };
+
+    ghost parts = { 4294967296 };
+}
+
+/// The ledger of committed steps.
+pub struct Steps<K: Naming> {
+    of: PhantomData<K>,
+}
+
+impl<K: Naming> Ledger for Steps<K> {
+    ghost name = { K.steps };
+
+    ghost parts = { 4294967296 };
+}

@@ -1,0 +1,56 @@
+//! What threads share: an image behind one lock, its books, and a sign that something has moved.
+ghost use Rattle.std.specs.Prelude.{◌≡◌, length, IfErr, IfOk};
+ghost use Rattle.st_classes.specs.declared.refusals.Refusal.TheVariants as refusals;
+ghost use Rattle.st_classes.specs.declared.refusals.Limited.TheVariants as limits;
+ghost use Rattle.st_pool.specs.Done.{nothing_done};
+
+use crate::books::Blanks;
+use crate::callers::Caller;
+use crate::front::Opened;
+use crate::naming::Naming;
+use crate::office::Office;
+use st_classes::refusals::Refusal;
+use st_image::image::Image;
+use st_mailbox::mailboxes::Mailbox;
+use std::alloc::Global;
+use std::sync::{Condvar, Mutex, Wait};
+
+/// An image that threads share, with books of what they do to it. Each call takes the lock once.
+#[derive(Drop)]
+pub struct Shared<K: Naming, M: Mailbox> {
+    pub(crate) office: Mutex<Office<K, M>>,
+    pub(crate) moved: Condvar,
+}
+
+impl<K: Naming, M: Mailbox> Shared<K, M> {
+    /// An image whose books are empty: they count from the end of its history on. The blanks and what was opened give the pool its
+    /// name `K`.
+    pub fn new(image: Image<M>, blanks: Blanks, opened: Opened) -> Shared<K, M>
+        requires posts { blanks.posts.name ≡ K.posts }
+        requires edits { blanks.edits.name ≡ K.edits }
+        requires steps { blanks.steps.name ≡ K.steps }
+        requires book { opened.seen.book ≡ K.book }
+        requires start { K.start ≡ length image.history }
+    {
+        Shared {
+            office: Mutex::new(Office::new(image, blanks, opened)),
+            moved: Condvar::new(),
+        }
+    }
+
+    /// A caller more, which has done nothing. It is refused (`TooMany` sessions) where 4,294,967,295 callers were given out, and
+    /// then nothing has changed.
+    pub fn caller<R: Wait>(&self, rt: &R, alloc: Global) -> Result<Caller<'_, K, M>, Refusal>
+        ensures new { IfOk result (λ c. c ≡ nothing_done) }
+        ensures refused { IfErr result (λ e. e ≡ refusals.TooMany limits.Sessions) }
+    {
+        let share = self.office.lock(rt).give(alloc)?;
+        Ok(Caller::new(self, share))
+    }
+
+    /// Tells the workers to end, each when its quantum is over. Those that wait are woken.
+    pub fn stop<R: Wait>(&self, rt: &R) {
+        self.office.lock(rt).stop();
+        self.moved.notify_all();
+    }
+}

@@ -1,0 +1,137 @@
+//! Workers: who lets ready actors take their quanta.
+//!
+//! A worker holds the lock twice for a quantum: to find the next ready actor and check it out, and to commit. Between them it takes
+//! the steps on its own claim, with its own caches, and holds no lock.
+ghost use Rattle.std.specs.Prelude.{◌≡◌, IfErr};
+ghost use Rattle.st_classes.specs.declared.refusals.Refusal.TheVariants as refusals;
+ghost use Rattle.st_classes.specs.declared.refusals.Limited.TheVariants as limits;
+
+use crate::hand::Hand;
+use crate::held::Held;
+use crate::naming::Naming;
+use crate::office::Work;
+use crate::shared::Shared;
+use crate::shares::WorkerShare;
+use st_classes::refusals::Refusal;
+use st_guard::guard::Guard;
+use st_mailbox::mailboxes::Mailbox;
+use st_turn::claim::Claim;
+use st_turn::worker::Worker;
+use std::alloc::Global;
+use std::sync::Wait;
+
+/// What a worker calls round each of its quanta, while it does not hold the lock.
+pub trait Gate {
+    /// After the checkout, before the first step. The worker is named by the number that its loop was given.
+    fn before(&mut self, worker: u32, claim: &Claim);
+
+    /// After the commit was answered.
+    fn after(&mut self, worker: u32);
+}
+
+/// A gate that does nothing.
+#[derive(Drop)]
+pub struct OpenGate;
+
+impl Gate for OpenGate {
+    fn before(&mut self, _worker: u32, _claim: &Claim) {}
+
+    fn after(&mut self, _worker: u32) {}
+}
+
+/// Waits until something has moved, or the workers are to end.
+fn wait_past<K: Naming, M: Mailbox, R: Wait>(rt: &R, shared: &Shared<K, M>, seen: u64) {
+    let _guard = shared
+        .moved
+        .wait_while(rt, shared.office.lock(rt), |office| office.rests(seen));
+}
+
+/// What a worker does next.
+fn next_work<K: Naming, M: Mailbox, R: Wait>(
+    rt: &R,
+    alloc: Global,
+    shared: &Shared<K, M>,
+    share: &mut WorkerShare<K>,
+) -> Work<K> {
+    shared.office.lock(rt).work(alloc, share)
+}
+
+/// Commits the steps of a quantum, and answers after how many moves the worker is to wait: `None` where it goes on at once. A commit
+/// readies at most one actor more than this worker can take next, so one other worker is woken.
+fn commit<K: Naming, M: Mailbox, R: Wait>(
+    rt: &R,
+    alloc: Global,
+    shared: &Shared<K, M>,
+    share: &mut WorkerShare<K>,
+    held: Held<K>,
+    is_starved: bool,
+) -> Option<u64> {
+    let mut office = shared.office.lock(rt);
+    let answer = office.commit(alloc, share, held);
+    let moves = office.moves();
+    drop(office);
+    match answer {
+        Ok(_) => {
+            shared.moved.notify_one();
+            is_starved.then_some(moves)
+        }
+        Err(Refusal::HistoryFull) | Err(Refusal::NoMemory) => Some(moves),
+        Err(_) => None,
+    }
+}
+
+/// Lets a claim take its quantum, and answers after how many moves the worker is to wait.
+fn take_quantum<G: Guard, K: Naming, M: Mailbox, T: Gate, R: Wait>(
+    rt: &R,
+    alloc: Global,
+    shared: &Shared<K, M>,
+    share: &mut WorkerShare<K>,
+    hand: &mut Hand<K, G>,
+    mut held: Held<K>,
+    quantum: u32,
+    number: u32,
+    gate: &mut T,
+) -> Option<u64> {
+    gate.before(number, held.claim());
+    let is_starved = hand.run(alloc, &mut held, quantum).is_err();
+    let waits = commit(rt, alloc, shared, share, held, is_starved);
+    gate.after(number);
+    waits
+}
+
+/// Lets ready actors take quanta of at most so many steps, from 1 to 1,024, until the workers are told to stop. The quantum that a
+/// worker is in is committed first. The answer is the worker's share: the steps that it committed.
+///
+/// It is refused (`TooMany` sessions) where 4,294,967,295 workers were given out; then no actor has been checked out.
+///
+/// A claim that is refused by `Stale` or `Changed` is dropped, and the worker goes on. Where nothing is ready, where memory ran out
+/// or where the history is full, it sleeps until a call of a caller, a commit with steps, or the stop.
+pub fn worker_loop<G: Guard, K: Naming, M: Mailbox, T: Gate, R: Wait>(
+    rt: &R,
+    alloc: Global,
+    shared: &Shared<K, M>,
+    number: u32,
+    worker: Worker<G>,
+    gate: &mut T,
+    quantum: u32,
+) -> Result<WorkerShare<K>, Refusal>
+    ensures refused { IfErr result (λ e. e ≡ refusals.TooMany limits.Sessions) }
+{
+    let mut share = shared.office.lock(rt).employ()?;
+    let mut hand = Hand::new(worker);
+    for _ in rt.forever() {
+        match next_work(rt, alloc, shared, &mut share) {
+            Work::Stop => break,
+            Work::Wait(seen) => wait_past(rt, shared, seen),
+            Work::Turn(held) => {
+                let waits = take_quantum(
+                    rt, alloc, shared, &mut share, &mut hand, held, quantum, number, gate,
+                );
+                if let Some(seen) = waits {
+                    wait_past(rt, shared, seen);
+                }
+            }
+        }
+    }
+    Ok(share)
+}

@@ -20,6 +20,8 @@ STARTS = {
 
 # So long a program may take to end when it was told to.
 SECONDS_TO_END = 5
+# The signals that end the workspace, and the program with it.
+ENDING = (signal.SIGINT, signal.SIGTERM, signal.SIGHUP)
 
 
 class Connection:
@@ -28,17 +30,29 @@ class Connection:
 
     def __init__(self, program, options):
         self.program = program
+        self.process = None
         try:
-            self.process = subprocess.Popen(
-                [program, "script", *options], stdin=subprocess.PIPE, stdout=subprocess.PIPE, start_new_session=True
-            )
-        except OSError as error:
-            raise Ended(f"{program} cannot be started ({error.strerror}); {HOW_BUILT}") from None
-        try:
+            self.start([program, "script", *options])
             self.greet()
         except BaseException:
             self.end()
             raise
+
+    def start(self, command):
+        """Starts the program. A signal waits meanwhile: else what has just been started could not be ended."""
+        held = signal.pthread_sigmask(signal.SIG_BLOCK, ENDING)
+        try:
+            self.process = subprocess.Popen(
+                command,
+                stdin=subprocess.PIPE,
+                stdout=subprocess.PIPE,
+                start_new_session=True,
+                preexec_fn=lambda: signal.pthread_sigmask(signal.SIG_SETMASK, held),
+            )
+        except OSError as error:
+            raise Ended(f"{self.program} cannot be started ({error.strerror}); {HOW_BUILT}") from None
+        finally:
+            signal.pthread_sigmask(signal.SIG_SETMASK, held)
 
     def greet(self):
         """Waits until the program replies, which takes long where it is built first."""
@@ -80,7 +94,7 @@ class Connection:
 
     def end(self):
         """Ends the program where it has not ended, with all that it started."""
-        if self.process.poll() is not None:
+        if self.process is None or self.process.poll() is not None:
             return
         os.killpg(self.process.pid, signal.SIGTERM)
         try:

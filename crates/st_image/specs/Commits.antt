@@ -96,7 +96,7 @@ abbrev pub act_site : ClaimView → Option SiteId
 act_site c =
     if stands_before_act c then option_and_then (λ (q : Asked). q.site) (asked c.edits c.after) else None
 
--- a claim survives where no edit since touched a selector that its steps used
+-- a claim survives where its edits begin those of the class table, and no edit since touched a selector that its steps used
 abbrev pub Survives : ImageView → ClaimView → Type 0
 Survives i c = SurvivesAt (world i).edits c
 

@@ -16,7 +16,7 @@ IsLost i c result j = (result ≡ Err (Changed, None)) × IsReleased i c.actor j
 -- A commit that is not refused found its actor with the body that the claim began with, and leaves it with the one to
 -- which the claim's steps lead, where no step of the image follows these. A claim that survives has taken steps of the
 -- present class table, though it took them at an earlier one; where its actor has another body it is lost. So of two claims on
--- one body only one counts, where it changed the body: the other is lost.
+-- one body only one counts, where it changed the body: the other is lost, or stale before that.
 pub record CountsOnItsBody : Type 0 where
   pub before : (i j : ImageView) (c : ClaimView) (n : ℕ) → Commits i c (Ok n) j → body_at i c.actor ≡ Some c.before
   pub after : (i j : ImageView) (c : ClaimView) (n : ℕ) →

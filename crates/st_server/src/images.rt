@@ -1,5 +1,5 @@
-//! The image that the program runs, and the worker that takes its actors' steps: here alone it is said which mailboxes and which guard
-//! they have.
+//! The image that the program runs, and the worker that takes its actors' steps: it is here that the program says which mailboxes and
+//! which guard they have.
 use st_guard::switch_guard::SwitchGuard;
 use st_mailbox::ring_box::RingBox;
 

@@ -4,7 +4,8 @@
 //! by the plain walk of a class table, the one that `specs/Steps.antt` defines, and a body that fits a table still fits it.
 //!
 //! A [`claim::Claim`] is a row of such steps that was taken apart from the image, and is sound by its type. A [`worker::Worker`] takes
-//! the steps of claims: it looks messages up in its caches, and the claim tells how each send was found.
+//! the steps of claims: it looks messages up in its caches, and the claim tells how each send was found. A claim
+//! [survives](claim::Claim::survives) the edits of selectors that its steps did not use: [`surviving`] has the law.
 #![tactic(auto)]
 
 pub mod acts;

@@ -183,9 +183,9 @@ impl<M: Mailbox> Image<M> {
     /// The steps of a claim become the actor's, and enter the history as one item; no item is added for no steps. Where the claim
     /// stands before a step that the image takes, that is taken too. The answer is how many steps that were.
     ///
-    /// Refusals, in this order: `Stale` where an edit since the checkout touched a selector that the steps used: that of the first
-    /// message, if it was dispatched, or of a send, super sends among them; `Changed` where the actor is not
-    /// there or has another body than the claim began with; either spends the claim. Then `HistoryFull`. Memory can run out only
+    /// Refusals, in this order: `Stale` where the claim's edits do not begin those of the class table, or where an edit since the
+    /// checkout touched a selector that the steps used: that of the first message, if it was dispatched, or of a send, super sends
+    /// among them; `Changed` where the actor is not there or has another body than the claim began with; either spends the claim. Then `HistoryFull`. Memory can run out only
     /// where none of these applies. Either of the last two hands the claim back, and nothing changes.
     pub fn commit(&mut self, alloc: Global, claim: Claim) -> Result<u32, (Refusal, Option<Claim>)>
         ensures { Commits self.old claim result self.new }

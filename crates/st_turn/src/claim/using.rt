@@ -74,7 +74,7 @@ impl Claim {
     }
 
     /// Whether an edit touches a selector that the steps used.
-    pub fn is_touched_by(&self, edit: &Edit) -> bool
+    fn is_touched_by(&self, edit: &Edit) -> bool
         ensures { result ≡ touches_used self.now edit.now }
     {
         match edit {

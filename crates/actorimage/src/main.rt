@@ -3,16 +3,25 @@
 
 mod options;
 
-use crate::options::{ScriptOptions, invalid_utf8_error, parsed_options};
+use crate::options::{Request, ScriptOptions, ServeOptions, invalid_utf8_error, parsed_request};
+use boxcar::Vec as Faults;
 use clap::Error;
 use st_classes::refusals::Refusal;
 use st_server::images::Image;
 use st_server::scripts::script_on;
+use st_server::sockets::serve_on;
 use st_wire::names::refusal_name;
 use st_wire::streams::{Reader, Writer};
+use std::alloc::Global;
 use std::env;
+use std::fs::{self, Files, Permissions};
 use std::io::{self, BufWriter, ErrorKind};
+use std::net::Net;
+use std::os::unix::fs::PermissionsExt;
+use std::os::unix::net::UnixListener;
 use std::process::ExitCode;
+use std::sync::Wait;
+use std::thread::Threads;
 
 /// Runs the commands of standard input on a new image, with the replies on standard output.
 fn script<R: Input + Print + AllocGlobal>(rt: &R, options: ScriptOptions) -> Result<u64, Refusal> {
@@ -29,6 +38,60 @@ fn script<R: Input + Print + AllocGlobal>(rt: &R, options: ScriptOptions) -> Res
         Ok(_) => result,
         Err(_) => Err(Refusal::WriteFault),
     }
+}
+
+/// The rights of a socket's file: its owner reads and writes.
+const OWNER_ALONE: u32 = 0o600;
+
+/// The names of refusals, sorted.
+fn sorted_names(alloc: Global, faults: &Faults<Refusal>) -> Result<Vec<&'static str>, Refusal> {
+    let mut names = Vec::new(alloc);
+    let entries = faults.iter();
+    for (_, refusal) in entries {
+        let Ok(()) = names.push(refusal_name(*refusal)) else {
+            return Err(Refusal::NoMemory);
+        };
+    }
+    names.sort_unstable();
+    Ok(names)
+}
+
+/// Serves sessions over a socket that is there, and tells in the end what all have done together, and how sessions ended that were
+/// refused.
+fn serve_over<R: Threads + Wait + Print + Eprint + AllocGlobal + Sync>(
+    rt: &R,
+    listener: &UnixListener,
+    options: ServeOptions<'_>,
+) -> Result<(), Refusal> {
+    let alloc = rt.alloc();
+    let Ok(faults) = Faults::new(alloc) else {
+        return Err(Refusal::NoMemory);
+    };
+    let totals = serve_on(rt, alloc, listener, &faults, options.workers, options.sessions)?;
+    let names = sorted_names(alloc, &faults)?;
+    for name in &names {
+        let _ = eprintln!(rt; "session: {name}");
+    }
+    let posts = totals.posts;
+    let steps = totals.steps;
+    match println!(rt; "{{\"ok\":{{\"posts\":{posts},\"steps\":{steps}}}}}") {
+        Ok(()) => Ok(()),
+        Err(_) => Err(Refusal::WriteFault),
+    }
+}
+
+/// Serves sessions over a socket whose file it makes, for its owner alone, and takes away in the end.
+fn serve<R: Threads + Wait + Net + Files + Print + Eprint + AllocGlobal + Sync>(
+    rt: &R,
+    options: ServeOptions<'_>,
+) -> Result<(), Refusal> {
+    let Ok(listener) = UnixListener::bind(rt, options.socket) else {
+        return Err(Refusal::ReadFault);
+    };
+    let _ = fs::set_permissions(rt, options.socket, Permissions::from_mode(OWNER_ALONE));
+    let result = serve_over(rt, &listener, options);
+    let _ = fs::remove_file(rt, options.socket);
+    result
 }
 
 /// The words of the command line.
@@ -62,12 +125,16 @@ fn main(rt: HostRuntime) -> io::Result<ExitCode> {
             return Ok(show_error(&rt, error));
         }
     };
-    let options = match parsed_options(rt.alloc(), &words) {
-        Ok(options) => options,
+    let request = match parsed_request(rt.alloc(), &words) {
+        Ok(request) => request,
         Err(error) => return Ok(show_error(&rt, error)),
     };
-    match script(&rt, options) {
-        Ok(_) => Ok(ExitCode::SUCCESS),
+    let result = match request {
+        Request::Script(options) => script(&rt, options).map(|_| ()),
+        Request::Serve(options) => serve(&rt, options),
+    };
+    match result {
+        Ok(()) => Ok(ExitCode::SUCCESS),
         Err(refusal) => Ok(report_refusal(&rt, refusal)),
     }
 }

@@ -32,6 +32,24 @@ impl ScriptOptions {
     }
 }
 
+/// The options of a server that the command line gives.
+#[derive(Clone, Copy, PartialEq, Eq, Debug)]
+pub struct ServeOptions<'a> {
+    /// The path of the socket.
+    pub socket: &'a str,
+    /// From 1 to 16.
+    pub workers: u32,
+    /// From 1 to 1,000,000, where the server is to end.
+    pub sessions: Option<u32>,
+}
+
+/// What the command line asks for.
+#[derive(Clone, Copy, PartialEq, Eq, Debug)]
+pub enum Request<'a> {
+    Script(ScriptOptions),
+    Serve(ServeOptions<'a>),
+}
+
 fn script_command<'a>(alloc: Global) -> Result<Command<'a>, AllocError> {
     let quantum = Arg::new(alloc, "quantum")
         .long("quantum")
@@ -49,12 +67,37 @@ fn script_command<'a>(alloc: Global) -> Result<Command<'a>, AllocError> {
         .arg(capacity)
 }
 
+fn serve_command<'a>(alloc: Global) -> Result<Command<'a>, AllocError> {
+    let socket = Arg::new(alloc, "socket")
+        .long("socket")
+        .value_name("PATH")
+        .help("Where the Unix socket is made; nothing may be there")
+        .required(true);
+    let workers = Arg::new(alloc, "workers")
+        .long("workers")
+        .value_name("N")
+        .help("Threads that run actors, 1 to 16")
+        .value_parser(value_parser!(u32).range(1..=16))
+        .required(true);
+    let sessions = Arg::new(alloc, "sessions")
+        .long("sessions")
+        .value_name("K")
+        .help("Ends after so many sessions, 1 to 1000000, and tells what they did together")
+        .value_parser(value_parser!(u32).range(1..=1_000_000));
+    Command::new(alloc, "serve")
+        .about("Serves one image to sessions over a Unix socket")
+        .arg(socket)?
+        .arg(workers)?
+        .arg(sessions)
+}
+
 fn program<'a>(alloc: Global) -> Result<Command<'a>, AllocError> {
     Command::new(alloc, "actorimage")
         .about("A live-editable Smalltalk image of actors")
         .subcommand_required(true)
         .arg_required_else_help(true)
-        .subcommand(script_command(alloc)?)
+        .subcommand(script_command(alloc)?)?
+        .subcommand(serve_command(alloc)?)
 }
 
 fn script_options(matches: &ArgMatches<'_>) -> ScriptOptions {
@@ -64,13 +107,26 @@ fn script_options(matches: &ArgMatches<'_>) -> ScriptOptions {
     }
 }
 
-/// The options that the words of a command line give, or the error or the help to show.
-pub fn parsed_options<'a>(alloc: Global, words: &'a [String]) -> Result<ScriptOptions, Error> {
+fn serve_options<'a>(matches: &ArgMatches<'a>) -> ServeOptions<'a> {
+    ServeOptions {
+        socket: matches.get_str("socket").unwrap_or(""),
+        workers: matches.get_one::<u32>("workers").unwrap_or(1),
+        sessions: matches.get_one::<u32>("sessions"),
+    }
+}
+
+/// What the words of a command line ask for, or the error or the help to show.
+pub fn parsed_request<'a>(alloc: Global, words: &'a [String]) -> Result<Request<'a>, Error> {
     let matches = program(alloc)?.try_get_matches_from(words)?;
-    Ok(match matches.subcommand_matches("script") {
-        Some(script) => script_options(script),
-        None => ScriptOptions::NONE,
-    })
+    if let Some(serve) = matches.subcommand_matches("serve") {
+        return Ok(Request::Serve(serve_options(serve)));
+    }
+    Ok(Request::Script(
+        match matches.subcommand_matches("script") {
+            Some(script) => script_options(script),
+            None => ScriptOptions::NONE,
+        },
+    ))
 }
 
 /// The error to show if a word of the command line is not UTF-8.

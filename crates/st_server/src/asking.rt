@@ -146,7 +146,7 @@ fn post(
     }
 }
 
-fn outcome(alloc: Global, image: &Image, actor: ActorId, turn: u64) -> Reply
+pub(crate) fn outcome(alloc: Global, image: &Image, actor: ActorId, turn: u64) -> Reply
     ensures { Tells image.now (image_outcome image.now actor turn) result }
 {
     match image.outcome(actor, turn) {

@@ -5,12 +5,15 @@
 #![tactic(auto)]
 
 mod asking;
+pub mod attending;
 pub mod images;
+mod pool_asking;
 mod quantum;
 mod resolving;
 pub mod runner;
 pub mod scripts;
 mod serving;
 pub mod settings;
+pub mod sockets;
 mod stating;
 pub mod totals;

@@ -38,7 +38,7 @@ impl Model for Runner {
 }
 
 /// A worker whose caches are new.
-fn new_worker(alloc: Global) -> Result<Worker, AllocError>
+pub(crate) fn new_worker(alloc: Global) -> Result<Worker, AllocError>
     ensures { IfOk result AreNew }
 {
     let caches = Caches::new(alloc, Guard::new(alloc))?;

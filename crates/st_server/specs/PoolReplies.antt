@@ -1,0 +1,121 @@
+-- Which reply a session over a pool may give to a command, and what the session has done then. Each hold of the lock finds an image of
+-- its own, and between two holds others may have had theirs.
+use Rattle.std.specs.Prelude.{◌≡◌, ◌⊎◌, ℕ, ◌+◌, ◌++◌, List, [], ◌∷◌, Option, Result, Ok, Err, MatchOption, MatchResult}
+use Rattle.st_classes.specs.declared.values.ActorId.{ActorId}
+use Rattle.st_classes.specs.declared.values.ClassId.{ClassId}
+use Rattle.st_classes.specs.declared.values.Selector.{Selector}
+use Rattle.st_classes.specs.declared.values.Value.{Value}
+use Rattle.st_classes.specs.declared.values.Value.TheVariants as value
+use Rattle.st_classes.specs.declared.refusals.Refusal.{Refusal}
+use Rattle.st_classes.specs.declared.refusals.Refusal.TheVariants.{NoMemory, UnknownClass, BadCommand}
+use Rattle.st_classes.specs.Classes.{class_named}
+use Rattle.st_mailbox.specs.declared.messages.Message.{Message}
+use Rattle.st_image.specs.Calls.{Closes, Creates, InstallsIn, Posts, Removes}
+use Rattle.st_image.specs.Images.{ImageView, world}
+use Rattle.st_image.specs.Outcomes.{image_outcome}
+use Rattle.st_image.specs.PostRules.{from_client}
+use Rattle.st_pool.specs.Done.{Done, HasAtLeast, receipt}
+use Rattle.st_pool.specs.Going.{Interns}
+use Rattle.st_wire.specs.declared.commands.Argument.{Argument}
+use Rattle.st_wire.specs.declared.commands.Argument.TheVariants as argument
+use Rattle.st_wire.specs.declared.commands.Command.{Command}
+use Rattle.st_wire.specs.declared.commands.Command.TheVariants as command
+use Rattle.st_wire.specs.declared.replies.Reply.{Reply}
+use Rattle.st_wire.specs.declared.replies.Reply.TheVariants as reply
+use Rattle.st_server.specs.ArgumentValues.{class_value, found_selector, with_first}
+use Rattle.st_server.specs.CommandReplies.{States, Tells, reply_by}
+
+-- a hold finds such an image: it is lawful, and has at least what the session has done
+abbrev pub Finds : ℕ → Done → (ImageView → Type 0) → Type 0
+Finds start d P = (i : ImageView) × HasAtLeast start d i × P i
+
+-- a call in one hold
+abbrev pub CallsOnce : {T : Type 0} → ℕ → Done → (ImageView → Result T Refusal → ImageView → Type 0) → Result T Refusal → Type 0
+CallsOnce start d Calls result = Finds start d (λ i. (j : ImageView) × Calls i result j)
+
+-- a step whose value the next one goes on with; a refusal is the answer
+abbrev pub GoesOn : {T U : Type 0} → (Result T Refusal → Type 0) → (T → Result U Refusal → Type 0) → Result U Refusal → Type 0
+GoesOn {T} {U} First Next result = (first : Result T Refusal) × First first × MatchResult first
+    (λ v. Next v result)
+    (λ e. result ≡ Err e)
+
+-- the class that a text names in one hold
+abbrev pub ClassNamed : ℕ → Done → List ℕ → Option ClassId → Type 0
+ClassNamed start d text named = Finds start d (λ i. named ≡ class_named (world i).edits text)
+
+-- the reply to a call on the class that a text names
+abbrev pub RepliesOn : {T : Type 0} → ℕ → Done → List ℕ → (T → Reply) → (ClassId → Result T Refusal → Type 0) → Reply → Type 0
+RepliesOn {T} start d text told Calls r = (named : Option ClassId) × ClassNamed start d text named × MatchOption named
+    (r ≡ reply.Refused UnknownClass)
+    (λ c. (result : Result T Refusal) × Calls c result × (r ≡ reply_by told result))
+
+-- what a session has done after the reply to an edit
+abbrev pub after_edit : Done → Reply → Done
+after_edit d (reply.Version n) = record d { edits = d.edits + 1 }
+after_edit d r = d
+
+-- the class's own method for the selector that a text names is removed
+abbrev pub RemovesText : ℕ → Done → List ℕ → ClassId → Result ℕ Refusal → Type 0
+RemovesText start d text c = GoesOn
+    (λ found. Finds start d (λ i. found ≡ found_selector i.names text))
+    (λ s. CallsOnce start d (λ i. Removes i c s))
+
+-- ---- a post: its selector and its arguments are resolved from the left, and then it is posted
+
+-- the value of a symbol that was interned
+abbrev pub symbol_value : Result Selector Refusal → Result Value Refusal
+symbol_value (Ok s) = Ok (value.Sym s)
+symbol_value (Err e) = Err e
+
+-- an argument has a value, or a refusal
+abbrev pub HasValue : ℕ → Done → Argument → Result Value Refusal → Type 0
+HasValue start d (argument.Int z) r = r ≡ Ok (value.Int z)
+HasValue start d (argument.Bool b) r = r ≡ Ok (value.Bool b)
+HasValue start d argument.Nil r = r ≡ Ok value.Nil
+HasValue start d (argument.Symbol text) r = (s : Result Selector Refusal) × CallsOnce start d (λ i. Interns i text) s × (r ≡ symbol_value s)
+HasValue start d (argument.Class text) r = (named : Option ClassId) × ClassNamed start d text named × (r ≡ class_value named)
+HasValue start d (argument.Actor a) r = r ≡ Ok (value.Actor a)
+
+-- the values of arguments, from the left up to the first that is refused
+abbrev pub HaveValues : ℕ → Done → List Argument → Result (List Value) Refusal → Type 0
+HaveValues start d [] r = r ≡ Ok []
+HaveValues start d (a ∷ args) r = (first : Result Value Refusal) × HasValue start d a first × MatchResult first
+    (λ v. (rest : Result (List Value) Refusal) × HaveValues start d args rest × (r ≡ with_first v rest))
+    (λ e. r ≡ Err e)
+
+-- a message is posted, and its receipt goes last
+abbrev pub PostsOnce : ℕ → Done → ActorId → Message → Result ℕ Refusal → Done → Type 0
+PostsOnce start d a m result e = ((result ≡ Err NoMemory) ⊎ CallsOnce start d (λ i. Posts i a m) result)
+    × MatchResult result
+    (λ turn. (place : ℕ) × (e ≡ record d { receipts = d.receipts ++ receipt place a m ∷ [] }))
+    (λ f. e ≡ d)
+
+-- memory may run out before the first argument
+abbrev pub PostsWith : ℕ → Done → ActorId → List Argument → Selector → ℕ → ℕ → Result ℕ Refusal → Done → Type 0
+PostsWith start d a args s sender seq result e = ((result ≡ Err NoMemory) × (e ≡ d))
+    ⊎ ((values : Result (List Value) Refusal) × HaveValues start d args values × MatchResult values
+      (λ vs. PostsOnce start d a (from_client sender seq s vs) result e)
+      (λ f. (result ≡ Err f) × (e ≡ d)))
+
+-- the selector is interned first
+abbrev pub PostsText : ℕ → Done → ActorId → List Argument → List ℕ → ℕ → ℕ → Result ℕ Refusal → Done → Type 0
+PostsText start d a args text sender seq result e = (s : Result Selector Refusal) × CallsOnce start d (λ i. Interns i text) s × MatchResult s
+    (λ found. PostsWith start d a args found sender seq result e)
+    (λ f. (result ≡ Err f) × (e ≡ d))
+
+-- ---- any command
+
+-- by the command; a run is none here, since workers run the turns
+abbrev pub Attends : ℕ → Done → Command → Reply → Done → Type 0
+Attends start d (command.Define name parent slots) r e =
+    RepliesOn start d parent reply.Version (λ c result. Unit {0}) r × (e ≡ after_edit d r)
+Attends start d (command.Method class source) r e =
+    RepliesOn start d class reply.Version (λ c. CallsOnce start d (λ i. InstallsIn i c source)) r × (e ≡ after_edit d r)
+Attends start d (command.Remove class text) r e = RepliesOn start d class reply.Version (RemovesText start d text) r × (e ≡ after_edit d r)
+Attends start d (command.Actor class) r e = RepliesOn start d class reply.Actor (λ c. CallsOnce start d (λ i. Creates i c)) r × (e ≡ d)
+Attends start d (command.Post a args text sender seq) r e = (result : Result ℕ Refusal) × PostsText start d a args text sender seq result e
+    × (r ≡ reply_by reply.Turn result)
+Attends start d (command.Run quanta) r e = (r ≡ reply.Refused BadCommand) × (e ≡ d)
+Attends start d (command.Outcome a turn) r e = Finds start d (λ i. Tells i (image_outcome i a turn) r) × (e ≡ d)
+Attends start d (command.Close a) r e = (result : Result Unit Refusal) × CallsOnce start d (λ i. Closes i a) result × (r ≡ reply_by (λ done. reply.Closed) result) × (e ≡ d)
+Attends start d (command.Stats class text) r e = Finds start d (λ i. States i class text r) × (e ≡ d)

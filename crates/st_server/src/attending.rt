@@ -1,0 +1,64 @@
+//! Sessions over a pool: each has a caller of its own.
+ghost use Rattle.std.specs.Prelude.{◌≡◌, ℕ, List};
+ghost use Rattle.std.specs.Io.KnownBytes.{Appends};
+ghost use Rattle.st_wire.specs.Streams.{input_view};
+ghost use Rattle.st_session.specs.Sessions.{Replies};
+ghost use Rattle.st_session.specs.DeviceSessions.{DeviceSession};
+ghost use Rattle.st_server.specs.PoolReplies.{Attends};
+
+use crate::images::Mailbox;
+use crate::pool_asking::ask;
+use st_classes::refusals::Refusal;
+use st_pool::callers::Caller;
+use st_pool::naming::Naming;
+use st_pool::shares::CallerShare;
+use st_session::handlers::Handler;
+use st_session::sessions::session;
+use st_wire::commands::Command;
+use st_wire::replies::Reply;
+use st_wire::streams::{Input, Output};
+use std::alloc::Global;
+use std::marker::Model;
+use std::sync::Wait;
+
+/// A caller, which answers commands. Contracts see what it has done.
+struct PoolHandler<'a, R: Wait, K: Naming> {
+    rt: &'a R,
+    caller: Caller<'a, K, Mailbox>,
+}
+
+impl<'a, R: Wait, K: Naming> Model for PoolHandler<'a, R, K> {
+    ghost use Rattle.st_pool.specs.Done.{Done};
+
+    ghost Value = { Done };
+
+    ghost view = { λ h. h.caller };
+}
+
+impl<'a, R: Wait, K: Naming> Handler for PoolHandler<'a, R, K> {
+    ghost answers = { Attends K.start };
+
+    fn reply(&mut self, alloc: Global, command: Command) -> Reply {
+        ask(self.rt, alloc, &mut self.caller, command)
+    }
+}
+
+/// Answers the lines of an input for a caller. The caller ends however the session ends: its share is handed on, with how many lines
+/// there were or why the session ended.
+pub fn attend<R: Wait, K: Naming, I: Input, O: Output>(
+    rt: &R,
+    alloc: Global,
+    caller: Caller<'_, K, Mailbox>,
+    input: &mut I,
+    output: &mut O,
+) -> (CallerShare<K>, Result<u64, Refusal>)
+    ensures { let before = input_view I.remaining I.failures I.reads input.old in
+        let after = input_view I.remaining I.failures I.reads input.new in
+        (written : List ℕ) × Appends (O.contents output.old) (O.contents output.new) written
+        × DeviceSession (Replies (Attends K.start)) caller.entry before after written result.0 result.1 }
+{
+    let mut handler = PoolHandler { rt, caller };
+    let result = session(&mut handler, alloc, input, output);
+    let PoolHandler { rt: _, caller } = handler;
+    (caller.end(), result)
+}

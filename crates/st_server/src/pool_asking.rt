@@ -1,0 +1,317 @@
+//! Commands that are asked of a pool, by one of its callers.
+//!
+//! A command may take the lock more than once, as where it names a class or interns a text; others may be answered between.
+ghost use Rattle.std.specs.Prelude.{◌≡◌, ◌⊎◌, Err};
+ghost use Rattle.st_classes.specs.declared.refusals.Refusal.TheVariants.{NoMemory};
+ghost use Rattle.st_image.specs.Calls.{Closes, Creates, InstallsIn};
+ghost use Rattle.st_image.specs.Outcomes.{image_outcome};
+ghost use Rattle.st_wire.specs.declared.replies.Reply.TheVariants as replies;
+ghost use Rattle.st_server.specs.CommandReplies.{States, Tells, reply_by};
+ghost use Rattle.st_server.specs.PoolReplies.{Attends, CallsOnce, ClassNamed, Finds, HasValue, HaveValues, PostsText, PostsWith, RemovesText, RepliesOn, after_edit};
+
+use crate::asking;
+use crate::images::Mailbox;
+use crate::resolving::find_selector;
+use crate::stating;
+use st_classes::refusals::Refusal;
+use st_classes::seq::Seq;
+use st_classes::values::{ActorId, ClassId, Selector, Value, Values};
+use st_pool::callers::Caller;
+use st_pool::naming::Naming;
+use st_wire::commands::{Argument, Command};
+use st_wire::replies::Reply;
+use std::alloc::Global;
+use std::sync::Wait;
+
+/// The class of a name.
+fn class_named<K: Naming, R: Wait>(
+    rt: &R,
+    caller: &mut Caller<'_, K, Mailbox>,
+    name: &[u8],
+) -> Option<ClassId>
+    ensures named { ClassNamed K.start caller.old name.now result }
+    ensures same { caller.new ≡ caller.old }
+{
+    caller.look(rt, |image| image.version().class_named(name))
+}
+
+fn define<K: Naming, R: Wait>(
+    rt: &R,
+    alloc: Global,
+    caller: &mut Caller<'_, K, Mailbox>,
+    name: &[u8],
+    parent: &[u8],
+    slots: Seq<Seq<u8>>,
+) -> Reply
+    ensures replies { RepliesOn K.start caller.old parent.now replies.Version (λ c answer. Unit {0}) result }
+    ensures done { caller.new ≡ after_edit caller.old result }
+{
+    let Some(parent) = class_named(rt, caller, parent) else {
+        return Reply::Refused(Refusal::UnknownClass);
+    };
+    match caller.define(rt, alloc, name, parent, slots) {
+        Ok(version) => Reply::Version(version),
+        Err(refusal) => Reply::Refused(refusal),
+    }
+}
+
+fn install<K: Naming, R: Wait>(
+    rt: &R,
+    alloc: Global,
+    caller: &mut Caller<'_, K, Mailbox>,
+    class: &[u8],
+    source: &[u8],
+) -> Reply
+    ensures replies { RepliesOn K.start caller.old class.now replies.Version (λ c. CallsOnce K.start caller.old (λ i. InstallsIn i c source.now)) result }
+    ensures done { caller.new ≡ after_edit caller.old result }
+{
+    let Some(class) = class_named(rt, caller, class) else {
+        return Reply::Refused(Refusal::UnknownClass);
+    };
+    match caller.install(rt, alloc, class, source) {
+        Ok(version) => Reply::Version(version),
+        Err(refusal) => Reply::Refused(refusal),
+    }
+}
+
+fn remove_named<K: Naming, R: Wait>(
+    rt: &R,
+    alloc: Global,
+    caller: &mut Caller<'_, K, Mailbox>,
+    class: ClassId,
+    selector: &[u8],
+) -> Result<u32, Refusal>
+    ensures removes { RemovesText K.start caller.old selector.now class result }
+    ensures done { caller.new ≡ after_edit caller.old (reply_by replies.Version result) }
+{
+    match caller.look(rt, |image| find_selector(image.names(), selector)) {
+        Ok(selector) => caller.remove(rt, alloc, class, selector),
+        Err(refusal) => Err(refusal),
+    }
+}
+
+fn remove<K: Naming, R: Wait>(
+    rt: &R,
+    alloc: Global,
+    caller: &mut Caller<'_, K, Mailbox>,
+    class: &[u8],
+    selector: &[u8],
+) -> Reply
+    ensures replies { RepliesOn K.start caller.old class.now replies.Version (RemovesText K.start caller.old selector.now) result }
+    ensures done { caller.new ≡ after_edit caller.old result }
+{
+    let Some(class) = class_named(rt, caller, class) else {
+        return Reply::Refused(Refusal::UnknownClass);
+    };
+    match remove_named(rt, alloc, caller, class, selector) {
+        Ok(version) => Reply::Version(version),
+        Err(refusal) => Reply::Refused(refusal),
+    }
+}
+
+fn create<K: Naming, R: Wait>(
+    rt: &R,
+    alloc: Global,
+    caller: &mut Caller<'_, K, Mailbox>,
+    class: &[u8],
+) -> Reply
+    ensures replies { RepliesOn K.start caller.old class.now replies.Actor (λ c. CallsOnce K.start caller.old (λ i. Creates i c)) result }
+    ensures same { caller.new ≡ caller.old }
+{
+    let Some(class) = class_named(rt, caller, class) else {
+        return Reply::Refused(Refusal::UnknownClass);
+    };
+    match caller.create(rt, alloc, class) {
+        Ok(actor) => Reply::Actor(actor),
+        Err(refusal) => Reply::Refused(refusal),
+    }
+}
+
+fn close<K: Naming, R: Wait>(
+    rt: &R,
+    caller: &mut Caller<'_, K, Mailbox>,
+    actor: ActorId,
+) -> Reply
+    ensures replies { (answer : _) × CallsOnce K.start caller.old (λ i. Closes i actor) answer × (result ≡ reply_by (λ done. replies.Closed) answer) }
+    ensures same { caller.new ≡ caller.old }
+{
+    match caller.close(rt, actor) {
+        Ok(()) => Reply::Closed,
+        Err(refusal) => Reply::Refused(refusal),
+    }
+}
+
+/// The value of an argument. A symbol is interned.
+fn argument_value<K: Naming, R: Wait>(
+    rt: &R,
+    alloc: Global,
+    caller: &mut Caller<'_, K, Mailbox>,
+    argument: &Argument,
+) -> Result<Value, Refusal>
+    ensures value { HasValue K.start caller.old argument.now result }
+    ensures same { caller.new ≡ caller.old }
+{
+    match argument {
+        Argument::Int(n) => Ok(Value::Int(*n)),
+        Argument::Bool(b) => Ok(Value::Bool(*b)),
+        Argument::Nil => Ok(Value::Nil),
+        Argument::Symbol(text) => match caller.intern(rt, alloc, text.as_slice()) {
+            Ok(selector) => Ok(Value::Sym(selector)),
+            Err(refusal) => Err(refusal),
+        },
+        Argument::Class(text) => match class_named(rt, caller, text.as_slice()) {
+            Some(class) => Ok(Value::Class(class)),
+            None => Err(Refusal::UnknownClass),
+        },
+        Argument::Actor(actor) => Ok(Value::Actor(*actor)),
+    }
+}
+
+/// The values of arguments, from the left up to the first that has none.
+fn argument_values<K: Naming, R: Wait>(
+    rt: &R,
+    alloc: Global,
+    caller: &mut Caller<'_, K, Mailbox>,
+    arguments: &[Argument],
+) -> Result<Values, Refusal>
+    ensures values { (result ≡ Err NoMemory) ⊎ HaveValues K.start caller.old arguments.now result }
+    ensures same { caller.new ≡ caller.old }
+{
+    let Ok(mut values) = Vec::with_capacity(alloc, arguments.len()) else {
+        return Err(Refusal::NoMemory);
+    };
+    for argument in arguments {
+        match argument_value(rt, alloc, caller, argument) {
+            Ok(value) => values.push(value).unwrap(),
+            Err(refusal) => return Err(refusal),
+        }
+    }
+    Ok(Seq::from_vec(values))
+}
+
+fn post_arguments<K: Naming, R: Wait>(
+    rt: &R,
+    alloc: Global,
+    caller: &mut Caller<'_, K, Mailbox>,
+    actor: ActorId,
+    arguments: &[Argument],
+    selector: Selector,
+    sender: u16,
+    seq: u64,
+) -> Result<u64, Refusal>
+    ensures posts { PostsWith K.start caller.old actor arguments.now selector sender seq result caller.new }
+{
+    match argument_values(rt, alloc, caller, arguments) {
+        Ok(args) => caller.post(rt, alloc, sender, seq, actor, selector, args),
+        Err(refusal) => Err(refusal),
+    }
+}
+
+fn post_named<K: Naming, R: Wait>(
+    rt: &R,
+    alloc: Global,
+    caller: &mut Caller<'_, K, Mailbox>,
+    actor: ActorId,
+    arguments: &[Argument],
+    selector: &[u8],
+    sender: u16,
+    seq: u64,
+) -> Result<u64, Refusal>
+    ensures posts { PostsText K.start caller.old actor arguments.now selector.now sender seq result caller.new }
+{
+    match caller.intern(rt, alloc, selector) {
+        Ok(selector) => post_arguments(rt, alloc, caller, actor, arguments, selector, sender, seq),
+        Err(refusal) => Err(refusal),
+    }
+}
+
+fn post<K: Naming, R: Wait>(
+    rt: &R,
+    alloc: Global,
+    caller: &mut Caller<'_, K, Mailbox>,
+    actor: ActorId,
+    arguments: &[Argument],
+    selector: &[u8],
+    sender: u16,
+    seq: u64,
+) -> Reply
+    ensures posts { (answer : _) × PostsText K.start caller.old actor arguments.now selector.now sender seq answer caller.new × (result ≡ reply_by replies.Turn answer) }
+{
+    match post_named(rt, alloc, caller, actor, arguments, selector, sender, seq) {
+        Ok(turn) => Reply::Turn(turn),
+        Err(refusal) => Reply::Refused(refusal),
+    }
+}
+
+fn outcome<K: Naming, R: Wait>(
+    rt: &R,
+    alloc: Global,
+    caller: &mut Caller<'_, K, Mailbox>,
+    actor: ActorId,
+    turn: u64,
+) -> Reply
+    ensures replies { Finds K.start caller.old (λ i. Tells i (image_outcome i actor turn) result) }
+    ensures same { caller.new ≡ caller.old }
+{
+    caller.look(rt, |image| asking::outcome(alloc, image, actor, turn))
+}
+
+fn stats<K: Naming, R: Wait>(
+    rt: &R,
+    alloc: Global,
+    caller: &mut Caller<'_, K, Mailbox>,
+    class: &[u8],
+    selector: &[u8],
+) -> Reply
+    ensures replies { Finds K.start caller.old (λ i. States i class.now selector.now result) }
+    ensures same { caller.new ≡ caller.old }
+{
+    caller.look(rt, |image| stating::stats(alloc, image, class, selector))
+}
+
+/// The reply to a command. Workers run the turns, so a run is BadCommand.
+pub(crate) fn ask<K: Naming, R: Wait>(
+    rt: &R,
+    alloc: Global,
+    caller: &mut Caller<'_, K, Mailbox>,
+    command: Command,
+) -> Reply
+    ensures { Attends K.start caller.old command result caller.new }
+{
+    match command {
+        Command::Define {
+            name,
+            parent,
+            slots,
+        } => define(rt, alloc, caller, name.as_slice(), parent.as_slice(), slots),
+        Command::Method { class, source } => {
+            install(rt, alloc, caller, class.as_slice(), source.as_slice())
+        }
+        Command::Remove { class, selector } => {
+            remove(rt, alloc, caller, class.as_slice(), selector.as_slice())
+        }
+        Command::Actor { class } => create(rt, alloc, caller, class.as_slice()),
+        Command::Post {
+            actor,
+            args,
+            selector,
+            sender,
+            seq,
+        } => post(
+            rt,
+            alloc,
+            caller,
+            actor,
+            args.as_slice(),
+            selector.as_slice(),
+            sender,
+            seq,
+        ),
+        Command::Outcome { actor, turn } => outcome(rt, alloc, caller, actor, turn),
+        Command::Close { actor } => close(rt, caller, actor),
+        Command::Stats { class, selector } => {
+            stats(rt, alloc, caller, class.as_slice(), selector.as_slice())
+        }
+        Command::Run { .. } => Reply::Refused(Refusal::BadCommand),
+    }
+}

@@ -1,0 +1,336 @@
+//! Sessions over a Unix socket, a thread each, on one image whose actors worker threads run.
+ghost use Rattle.std.specs.Prelude.{◌≡◌, length};
+
+use crate::attending::attend;
+use crate::images::{Image, Mailbox, Worker};
+use crate::quantum::Quantum;
+use crate::runner::new_worker;
+use crate::settings::ScriptSettings;
+use boxcar::Vec as Faults;
+use st_classes::refusals::Refusal;
+use st_pool::books::Blanks;
+use st_pool::callers::Caller;
+use st_pool::front::Opened;
+use st_pool::naming::Naming;
+use st_pool::settling::{Shares, settle};
+use st_pool::shared::Shared;
+use st_pool::shares::{CallerShare, WorkerShare};
+use st_pool::totals::Totals;
+use st_pool::workers::{OpenGate, worker_loop};
+use st_wire::streams::{Reader, Writer};
+use std::alloc::{AllocError, Global};
+use std::io::{BufWriter, ErrorKind, Read, Write};
+use std::marker::Brand;
+use std::os::unix::net::{UnixListener, UnixStream};
+use std::sync::atomic::{AtomicU64, Ordering};
+use std::sync::{Mutex, Wait};
+use std::thread;
+use std::thread::{JoinHandle, Scope, Threads};
+
+/// The most sessions at once.
+const MOST_SESSIONS: u64 = 64;
+
+/// What is written to a client beyond the sessions that may be at once.
+const TOO_MANY: &[u8] = b"{\"error\":\"TooMany\",\"what\":\"sessions\"}\n";
+
+/// What is written to a client for whose session there is no memory, or no thread.
+const NO_MEMORY: &[u8] = b"{\"error\":\"NoMemory\"}\n";
+
+/// What the sessions share: the image, the shares of those that have ended, how many are going on, and where their refusals go.
+#[derive(Drop)]
+struct Room<'a, K: Naming> {
+    shared: &'a Shared<K, Mailbox>,
+    shares: &'a Mutex<Vec<CallerShare<K>>>,
+    active: &'a AtomicU64,
+    faults: Option<&'a Faults<Refusal>>,
+}
+
+/// Takes away what a client has sent and nobody has read, up to some bytes: else the end of its replies would look like a failure.
+fn drain(mut stream: &UnixStream) {
+    if stream.set_nonblocking(true).is_err() {
+        return;
+    }
+    let mut piece = [0u8; 8192];
+    for _ in 0..16 {
+        match stream.read(&mut piece) {
+            Ok(count) if 0 < count => {}
+            _ => return,
+        }
+    }
+}
+
+/// Tells a client why it has no session.
+fn turn_away(mut stream: &UnixStream, line: &[u8]) {
+    let _ = stream.write_all(line);
+    drain(stream);
+}
+
+/// One session over a stream.
+fn converse<K: Naming, R: Wait>(
+    rt: &R,
+    alloc: Global,
+    caller: Caller<'_, K, Mailbox>,
+    stream: &UnixStream,
+) -> (CallerShare<K>, Result<u64, Refusal>) {
+    let Ok(buffered) = BufWriter::new(alloc, stream) else {
+        return (caller.end(), Err(Refusal::NoMemory));
+    };
+    let mut input = Reader::new(stream);
+    let mut output = Writer::new(buffered);
+    let (share, result) = attend(rt, alloc, caller, &mut input, &mut output);
+    match output.finish() {
+        Ok(_) => (share, result),
+        Err(_) => (share, Err(Refusal::WriteFault)),
+    }
+}
+
+/// One session, with a caller of its own. Its share goes to the others, where room was made for it.
+fn talk<K: Naming, R: Wait>(
+    rt: &R,
+    alloc: Global,
+    room: &Room<'_, K>,
+    stream: &UnixStream,
+) -> Result<u64, Refusal> {
+    let caller = room.shared.caller(rt, alloc)?;
+    let (share, result) = converse(rt, alloc, caller, stream);
+    let _ = room.shares.lock(rt).push(share);
+    result
+}
+
+/// One session in its thread.
+fn host<K: Naming, R: Wait>(rt: &R, alloc: Global, room: &Room<'_, K>, stream: UnixStream) {
+    if let Err(refusal) = talk(rt, alloc, room, &stream) {
+        drain(&stream);
+        if let Some(faults) = room.faults {
+            let _ = faults.push(rt, refusal);
+        }
+    }
+    drop(stream);
+    room.active.fetch_sub(1, Ordering::SeqCst);
+}
+
+/// Makes room for the shares of as many sessions as may be going on.
+fn make_room<K: Naming, R: Wait>(rt: &R, room: &Room<'_, K>) -> bool {
+    room.shares.lock(rt).reserve(MOST_SESSIONS as usize).is_ok()
+}
+
+/// Whether it is the connection that failed and not the socket.
+fn is_passing(kind: ErrorKind) -> bool {
+    kind == ErrorKind::Interrupted || kind == ErrorKind::ConnectionAborted
+}
+
+/// Accepts sessions, each in a thread of its own, until there were so many, and waits for their ends.
+fn accept_all<K: Naming + Send + Sync, R: Threads + Wait + Sync>(
+    rt: &R,
+    alloc: Global,
+    listener: &UnixListener,
+    room: &Room<'_, K>,
+    sessions: Option<u32>,
+) -> Result<(), Refusal> {
+    thread::scope(thread::scope_env(), rt, |scope| -> Result<(), Refusal> {
+        let mut left = sessions;
+        for stream in listener.incoming() {
+            let stream = match stream {
+                Ok(stream) => stream,
+                Err(error) => {
+                    if is_passing(error.kind()) {
+                        continue;
+                    }
+                    return Err(Refusal::ReadFault);
+                }
+            };
+            if room.active.load(Ordering::SeqCst) >= MOST_SESSIONS {
+                turn_away(&stream, TOO_MANY);
+                continue;
+            }
+            if !make_room(rt, room) {
+                turn_away(&stream, NO_MEMORY);
+                continue;
+            }
+            room.active.fetch_add(1, Ordering::SeqCst);
+            if let Err(refused) = scope.spawn(move || host(rt, alloc, room, stream)) {
+                drop(refused);
+                room.active.fetch_sub(1, Ordering::SeqCst);
+                continue;
+            }
+            match left {
+                Some(count) if count <= 1 => return Ok(()),
+                Some(count) => left = Some(count - 1),
+                None => {}
+            }
+        }
+        Err(Refusal::ReadFault)
+    })
+}
+
+/// Workers with new caches.
+fn new_workers(alloc: Global, count: u32) -> Result<Vec<Worker>, AllocError> {
+    let mut workers = Vec::with_capacity(alloc, count as usize)?;
+    for _ in 0..count {
+        let worker = new_worker(alloc)?;
+        workers.push(worker)?;
+    }
+    Ok(workers)
+}
+
+/// What a worker's thread answers.
+type Ended<K> = JoinHandle<Result<WorkerShare<K>, Refusal>>;
+
+/// Starts workers, and says whether each has a thread.
+fn start<'s, E, K: Naming + Send + Sync, R: Threads + Wait + Sync>(
+    scope: &Scope<'s, E>,
+    rt: &'s R,
+    alloc: Global,
+    shared: &'s Shared<K, Mailbox>,
+    workers: Vec<Worker>,
+    quantum: Quantum,
+    handles: &mut Vec<Ended<K>>,
+) -> bool {
+    let mut number: u32 = 0;
+    for worker in workers {
+        let steps = quantum.steps();
+        let started = scope.spawn(move || {
+            worker_loop(rt, alloc, shared, number, worker, &mut OpenGate, steps)
+        });
+        let Ok(handle) = started else {
+            return false;
+        };
+        if handles.push(handle).is_err() {
+            return false;
+        }
+        number = number.wrapping_add(1);
+    }
+    true
+}
+
+/// The shares of workers that were told to end.
+fn ended<K: Naming, R: Threads>(
+    rt: &R,
+    alloc: Global,
+    handles: Vec<Ended<K>>,
+) -> Result<Vec<WorkerShare<K>>, Refusal> {
+    let Ok(mut shares) = Vec::with_capacity(alloc, handles.len()) else {
+        return Err(Refusal::NoMemory);
+    };
+    for handle in handles {
+        let share = handle.join(rt)?;
+        let Ok(()) = shares.push(share) else {
+            return Err(Refusal::NoMemory);
+        };
+    }
+    Ok(shares)
+}
+
+/// Lets workers run the image's actors while sessions are accepted, and answers the shares of all.
+fn work<K: Naming + Send + Sync, R: Threads + Wait + Sync>(
+    rt: &R,
+    alloc: Global,
+    listener: &UnixListener,
+    room: &Room<'_, K>,
+    workers: Vec<Worker>,
+    quantum: Quantum,
+    sessions: Option<u32>,
+) -> Result<Vec<WorkerShare<K>>, Refusal> {
+    let shared = room.shared;
+    let Ok(mut handles) = Vec::with_capacity(alloc, workers.len()) else {
+        return Err(Refusal::NoMemory);
+    };
+    thread::scope(
+        thread::scope_env(),
+        rt,
+        |scope| -> Result<Vec<WorkerShare<K>>, Refusal> {
+            let accepted = if start(scope, rt, alloc, shared, workers, quantum, &mut handles) {
+                accept_all(rt, alloc, listener, room, sessions)
+            } else {
+                Err(Refusal::NoMemory)
+            };
+            shared.stop(rt);
+            let shares = ended(rt, alloc, handles)?;
+            accepted?;
+            Ok(shares)
+        },
+    )
+}
+
+/// Serves an image, and settles at the end.
+fn serve<K: Naming + Send + Sync, R: Threads + Wait + Sync>(
+    rt: &R,
+    alloc: Global,
+    image: Image,
+    blanks: Blanks,
+    opened: Opened,
+    listener: &UnixListener,
+    faults: &Faults<Refusal>,
+    workers: Vec<Worker>,
+    quantum: Quantum,
+    sessions: Option<u32>,
+) -> Result<Totals, Refusal>
+    requires posts { blanks.posts.name ≡ K.posts }
+    requires edits { blanks.edits.name ≡ K.edits }
+    requires steps { blanks.steps.name ≡ K.steps }
+    requires book { opened.seen.book ≡ K.book }
+    requires start { K.start ≡ length image.history }
+{
+    let shared = Shared::<K, Mailbox>::new(image, blanks, opened);
+    let shares = Mutex::new(Vec::new(alloc));
+    let active = AtomicU64::new(0);
+    let room = Room {
+        shared: &shared,
+        shares: &shares,
+        active: &active,
+        faults: sessions.is_some().then_some(faults),
+    };
+    let workers = work(rt, alloc, listener, &room, workers, quantum, sessions)?;
+    let callers = shares.into_inner();
+    settle(shared, Shares { callers, workers })
+}
+
+/// Whether sessions are served by so many workers until so many of them have ended.
+fn is_served(workers: u32, sessions: Option<u32>) -> bool {
+    let is_counted = match sessions {
+        Some(count) => 1 <= count && count <= 1_000_000,
+        None => true,
+    };
+    1 <= workers && workers <= 16 && is_counted
+}
+
+/// Serves a new image, set as by default, over a socket: each session in a thread of its own, at most 64 at once, and its actors by
+/// workers, from 1 to 16. A client beyond 64 is told so and is let go.
+///
+/// After so many sessions, from 1 to 1,000,000, it waits for their ends, stops the workers, and answers what all have done together;
+/// the refusal of each session that ended by one goes to `faults`, where there is memory. Without a number it goes on.
+///
+/// It is refused by `BadArguments` where a number is out of its range, `NoMemory` where there was none to begin, `ReadFault`
+/// where accepting failed, and `Changed` where what the callers have done is not in the history.
+pub fn serve_on<R: Threads + Wait + Sync>(
+    rt: &R,
+    alloc: Global,
+    listener: &UnixListener,
+    faults: &Faults<Refusal>,
+    workers: u32,
+    sessions: Option<u32>,
+) -> Result<Totals, Refusal> {
+    if !is_served(workers, sessions) {
+        return Err(Refusal::BadArguments);
+    }
+    let settings = ScriptSettings::DEFAULT;
+    let Some(quantum) = Quantum::new(settings.quantum) else {
+        return Err(Refusal::BadArguments);
+    };
+    let Ok(workers) = new_workers(alloc, workers) else {
+        return Err(Refusal::NoMemory);
+    };
+    let image = Image::new(alloc, settings.of_image())?;
+    serve::<Brand, R>(
+        rt,
+        alloc,
+        image,
+        Blanks::new(),
+        Opened::new(),
+        listener,
+        faults,
+        workers,
+        quantum,
+        sessions,
+    )
+}

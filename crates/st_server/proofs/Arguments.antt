@@ -15,11 +15,11 @@ with_all vs (Err e) = Err e
 pub record ResolvesOn (i : ImageView) (all : List Argument) (before : List Value) (k : ImageView) (left : List Argument) : Type 0 where
   pub whole : (rest : Result (List Value) Refusal) (j : ImageView) → AllResolve k left rest j → AllResolve i all (with_all before rest) j
 
-with_one : (before : List Value) (v : Value) (rest : Result (List Value) Refusal) → with_all before (with_first v rest) ≡ with_all (before ++ v ∷ []) rest
+pub with_one : (before : List Value) (v : Value) (rest : Result (List Value) Refusal) → with_all before (with_first v rest) ≡ with_all (before ++ v ∷ []) rest
 with_one before v (Ok vs) = ap Ok (sym (append_assoc before (v ∷ []) vs))
 with_one before v (Err e) = refl
 
-first_left : (all : List Argument) (n : ℕ) (a : Argument) → n < length all → a ≡ get_or all n a → drop n all ≡ a ∷ drop (n + 1) all
+pub first_left : (all : List Argument) (n : ℕ) (a : Argument) → n < length all → a ≡ get_or all n a → drop n all ≡ a ∷ drop (n + 1) all
 first_left all n a h e = rw (add-one, drop-cons all n a, ← e)
 
 pub resolves_more : (i k m : ImageView) (all : List Argument) (before : List Value) (n : ℕ) (a : Argument) (v : Value) → ResolvesOn i all before k (drop n all) → n < length all → a ≡ get_or all n a → Resolves k a (Ok v) m → ResolvesOn i all (before ++ v ∷ []) m (drop (n + 1) all)

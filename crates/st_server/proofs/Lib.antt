@@ -6,4 +6,5 @@ pub mod SomeSteps
 pub mod Quanta
 pub mod Taken
 pub mod Arguments
+mod PoolArguments
 pub mod Scripting

@@ -2,5 +2,6 @@ pub mod ArgumentValues
 pub mod SiteReports
 pub mod Runners
 pub mod CommandReplies
+pub mod PoolReplies
 pub mod Totals
 pub mod Scripts

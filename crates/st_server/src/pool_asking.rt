@@ -6,6 +6,7 @@ ghost use Rattle.st_classes.specs.declared.refusals.Refusal.TheVariants.{NoMemor
 ghost use Rattle.st_image.specs.Calls.{Closes, Creates, InstallsIn};
 ghost use Rattle.st_image.specs.Outcomes.{image_outcome};
 ghost use Rattle.st_wire.specs.declared.replies.Reply.TheVariants as replies;
+ghost use Rattle.st_server.specs.ArgumentValues.{found_selector};
 ghost use Rattle.st_server.specs.CommandReplies.{States, Tells, reply_by};
 ghost use Rattle.st_server.specs.PoolReplies.{Attends, CallsOnce, ClassNamed, Finds, HasValue, HaveValues, PostsText, PostsWith, RemovesText, RepliesOn, after_edit};
 
@@ -74,6 +75,18 @@ fn install<K: Naming, R: Wait>(
     }
 }
 
+/// The number of a selector's text, which is not interned.
+fn selector_named<K: Naming, R: Wait>(
+    rt: &R,
+    caller: &mut Caller<'_, K, Mailbox>,
+    text: &[u8],
+) -> Result<Selector, Refusal>
+    ensures found { Finds K.start caller.old (λ i. result ≡ found_selector i.names text.now) }
+    ensures same { caller.new ≡ caller.old }
+{
+    caller.look(rt, |image| find_selector(image.names(), text))
+}
+
 fn remove_named<K: Naming, R: Wait>(
     rt: &R,
     alloc: Global,
@@ -84,7 +97,7 @@ fn remove_named<K: Naming, R: Wait>(
     ensures removes { RemovesText K.start caller.old selector.now class result }
     ensures done { caller.new ≡ after_edit caller.old (reply_by replies.Version result) }
 {
-    match caller.look(rt, |image| find_selector(image.names(), selector)) {
+    match selector_named(rt, caller, selector) {
         Ok(selector) => caller.remove(rt, alloc, class, selector),
         Err(refusal) => Err(refusal),
     }

@@ -1,0 +1,7 @@
+//! Tests of sessions over a socket, on one image.
+#![tactic(auto)]
+
+#[cfg(test)]
+mod clients;
+#[cfg(test)]
+mod sockets;

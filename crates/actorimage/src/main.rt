@@ -67,7 +67,14 @@ fn serve_over<R: Threads + Wait + Print + Eprint + AllocGlobal + Sync>(
     let Ok(faults) = Faults::new(alloc) else {
         return Err(Refusal::NoMemory);
     };
-    let totals = serve_on(rt, alloc, listener, &faults, options.workers, options.sessions)?;
+    let totals = serve_on(
+        rt,
+        alloc,
+        listener,
+        &faults,
+        options.workers,
+        options.sessions,
+    )?;
     let names = sorted_names(alloc, &faults)?;
     for name in &names {
         let _ = eprintln!(rt; "session: {name}");

@@ -121,12 +121,10 @@ pub fn parsed_request<'a>(alloc: Global, words: &'a [String]) -> Result<Request<
     if let Some(serve) = matches.subcommand_matches("serve") {
         return Ok(Request::Serve(serve_options(serve)));
     }
-    Ok(Request::Script(
-        match matches.subcommand_matches("script") {
-            Some(script) => script_options(script),
-            None => ScriptOptions::NONE,
-        },
-    ))
+    Ok(Request::Script(match matches.subcommand_matches("script") {
+        Some(script) => script_options(script),
+        None => ScriptOptions::NONE,
+    }))
 }
 
 /// The error to show if a word of the command line is not UTF-8.

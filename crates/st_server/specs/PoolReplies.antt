@@ -94,8 +94,8 @@ PostsOnce start d a m result e = ((result ≡ Err NoMemory) ⊎ CallsOnce start 
 abbrev pub PostsWith : ℕ → Done → ActorId → List Argument → Selector → ℕ → ℕ → Result ℕ Refusal → Done → Type 0
 PostsWith start d a args s sender seq result e = ((result ≡ Err NoMemory) × (e ≡ d))
     ⊎ ((values : Result (List Value) Refusal) × HaveValues start d args values × MatchResult values
-      (λ vs. PostsOnce start d a (from_client sender seq s vs) result e)
-      (λ f. (result ≡ Err f) × (e ≡ d)))
+    (λ vs. PostsOnce start d a (from_client sender seq s vs) result e)
+    (λ f. (result ≡ Err f) × (e ≡ d)))
 
 -- the selector is interned first
 abbrev pub PostsText : ℕ → Done → ActorId → List Argument → List ℕ → ℕ → ℕ → Result ℕ Refusal → Done → Type 0

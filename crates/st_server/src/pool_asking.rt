@@ -10,10 +10,9 @@ ghost use Rattle.st_server.specs.ArgumentValues.{found_selector};
 ghost use Rattle.st_server.specs.CommandReplies.{States, Tells, reply_by};
 ghost use Rattle.st_server.specs.PoolReplies.{Attends, CallsOnce, ClassNamed, Finds, HasValue, HaveValues, PostsText, PostsWith, RemovesText, RepliesOn, after_edit};
 
-use crate::asking;
 use crate::images::Mailbox;
 use crate::resolving::find_selector;
-use crate::stating;
+use crate::{asking, stating};
 use st_classes::refusals::Refusal;
 use st_classes::seq::Seq;
 use st_classes::values::{ActorId, ClassId, Selector, Value, Values};
@@ -140,11 +139,7 @@ fn create<K: Naming, R: Wait>(
     }
 }
 
-fn close<K: Naming, R: Wait>(
-    rt: &R,
-    caller: &mut Caller<'_, K, Mailbox>,
-    actor: ActorId,
-) -> Reply
+fn close<K: Naming, R: Wait>(rt: &R, caller: &mut Caller<'_, K, Mailbox>, actor: ActorId) -> Reply
     ensures replies { (answer : _) × CallsOnce K.start caller.old (λ i. Closes i actor) answer × (result ≡ reply_by (λ done. replies.Closed) answer) }
     ensures same { caller.new ≡ caller.old }
 {

@@ -5,9 +5,9 @@ use crate::attending::attend;
 use crate::images::{Image, Mailbox, Worker};
 use crate::quantum::Quantum;
 use crate::runner::new_worker;
-use crate::settings::ScriptSettings;
 use boxcar::Vec as Faults;
 use st_classes::refusals::Refusal;
+use st_image::settings::Settings;
 use st_pool::books::Blanks;
 use st_pool::callers::Caller;
 use st_pool::front::Opened;
@@ -26,6 +26,9 @@ use std::sync::atomic::{AtomicU64, Ordering};
 use std::sync::{Mutex, Wait};
 use std::thread;
 use std::thread::{JoinHandle, Scope, Threads};
+
+/// The steps of a quantum: the most there may be, since each quantum takes the lock twice and is an item of the history.
+const QUANTUM: u32 = 1024;
 
 /// The most sessions at once.
 const MOST_SESSIONS: u64 = 64;
@@ -313,14 +316,13 @@ pub fn serve_on<R: Threads + Wait + Sync>(
     if !is_served(workers, sessions) {
         return Err(Refusal::BadArguments);
     }
-    let settings = ScriptSettings::DEFAULT;
-    let Some(quantum) = Quantum::new(settings.quantum) else {
+    let Some(quantum) = Quantum::new(QUANTUM) else {
         return Err(Refusal::BadArguments);
     };
     let Ok(workers) = new_workers(alloc, workers) else {
         return Err(Refusal::NoMemory);
     };
-    let image = Image::new(alloc, settings.of_image())?;
+    let image = Image::new(alloc, Settings::DEFAULT)?;
     serve::<Brand, R>(
         rt,
         alloc,

@@ -16,11 +16,18 @@ use std::thread::{self, Threads};
 use std::time::{Clock, Duration};
 
 const DEFINE: &str = "{\"cmd\":\"define\",\"name\":\"M\",\"slots\":[],\"super\":\"Object\"}";
+
 const METHOD: &str = "{\"class\":\"M\",\"cmd\":\"method\",\"source\":\"a ^3 + 4 * 2\"}";
+
 const ACTOR: &str = "{\"class\":\"M\",\"cmd\":\"actor\"}";
-const POST: &str = "{\"actor\":0,\"args\":[],\"cmd\":\"post\",\"selector\":\"a\",\"sender\":1,\"seq\":1}";
+
+const POST: &str =
+    "{\"actor\":0,\"args\":[],\"cmd\":\"post\",\"selector\":\"a\",\"sender\":1,\"seq\":1}";
+
 const RUN: &str = "{\"cmd\":\"run\"}";
+
 const OUTCOME: &str = "{\"actor\":0,\"cmd\":\"outcome\",\"turn\":1}";
+
 const CLOSE: &str = "{\"actor\":0,\"cmd\":\"close\"}";
 
 /// Lines, and their replies.
@@ -186,7 +193,13 @@ fn is_refused<R: Threads + Wait + Files + Net + Sync>(
 #[test]
 fn numbers_out_of_range_are_refused(rt: HostRuntime) -> Result<(), Fail> {
     let alloc = rt.alloc();
-    for (workers, sessions) in [(0, Some(1)), (17, Some(1)), (1, Some(0)), (1, Some(1_000_001)), (17, None)] {
+    for (workers, sessions) in [
+        (0, Some(1)),
+        (17, Some(1)),
+        (1, Some(0)),
+        (1, Some(1_000_001)),
+        (17, None),
+    ] {
         assert!(rt; is_refused(&rt, alloc, workers, sessions));
     }
     Ok(())

@@ -1,5 +1,5 @@
 //! The calls of callers, each behind a function without a contract: the proof of a scene then carries nothing of what a call promises.
-use crate::doors::pause;
+use crate::doors::{TURNS, pause};
 use crate::pools::{Caller, Image};
 use st_classes::kernel::OBJECT;
 use st_classes::refusals::Refusal;
@@ -128,14 +128,14 @@ pub fn outcome<K: Naming, R: Wait>(
     caller.outcome(rt, actor, turn)
 }
 
-/// How a turn ends soon. It is asked at most 20,000 times, once in a millisecond.
+/// How a turn ends soon. It is asked once in a millisecond, so often at most as a gate waits.
 pub fn ended<K: Naming, R: Wait + Clock>(
     rt: &R,
     caller: &mut Caller<'_, K>,
     actor: ActorId,
     turn: u64,
 ) -> Result<Outcome, Refusal> {
-    for _ in 0..20_000 {
+    for _ in 0..TURNS {
         let answer = outcome(rt, caller, actor, turn);
         if answer != Err(Refusal::Pending) {
             return answer;
@@ -183,6 +183,15 @@ pub fn seen_posts<K: Naming, R: Wait>(
     caller.look(rt, |image| posts_in(image, actor, number))
 }
 
+/// The class of a name that the caller sees.
+fn seen_class<K: Naming, R: Wait>(
+    rt: &R,
+    caller: &mut Caller<'_, K>,
+    name: &[u8],
+) -> Option<ClassId> {
+    caller.look(rt, |image| image.version().class_named(name))
+}
+
 /// Defines the class `A` with one method, the first actor, and says whether this was accepted.
 pub fn make_actor<K: Naming, R: Wait>(
     rt: &R,
@@ -191,6 +200,7 @@ pub fn make_actor<K: Naming, R: Wait>(
     source: &str,
 ) -> bool {
     define(rt, alloc, caller, "A") == Ok(1)
+        && seen_class(rt, caller, b"A") == Some(A)
         && install(rt, alloc, caller, A, source) == Ok(2)
         && create(rt, alloc, caller, A) == Ok(FIRST)
 }

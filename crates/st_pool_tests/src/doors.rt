@@ -6,7 +6,7 @@ use std::sync::atomic::{AtomicU64, Ordering};
 use std::thread;
 use std::time::{Clock, Duration};
 
-const TURNS: u32 = 20_000;
+pub const TURNS: u32 = 20_000;
 
 /// What threads of a test tell one another.
 #[derive(Drop)]
@@ -18,6 +18,8 @@ pub struct Marks {
     ended: AtomicU64,
     /// Whether the caller lets the workers go on.
     told: AtomicU64,
+    /// How many workers have ended.
+    gone: AtomicU64,
     /// Whether something was not as it must be.
     wrong: AtomicU64,
 }
@@ -29,6 +31,7 @@ impl Marks {
             second: AtomicU64::new(0),
             ended: AtomicU64::new(0),
             told: AtomicU64::new(0),
+            gone: AtomicU64::new(0),
             wrong: AtomicU64::new(0),
         }
     }
@@ -42,6 +45,21 @@ impl Marks {
     /// Lets the workers go on.
     pub fn tell(&self) {
         self.told.store(1, Ordering::SeqCst);
+    }
+
+    /// A worker has ended.
+    pub fn leave(&self) {
+        self.gone.fetch_add(1, Ordering::SeqCst);
+    }
+
+    /// Whether so many workers end soon.
+    pub fn await_gone<R: Clock>(&self, rt: &R, wanted: u64) -> bool {
+        reaches(rt, &self.gone, wanted)
+    }
+
+    /// Whether so many workers have ended.
+    pub fn are_gone(&self, wanted: u64) -> bool {
+        self.gone.load(Ordering::SeqCst) >= wanted
     }
 
     pub fn note_wrong(&self) {
@@ -99,7 +117,7 @@ impl<'a, R: Clock> Door<'a, R> {
     fn opens(&self, of_both: u64) -> bool {
         let marks = self.marks;
         match self.way {
-            Way::Free => true,
+            Way::Free | Way::Held => true,
             Way::Told => reaches(self.rt, &marks.told, 1),
             Way::Met if self.number == 0 => reaches(self.rt, &marks.second, 1),
             Way::Met => reaches(self.rt, &marks.first, 1),
@@ -129,5 +147,8 @@ impl<'a, R: Clock> Gate for Door<'a, R> {
 
     fn after(&mut self, _worker: u32) {
         self.marks.ended.fetch_add(1, Ordering::SeqCst);
+        if self.way == Way::Held && !reaches(self.rt, &self.marks.told, 1) {
+            self.marks.note_wrong();
+        }
     }
 }

@@ -93,6 +93,21 @@ pub fn at_commit<K: Naming, R: Wait + Clock>(
     outcome(rt, caller, FIRST, 1) == Err(Refusal::Pending)
 }
 
+/// As before; but the worker is kept, after its commit was refused, until a call was made. It must not wait for another then.
+pub fn late_wait<K: Naming, R: Wait + Clock>(
+    rt: &R,
+    alloc: Global,
+    caller: &mut Caller<'_, K>,
+    marks: &Marks,
+) -> bool {
+    let is_called = make_actor(rt, alloc, caller, "go ^1")
+        && post(rt, alloc, caller, 1, FIRST, "go") == Ok(1)
+        && marks.await_ended(rt, 1)
+        && is_refused(rt, alloc, caller, Call::Close);
+    marks.tell();
+    is_called && rests_after(rt, marks, 2)
+}
+
 #[test]
 fn workers_wait_where_the_history_is_full(rt: HostRuntime) -> Result<(), Fail> {
     let wanted = Totals {
@@ -100,7 +115,7 @@ fn workers_wait_where_the_history_is_full(rt: HostRuntime) -> Result<(), Fail> {
         edits: 2,
         steps: 0,
     };
-    for scene in [Scene::FullAtCheckout, Scene::FullAtCommit] {
+    for scene in [Scene::FullAtCheckout, Scene::FullAtCommit, Scene::LateWait] {
         assert!(rt;
             totals(&rt, rt.alloc(), scene) == Some(Ok(wanted)),
             "{scene:?}"

@@ -2,14 +2,15 @@
 ghost use Rattle.std.specs.Prelude.{◌≡◌, length};
 
 use crate::by_callers::{closing, not_understood, numbers};
+use crate::calls::{FIRST, close};
 use crate::crowd::{crowd, hand_back};
-use crate::doors::{Door, Marks};
+use crate::doors::{Door, Marks, TURNS, pause};
 use crate::edits::{unused_selector, used_selector};
-use crate::full::{at_checkout, at_commit};
+use crate::full::{at_checkout, at_commit, late_wait};
 use crate::overlap::overlap;
 use crate::pools::{Caller, Image, Shared, Stage, new_image, new_worker, no_shares};
 use crate::scenes::Scene;
-use crate::waking::{rest, waking, waking_by_commit};
+use crate::waking::{rest, stopping, waking, waking_by_commit};
 use st_classes::refusals::Refusal;
 use st_pool::books::Blanks;
 use st_pool::front::Opened;
@@ -74,6 +75,7 @@ fn work_on_thread<K: Naming, R: Wait + Clock>(
     if !is_handed_back {
         stage.marks.note_wrong();
     }
+    stage.marks.leave();
 }
 
 /// What the caller of a scene does, and whether it sees what it must.
@@ -93,7 +95,9 @@ fn act<K: Naming + Send + Sync, R: Threads + Wait + Clock + Sync>(
         Scene::UnusedSelector => unused_selector(rt, alloc, caller, marks),
         Scene::FullAtCheckout => at_checkout(rt, alloc, caller, marks),
         Scene::FullAtCommit => at_commit(rt, alloc, caller, marks),
+        Scene::LateWait => late_wait(rt, alloc, caller, marks),
         Scene::Rest => rest(rt),
+        Scene::Stopping => stopping(rt, alloc, caller, marks),
         Scene::Waking => waking(rt, alloc, caller),
         Scene::WakingByCommit => waking_by_commit(rt, alloc, caller, marks),
         Scene::Crowd => crowd(rt, alloc, stage, caller),
@@ -116,6 +120,28 @@ fn act_and_end<K: Naming + Send + Sync, R: Threads + Wait + Clock + Sync>(
     hand_back(rt, stage, caller.end());
 }
 
+/// Calls until no worker is left, for workers that a stop did not wake.
+fn call_until_gone<K: Naming, R: Wait + Clock>(rt: &R, alloc: Global, stage: &Stage<K>) {
+    let Ok(mut caller) = stage.shared.caller(rt, alloc) else {
+        return;
+    };
+    for _ in 0..TURNS {
+        if stage.marks.are_gone(stage.scene.workers() as u64) {
+            return;
+        }
+        let _answer = close(rt, &mut caller, FIRST);
+        pause(rt, 1);
+    }
+}
+
+/// Waits until all workers have ended. Where they do not, that is wrong, and they are called.
+fn see_them_go<K: Naming, R: Wait + Clock>(rt: &R, alloc: Global, stage: &Stage<K>) {
+    if !stage.marks.await_gone(rt, stage.scene.workers() as u64) {
+        stage.marks.note_wrong();
+        call_until_gone(rt, alloc, stage);
+    }
+}
+
 /// Lets workers run while the caller of a scene acts. They are told to stop in any case, and all have ended then.
 fn play<K: Naming + Send + Sync, R: Threads + Wait + Clock + Sync>(
     rt: &R,
@@ -131,6 +157,8 @@ fn play<K: Naming + Send + Sync, R: Threads + Wait + Clock + Sync>(
         }
         act_and_end(rt, alloc, stage);
         stage.shared.stop(rt);
+        stage.marks.tell();
+        see_them_go(rt, alloc, stage);
     });
 }
 

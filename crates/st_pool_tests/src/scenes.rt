@@ -20,8 +20,12 @@ pub enum Scene {
     FullAtCheckout,
     /// No item is left in the history for the steps of a quantum.
     FullAtCommit,
+    /// The same, and a caller calls before the worker waits.
+    LateWait,
     /// Nobody asks anything.
     Rest,
+    /// The workers are told to stop while one has a claim.
+    Stopping,
     /// A worker that waits is asked.
     Waking,
     /// A commit makes two actors ready, and both workers are needed.
@@ -41,6 +45,8 @@ pub enum Way {
     Met,
     /// Once there were three claims, but for the first.
     Third,
+    /// At once, and it does not go on after its commit before the caller has said so.
+    Held,
 }
 
 impl Scene {
@@ -54,7 +60,10 @@ impl Scene {
     pub fn way(self) -> Way {
         match self {
             Scene::Overlap => Way::Met,
-            Scene::Closing | Scene::UsedSelector | Scene::UnusedSelector => Way::Told,
+            Scene::Closing | Scene::UsedSelector | Scene::UnusedSelector | Scene::Stopping => {
+                Way::Told
+            }
+            Scene::LateWait => Way::Held,
             Scene::WakingByCommit => Way::Third,
             _ => Way::Free,
         }
@@ -75,7 +84,7 @@ impl Scene {
         };
         let history = match self {
             Scene::FullAtCheckout => 4,
-            Scene::FullAtCommit => 5,
+            Scene::FullAtCommit | Scene::LateWait => 5,
             _ => 1_000_000,
         };
         Settings { capacity, history }

@@ -18,6 +18,18 @@ pub fn rest<R: Clock>(rt: &R) -> bool {
     true
 }
 
+/// The worker has a claim when it is told to stop, and is let go then. Its quantum is committed.
+pub fn stopping<K: Naming, R: Wait + Clock>(
+    rt: &R,
+    alloc: Global,
+    caller: &mut Caller<'_, K>,
+    marks: &Marks,
+) -> bool {
+    make_actor(rt, alloc, caller, "a ^3 + 4 * 2")
+        && post(rt, alloc, caller, 1, FIRST, "a") == Ok(1)
+        && marks.await_claims(rt, 1)
+}
+
 /// The worker waits each time that a message is posted.
 pub fn waking<K: Naming, R: Wait + Clock>(
     rt: &R,
@@ -64,6 +76,14 @@ const SCENES: &[(Scene, Totals)] = &[
             posts: 0,
             edits: 0,
             steps: 0,
+        },
+    ),
+    (
+        Scene::Stopping,
+        Totals {
+            posts: 1,
+            edits: 2,
+            steps: 7,
         },
     ),
     (

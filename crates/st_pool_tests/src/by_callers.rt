@@ -7,7 +7,7 @@ use crate::scenes::Scene;
 use st_classes::faults::Fault;
 use st_classes::kernel::OBJECT;
 use st_classes::refusals::Refusal;
-use st_classes::values::ActorId;
+use st_classes::values::Selector;
 use st_image::tallies::SiteStats;
 use st_pool::naming::Naming;
 use st_pool::totals::Totals;
@@ -18,31 +18,42 @@ use std::sync::Wait;
 use std::test::*;
 use std::time::Clock;
 
-/// Whether the sends of a method are all of one site, and all were found by walks: so many.
-fn are_walks(sites: &[SiteStats], sends: u64) -> bool {
+/// Whether a method has one site, which sends a selector, and whose sends were all found by walks: so many.
+fn are_walks(sites: &[SiteStats], selector: Selector, sends: u64) -> bool {
     let [site] = sites else {
         return false;
     };
     let tally = site.tally;
-    !site.is_super
+    site.selector == selector
+        && !site.is_super
         && tally.by_walk == sends
         && tally.by_site == 0
         && tally.by_global == 0
         && tally.state == SiteState::Mono
 }
 
-/// Whether the caller is told that all sends of `A go` were found by walks.
+/// What the caller is told of the sites of `A go`.
+fn sites_of_go<K: Naming, R: Wait>(
+    rt: &R,
+    alloc: Global,
+    caller: &mut Caller<'_, K>,
+) -> Result<Vec<SiteStats>, Refusal> {
+    let go = caller.intern(rt, alloc, b"go")?;
+    caller.stats(rt, alloc, A, go)
+}
+
+/// Whether the caller is told that so many sends of `missing` in `A go` were found by walks, and no others.
 fn has_walked<K: Naming, R: Wait>(
     rt: &R,
     alloc: Global,
     caller: &mut Caller<'_, K>,
     sends: u64,
 ) -> bool {
-    let Ok(go) = caller.intern(rt, alloc, b"go") else {
+    let Ok(missing) = caller.intern(rt, alloc, b"missing") else {
         return false;
     };
-    match caller.stats(rt, alloc, A, go) {
-        Ok(sites) => are_walks(sites.as_slice(), sends),
+    match sites_of_go(rt, alloc, caller) {
+        Ok(sites) => are_walks(sites.as_slice(), missing, sends),
         Err(_) => false,
     }
 }

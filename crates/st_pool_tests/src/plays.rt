@@ -201,7 +201,7 @@ fn played<K: Naming + Send + Sync, R: Threads + Wait + Clock + Sync>(
     requires edits { blanks.edits.name ≡ K.edits }
     requires steps { blanks.steps.name ≡ K.steps }
     requires book { opened.seen.book ≡ K.book }
-    requires start { K.start ≡ length image.history }
+    requires start { K.start ≡ length image.value.history }
 {
     let stage = Stage {
         shared: Shared::<K>::new(Box::into_inner(image), blanks, opened),

@@ -1,0 +1,171 @@
+//! Worked scripts through a caller, while one worker runs.
+use crate::calls::*;
+use crate::doors::Marks;
+use crate::plays::totals;
+use crate::pools::Caller;
+use crate::scenes::Scene;
+use st_classes::faults::Fault;
+use st_classes::kernel::OBJECT;
+use st_classes::refusals::Refusal;
+use st_classes::values::Selector;
+use st_image::tallies::SiteStats;
+use st_pool::naming::Naming;
+use st_pool::totals::Totals;
+use st_sites::site::SiteState;
+use st_turn::body::Outcome;
+use std::alloc::Global;
+use std::sync::Wait;
+use std::test::*;
+use std::time::Clock;
+
+/// Whether a method has one site, which sends a selector, and whose sends were all found by walks: so many.
+fn are_walks(sites: &[SiteStats], selector: Selector, sends: u64) -> bool {
+    let [site] = sites else {
+        return false;
+    };
+    let tally = site.tally;
+    site.selector == selector
+        && !site.is_super
+        && tally.by_walk == sends
+        && tally.by_site == 0
+        && tally.by_global == 0
+        && tally.state == SiteState::Mono
+}
+
+/// What the caller is told of the sites of `A go`.
+fn sites_of_go<K: Naming, R: Wait>(
+    rt: &R,
+    alloc: Global,
+    caller: &mut Caller<'_, K>,
+) -> Result<Vec<SiteStats>, Refusal> {
+    let go = caller.intern(rt, alloc, b"go")?;
+    caller.stats(rt, alloc, A, go)
+}
+
+/// Whether the caller is told that so many sends of `missing` in `A go` were found by walks, and no others.
+fn has_walked<K: Naming, R: Wait>(
+    rt: &R,
+    alloc: Global,
+    caller: &mut Caller<'_, K>,
+    sends: u64,
+) -> bool {
+    let Ok(missing) = caller.intern(rt, alloc, b"missing") else {
+        return false;
+    };
+    match sites_of_go(rt, alloc, caller) {
+        Ok(sites) => are_walks(sites.as_slice(), missing, sends),
+        Err(_) => false,
+    }
+}
+
+/// Whether a turn of the first actor ends soon with the fault of a message that is not understood.
+fn is_not_understood<K: Naming, R: Wait + Clock>(
+    rt: &R,
+    caller: &mut Caller<'_, K>,
+    turn: u64,
+) -> bool {
+    ended(rt, caller, FIRST, turn) == Ok(Outcome::Fault(Fault::NotUnderstood))
+}
+
+/// A message that nobody understands, that all understand once Object has a method for it, and that nobody understands again.
+pub fn not_understood<K: Naming, R: Wait + Clock>(
+    rt: &R,
+    alloc: Global,
+    caller: &mut Caller<'_, K>,
+) -> bool {
+    make_actor(rt, alloc, caller, "go ^self missing")
+        && post(rt, alloc, caller, 1, FIRST, "go") == Ok(1)
+        && is_not_understood(rt, caller, 1)
+        && install(rt, alloc, caller, OBJECT, "missing ^7") == Ok(3)
+        && post(rt, alloc, caller, 2, FIRST, "go") == Ok(2)
+        && answers(rt, caller, FIRST, 2, 7)
+        && remove(rt, alloc, caller, OBJECT, "missing") == Ok(4)
+        && post(rt, alloc, caller, 3, FIRST, "go") == Ok(3)
+        && is_not_understood(rt, caller, 3)
+        && has_walked(rt, alloc, caller, 3)
+        && remove(rt, alloc, caller, OBJECT, "missing") == Err(Refusal::NoSuchMethod)
+}
+
+/// While the worker holds a claim of the first actor, the second gets two messages, and its mailbox is closed. Both turns end.
+pub fn closing<K: Naming, R: Wait + Clock>(
+    rt: &R,
+    alloc: Global,
+    caller: &mut Caller<'_, K>,
+    marks: &Marks,
+) -> bool {
+    let is_closed = make_actor(rt, alloc, caller, "a ^3 + 4 * 2")
+        && create(rt, alloc, caller, A) == Ok(SECOND)
+        && post(rt, alloc, caller, 1, FIRST, "a") == Ok(1)
+        && marks.await_claims(rt, 1)
+        && post(rt, alloc, caller, 2, SECOND, "a") == Ok(1)
+        && post(rt, alloc, caller, 3, SECOND, "a") == Ok(2)
+        && close(rt, caller, SECOND) == Ok(())
+        && post(rt, alloc, caller, 4, SECOND, "a") == Err(Refusal::Closed)
+        && close(rt, caller, SECOND) == Err(Refusal::Closed);
+    marks.tell();
+    is_closed
+        && answers(rt, caller, SECOND, 1, 14)
+        && answers(rt, caller, SECOND, 2, 14)
+        && answers(rt, caller, FIRST, 1, 14)
+        && outcome(rt, caller, SECOND, 3) == Err(Refusal::Pending)
+}
+
+/// A sender's numbers only rise. Each turn has seven steps, which are three quanta of at most three.
+pub fn numbers<K: Naming, R: Wait + Clock>(
+    rt: &R,
+    alloc: Global,
+    caller: &mut Caller<'_, K>,
+    marks: &Marks,
+) -> bool {
+    make_actor(rt, alloc, caller, "a ^3 + 4 * 2")
+        && post(rt, alloc, caller, 5, FIRST, "a") == Ok(1)
+        && post(rt, alloc, caller, 5, FIRST, "a") == Err(Refusal::Old { last: 5 })
+        && post(rt, alloc, caller, 9, FIRST, "a") == Ok(2)
+        && answers(rt, caller, FIRST, 1, 14)
+        && answers(rt, caller, FIRST, 2, 14)
+        && marks.claims() == 6
+}
+
+/// The scripts, and what all have done together. A turn of `go` has 3 steps where it ends in the fault, and 6 where it answers.
+const SCRIPTS: &[(Scene, Totals)] = &[
+    (
+        Scene::NotUnderstood,
+        Totals {
+            posts: 3,
+            edits: 4,
+            steps: 12,
+        },
+    ),
+    (
+        Scene::Closing,
+        Totals {
+            posts: 3,
+            edits: 2,
+            steps: 21,
+        },
+    ),
+    (
+        Scene::Numbers,
+        Totals {
+            posts: 2,
+            edits: 2,
+            steps: 14,
+        },
+    ),
+];
+
+/// The table behind a function without a contract, so that the proof of a test carries none of it.
+fn scripts() -> &'static [(Scene, Totals)] {
+    SCRIPTS
+}
+
+#[test]
+fn by_callers(rt: HostRuntime) -> Result<(), Fail> {
+    for (scene, wanted) in scripts() {
+        assert!(rt;
+            totals(&rt, rt.alloc(), *scene) == Some(Ok(*wanted)),
+            "{scene:?}"
+        );
+    }
+    Ok(())
+}

@@ -1,0 +1,141 @@
+//! Four callers, each on a thread, post to one actor.
+use crate::calls::*;
+use crate::plays::totals;
+use crate::pools::{Caller, Image, Stage};
+use crate::scenes::Scene;
+use st_image::items::Item;
+use st_mailbox::messages::{Message, Sender};
+use st_pool::naming::Naming;
+use st_pool::shares::CallerShare;
+use st_pool::totals::Totals;
+use std::alloc::Global;
+use std::sync::Wait;
+use std::test::*;
+use std::thread;
+use std::thread::Threads;
+use std::time::Clock;
+
+/// How many messages each caller posts.
+const EACH: u64 = 100;
+
+/// Posts numbers 1 and on of a sender, and says whether all were accepted, each behind the one before.
+fn post_all<K: Naming, R: Wait>(
+    rt: &R,
+    alloc: Global,
+    caller: &mut Caller<'_, K>,
+    sender: u16,
+) -> bool {
+    let mut last = 0;
+    for number in 0..EACH {
+        match post_of(rt, alloc, caller, sender, number + 1, FIRST, "a") {
+            Ok(turn) if turn > last => last = turn,
+            _ => return false,
+        }
+    }
+    true
+}
+
+/// Whether the receipts are those of all messages of a sender, in their order.
+fn has_receipts<K: Naming>(share: &CallerShare<K>, sender: u16) -> bool {
+    let mut number = 0;
+    for receipt in share.receipts() {
+        number = 1u64.wrapping_add(number);
+        if receipt.message.seq != number || receipt.message.sender != Sender::Client(sender) {
+            return false;
+        }
+    }
+    number == EACH
+}
+
+/// The thread of a caller.
+fn post_on_thread<K: Naming, R: Wait>(rt: &R, alloc: Global, stage: &Stage<K>, sender: u16) {
+    let Ok(mut caller) = stage.shared.caller(rt, alloc) else {
+        stage.marks.note_wrong();
+        return;
+    };
+    let are_posted = post_all(rt, alloc, &mut caller, sender);
+    let share = caller.end();
+    if !are_posted || !has_receipts(&share, sender) {
+        stage.marks.note_wrong();
+    }
+    hand_back(rt, stage, share);
+}
+
+/// Hands back the share of a caller.
+pub fn hand_back<K: Naming, R: Wait>(rt: &R, stage: &Stage<K>, share: CallerShare<K>) {
+    if stage.shares.lock(rt).callers.push(share).is_err() {
+        stage.marks.note_wrong();
+    }
+}
+
+/// Lets four callers post, and waits for them.
+fn post_together<K: Naming + Send + Sync, R: Threads + Wait + Sync>(
+    rt: &R,
+    alloc: Global,
+    stage: &Stage<K>,
+) {
+    thread::scope(thread::scope_env(), rt, |scope| {
+        for sender in 1..5 {
+            let posts = scope.spawn(move || post_on_thread(rt, alloc, stage, sender));
+            if posts.is_err() {
+                stage.marks.note_wrong();
+            }
+        }
+    });
+}
+
+/// The number of a message of a sender.
+fn number_of(message: &Message, sender: u16) -> Option<u64> {
+    (message.sender == Sender::Client(sender)).then_some(message.seq)
+}
+
+/// Whether a history has the messages of a sender in the order of their numbers, and all of them.
+fn is_in_order(history: &[Item], sender: u16) -> bool {
+    let mut number = 0;
+    for item in history {
+        if let Item::Posted { message, .. } = item {
+            if let Some(seq) = number_of(message, sender) {
+                number = 1u64.wrapping_add(number);
+                if seq != number {
+                    return false;
+                }
+            }
+        }
+    }
+    number == EACH
+}
+
+/// Whether a history has the messages of all four senders in their orders.
+fn are_in_order(image: &Image) -> bool {
+    (1..5).all(|sender| is_in_order(image.history(), sender))
+}
+
+/// Whether the caller sees the messages of all four senders in their orders.
+fn sees_order<K: Naming, R: Wait>(rt: &R, caller: &mut Caller<'_, K>) -> bool {
+    caller.look(rt, |image| are_in_order(image))
+}
+
+/// Four callers post a hundred messages each, and the last turn ends.
+pub fn crowd<K: Naming + Send + Sync, R: Threads + Wait + Clock + Sync>(
+    rt: &R,
+    alloc: Global,
+    stage: &Stage<K>,
+    caller: &mut Caller<'_, K>,
+) -> bool {
+    if !make_actor(rt, alloc, caller, "a ^3 + 4 * 2") {
+        return false;
+    }
+    post_together(rt, alloc, stage);
+    sees_order(rt, caller) && answers(rt, caller, FIRST, 400, 14)
+}
+
+#[test]
+fn four_callers_post_to_one_actor(rt: HostRuntime) -> Result<(), Fail> {
+    let wanted = Totals {
+        posts: 400,
+        edits: 2,
+        steps: 2800,
+    };
+    assert!(rt; totals(&rt, rt.alloc(), Scene::Crowd) == Some(Ok(wanted)));
+    Ok(())
+}

@@ -1,0 +1,74 @@
+//! Edits while a claim is out: one that ends it, and one that does not.
+use crate::calls::*;
+use crate::doors::Marks;
+use crate::plays::totals;
+use crate::pools::Caller;
+use crate::scenes::Scene;
+use st_classes::kernel::SMALL_INTEGER;
+use st_classes::values::ClassId;
+use st_pool::naming::Naming;
+use st_pool::totals::Totals;
+use std::alloc::Global;
+use std::sync::Wait;
+use std::test::*;
+use std::time::Clock;
+
+/// The worker has a claim of a turn that sends `tag` when a method is installed. The turn answers a number, after so many claims, and
+/// the caller does nothing more for it: a worker whose claim was refused goes on by itself.
+fn edited<K: Naming, R: Wait + Clock>(
+    rt: &R,
+    alloc: Global,
+    caller: &mut Caller<'_, K>,
+    marks: &Marks,
+    class: ClassId,
+    source: &str,
+    number: i64,
+    claims: u64,
+) -> bool {
+    let is_edited = define(rt, alloc, caller, "A") == Ok(1)
+        && install(rt, alloc, caller, A, "go ^3 tag") == Ok(2)
+        && install(rt, alloc, caller, SMALL_INTEGER, "tag ^1") == Ok(3)
+        && create(rt, alloc, caller, A) == Ok(FIRST)
+        && post(rt, alloc, caller, 1, FIRST, "go") == Ok(1)
+        && marks.await_claims(rt, 1)
+        && install(rt, alloc, caller, class, source) == Ok(4);
+    marks.tell();
+    is_edited && answers(rt, caller, FIRST, 1, number) && marks.claims() == claims
+}
+
+/// The method is replaced that the claim sends to: its steps do not count, and the turn is begun once more.
+pub fn used_selector<K: Naming, R: Wait + Clock>(
+    rt: &R,
+    alloc: Global,
+    caller: &mut Caller<'_, K>,
+    marks: &Marks,
+) -> bool {
+    edited(rt, alloc, caller, marks, SMALL_INTEGER, "tag ^2", 2, 2)
+}
+
+/// A method is installed that the claim does not send to.
+pub fn unused_selector<K: Naming, R: Wait + Clock>(
+    rt: &R,
+    alloc: Global,
+    caller: &mut Caller<'_, K>,
+    marks: &Marks,
+) -> bool {
+    edited(rt, alloc, caller, marks, A, "bump ^0", 1, 1)
+}
+
+#[test]
+fn a_claim_is_as_old_as_what_it_used(rt: HostRuntime) -> Result<(), Fail> {
+    // the turn has six steps, and those of a refused claim are none
+    let wanted = Totals {
+        posts: 1,
+        edits: 4,
+        steps: 6,
+    };
+    for scene in [Scene::UsedSelector, Scene::UnusedSelector] {
+        assert!(rt;
+            totals(&rt, rt.alloc(), scene) == Some(Ok(wanted)),
+            "{scene:?}"
+        );
+    }
+    Ok(())
+}

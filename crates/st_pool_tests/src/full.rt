@@ -1,0 +1,129 @@
+//! A history that is full: workers wait, and a call of a caller lets them look again.
+use crate::calls::*;
+use crate::doors::{Marks, pause};
+use crate::plays::totals;
+use crate::pools::Caller;
+use crate::scenes::Scene;
+use st_classes::refusals::Refusal;
+use st_pool::naming::Naming;
+use st_pool::totals::Totals;
+use std::alloc::Global;
+use std::sync::Wait;
+use std::test::*;
+use std::time::Clock;
+
+/// With four items the history has no room for the beginning of the turn: no claim is handed out, and a further post is refused.
+pub fn at_checkout<K: Naming, R: Wait + Clock>(
+    rt: &R,
+    alloc: Global,
+    caller: &mut Caller<'_, K>,
+    marks: &Marks,
+) -> bool {
+    let is_posted = make_actor(rt, alloc, caller, "go ^1")
+        && post(rt, alloc, caller, 1, FIRST, "go") == Ok(1);
+    pause(rt, 20);
+    is_posted
+        && post(rt, alloc, caller, 2, FIRST, "go") == Err(Refusal::HistoryFull)
+        && outcome(rt, caller, FIRST, 1) == Err(Refusal::Pending)
+        && marks.claims() == 0
+}
+
+/// Calls that wake a worker, though they are refused.
+#[derive(Clone, Copy, PartialEq, Eq, Debug)]
+enum Call {
+    Define,
+    Install,
+    Remove,
+    Create,
+    Close,
+}
+
+/// The calls one after the other, and how many quanta there were after each.
+const CALLS: &[(Call, u64)] = &[
+    (Call::Define, 2),
+    (Call::Install, 3),
+    (Call::Remove, 4),
+    (Call::Create, 5),
+    (Call::Close, 6),
+];
+
+/// The table behind a function without a contract, so that the proof of a test carries none of it.
+fn calls() -> &'static [(Call, u64)] {
+    CALLS
+}
+
+/// Whether a call is refused, since the history is full.
+fn is_refused<K: Naming, R: Wait + Clock>(
+    rt: &R,
+    alloc: Global,
+    caller: &mut Caller<'_, K>,
+    call: Call,
+) -> bool {
+    let refused = match call {
+        Call::Define => define(rt, alloc, caller, "B").err(),
+        Call::Install => install(rt, alloc, caller, A, "stop ^2").err(),
+        Call::Remove => remove(rt, alloc, caller, A, "go").err(),
+        Call::Create => create(rt, alloc, caller, A).err(),
+        Call::Close => close(rt, caller, FIRST).err(),
+    };
+    refused == Some(Refusal::HistoryFull)
+}
+
+/// Whether so many quanta are over soon, and no more are begun while nobody calls.
+fn rests_after<R: Clock>(rt: &R, marks: &Marks, quanta: u64) -> bool {
+    let is_over = marks.await_ended(rt, quanta);
+    pause(rt, 20);
+    is_over && marks.claims() == quanta
+}
+
+/// With five items the turn is begun, and has no room for its steps. Its claim is handed back and released, so that the next call
+/// finds the actor ready again.
+pub fn at_commit<K: Naming, R: Wait + Clock>(
+    rt: &R,
+    alloc: Global,
+    caller: &mut Caller<'_, K>,
+    marks: &Marks,
+) -> bool {
+    let is_posted = make_actor(rt, alloc, caller, "go ^1")
+        && post(rt, alloc, caller, 1, FIRST, "go") == Ok(1);
+    if !is_posted || !rests_after(rt, marks, 1) {
+        return false;
+    }
+    for (call, quanta) in calls() {
+        if !is_refused(rt, alloc, caller, *call) || !rests_after(rt, marks, *quanta) {
+            return false;
+        }
+    }
+    outcome(rt, caller, FIRST, 1) == Err(Refusal::Pending)
+}
+
+/// As before; but the worker is kept, after its commit was refused, until a call was made. It must not wait for another then.
+pub fn late_wait<K: Naming, R: Wait + Clock>(
+    rt: &R,
+    alloc: Global,
+    caller: &mut Caller<'_, K>,
+    marks: &Marks,
+) -> bool {
+    let is_called = make_actor(rt, alloc, caller, "go ^1")
+        && post(rt, alloc, caller, 1, FIRST, "go") == Ok(1)
+        && marks.await_ended(rt, 1)
+        && is_refused(rt, alloc, caller, Call::Close);
+    marks.tell();
+    is_called && rests_after(rt, marks, 2)
+}
+
+#[test]
+fn workers_wait_where_the_history_is_full(rt: HostRuntime) -> Result<(), Fail> {
+    let wanted = Totals {
+        posts: 1,
+        edits: 2,
+        steps: 0,
+    };
+    for scene in [Scene::FullAtCheckout, Scene::FullAtCommit, Scene::LateWait] {
+        assert!(rt;
+            totals(&rt, rt.alloc(), scene) == Some(Ok(wanted)),
+            "{scene:?}"
+        );
+    }
+    Ok(())
+}

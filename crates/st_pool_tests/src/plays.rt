@@ -1,0 +1,242 @@
+//! Playing a scene: callers act, workers run, and all shares are settled.
+ghost use Rattle.std.specs.Prelude.{◌≡◌, length};
+
+use crate::by_callers::{closing, not_understood, numbers};
+use crate::calls::{FIRST, close};
+use crate::crowd::{crowd, hand_back};
+use crate::doors::{Door, Marks, TURNS, pause};
+use crate::edits::{unused_selector, used_selector};
+use crate::full::{at_checkout, at_commit, late_wait};
+use crate::overlap::overlap;
+use crate::pools::{Caller, Image, Shared, Stage, new_image, new_worker, no_shares};
+use crate::scenes::Scene;
+use crate::waking::{rest, stopping, waking, waking_by_commit};
+use st_classes::refusals::Refusal;
+use st_pool::books::Blanks;
+use st_pool::front::Opened;
+use st_pool::naming::Naming;
+use st_pool::settling::{Shares, settle};
+use st_pool::shares::WorkerShare;
+use st_pool::totals::Totals;
+use st_pool::workers::worker_loop;
+use std::alloc::Global;
+use std::marker::Brand;
+use std::sync::{Mutex, Wait};
+use std::thread;
+use std::thread::Threads;
+use std::time::Clock;
+
+/// Which share is not handed in.
+#[derive(Clone, Copy, PartialEq, Eq, Debug)]
+pub enum Missing {
+    None,
+    Caller,
+    Worker,
+}
+
+/// The loop of a worker.
+fn work<K: Naming, R: Wait + Clock>(
+    rt: &R,
+    alloc: Global,
+    stage: &Stage<K>,
+    number: u32,
+) -> Option<WorkerShare<K>> {
+    let worker = new_worker(alloc).ok()?;
+    let mut door = Door {
+        rt,
+        marks: &stage.marks,
+        number,
+        way: stage.scene.way(),
+    };
+    let quantum = stage.scene.quantum();
+    worker_loop(
+        rt,
+        alloc,
+        &stage.shared,
+        number,
+        Box::into_inner(worker),
+        &mut door,
+        quantum,
+    )
+    .ok()
+}
+
+/// The thread of a worker.
+fn work_on_thread<K: Naming, R: Wait + Clock>(
+    rt: &R,
+    alloc: Global,
+    stage: &Stage<K>,
+    number: u32,
+) {
+    let is_handed_back = match work(rt, alloc, stage, number) {
+        Some(share) => stage.shares.lock(rt).workers.push(share).is_ok(),
+        None => false,
+    };
+    if !is_handed_back {
+        stage.marks.note_wrong();
+    }
+    stage.marks.leave();
+}
+
+/// What the caller of a scene does, and whether it sees what it must.
+fn act<K: Naming + Send + Sync, R: Threads + Wait + Clock + Sync>(
+    rt: &R,
+    alloc: Global,
+    stage: &Stage<K>,
+    caller: &mut Caller<'_, K>,
+) -> bool {
+    let marks = &stage.marks;
+    match stage.scene {
+        Scene::Overlap => overlap(rt, alloc, caller),
+        Scene::NotUnderstood => not_understood(rt, alloc, caller),
+        Scene::Closing => closing(rt, alloc, caller, marks),
+        Scene::Numbers => numbers(rt, alloc, caller, marks),
+        Scene::UsedSelector => used_selector(rt, alloc, caller, marks),
+        Scene::UnusedSelector => unused_selector(rt, alloc, caller, marks),
+        Scene::FullAtCheckout => at_checkout(rt, alloc, caller, marks),
+        Scene::FullAtCommit => at_commit(rt, alloc, caller, marks),
+        Scene::LateWait => late_wait(rt, alloc, caller, marks),
+        Scene::Rest => rest(rt),
+        Scene::Stopping => stopping(rt, alloc, caller, marks),
+        Scene::Waking => waking(rt, alloc, caller),
+        Scene::WakingByCommit => waking_by_commit(rt, alloc, caller, marks),
+        Scene::Crowd => crowd(rt, alloc, stage, caller),
+    }
+}
+
+/// Lets the caller of a scene act, and hands its share back.
+fn act_and_end<K: Naming + Send + Sync, R: Threads + Wait + Clock + Sync>(
+    rt: &R,
+    alloc: Global,
+    stage: &Stage<K>,
+) {
+    let Ok(mut caller) = stage.shared.caller(rt, alloc) else {
+        stage.marks.note_wrong();
+        return;
+    };
+    if !act(rt, alloc, stage, &mut caller) {
+        stage.marks.note_wrong();
+    }
+    hand_back(rt, stage, caller.end());
+}
+
+/// Calls until no worker is left, for workers that a stop did not wake.
+fn call_until_gone<K: Naming, R: Wait + Clock>(rt: &R, alloc: Global, stage: &Stage<K>) {
+    let Ok(mut caller) = stage.shared.caller(rt, alloc) else {
+        return;
+    };
+    for _ in 0..TURNS {
+        if stage.marks.are_gone(stage.scene.workers() as u64) {
+            return;
+        }
+        let _answer = close(rt, &mut caller, FIRST);
+        pause(rt, 1);
+    }
+}
+
+/// Waits until all workers have ended. Where they do not, that is wrong, and they are called.
+fn see_them_go<K: Naming, R: Wait + Clock>(rt: &R, alloc: Global, stage: &Stage<K>) {
+    if !stage.marks.await_gone(rt, stage.scene.workers() as u64) {
+        stage.marks.note_wrong();
+        call_until_gone(rt, alloc, stage);
+    }
+}
+
+/// Lets workers run while the caller of a scene acts. They are told to stop in any case, and all have ended then.
+fn play<K: Naming + Send + Sync, R: Threads + Wait + Clock + Sync>(
+    rt: &R,
+    alloc: Global,
+    stage: &Stage<K>,
+) {
+    thread::scope(thread::scope_env(), rt, |scope| {
+        for number in 0..stage.scene.workers() {
+            let works = scope.spawn(move || work_on_thread(rt, alloc, stage, number));
+            if works.is_err() {
+                stage.marks.note_wrong();
+            }
+        }
+        act_and_end(rt, alloc, stage);
+        stage.shared.stop(rt);
+        stage.marks.tell();
+        see_them_go(rt, alloc, stage);
+    });
+}
+
+/// Leaves a share out.
+fn leave_out<K: Naming>(shares: &mut Shares<K>, missing: Missing) {
+    match missing {
+        Missing::None => {}
+        Missing::Caller => {
+            let _share = shares.callers.pop();
+        }
+        Missing::Worker => {
+            let _share = shares.workers.pop();
+        }
+    }
+}
+
+/// What settling answers, where all was as it must be before.
+fn settled<K: Naming>(stage: Stage<K>, missing: Missing) -> Option<Result<Totals, Refusal>> {
+    let is_wrong = stage.marks.is_wrong();
+    let Stage { shared, shares, .. } = stage;
+    let mut shares = shares.into_inner();
+    leave_out(&mut shares, missing);
+    if is_wrong {
+        return None;
+    }
+    Some(settle(shared, shares))
+}
+
+/// Plays a scene with a pool.
+fn played<K: Naming + Send + Sync, R: Threads + Wait + Clock + Sync>(
+    rt: &R,
+    alloc: Global,
+    image: Box<Image>,
+    blanks: Blanks,
+    opened: Opened,
+    scene: Scene,
+    missing: Missing,
+) -> Option<Result<Totals, Refusal>>
+    requires posts { blanks.posts.name ≡ K.posts }
+    requires edits { blanks.edits.name ≡ K.edits }
+    requires steps { blanks.steps.name ≡ K.steps }
+    requires book { opened.seen.book ≡ K.book }
+    requires start { K.start ≡ length image.value.history }
+{
+    let stage = Stage {
+        shared: Shared::<K>::new(Box::into_inner(image), blanks, opened),
+        shares: Mutex::new(no_shares(alloc)),
+        marks: Marks::new(),
+        scene,
+    };
+    play(rt, alloc, &stage);
+    settled(stage, missing)
+}
+
+/// Plays a scene with a new pool, and leaves a share out when all is settled.
+pub fn totals_without<R: Threads + Wait + Clock + Sync>(
+    rt: &R,
+    alloc: Global,
+    scene: Scene,
+    missing: Missing,
+) -> Option<Result<Totals, Refusal>> {
+    let image = new_image(alloc, scene).ok()?;
+    played::<Brand, R>(
+        rt,
+        alloc,
+        image,
+        Blanks::new(),
+        Opened::new(),
+        scene,
+        missing,
+    )
+}
+
+/// Plays a scene with a new pool, and settles all shares: `None` where something was not as it must be before.
+pub fn totals<R: Threads + Wait + Clock + Sync>(
+    rt: &R,
+    alloc: Global,
+    scene: Scene,
+) -> Option<Result<Totals, Refusal>> {
+    totals_without(rt, alloc, scene, Missing::None)
+}

@@ -1,0 +1,92 @@
+//! The scenes, and what each is played with.
+use st_image::settings::Settings;
+
+/// What callers do while workers run.
+#[derive(Clone, Copy, PartialEq, Eq, Debug)]
+pub enum Scene {
+    /// Two actors are asked, whose quanta overlap.
+    Overlap,
+    /// A message that is not understood, is understood, and is not.
+    NotUnderstood,
+    /// A mailbox is closed in which two messages wait.
+    Closing,
+    /// Numbers of a sender, of which one comes twice.
+    Numbers,
+    /// A method is replaced that a claim has used.
+    UsedSelector,
+    /// A method is installed that no claim has used.
+    UnusedSelector,
+    /// No item is left in the history to begin a message.
+    FullAtCheckout,
+    /// No item is left in the history for the steps of a quantum.
+    FullAtCommit,
+    /// The same, and a caller calls before the worker waits.
+    LateWait,
+    /// Nobody asks anything.
+    Rest,
+    /// The workers are told to stop while one has a claim.
+    Stopping,
+    /// A worker that waits is asked.
+    Waking,
+    /// A commit makes two actors ready, and both workers are needed.
+    WakingByCommit,
+    /// Four callers post to one actor.
+    Crowd,
+}
+
+/// When a worker may take the steps of its claim.
+#[derive(Clone, Copy, PartialEq, Eq, Debug)]
+pub enum Way {
+    /// At once.
+    Free,
+    /// Once the caller has said so.
+    Told,
+    /// Once the other worker has a claim too.
+    Met,
+    /// Once there were three claims, but for the first.
+    Third,
+    /// At once, and it does not go on after its commit before the caller has said so.
+    Held,
+}
+
+impl Scene {
+    pub fn workers(self) -> u32 {
+        match self {
+            Scene::Overlap | Scene::Rest | Scene::WakingByCommit => 2,
+            _ => 1,
+        }
+    }
+
+    pub fn way(self) -> Way {
+        match self {
+            Scene::Overlap => Way::Met,
+            Scene::Closing | Scene::UsedSelector | Scene::UnusedSelector | Scene::Stopping => {
+                Way::Told
+            }
+            Scene::LateWait => Way::Held,
+            Scene::WakingByCommit => Way::Third,
+            _ => Way::Free,
+        }
+    }
+
+    /// The most steps of a quantum.
+    pub fn quantum(self) -> u32 {
+        match self {
+            Scene::Numbers => 3,
+            _ => 256,
+        }
+    }
+
+    pub fn settings(self) -> Settings {
+        let capacity = match self {
+            Scene::Crowd => 1024,
+            _ => 64,
+        };
+        let history = match self {
+            Scene::FullAtCheckout => 4,
+            Scene::FullAtCommit | Scene::LateWait => 5,
+            _ => 1_000_000,
+        };
+        Settings { capacity, history }
+    }
+}

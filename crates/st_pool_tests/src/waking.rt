@@ -1,0 +1,121 @@
+//! Workers that wait: what wakes them, and that they end.
+use crate::calls::*;
+use crate::doors::{Marks, pause};
+use crate::plays::totals;
+use crate::pools::Caller;
+use crate::scenes::Scene;
+use st_classes::values::Value;
+use st_pool::naming::Naming;
+use st_pool::totals::Totals;
+use std::alloc::Global;
+use std::sync::Wait;
+use std::test::*;
+use std::time::Clock;
+
+/// Nothing is asked, and the workers wait when they are told to stop.
+pub fn rest<R: Clock>(rt: &R) -> bool {
+    pause(rt, 50);
+    true
+}
+
+/// The worker has a claim when it is told to stop, and is let go then. Its quantum is committed.
+pub fn stopping<K: Naming, R: Wait + Clock>(
+    rt: &R,
+    alloc: Global,
+    caller: &mut Caller<'_, K>,
+    marks: &Marks,
+) -> bool {
+    make_actor(rt, alloc, caller, "a ^3 + 4 * 2")
+        && post(rt, alloc, caller, 1, FIRST, "a") == Ok(1)
+        && marks.await_claims(rt, 1)
+}
+
+/// The worker waits each time that a message is posted.
+pub fn waking<K: Naming, R: Wait + Clock>(
+    rt: &R,
+    alloc: Global,
+    caller: &mut Caller<'_, K>,
+) -> bool {
+    if !make_actor(rt, alloc, caller, "a ^3 + 4 * 2") {
+        return false;
+    }
+    for number in 1..4 {
+        pause(rt, 50);
+        let is_answered = post(rt, alloc, caller, number, FIRST, "a") == Ok(number)
+            && answers(rt, caller, FIRST, number, 14);
+        if !is_answered {
+            return false;
+        }
+    }
+    true
+}
+
+/// The first quantum posts to the second actor, and its own turn goes on. Neither of the two claims that follow is let go before the
+/// other is out, so both workers are needed, and the commit must have woken the one that waits.
+pub fn waking_by_commit<K: Naming, R: Wait + Clock>(
+    rt: &R,
+    alloc: Global,
+    caller: &mut Caller<'_, K>,
+    marks: &Marks,
+) -> bool {
+    make_actor(rt, alloc, caller, "ask: r ^r post: #tick")
+        && define(rt, alloc, caller, "Kid") == Ok(3)
+        && install(rt, alloc, caller, KID, "tick ^7") == Ok(4)
+        && create(rt, alloc, caller, KID) == Ok(SECOND)
+        && post_with(rt, alloc, caller, 1, FIRST, "ask:", Value::Actor(SECOND)) == Ok(1)
+        && answers(rt, caller, SECOND, 1, 7)
+        && marks.await_ended(rt, 3)
+        && marks.claims() == 3
+}
+
+/// What all have done together. An actor's own posts are none of a caller.
+const SCENES: &[(Scene, Totals)] = &[
+    (
+        Scene::Rest,
+        Totals {
+            posts: 0,
+            edits: 0,
+            steps: 0,
+        },
+    ),
+    (
+        Scene::Stopping,
+        Totals {
+            posts: 1,
+            edits: 2,
+            steps: 7,
+        },
+    ),
+    (
+        Scene::Waking,
+        Totals {
+            posts: 3,
+            edits: 2,
+            steps: 21,
+        },
+    ),
+    (
+        Scene::WakingByCommit,
+        Totals {
+            posts: 1,
+            edits: 4,
+            steps: 8,
+        },
+    ),
+];
+
+/// The table behind a function without a contract, so that the proof of a test carries none of it.
+fn scenes() -> &'static [(Scene, Totals)] {
+    SCENES
+}
+
+#[test]
+fn workers_wake_and_end(rt: HostRuntime) -> Result<(), Fail> {
+    for (scene, wanted) in scenes() {
+        assert!(rt;
+            totals(&rt, rt.alloc(), *scene) == Some(Ok(*wanted)),
+            "{scene:?}"
+        );
+    }
+    Ok(())
+}

@@ -37,7 +37,7 @@ def arguments():
     parser.add_argument("--quantum", metavar="N", help="steps that an actor takes before the next one runs")
     parser.add_argument("--capacity", metavar="N", help="messages that the mailbox of a new actor holds")
     parser.add_argument("--socket", metavar="PATH", help="where a server listens")
-    parser.add_argument("--sender", metavar="N", help="the number under which messages are posted to a server, 0 to 65,535 (one by chance)")
+    parser.add_argument("--sender", metavar="N", help="the sender of what is posted to a server, 0 to 65,535 (by the process)")
     return parser.parse_args()
 
 

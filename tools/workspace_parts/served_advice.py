@@ -6,8 +6,8 @@ REFUSALS = {
     "ClassExists": "there is a class {class} already, perhaps of another session, and its variables stay; replace its methods, or "
     "take another name",
     "Full": "the mailbox of {actor} is full; send it again when the actor has come further",
-    "HistoryFull": "the history of the server is full, often of the quanta of an endless turn, and nothing more is accepted; :save "
-    "what you need, and have the server started anew",
+    "HistoryFull": "the history of the server is full, often of the quanta of an endless turn, and nothing more is accepted; "
+    ":save what you need, and have the server started anew",
     "NoMemory": "memory ran out in the server, and this was not done; try again",
     "NoSuchMethod": "{class} has no method {selector} of its own, or no longer; look for a slip in its name",
     "Old": "another client posts under this number as well; type it again, or start with another --sender",

@@ -170,7 +170,8 @@ class Session:
             if self.known.holder(name, sent):
                 return f"to find the place:  :stats {self.known.holder(name, sent)} {sent}"
         if self.image.is_served:
-            return f"no method {selector} of {name} was written in this session; see how far others came, as in  :stats Counter bump"
+            unknown = f"no method {selector} of {name} was written in this session"
+            return f"{unknown}; see how far others came, as in  :stats Counter bump"
         return f"{name} has no method {selector}, and no class above it has one"
 
     def tell_refusal(self, refused):

@@ -4,7 +4,9 @@
     tools/workspace --socket PATH [--sender N] [FILE..]
 
 The first starts a script with an image of its own. The second connects to an image that a server keeps for many:
-`./actorimage serve --socket PATH --workers 4` starts one. The FILEs are loaded first. Then lines are read from standard input; at a terminal `:help` lists what can be typed. If
+`./actorimage serve --socket PATH --workers 4` starts one.
+
+The FILEs are loaded first. Then lines are read from standard input; at a terminal `:help` lists what can be typed. If
 standard input is no terminal, each line is printed after `> ` before what it gives, and a line that begins with two spaces
 or more goes on with the one before.
 """
@@ -37,7 +39,7 @@ def arguments():
     parser.add_argument("--quantum", metavar="N", help="steps that an actor takes before the next one runs")
     parser.add_argument("--capacity", metavar="N", help="messages that the mailbox of a new actor holds")
     parser.add_argument("--socket", metavar="PATH", help="where a server listens")
-    parser.add_argument("--sender", metavar="N", help="the sender of what is posted to a server, 0 to 65,535 (by the process)")
+    parser.add_argument("--sender", metavar="N", help="the sender of what is posted to a server, 0 to 65,535 (one for each process)")
     return parser.parse_args()
 
 

@@ -35,10 +35,10 @@ IN_GENERAL = {
 
 HELP = """\
 This image is served to many, and the server's workers run the actors: a message that is typed waits until its turn has ended.
-:post does not wait, and :turn asks later. Ctrl-C stops the waiting, and the turn goes on. :run and :step have nothing to do.
-c := actor 0 names an actor by its number, also one that others made. Edits of others take effect at once, and nobody is told.
-:classes, :methods, :names and :save have what this session typed, since no command lists what others did. :stats asks the image,
-and :actors how many there are.
+:post does not wait; its turn is told of with a later answer, and :turn asks for it. Ctrl-C stops the waiting, and the turn goes on.
+c := actor 0 names an actor by its number, also one that others made. Edits of others take effect at the next send, and are not told:
+no command lists their classes or methods. :classes, :methods, :names, :save and Tab have what this session typed. :stats, :turn
+and, for how many there are, :actors ask the image.
 """.splitlines()
 
 FOR_SCRIPT = "is for a script; here the server's workers run the actors"

@@ -2,8 +2,8 @@
 
 import time
 
-from .turns import Life, Turn, Turns
-from .wrong import BrokenOff, Wrong
+from .turns import Life, Turns
+from .wrong import BrokenOff, Refused, Wrong
 
 # Seconds between two questions.
 FIRST_PAUSE, LONGEST_PAUSE = 0.001, 0.02
@@ -35,6 +35,15 @@ class ServedTurns(Turns):
                 life.tell(f"{int(time.monotonic() - begun)} s so far; Ctrl-C stops the waiting")
         finally:
             life.clear()
+
+    def has_actor(self, number):
+        try:
+            self.ask_for(number)
+        except Refused as refused:
+            if refused.reply["error"] != "UnknownActor":
+                raise
+            return False
+        return True
 
     def count_actors(self):
         """How many actors the image has: they are numbered from 0, and none is ever taken away."""

@@ -7,8 +7,11 @@ import sys
 import tempfile
 import time
 
+from .breaks import Breaks
+from .images import ServedImage
 from .pretend import Terminal
 from .serving import Server
+from .session import Session
 from .socket_connection import SocketConnection
 from .try_common import COUNTER, SPIN, WORKSPACE, piped, same
 
@@ -101,6 +104,21 @@ def next_number(program):
         same(posts, [(65535, 1, {"error": "Old", "last": 2}), (65535, 3, {"ok": {"turn": 3}})])
 
 
+def same_sender(program):
+    """Two workspaces that post under one number, in turn: each goes on behind the other."""
+    with tempfile.TemporaryDirectory() as folder, Server(program, folder, *WORKERS) as server:
+        told = []
+        one, two = (Session(ServedImage(server.path, 7), Breaks(), told.append) for _ in range(2))
+        for line in [*COUNT, "c := Counter actor"]:
+            one.do(line)
+        two.do("c := actor 0")
+        for session in (one, two, two, one, one, two):
+            session.do("c bump")
+        same(told[-6:], ["1", "2", "3", "4", "5", "6"])
+        one.close()
+        two.close()
+
+
 def no_server(program):
     """Where nothing listens, or options are for a script."""
     with tempfile.TemporaryDirectory() as folder:
@@ -173,4 +191,4 @@ def lost_at_terminal(program):
         same(terminal.end(), 0)
 
 
-TRIALS = (two_workspaces, stopped_waiting, next_number, no_server, lost_server, lost_at_terminal)
+TRIALS = (two_workspaces, stopped_waiting, next_number, same_sender, no_server, lost_server, lost_at_terminal)

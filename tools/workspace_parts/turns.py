@@ -94,15 +94,6 @@ class Turns:
             if refused.reply["error"] != "Expired":
                 raise
 
-    def has_actor(self, number):
-        try:
-            self.ask_for(number)
-        except Refused as refused:
-            if refused.reply["error"] != "UnknownActor":
-                raise
-            return False
-        return True
-
     def forget(self, turn):
         """A turn that was asked for by itself is not told of again."""
         if turn in self.waiting:

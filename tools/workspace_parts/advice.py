@@ -77,19 +77,20 @@ FAULTS = {
 }
 
 
-def explain(name):
-    """What is said of a name by itself; None if it is no name of a refusal or a fault."""
-    return next((sentences[name] for sentences in (IN_GENERAL, REFUSALS, FAULTS, KINDS) if name in sentences), None)
+def explain(name, own=()):
+    """What is said of a name by itself; None if it is no name of a refusal or a fault. `own` comes before the sentences here."""
+    return next((sentences[name] for sentences in (own, IN_GENERAL, REFUSALS, FAULTS, KINDS) if name in sentences), None)
 
 
 def names():
     return [*REFUSALS, *FAULTS, *KINDS]
 
 
-def refusal(command, reply):
-    """The sentence for a refused command."""
+def refusal(command, reply, own):
+    """The sentence for a refused command. `own` comes before the sentences here."""
     name = reply["error"]
-    sentence = MOST.get(reply.get("what")) or REFUSALS.get(name, "this was refused; docs/PROTOCOL.md says when")
+    key = reply.get("what", name)
+    sentence = own.get(key) or MOST.get(key) or REFUSALS.get(name, "this was refused; docs/PROTOCOL.md says when")
     return f"{name}: " + sentence.format_map(Words(command, reply))
 
 

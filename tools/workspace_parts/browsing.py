@@ -3,23 +3,36 @@
 import re
 
 from .known import near
-from .values import show, table
+from .values import count, show, table
 from .wrong import Wrong
 
 
+# What is said below a list of a served image.
+OF_SESSION = "this is what this session typed; no command lists what others did"
+
+
+def tell_list(session, lines, none):
+    """Tells lines, or the sentence that there is none. Of a served image, others may have more of them."""
+    if not session.image.is_served:
+        session.tell(lines or [none])
+    else:
+        session.tell([*lines, OF_SESSION] if lines else [f"in this session {none}"])
+
+
 def classes(session, rest):
-    found = session.known.user_classes()
-    lines = [known.written() for known in found]
-    session.tell(lines or ["no class was defined yet; define one as in  Counter : Object | count |"])
+    lines = [known.written() for known in session.known.user_classes()]
+    tell_list(session, lines, "no class was defined yet; define one as in  Counter : Object | count |")
 
 
 def methods(session, rest):
     known = session.known.classes
+    if rest and rest not in known and session.image.is_served:
+        raise Wrong(f"no method of {rest} was written in this session, and no command lists what others did{near(rest, known)}")
     if rest and rest not in known:
         raise Wrong(f"no class is named {rest} here{near(rest, known)}; :classes lists them")
     found = [known[rest]] if rest else known.values()
     lines = [line for it in found for line in it.method_lines() if line.strip()]
-    session.tell(lines or ["no method was written yet" + (f" in {rest}" if rest else "")])
+    tell_list(session, lines, "no method was written yet" + (f" in {rest}" if rest else ""))
 
 
 def remove(session, rest):
@@ -61,7 +74,11 @@ def actors(session, rest):
     for number, actor in sorted(known.actors.items()):
         names = [name for name, value in known.names.items() if value == {"ref": number}]
         rows.append([number, ", ".join(names), actor.class_name or "not told", "closed" if actor.is_closed else ""])
-    session.tell(table(rows) if known.actors else ["there is no actor yet; make one as in  c := Counter actor"])
+    if session.image.is_served:
+        session.tell(table(rows) if known.actors else ["in this session no actor was seen yet; name one as in  c := actor 0"])
+        session.say(f"the image has {count(session.turns.count_actors(), 'actor')}, numbered from 0")
+    else:
+        session.tell(table(rows) if known.actors else ["there is no actor yet; make one as in  c := Counter actor"])
 
 
 def names(session, rest):

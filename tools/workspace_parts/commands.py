@@ -45,7 +45,7 @@ def why(session, rest):
 
 
 def explain(session, name):
-    sentence = advice.explain(name)
+    sentence = advice.explain(name, session.image.in_general)
     if not sentence:
         raise Wrong(f"there is no refusal and no fault {name}{near(name, advice.names())}")
     session.say(f"{name}: {sentence}")
@@ -54,21 +54,24 @@ def explain(session, name):
 def help_on(session, rest):
     name = rest.removeprefix(":")
     if name in COMMANDS:
-        session.tell(help_lines([name]))
+        session.tell(help_lines(session, [name]))
     elif advice.explain(rest):
         explain(session, rest)
     elif rest:
         raise Wrong(f"there is no help on {rest}; :help alone lists the commands")
     else:
-        session.tell([*HELP, *help_lines(COMMANDS)])
+        session.tell([*HELP, *session.image.help, *help_lines(session, COMMANDS)])
 
 
-def help_lines(names):
+def help_lines(session, names):
     width = max(len(it.form) for it in COMMANDS.values())
-    return [f"{COMMANDS[name].form.ljust(width)}  {COMMANDS[name].help}" for name in names]
+    own = session.image.commands
+    return [f"{COMMANDS[name].form.ljust(width)}  {own.get(name, COMMANDS[name].help)}" for name in names]
 
 
 def restart(session, rest):
+    if session.image.is_served:
+        raise Wrong("the image is the server's, and others use it; who started the server can end it and start it anew")
     session.close()
     session.start()
     session.say("a new image, without classes and actors")

@@ -67,6 +67,9 @@ class Connection:
         why = None if reply else STARTS.get(self.process.returncode)
         raise Ended(f"{self.program} {why or 'is not the program of actorimage'}")
 
+    def begin(self):
+        """An entry begins."""
+
     def ask(self, command):
         """The reply to a command."""
         try:

@@ -68,7 +68,9 @@ def save(session, rest):
     lines = [it.written() for it in defined]
     lines += [line for it in known for line in it.method_lines()]
     write(rest, lines)
-    session.say(f"{rest}: {count(len(defined), 'class')}, {count(sum(len(it.methods) for it in known), 'method')}")
+    of_session = " of this session" if session.image.is_served else ""
+    methods = count(sum(len(it.methods) for it in known), "method")
+    session.say(f"{rest}: {count(len(defined), 'class')}, {methods}{of_session}")
 
 
 def log(session, rest):

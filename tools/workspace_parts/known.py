@@ -9,7 +9,7 @@ KERNEL = ("Object", "SmallInteger", "True", "False", "UndefinedObject", "Symbol"
 
 @dataclass
 class KnownClass:
-    """`methods` has the source of each selector."""
+    """`methods` has the source of each selector. `parent` is None in Object, and where another session defined the class."""
 
     name: str
     parent: str
@@ -43,8 +43,12 @@ class Known:
     def define(self, name, parent, slots):
         self.classes[name] = KnownClass(name, parent, slots)
 
+    def install(self, name, selector, source):
+        """A class that has a method may be one that another session defined."""
+        self.classes.setdefault(name, KnownClass(name, None, [])).methods[selector] = source
+
     def user_classes(self):
-        return [known for name, known in self.classes.items() if name not in KERNEL]
+        return [known for name, known in self.classes.items() if name not in KERNEL and known.parent]
 
     def chain(self, name):
         """The classes from this one to Object."""

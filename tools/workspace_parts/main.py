@@ -1,6 +1,10 @@
-"""A workspace: Smalltalk is typed here, and a script of actorimage does it.
+"""A workspace: Smalltalk is typed here, and a script of actorimage does it, or a server.
 
     tools/workspace [--program PROGRAM] [--quantum N] [--capacity N] [FILE..]
+    tools/workspace --socket PATH [--sender N] [FILE..]
+
+The first starts a script with an image of its own. The second connects to an image that a server keeps for many:
+`./actorimage serve --socket PATH --workers 4` starts one.
 
 The FILEs are loaded first. Then lines are read from standard input; at a terminal `:help` lists what can be typed. If
 standard input is no terminal, each line is printed after `> ` before what it gives, and a line that begins with two spaces
@@ -15,10 +19,13 @@ import sys
 from . import files
 from .breaks import Breaks
 from .cutting import entries
+from .images import OwnImage, ServedImage, WatchedImage
 from .session import Session
 from .wrong import Ended, Wrong
 
 TOP = os.path.dirname(os.path.dirname(os.path.dirname(os.path.realpath(__file__))))
+# Numbers of senders go from 0 up to this one (docs/LIMITS.md).
+SENDERS = 65_536
 WELCOME = "A workspace of actorimage. :help lists what can be typed, :why says more of a fault, :quit ends."
 
 
@@ -28,15 +35,36 @@ def arguments():
         prog="tools/workspace", description=__doc__, formatter_class=plain, usage=argparse.SUPPRESS
     )
     parser.add_argument("files", metavar="FILE", nargs="*")
-    parser.add_argument("--program", default=os.path.join(TOP, "actorimage"), help="the program (that of this repository)")
+    parser.add_argument("--program", help="the program (that of this repository)")
     parser.add_argument("--quantum", metavar="N", help="steps that an actor takes before the next one runs")
     parser.add_argument("--capacity", metavar="N", help="messages that the mailbox of a new actor holds")
+    parser.add_argument("--socket", metavar="PATH", help="where a server listens")
+    parser.add_argument("--sender", metavar="N", help="the sender of what is posted to a server, 0 to 65,535 (one for each process)")
     return parser.parse_args()
 
 
-def options(given):
-    named = (("--quantum", given.quantum), ("--capacity", given.capacity))
-    return [word for name, value in named if value is not None for word in (name, value)]
+def image(given):
+    """The image that the options tell of."""
+    of_script = (("--program", given.program), ("--quantum", given.quantum), ("--capacity", given.capacity))
+    named = [(name, value) for name, value in of_script if value is not None]
+    if given.socket is None:
+        if given.sender is not None:
+            raise Ended("--sender is for a server; give it beside --socket PATH")
+        words = [word for name, value in named if name != "--program" for word in (name, value)]
+        return OwnImage(given.program or os.path.join(TOP, "actorimage"), words)
+    if named:
+        raise Ended(f"{named[0][0]} is for a script; a server at a socket has its own, so leave it out")
+    kind = WatchedImage if sys.stdin.isatty() else ServedImage
+    return kind(given.socket, sender(given.sender))
+
+
+def sender(text):
+    """The number of the sender: that of this process, if none was given, so that two workspaces seldom have the same."""
+    if text is None:
+        return os.getpid() % SENDERS
+    if not text.isdecimal() or int(text[:9]) >= SENDERS:
+        raise Ended("--sender takes a number from 0 to 65,535")
+    return int(text)
 
 
 def transcript(session):
@@ -88,7 +116,7 @@ def main():
     sys.stdin.reconfigure(errors="replace")
     sys.stdout.reconfigure(errors="replace")
     try:
-        session = Session(given.program, options(given), Breaks(), lambda line: print(line, flush=True))
+        session = Session(image(given), Breaks(), lambda line: print(line, flush=True))
         try:
             work(session, given.files)
             session.close()

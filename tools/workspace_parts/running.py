@@ -29,7 +29,7 @@ def post_one(session, sending, send):
     for message in send.messages:
         arguments = [sending.value_of(argument)[0] for argument in message.arguments]
         turn = session.turns.post(actor, message.selector, arguments)
-        session.say(f"{turn} waits")
+        session.say(f"{turn} is posted" if session.image.is_served else f"{turn} waits")
 
 
 def step(session, rest):
@@ -53,7 +53,9 @@ def turn(session, rest):
     if not match:
         raise Wrong("write which turn of which actor, as in  :turn 3 of c")
     which = Turn(actor_of(session, match[2]), int(match[1]))
-    session.tell_end(which, session.turns.outcome(which))
+    end = session.turns.outcome(which)
+    session.turns.forget(which)
+    session.tell_end(which, end)
 
 
 def close(session, rest):

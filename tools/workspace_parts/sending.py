@@ -105,6 +105,8 @@ class Sending:
         """Runs until the turn has ended. What waited before and ended is told first."""
         end = self.turns.end_of(turn)
         self.session.tell_ends()
+        if not end:
+            raise BrokenOff(f"{turn} has ended, and its answer is no longer kept")
         if "fault" in end:
             raise Faulted(turn, end["fault"])
         self.known.see(end.get("answer"))
@@ -113,7 +115,7 @@ class Sending:
     def send_class(self, name, selector, arguments, place):
         if selector in MAKES_ACTOR:
             return {"ref": self.session.make_actor(name)}
-        if name not in self.known.classes:
+        if name not in self.known.classes and not self.session.image.is_served:
             raise Wrong(f"nothing is named {name}{near(name, self.known.classes) or near(name, self.known.names)}", place)
         if selector == "removeSelector:" and isinstance(arguments[0], dict) and "sym" in arguments[0]:
             self.session.remove(name, arguments[0]["sym"])

@@ -1,7 +1,7 @@
 """A session: each entry is done, and what it gives is said."""
 
 from . import advice, commands
-from .connection import Connection, Log
+from .connection import Log
 from .entries import Command, Definition, Method, form
 from .known import Known
 from .refused import lines as refused_lines
@@ -9,7 +9,6 @@ from .sending import Sending
 from .sources import marked
 from .statements import read_statements
 from .tokens import pattern
-from .turns import Turns
 from .values import show
 from .wrong import Faulted, Refused, Stopped, Wrong
 
@@ -20,20 +19,25 @@ class Session:
 
     command_names = tuple(commands.COMMANDS)
 
-    def __init__(self, program, options, breaks, say):
-        self.program, self.options, self.breaks = program, options, breaks
+    def __init__(self, image, breaks, say):
+        self.image, self.breaks = image, breaks
         self.say = say
         self.is_over = False
         self.loading = []
         self.start()
 
     def start(self):
-        """A new image, of which nothing is known."""
-        self.log = Log(Connection(self.program, self.options))
+        """An image of which nothing is known."""
+        self.log = Log(self.image.connect(self))
         self.told = 0
         self.why = []
         self.known = Known()
-        self.turns = Turns(self.log, self.breaks)
+        self.turns = self.image.turns(self.log, self.breaks)
+
+    def forget_turns(self):
+        """The image may be a new one, in which the numbers of actors and turns mean others."""
+        self.turns.waiting, self.turns.ends, self.turns.selectors = [], {}, {}
+        self.known.actors = {}
 
     def close(self):
         self.log.connection.close()
@@ -43,6 +47,7 @@ class Session:
 
     def do(self, text):
         """Does one entry, and returns the name of its kind, or `refused` where it was not done whole."""
+        self.log.connection.begin()
         if not text.lstrip().startswith(":log"):
             self.told = len(self.log.lines)
         try:
@@ -87,23 +92,33 @@ class Session:
     # Definitions.
 
     def define(self, found):
-        old = self.known.classes.get(found.name)
-        if self.loading and old and (old.parent, old.slots) == (found.parent, found.slots):
+        if self.loading and self.is_as_before(found) and not self.image.is_served:
             return
         command = {"cmd": "define", "name": found.name, "super": found.parent, "slots": found.slots}
-        version = self.turns.ask(command)["version"]
+        try:
+            version = self.turns.ask(command)["version"]
+        except Refused as refused:
+            if self.loading and self.is_as_before(found) and refused.reply["error"] == "ClassExists":
+                return
+            raise
         self.known.define(found.name, found.parent, found.slots)
         if not self.loading:
             self.say(f"class {found.name}, version {version}")
 
+    def is_as_before(self, found):
+        """Whether a definition is that of a class which was defined before."""
+        old = self.known.classes.get(found.name)
+        return old and (old.parent, old.slots) == (found.parent, found.slots)
+
     def install(self, found):
+        """A method that stands already is not loaded anew, but of a served image nobody knows what stands."""
         selector = (pattern(found.source) or ("", 0))[0]
         holder = self.known.classes.get(found.holder)
-        if self.loading and holder and holder.methods.get(selector) == found.source:
+        stands = holder and holder.methods.get(selector) == found.source and not self.image.is_served
+        if self.loading and stands:
             return
         self.turns.ask({"cmd": "method", "class": found.holder, "source": found.source})
-        if holder:
-            holder.methods[selector] = found.source
+        self.known.install(found.holder, selector, found.source)
 
     def remove(self, class_name, selector):
         self.turns.ask({"cmd": "remove", "class": class_name, "selector": selector})
@@ -154,8 +169,11 @@ class Session:
         for sent in (selector, "doesNotUnderstand:"):
             if self.known.holder(name, sent):
                 return f"to find the place:  :stats {self.known.holder(name, sent)} {sent}"
+        if self.image.is_served:
+            unknown = f"no method {selector} of {name} was written in this session"
+            return f"{unknown}; see how far others came, as in  :stats Counter bump"
         return f"{name} has no method {selector}, and no class above it has one"
 
     def tell_refusal(self, refused):
-        self.why = refused_lines(refused.command, refused.reply, self.known, self.turns)
+        self.why = refused_lines(refused.command, refused.reply, self.known, self.turns, self.image)
         self.tell(self.why)

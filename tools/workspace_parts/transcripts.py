@@ -5,12 +5,15 @@ import re
 import subprocess
 import sys
 import tempfile
+from contextlib import nullcontext
 from dataclasses import dataclass, field
+
+from .serving import Server
 
 PROMPT = "> "
 # A line of a transcript that goes on with the one before has two spaces in place of the prompt, and two or more of its own.
 MORE = re.compile(r"    |  \t")
-OPTIONS = re.compile(r"workspace((?: --[a-z]+ \S+)+)$")
+OPTIONS = re.compile(r"(workspace|serve)((?: --[a-z]+ \S+)+)$")
 
 
 @dataclass
@@ -24,15 +27,18 @@ class Typed:
 
 @dataclass
 class Transcript:
+    """`served` has the options of the server where the image is a served one, and `options` those of the workspace."""
+
     path: str
     options: list
+    served: list
     entries: list = field(default_factory=list)
 
 
 def transcript(path):
     """The transcript of a file. After an empty line, what comes before the next `> ` says nothing, but for a line of options,
-    as `workspace --quantum 16`."""
-    found, last, empty = Transcript(path, []), None, 0
+    as `workspace --quantum 16`, or as `serve --workers 2` where the image is a served one."""
+    found, last, empty = Transcript(path, [], []), None, 0
     with open(path, encoding="utf-8") as file:
         lines = file.read().splitlines()
     for number, line in enumerate(lines, 1):
@@ -46,7 +52,8 @@ def transcript(path):
             last.wanted.append(line.rstrip())
         elif line.strip():
             last = None
-            found.options += options[1].split() if options else []
+            if options:
+                (found.served if options[1] == "serve" else found.options).extend(options[2].split())
         empty = 0 if line.strip() else empty + 1
     return found
 
@@ -55,12 +62,14 @@ def given(workspace, program, transcript):
     """The lines that the workspace prints for a transcript, and its status. It runs in a folder of its own, in which it sees
     those of the repository."""
     text = "".join(entry.text + "\n" for entry in transcript.entries)
-    command = [sys.executable, workspace, "--program", program, *transcript.options]
+    where = ["--socket", "socket"] if transcript.served else ["--program", program]
+    command = [sys.executable, workspace, *where, *transcript.options]
     top = os.path.dirname(os.path.dirname(workspace))
     with tempfile.TemporaryDirectory() as folder:
         for name in ("docs", "examples", "tests"):
             os.symlink(os.path.join(top, name), os.path.join(folder, name))
-        ended = subprocess.run(command, input=text.encode(), capture_output=True, timeout=120, cwd=folder)
+        with Server(program, folder, *transcript.served) if transcript.served else nullcontext():
+            ended = subprocess.run(command, input=text.encode(), capture_output=True, timeout=120, cwd=folder)
     return (ended.stdout + ended.stderr).decode().splitlines(), ended.returncode
 
 

@@ -2,9 +2,9 @@
 
 import subprocess
 
-from . import try_program, try_terminal, try_words
+from . import try_pretended, try_program, try_served, try_terminal, try_words
 
-TRIALS = try_words.TRIALS + try_terminal.TRIALS + try_program.TRIALS
+TRIALS = try_words.TRIALS + try_terminal.TRIALS + try_program.TRIALS + try_served.TRIALS + try_pretended.TRIALS
 
 
 def failures(program):

@@ -3,8 +3,10 @@
 import os
 import re
 
-from . import advice
+from . import advice, served_advice
+from .commands import COMMANDS
 from .cutting import entries
+from .in_general import IN_GENERAL
 from .known import Known
 from .terminal import candidates, read_entry
 from .try_common import TOP, WORKSPACE, same
@@ -44,6 +46,19 @@ def all_refusals(program):
     for name in advice.names():
         if "{" in advice.explain(name) or ";" not in advice.explain(name):
             raise AssertionError(f"the sentence of {name} does not say what to do, or has braces")
+
+
+def served(program):
+    """What is said of a served image stands in place of something, and says what to do."""
+    same(set(served_advice.REFUSALS) - {*advice.REFUSALS, *advice.MOST}, set())
+    same(set(served_advice.IN_GENERAL) - set(advice.REFUSALS), set())
+    same(set(served_advice.COMMANDS) - set(COMMANDS), set())
+    in_general = {**advice.REFUSALS, **IN_GENERAL, **served_advice.IN_GENERAL}
+    for name, sentence in [*served_advice.REFUSALS.items(), *in_general.items()]:
+        if ";" not in sentence or "{" in in_general.get(name, ""):
+            raise AssertionError(f"the sentence of {name} does not say what to do, or has braces")
+    for sentence in (*served_advice.REFUSALS.values(), *served_advice.IN_GENERAL.values()):
+        same((":run" in sentence, ":restart" in sentence), (False, False))
 
 
 def limits(program):
@@ -128,4 +143,4 @@ def cut(program):
         same([entry.text for entry in entries(text.split("\n"))], wanted)
 
 
-TRIALS = (all_refusals, limits, completion, several_lines, cut)
+TRIALS = (all_refusals, served, limits, completion, several_lines, cut)

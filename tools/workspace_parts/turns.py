@@ -34,12 +34,12 @@ class Life:
         self.shown = False
         self.next = time.monotonic() + 1
 
-    def tell(self, quanta):
+    def tell(self, so_far):
         now = time.monotonic()
         if now >= self.next and sys.stderr.isatty():
             self.next = now + 0.5
             self.shown = True
-            print(f"\r{quanta:,} quanta so far; Ctrl-C breaks off ", end="", file=sys.stderr, flush=True)
+            print(f"\r{so_far} ", end="", file=sys.stderr, flush=True)
 
     def clear(self):
         if self.shown:
@@ -50,9 +50,10 @@ class Turns:
     """`waiting` are turns that were posted and have not ended yet; `ends` has those that ended and were not told of.
     `selectors` has that of each turn's message. `items` counts those of the history that the commands took, or more."""
 
-    def __init__(self, connection, breaks):
+    def __init__(self, connection, breaks, sender=SENDER):
         self.connection = connection
         self.breaks = breaks
+        self.sender = sender
         self.last = 0
         self.items = 0
         self.waiting = []
@@ -68,13 +69,13 @@ class Turns:
         return reply["ok"]
 
     def post(self, actor, selector, arguments):
-        command = {"cmd": "post", "actor": actor, "selector": selector, "args": arguments, "sender": SENDER}
+        command = {"cmd": "post", "actor": actor, "selector": selector, "args": arguments, "sender": self.sender}
         try:
             turn = self.ask({**command, "seq": self.last + 1})["turn"]
         except Refused as refused:
             if refused.reply["error"] != "Old":
                 raise
-            # Somebody else posts under this number.
+            # Somebody else posts under this number, or has before.
             self.last = refused.reply["last"]
             turn = self.ask({**command, "seq": self.last + 1})["turn"]
         self.last += 1
@@ -92,6 +93,11 @@ class Turns:
         except Refused as refused:
             if refused.reply["error"] != "Expired":
                 raise
+
+    def forget(self, turn):
+        """A turn that was asked for by itself is not told of again."""
+        if turn in self.waiting:
+            self.waiting.remove(turn)
 
     def end_of(self, turn):
         """Runs until a turn has ended, and says how."""
@@ -119,7 +125,7 @@ class Turns:
                 if turn in self.ends or ran["quanta"] < size or taken == quanta:
                     break
                 self.check(taken, most, self.running(turn))
-                life.tell(taken)
+                life.tell(f"{taken:,} quanta so far; Ctrl-C breaks off")
         finally:
             life.clear()
         return taken, steps

@@ -33,6 +33,14 @@ class BrokenOff(Stopped):
         self.sentence = sentence
 
 
+class Lost(Stopped):
+    """The connection to a server broke; `sentence` says how it goes on."""
+
+    def __init__(self, sentence):
+        super().__init__(sentence)
+        self.sentence = sentence
+
+
 class Faulted(Stopped):
     """A turn ended with a fault."""
 

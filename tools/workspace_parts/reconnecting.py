@@ -1,0 +1,69 @@
+"""A connection to a server that is made anew where it broke, for a person at a terminal."""
+
+from .socket_connection import SocketConnection
+from .wrong import Ended, Lost
+
+AGAIN = "connected again; if the server is a new one, so is the image, and names of actors from before may mean nothing"
+PERHAPS = "the number {seq} of sender {sender} was used before: perhaps this message was accepted when the connection broke"
+
+
+class Reconnecting:
+    """`tell` takes a sentence on what broke, and `is_back` is called when there is a connection again. The first command of an
+    entry is sent once more on the new connection. Later ones are not: they rest on what was done on the old one."""
+
+    def __init__(self, path, tell, is_back):
+        self.path, self.tell, self.is_back = path, tell, is_back
+        self.connection = SocketConnection(path)
+        self.is_first = True
+
+    def begin(self):
+        """An entry begins."""
+        self.is_first = True
+
+    def ask(self, command):
+        is_first, self.is_first = self.is_first, False
+        if self.connection is None:
+            self.connect_again()
+            return self.ask_connected(command)
+        try:
+            return self.connection.ask(command)
+        except Ended as ended:
+            self.lose()
+            if not is_first:
+                raise Lost(f"{ended.sentence}; the next entry connects again") from None
+            self.tell(ended.sentence)
+        self.connect_again()
+        return self.ask_once_more(command)
+
+    def ask_connected(self, command):
+        try:
+            return self.connection.ask(command)
+        except Ended as ended:
+            self.lose()
+            raise Lost(f"{ended.sentence}; the next entry connects again") from None
+
+    def ask_once_more(self, command):
+        """The command may have been done before, so that only its reply was lost."""
+        reply = self.ask_connected(command)
+        if command["cmd"] == "post" and reply == {"error": "Old", "last": command["seq"]}:
+            raise Lost(PERHAPS.format_map(command) + "; type it again if it was not")
+        return reply
+
+    def connect_again(self):
+        try:
+            self.connection = SocketConnection(self.path)
+        except Ended as ended:
+            raise Lost(f"{ended.sentence}; the next entry tries again") from None
+        self.is_back()
+        self.tell(AGAIN)
+
+    def lose(self):
+        self.connection.end()
+        self.connection = None
+
+    def close(self):
+        self.end()
+
+    def end(self):
+        if self.connection:
+            self.lose()

@@ -1,0 +1,56 @@
+"""What is said of a served image in place of what advice.py says of a script, and what `:help` says besides."""
+
+ANEW = "or have the server started anew"
+
+REFUSALS = {
+    "ClassExists": "there is a class {class} already, perhaps of another session, and its variables stay; replace its methods, or "
+    "take another name",
+    "Full": "the mailbox of {actor} is full; send it again when the actor has come further",
+    "HistoryFull": "the history of the server is full, often of the quanta of an endless turn, and nothing more is accepted; "
+    ":save what you need, and have the server started anew",
+    "NoMemory": "memory ran out in the server, and this was not done; try again",
+    "NoSuchMethod": "{class} has no method {selector} of its own, or no longer; look for a slip in its name",
+    "Old": "another client posts under this number as well; type it again, or start with another --sender",
+    "Pending": "turn {turn} of {actor} has not ended, or its message was not posted yet; ask again later",
+    "UnknownActor": "there is no {actor}; :actors tells how many there are",
+    "actors": f"there are 65,536 actors, and no more can be made; let the old ones do more, {ANEW}",
+    "classes": f"there are 1,024 classes, and no more can be defined; do with those, {ANEW}",
+    "edits": f"the classes were edited as often as they may; :save them, {ANEW}",
+    "names": f"there are 8,192 selectors and symbols, and no more can be added; do with those, {ANEW}",
+}
+
+# What a refusal means by itself.
+IN_GENERAL = {
+    "ClassExists": "a class has this name already, perhaps of another session, and its variables stay; replace its methods, or take "
+    "another name",
+    "Full": "the actor's mailbox is full; send the message again when the actor has come further",
+    "HistoryFull": REFUSALS["HistoryFull"],
+    "NoMemory": REFUSALS["NoMemory"],
+    "NoSuchMethod": "a class has no such method of its own, or no longer; look for a slip in its name",
+    "Old": REFUSALS["Old"],
+    "Pending": "the turn has not ended, or its message was not posted yet; ask again later",
+    "TooMany": f"there would be too many classes, variables, edits, names or actors; do with those there are, {ANEW}",
+    "UnknownActor": "no actor has this number; :actors tells how many there are",
+}
+
+HELP = """\
+This image is served to many, and the server's workers run the actors: a message that is typed waits until its turn has ended.
+:post does not wait; its turn is told of with a later answer, and :turn asks for it. Ctrl-C stops the waiting, and the turn goes on.
+c := actor 0 names an actor by its number, also one that others made. Edits of others take effect at the next send, and are not told:
+no command lists their classes or methods. :classes, :methods, :names, :save and Tab have what this session typed. :stats, :turn
+and, for how many there are, :actors ask the image.
+""".splitlines()
+
+FOR_SCRIPT = "is for a script; here the server's workers run the actors"
+# What commands do where it is not what they do with a script.
+COMMANDS = {
+    "post": "sends a message, and does not wait until its turn has ended",
+    "step": FOR_SCRIPT,
+    "run": FOR_SCRIPT,
+    "classes": "lists the classes that this session defined",
+    "methods": "lists the methods of a class that this session wrote; alone, all of them",
+    "actors": "lists the actors that this session saw, and tells how many there are",
+    "names": "lists what this session named",
+    "save": "writes the classes and methods of this session to a file",
+    "restart": "is for a script; here the image is the server's",
+}

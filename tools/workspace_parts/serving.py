@@ -1,0 +1,37 @@
+"""A server for the time of a trial."""
+
+import os
+import subprocess
+import time
+
+SECONDS_TO_START = 60
+
+
+class Server:
+    """The program, which serves an image at `socket` in a folder until the trial is over."""
+
+    def __init__(self, program, folder, *options):
+        self.path = os.path.join(folder, "socket")
+        self.command = [program, "serve", "--socket", "socket", *options]
+        self.folder = folder
+
+    def __enter__(self):
+        quiet = {"stdout": subprocess.DEVNULL, "stderr": subprocess.DEVNULL}
+        self.process = subprocess.Popen(self.command, cwd=self.folder, **quiet)
+        ends = time.monotonic() + SECONDS_TO_START
+        while not os.path.exists(self.path):
+            if self.process.poll() is not None or time.monotonic() > ends:
+                self.end()
+                raise AssertionError("the server makes no socket")
+            time.sleep(0.01)
+        return self
+
+    def __exit__(self, *_):
+        self.end()
+
+    def end(self):
+        """Ends the server as a signal does, and takes away the socket's file, which then stays."""
+        self.process.kill()
+        self.process.wait()
+        if os.path.exists(self.path):
+            os.remove(self.path)

@@ -1,0 +1,97 @@
+"""The way to a served image: commands go over a Unix socket, and each is answered with one reply."""
+
+import json
+import os
+import socket
+
+from .connection import LONGEST_LINE, as_line
+from .wrong import Ended
+
+# A server takes no such command, since its workers run the actors. So this reply tells that a server is there.
+GREETING = {"cmd": "run"}
+ITS_REPLY = {"error": "BadCommand"}
+# So long a server may take to greet: what listens may be something else, or accept no more sessions.
+SECONDS_TO_GREET = 30
+
+
+class SocketConnection:
+    """A session of a server."""
+
+    def __init__(self, path):
+        self.path = path
+        self.socket = socket.socket(socket.AF_UNIX)
+        self.replies = self.socket.makefile("rb")
+        try:
+            self.connect()
+            self.greet()
+        except BaseException:
+            self.end()
+            raise
+
+    def connect(self):
+        try:
+            self.socket.connect(self.path)
+        except (FileNotFoundError, ConnectionRefusedError):
+            raise Ended(nothing_listens(self.path)) from None
+        except OSError as error:
+            raise Ended(f"{self.path} cannot be connected to ({error.strerror or error})") from None
+
+    def greet(self):
+        """Finds out whether a server is there that takes one more session."""
+        self.socket.settimeout(SECONDS_TO_GREET)
+        try:
+            reply = self.exchange(GREETING)
+        except Ended:
+            reply = None
+        if reply == {"error": "TooMany", "what": "sessions"}:
+            raise Ended(f"the server at {self.path} has as many sessions as it may; try again later")
+        if reply != ITS_REPLY:
+            raise Ended(f"no server of actorimage replies at {self.path}; write the path of its socket")
+        self.socket.settimeout(None)
+
+    def begin(self):
+        """An entry begins."""
+
+    def ask(self, command):
+        """The reply to a command."""
+        return self.exchange(command) if fits(command) else {"error": "TooLong"}
+
+    def exchange(self, command):
+        try:
+            self.send(command)
+            line = self.replies.readline()
+            if not line.endswith(b"\n"):
+                raise ValueError
+            return json.loads(line)
+        except (OSError, ValueError):
+            raise Ended(f"the connection to {self.path} broke, perhaps since the server has ended") from None
+
+    def send(self, command):
+        """A server that is full replies without reading, so its reply is looked for even if this fails."""
+        try:
+            self.socket.sendall(encoded(command) + b"\n")
+        except (BrokenPipeError, ConnectionResetError):
+            pass
+
+    def close(self):
+        self.end()
+
+    def end(self):
+        self.replies.close()
+        self.socket.close()
+
+
+def encoded(command):
+    return as_line(command).encode(errors="replace")
+
+
+def fits(command):
+    """Whether a command is short enough to be sent."""
+    return len(encoded(command)) <= LONGEST_LINE
+
+
+def nothing_listens(path):
+    start = f"./actorimage serve --socket {path} --workers 4"
+    if os.path.lexists(path):
+        return f"nothing listens at {path}; remove what is there, and start a server with  {start}"
+    return f"nothing listens at {path}; start a server with  {start}"

@@ -19,7 +19,8 @@ class Server:
         quiet = {"stdout": subprocess.DEVNULL, "stderr": subprocess.DEVNULL}
         self.process = subprocess.Popen(self.command, cwd=self.folder, **quiet)
         ends = time.monotonic() + SECONDS_TO_START
-        while not os.path.exists(self.path):
+        # The server gives the socket's file its rights last.
+        while not os.path.exists(self.path) or os.stat(self.path).st_mode & 0o777 != 0o600:
             if self.process.poll() is not None or time.monotonic() > ends:
                 self.end()
                 raise AssertionError("the server makes no socket")

@@ -11,9 +11,9 @@ use Rattle.st_classes.specs.declared.edits.Edit.{Edit}
 use Rattle.st_image.specs.declared.items.Item.{Item}
 use Rattle.st_image.specs.declared.settings.Settings.{Settings}
 use Rattle.st_image.specs.Images.{world_of, settings_rules}
-use Rattle.st_image.specs.Worlds.{start}
+use Rattle.st_image.specs.Worlds.{World, start}
 use Rattle.st_image.specs.ActorViews.{ActorView}
-use Rattle.st_image.specs.WorldInvariant.{AreConstants, AreSettings, IsSoundItem}
+use Rattle.st_image.specs.WorldInvariant.{AreConstants, AreSettings, IsSoundItem, IsWorld}
 use Rattle.st_image.specs.ActResults.{constants_of}
 use Rattle.st_image.specs.ImageInvariant.{IsImage}
 use Rattle.st_image.proofs.SendingOrder.{start_in_order}
@@ -53,21 +53,31 @@ new_is s f = record {
   counted = refl;
   numbers = f;
   few_items = omega arith;
-  few_accepted = All-nil (λ (k : ActorView). k.accepted ≤ 0);
+  few_accepted = All-nil (λ (k : ActorView). k.accepted ≤ 1024);
 }
 
-no_items : (names : List (List ℕ)) (edits : List Edit) (actors : List ActorView) (made : ℕ) (s t : Settings) → IsImage start names edits actors [] made s → AreSettings t → IsImage start names edits actors [] made t
+-- a world for other constants of the same names
+world_by : (names : List (List ℕ)) (s t : Settings) (w : World) → AreSettings t → IsWorld (constants_of names s.capacity) w → IsWorld (constants_of names t.capacity) w
+world_by names s t w f k = record {
+  constants = record { kernel = k.constants.kernel; some_capacity = f.some_capacity; few_messages = f.few_messages };
+  lawful = k.lawful;
+  suited = k.suited;
+  sound = k.sound;
+  actors = k.actors;
+  clients = k.clients;
+}
+
+no_items : (base : World) (names : List (List ℕ)) (edits : List Edit) (actors : List ActorView) (made : ℕ) (s t : Settings) → IsImage base names edits actors [] made s → AreSettings t → IsImage base names edits actors [] made t
 unfolding world_of
-no_items names edits actors made s t k f =
-    let c : AreConstants (constants_of names t.capacity) = record { kernel = k.base_is.constants.kernel; some_capacity = f.some_capacity; few_messages = f.few_messages } in
+no_items base names edits actors made s t k f =
     record {
-      base_is = start_is_world (constants_of names t.capacity) c;
-      senders = start_in_order;
+      base_is = world_by names s t base f k.base_is;
+      senders = k.senders;
       sound = k.sound;
       lawful = refl;
       shows = k.shows;
-      world = start_is_world (constants_of names t.capacity) c;
-      turns = start_has_turns;
+      world = world_by names s t base f k.base_is;
+      turns = k.turns;
       counted = k.counted;
       numbers = f;
       few_items = omega arith;
@@ -75,6 +85,6 @@ no_items names edits actors made s t k f =
     }
 
 -- an image with no history yet, with other numbers
-pub set_is : (names : List (List ℕ)) (edits : List Edit) (actors : List ActorView) (h : List Item) (made : ℕ) (s t : Settings) → IsImage start names edits actors h made s → h ≡ [] → AreSettings t → IsImage start names edits actors h made t
-set_is names edits actors h made s t k none f =
-    subst (λ (x : List Item). IsImage start names edits actors x made t) (sym none) (no_items names edits actors made s t (subst (λ (x : List Item). IsImage start names edits actors x made s) none k) f)
+pub set_is : (base : World) (names : List (List ℕ)) (edits : List Edit) (actors : List ActorView) (h : List Item) (made : ℕ) (s t : Settings) → IsImage base names edits actors h made s → h ≡ [] → AreSettings t → IsImage base names edits actors h made t
+set_is base names edits actors h made s t k none f =
+    subst (λ (x : List Item). IsImage base names edits actors x made t) (sym none) (no_items base names edits actors made s t (subst (λ (x : List Item). IsImage base names edits actors x made s) none k) f)

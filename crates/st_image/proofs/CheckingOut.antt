@@ -27,7 +27,7 @@ use Rattle.st_mailbox.specs.declared.messages.Sender.TheVariants.{Client, Actor}
 use Rattle.st_image.specs.declared.settings.Settings.{Settings}
 use Rattle.st_image.specs.declared.items.Item.{Item}
 use Rattle.st_image.specs.declared.items.Item.TheVariants.{Edited, Created, Posted, Closed, Begun, Ran}
-use Rattle.st_image.specs.Worlds.{Constants, World, WorldActor, change, change_at, pending, start}
+use Rattle.st_image.specs.Worlds.{Constants, World, WorldActor, change, change_at, pending}
 use Rattle.st_image.specs.Replay.{ActResult as Acted, with_accepted, with_begun, after_close, create_result, act_result, failed_act, is_local, new_world_actor, next, next_message, post_result, after_post, after_post_by, replay, after_step, after_step_of, attempted_act, with_body, with_last, with_new}
 use Rattle.st_image.specs.Images.{ImageView, Standing, appended, world, world_of}
 use Rattle.st_image.specs.ActorViews.{ActorView, Shows, actor_view, view_after_begin, view_checked_out}
@@ -36,7 +36,8 @@ use Rattle.st_image.specs.ImageInvariant.{CanRun, IsImage}
 use Rattle.st_image.specs.declared.tallies.Tally.{Tally}
 use Rattle.st_image.specs.ClaimsOut.{one_more}
 use Rattle.st_turn.specs.Claims.{ClaimView}
-use Rattle.st_image.specs.Changes.{changes_in}
+use Rattle.st_image.specs.Changes.{change_count, changes_in}
+use Rattle.st_image.specs.Earlier.{Earlier}
 use Rattle.st_image.specs.Commits.{HasCheckedOut, after_checkout, checkout_rules, idle_at, new_claim, with_out}
 use Rattle.st_image.proofs.Lists.{off, set_at_same}
 use Rattle.st_image.proofs.Changing.{change_here, get-change, length-change}
@@ -146,14 +147,14 @@ checked_by i a true e = rw e refl
 checked_by i a false e = rw e (ap (λ (x : List Item). let b : ImageView = record i { history = x; standing = record i.standing { next_from = a.0 + 1 } } in b) (sym (append-nil i.history)))
 
 -- what callers see of a checkout
-pub checked : (base : World) (names : List (List ℕ)) (edits : List Edit) (actors : List ActorView) (h : List Item) (made : ℕ) (s : Settings) (n : ℕ) (out : List ℕ) (rows : List (List Tally)) (a : ActorId) (k : ActorView) (t : Bool) (c : ClaimView) (stamp : ℕ)
+pub checked : (base : World) (names : List (List ℕ)) (edits : List Edit) (actors : List ActorView) (h : List Item) (made : ℕ) (s : Settings) (earlier : Earlier) (n : ℕ) (out : List ℕ) (rows : List (List Tally)) (a : ActorId) (k : ActorView) (t : Bool) (c : ClaimView) (stamp : ℕ)
     → IsImage base names edits actors h made s → slice_get actors a.0 ≡ Some k → a.0 < length out → is_idle k.body.phase ≡ t
     → IsOut base names edits (change_at view_checked_out a.0 actors) (h ++ begun_items t a) made s a (view_checked_out k).body
-    → c ≡ new_claim edits a (view_checked_out k).body stamp → stamp ≡ changes_in (h ++ begun_items t a) a.0
-    → HasCheckedOut (seen base names h s (standing_of n out rows)) a c (seen base names (h ++ begun_items t a) s (standing_of (a.0 + 1) (change_at one_more a.0 out) rows))
-checked base names edits actors h made s n out rows a k t c stamp i at within e o claim stamped =
-    let old : ImageView = seen base names h s (standing_of n out rows) in
-    let new : ImageView = seen base names (h ++ begun_items t a) s (standing_of (a.0 + 1) (change_at one_more a.0 out) rows) in
+    → c ≡ new_claim edits a (view_checked_out k).body stamp → stamp ≡ change_count earlier.changes a.0 + changes_in (h ++ begun_items t a) a.0
+    → HasCheckedOut (seen base names h s (standing_of earlier n out rows)) a c (seen base names (h ++ begun_items t a) s (standing_of earlier (a.0 + 1) (change_at one_more a.0 out) rows))
+checked base names edits actors h made s earlier n out rows a k t c stamp i at within e o claim stamped =
+    let old : ImageView = seen base names h s (standing_of earlier n out rows) in
+    let new : ImageView = seen base names (h ++ begun_items t a) s (standing_of earlier (a.0 + 1) (change_at one_more a.0 out) rows) in
     let was : idle_at (slice_get (world old).actors a.0) ≡ t = idle_there edits actors (world old) a k i.shows at ∙ e in
     record {
       body = (view_checked_out k).body;
@@ -162,105 +163,3 @@ checked base names edits actors h made s n out rows a k t c stamp i at within e 
       image = ap (λ (x : ImageView). with_out x new) (sym (checked_by old a t was));
       counted = counts_out one_more a old new out (change_at one_more a.0 out) refl refl refl (inl within);
     }
-
--- ---- the numbers of actors
-
--- so many actors more than acts can make
-abbrev pub FewActors : ℕ → World → Type 0
-FewActors k w = length w.actors ≤ 65536 + k
-
-fewer : (m n : ℕ) → nat_le m n ≡ false → n < m
-fewer m n h = grind (arith, nat_tests)
-
-few_change : (k : ℕ) (f : WorldActor → WorldActor) (a : ActorId) (w : World) → FewActors k w → FewActors k (change f a w)
-few_change k f a w h = omega (arith, h, length-change f a.0 w.actors)
-
-few_last : (k : ℕ) (s : Sender) (n : ℕ) (w : World) → FewActors k w → FewActors k (with_last s n w)
-few_last k (Client s) n w h = h
-few_last k (Actor a) n w h = few_change k (λ b. record b { last = n }) a w h
-
-few_posted : (k : ℕ) (c : Constants) (w v : World) (a : ActorId) (m : Message) → FewActors k w → after_post c w a m ≡ Some v → FewActors k v
-few_posted k c w v a m h e = subst (FewActors k) (let_through _ _ v e).1 (few_last k m.sender m.seq (change (with_accepted m) a w) (few_change k (with_accepted m) a w h))
-
-few_closed : (k : ℕ) (w v : World) (a : ActorId) → FewActors k w → after_close w a ≡ Some v → FewActors k v
-few_closed k w v a h e = subst (FewActors k) (let_through _ _ v e).1 (few_change k (λ b. record b { is_open = false }) a w h)
-
-few_tried : (k : ℕ) (w : World) (o : Option World) → FewActors k w → ((v : World) → o ≡ Some v → FewActors k v) → FewActors k (attempted_act w o).world
-few_tried k w None h f = h
-few_tried k w (Some v) h f = f v refl
-
-few_either : (k : ℕ) (b : Bool) (p q : Acted) → FewActors k p.world → (b ≡ false → FewActors k q.world) → FewActors k (cond b p q).world
-few_either k true p q h f = h
-few_either k false p q h f = f refl
-
-few_posted_by : (k : ℕ) (c : Constants) (to : ActorId) (s : Selector) (args : List Value) (a : ActorId) (w v : World) (o : Option WorldActor) → FewActors k w → after_post_by c to s args a w o ≡ Some v → FewActors k v
-few_posted_by k c to s args a w v None h e = cc
-few_posted_by k c to s args a w v (Some b) h e = few_posted k c w v to _ h (cond_some _ _ v e).1
-
-few_post : (k : ℕ) (c : Constants) (to : ActorId) (s : Selector) (args : List Value) (a : ActorId) (w : World) → FewActors k w → FewActors k (post_result c to s args a w).world
-few_post k c to s args a w h =
-    let o : Option World = after_post_by c to s args a w (slice_get w.actors a.0) in
-    few_either k (not (is_number (arity_at c.names s) (length args))) (failed_act w BadArgument) (cond (list_any is_local args) (failed_act w LocalArgument) (attempted_act w o)) h
-    (λ x. few_either k (list_any is_local args) (failed_act w LocalArgument) (attempted_act w o) h
-    (λ y. few_tried k w o h (λ v e. few_posted_by k c to s args a w v (slice_get w.actors a.0) h e)))
-
-few_create : (k : ℕ) (c : Constants) (class : ClassId) (w : World) → FewActors k w → FewActors k (create_result c class w).world
-few_create k c class w h =
-    let made : Acted = record { world = with_new c class w; answer = Ok (Reference (record { 0 = length w.actors })) } in
-    few_either k (is_value_class class) (failed_act w BadArgument) (cond (nat_le 65536 (length w.actors)) (failed_act w TooManyActors) made) h
-    (λ x. few_either k (nat_le 65536 (length w.actors)) (failed_act w TooManyActors) made h
-    (λ y. let few : length w.actors < 65536 = fewer 65536 (length w.actors) y in omega (arith, few, length-append w.actors (new_world_actor w.edits class c.capacity ∷ []))))
-
-few_done : (k : ℕ) (c : Constants) (a : ActorId) (w : World) (act : Act) → FewActors k w → FewActors k (act_result c a w act).world
-few_done k c a w (Post to (Sym s ∷ args)) h = few_post k c to s args a w h
-few_done k c a w (Post to []) h = h
-few_done k c a w (Post to (Int z ∷ args)) h = h
-few_done k c a w (Post to (Boolean b ∷ args)) h = h
-few_done k c a w (Post to (Nil ∷ args)) h = h
-few_done k c a w (Post to (Class d ∷ args)) h = h
-few_done k c a w (Post to (Reference d ∷ args)) h = h
-few_done k c a w (Post to (Local n ∷ args)) h = h
-few_done k c a w (Close to) h = few_tried k w (after_close w to) h (λ v e. few_closed k w v to h e)
-few_done k c a w (Create class) h = few_create k c class w h
-
-some_world : (w v : World) → Some w ≡ Some v → w ≡ v
-some_world w v e = cc
-
-few_taken : (k : ℕ) (c : Constants) (a : ActorId) (w v : World) (s : Step) → FewActors k w → after_step_of c a w s ≡ Some v → FewActors k v
-few_taken k c a w v (leads body) h e = subst (FewActors k) (some_world _ v e) (few_change k (with_body body) a w h)
-few_taken k c a w v ended h e = cc
-few_taken k c a w v (outer act) h e = let d : Acted = act_result c a w act in subst (FewActors k) (some_world _ v e) (few_change k (λ b. with_body (reply_body act d.answer b.body) b) a d.world (few_done k c a w act h))
-
-few_stepped : (k : ℕ) (c : Constants) (a : ActorId) (w v : World) → FewActors k w → after_step c a w ≡ Some v → FewActors k v
-few_stepped k c a w v h e = let p = bound (λ b. after_step_of c a w (step w.edits a b.body)) (slice_get w.actors a.0) v e in few_taken k c a w v (step w.edits a p.0.body) h p.2
-
-few_after : (k : ℕ) (c : Constants) (a : ActorId) (n : ℕ) (w v : World) → FewActors k w → world_after c a n w ≡ Some v → FewActors k v
-few_after k c a zero w v h e = subst (FewActors k) (some_world w v e) h
-few_after k c a (suc n) w v h e = let p = bound (world_after c a n) (after_step c a w) v e in few_after k c a n p.0 v (few_stepped k c a w p.0 h p.1) p.2
-
-few_next : (k : ℕ) (c : Constants) (w v : World) (i : Item) → FewActors k w → next c w i ≡ Some v → FewActors (k + 1) v
-few_next k c w v (Edited e) h f = subst (FewActors (k + 1)) (let_through _ _ v f).1 (omega (arith, h))
-few_next k c w v (Created class) h f = subst (FewActors (k + 1)) (let_through _ _ v f).1 (omega (arith, h, length-append w.actors (new_world_actor w.edits class c.capacity ∷ [])))
-few_next k c w v (Posted a m) h f = omega (arith, few_posted k c w v a m h f)
-few_next k c w v (Closed a) h f = omega (arith, few_closed k w v a h f)
-few_next k c w v (Begun a) h f =
-    let p = mapped (λ m. change (with_begun m) a w) (next_message (slice_get w.actors a.0)) v f in
-    let g : FewActors k v = subst (FewActors k) p.2 (few_change k (with_begun p.0) a w h) in
-    omega (arith, g)
-few_next k c w v (Ran a n) h f = omega (arith, few_after k c a n w v h (cond_some (nat_lt 0 n) (world_after c a n w) v (sym (ran_after c w a n) ∙ f)).1)
-
-few_replay : (k : ℕ) (c : Constants) (w v : World) (is : List Item) → FewActors k w → replay c w is ≡ Some v → FewActors (k + length is) v
-few_replay k c w v [] h e = subst (FewActors (k + 0)) (some_world w v e) (omega (arith, h))
-few_replay k c w v (i ∷ is) h e =
-    let p = bound (λ x. replay c x is) (next c w i) v e in
-    let r : FewActors (k + 1 + length is) v = few_replay (k + 1) c p.0 v is (few_next k c w p.0 i h p.1) p.2 in
-    omega (arith, r)
-
--- the number after that of an actor that is there fits
-pub small_number : (names : List (List ℕ)) (edits : List Edit) (actors : List ActorView) (h : List Item) (made : ℕ) (s : Settings) (a : ℕ) (x : ActorView) → IsImage start names edits actors h made s → slice_get actors a ≡ Some x → FitsIn w32 (a + 1)
-small_number names edits actors h made s a x k at =
-    let c : Constants = constants_of names s.capacity in
-    let w : World = world_of c start h in
-    let few : FewActors (0 + length h) w = few_replay 0 c start w h (omega arith) k.lawful in
-    let there : a < length actors = slice_get_within actors a x at in
-    omega (arith, few, there, count_is edits actors w k.shows, k.few_items, k.numbers.few_items)

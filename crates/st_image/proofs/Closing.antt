@@ -45,5 +45,5 @@ closed base names edits actors actors' h made s from a k allowed e =
     let may = may_close (seen base names h s from) 0 0 (slice_get w.actors a.0) allowed in
     let now : next c w (Closed a) ≡ Some v = through (is_open_at (slice_get w.actors a.0)) v may.0 in
     let shows : Shows edits actors' v = shows_change edits actors actors' w a (λ b. record b { is_open = false }) shut k.shows (λ x at. refl) e in
-    let acc : AcceptAtMost (length h + 1) (change_at shut a.0 actors) = All-change (λ (x : ActorView). x.accepted ≤ length h + 1) shut a.0 actors (λ x at p. p) (accept_more (length h) actors k.few_accepted) in
-    (pushed base names edits edits actors actors' h made made s (Closed a) v k tt now shows (omega arith) (has_room s.history (length h) 1 _ may.1) (subst (AcceptAtMost (length h + 1)) (sym e) acc)).image
+    let acc : AcceptAtMost (length h + 1024 + 1) (change_at shut a.0 actors) = All-change (λ (x : ActorView). x.accepted ≤ length h + 1024 + 1) shut a.0 actors (λ x at p. p) (accept_more (length h + 1024) actors k.few_accepted) in
+    (pushed base names edits edits actors actors' h made made s (Closed a) v k tt now shows (omega arith) (has_room s.history (length h) 1 _ may.1) (subst (AcceptAtMost (length h + 1024 + 1)) (sym e) acc)).image

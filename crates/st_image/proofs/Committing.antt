@@ -12,7 +12,8 @@ use Rattle.st_turn.specs.declared.body.Phase.TheVariants.{Fresh, Start, Frames, 
 use Rattle.st_turn.specs.Steps.{Asked, asked, is_outer, next_site_in, own_steps, step}
 use Rattle.st_turn.specs.Idle.{is_idle}
 use Rattle.st_turn.specs.Claims.{ClaimView, IsSound, own_asked, sites_asked}
-use Rattle.st_image.specs.Worlds.{Constants, World, WorldActor, change, change_at, start}
+use Rattle.st_image.specs.Earlier.{Earlier}
+use Rattle.st_image.specs.Worlds.{Constants, World, WorldActor, change, change_at}
 use Rattle.st_image.specs.Replay.{after_step, with_body}
 use Rattle.st_image.specs.Images.{ImageView, Standing, no_room, world, world_of}
 use Rattle.st_classes.specs.declared.refusals.Refusal.TheVariants.{HistoryFull}
@@ -190,22 +191,22 @@ none_sent c s e = by_test (stands_before_act c) e
 -- ---- an image after a commit
 
 -- the parts of an image after the steps of a claim
-pub record HasTaken (names : List (List ℕ)) (edits : List Edit) (new : List ActorView) (h : List Item) (made : ℕ) (s : Settings) (rows : List (List Tally)) (a : ActorId) (m : ℕ) : Type 0 where
-  pub image : IsImage start names edits new (h ++ Ran a m ∷ []) made s
-  pub sends : CountsSends (constants_of names s.capacity) start (h ++ Ran a m ∷ []) rows
+pub record HasTaken (base : World) (names : List (List ℕ)) (edits : List Edit) (new : List ActorView) (h : List Item) (made : ℕ) (s : Settings) (rows : List (List Tally)) (a : ActorId) (m : ℕ) : Type 0 where
+  pub image : IsImage base names edits new (h ++ Ran a m ∷ []) made s
+  pub sends : CountsSends (constants_of names s.capacity) base (h ++ Ran a m ∷ []) rows
 
 -- what is known where a claim may be committed
-pub record MayCommit (names : List (List ℕ)) (edits : List Edit) (actors : List ActorView) (h : List Item) (s : Settings) (c : ClaimView) : Type 0 where
-  pub went : Went names s.capacity edits actors c.actor (world_of (constants_of names s.capacity) start h) c.steps c.after
+pub record MayCommit (base : World) (names : List (List ℕ)) (edits : List Edit) (actors : List ActorView) (h : List Item) (s : Settings) (c : ClaimView) : Type 0 where
+  pub went : Went names s.capacity edits actors c.actor (world_of (constants_of names s.capacity) base h) c.steps c.after
   pub before : went.being.body ≡ c.before
-  pub same : SameSteps (world_of (constants_of names s.capacity) start h).edits c
+  pub same : SameSteps (world_of (constants_of names s.capacity) base h).edits c
 
-pub may_commit : (names : List (List ℕ)) (edits : List Edit) (actors : List ActorView) (h : List Item) (made : ℕ) (s : Settings) (beside : Standing) (c : ClaimView)
-    → IsImage start names edits actors h made s → CommitAllowed (seen start names h s beside) c → IsSound c.actor c.edits c.before c.after c.steps c.sends → 0 < steps_of c → MayCommit names edits actors h s c
+pub may_commit : (base : World) (names : List (List ℕ)) (edits : List Edit) (actors : List ActorView) (h : List Item) (made : ℕ) (s : Settings) (beside : Standing) (c : ClaimView)
+    → IsImage base names edits actors h made s → CommitAllowed (seen base names h s beside) c → IsSound c.actor c.edits c.before c.after c.steps c.sends → 0 < steps_of c → MayCommit base names edits actors h s c
 unfolding went unchanged
-may_commit names edits actors h made s beside c k allowed sound some =
-    let w : World = world_of (constants_of names s.capacity) start h in
-    let b = unchanged (seen start names h s beside) c allowed.unchanged in
+may_commit base names edits actors h made s beside c k allowed sound some =
+    let w : World = world_of (constants_of names s.capacity) base h in
+    let b = unchanged (seen base names h s beside) c allowed.unchanged in
     let busy : is_idle b.0.body.phase ≡ false = ap (λ (x : Body). is_idle x.phase) b.2 ∙ claim_busy c sound some in
     let same : SameSteps w.edits c = claims_survive w.edits c k.world.lawful k.world.sound sound allowed.survives in
     let own : own_steps w.edits c.actor c.steps b.0.body ≡ Some c.after = subst (λ (x : Body). own_steps w.edits c.actor c.steps x ≡ Some c.after) (sym b.2) same.taken in
@@ -225,29 +226,29 @@ outer_world : (c : Constants) (edits : List Edit) (mid new : List ActorView) (a 
 outer_world c edits mid new a w after b true u o at next e = (o.1.0, o.1.1)
 outer_world c edits mid new a w after b false u o at next e = let no : true ≡ false = sym (next ∙ e) ∙ o.0 b at in cc
 
-pub has_taken : (names : List (List ℕ)) (edits : List Edit) (actors new : List ActorView) (h : List Item) (made : ℕ) (s : Settings) (beside : Standing) (rows rows' : List (List Tally)) (c : ClaimView) (m : ℕ) (t : Bool)
-    → IsImage start names edits actors h made s → CountsSends (constants_of names s.capacity) start h rows → IsSound c.actor c.edits c.before c.after c.steps c.sends → CommitAllowed (seen start names h s beside) c → m ≡ steps_of c → 0 < m
-    → (g : MayCommit names edits actors h s c)
-    → TakesOuter (constants_of names s.capacity) edits (change_at (view_after_steps c.after) c.actor.0 actors) new c.actor (change (with_body c.after) c.actor (world_of (constants_of names s.capacity) start h)) t
+pub has_taken : (base : World) (names : List (List ℕ)) (edits : List Edit) (actors new : List ActorView) (h : List Item) (made : ℕ) (s : Settings) (beside : Standing) (rows rows' : List (List Tally)) (c : ClaimView) (m : ℕ) (t : Bool)
+    → IsImage base names edits actors h made s → CountsSends (constants_of names s.capacity) base h rows → IsSound c.actor c.edits c.before c.after c.steps c.sends → CommitAllowed (seen base names h s beside) c → m ≡ steps_of c → 0 < m
+    → (g : MayCommit base names edits actors h s c)
+    → TakesOuter (constants_of names s.capacity) edits (change_at (view_after_steps c.after) c.actor.0 actors) new c.actor (change (with_body c.after) c.actor (world_of (constants_of names s.capacity) base h)) t
     → GrowsByOne actors new → Tallied rows c.sends (act_site c) rows'
-    → HasTaken names edits new h made s rows' c.actor m
-has_taken names edits actors new h made s beside rows rows' c m t k counts sound allowed count some g o grown tallied =
+    → HasTaken base names edits new h made s rows' c.actor m
+has_taken base names edits actors new h made s beside rows rows' c m t k counts sound allowed count some g o grown tallied =
     let cs : Constants = constants_of names s.capacity in
-    let w : World = world_of cs start h in
+    let w : World = world_of cs base h in
     let u : Bool = is_outer (step w.edits c.actor c.after) in
     let run : HasRun names s.capacity edits new c.actor w (c.steps + (if u then 1 else 0)) = has_run names s.capacity edits actors new c.actor w c.steps c.after t g.went o in
     let steps : m ≡ c.steps + (if u then 1 else 0) = count ∙ steps_at c w.edits g.same in
-    let room : length h + 1 ≤ s.history = has_room s.history (length h) 1 HistoryFull (room_of (seen start names h s beside) c (steps_of c) refl (subst (λ (n : ℕ). 0 < n) count some) allowed.room) in
+    let room : length h + 1 ≤ s.history = has_room s.history (length h) 1 HistoryFull (room_of (seen base names h s beside) c (steps_of c) refl (subst (λ (n : ℕ). 0 < n) count some) allowed.room) in
     let sites : map (λ (x : Sent). x.site) c.sends ≡ sites_asked (own_asked w.edits c.actor c.steps g.went.being.body) = sound.sites ∙ ap sites_asked (sym g.same.asks) ∙ ap (λ (b : Body). sites_asked (own_asked w.edits c.actor c.steps b)) (sym g.before) in
     let same : map (λ (x : Sent). x.site) c.sends ++ option_to_list (act_site c) ≡ sites_asked (asked_by_item cs w (Ran c.actor (c.steps + cond u 1 0))) =
     ap (λ (x : Option SiteId). map (λ (y : Sent). y.site) c.sends ++ option_to_list x) (site_at_is c w.edits g.same)
     ∙ sites_by cs c.actor c.steps w g.went.being c.after c.sends u g.went.at g.went.busy g.went.own sites refl (outer_world cs edits (change_at (view_after_steps c.after) c.actor.0 actors) new c.actor (change (with_body c.after) c.actor w) c.after (with_body c.after g.went.being) t u o g.went.there refl) in
     let few : length c.sends ≤ c.steps = few_sends c.edits c.actor c.steps c.before c.sends sound.sites in
-    let image : IsImage start names edits new (h ++ Ran c.actor (c.steps + (if u then 1 else 0)) ∷ []) made s = (ran_kept start names edits actors new h made s c.actor (c.steps + (if u then 1 else 0)) run.last k (subst (λ (n : ℕ). 0 < n) steps some) run.taken room run.shows (grown (length h) k.few_accepted)).image in
-    let counted : CountsSends cs start (h ++ Ran c.actor (c.steps + cond u 1 0) ∷ []) rows' = counts_ran cs start w h c.actor (c.steps + cond u 1 0) rows rows' c.sends (act_site c) counts k.lawful tallied same (omega (arith, few, sound.few)) in
+    let image : IsImage base names edits new (h ++ Ran c.actor (c.steps + (if u then 1 else 0)) ∷ []) made s = (ran_kept base names edits actors new h made s c.actor (c.steps + (if u then 1 else 0)) run.last k (subst (λ (n : ℕ). 0 < n) steps some) run.taken room run.shows (grown (length h + 1024) k.few_accepted)).image in
+    let counted : CountsSends cs base (h ++ Ran c.actor (c.steps + cond u 1 0) ∷ []) rows' = counts_ran cs base w h c.actor (c.steps + cond u 1 0) rows rows' c.sends (act_site c) counts k.lawful tallied same (omega (arith, few, sound.few)) in
     record {
-      image = subst (λ (n : ℕ). IsImage start names edits new (h ++ Ran c.actor n ∷ []) made s) (sym steps) image;
-      sends = subst (λ (n : ℕ). CountsSends cs start (h ++ Ran c.actor n ∷ []) rows') (sym steps) counted;
+      image = subst (λ (n : ℕ). IsImage base names edits new (h ++ Ran c.actor n ∷ []) made s) (sym steps) image;
+      sends = subst (λ (n : ℕ). CountsSends cs base (h ++ Ran c.actor n ∷ []) rows') (sym steps) counted;
     }
   where
     room_of : (i : ImageView) (d : ClaimView) (n : ℕ) → steps_of d ≡ n → 0 < n → commit_room i d ≡ None → first_of (no_room i 1 ∷ []) ≡ None
@@ -266,16 +267,17 @@ pub items_none : (d : ClaimView) → steps_of d ≡ 0 → items_of d ≡ []
 items_none d e = ap (λ (x : ℕ). cond (x == 0) [] (Ran d.actor (steps_of d) ∷ [])) e
 
 -- what callers see of a commit of no steps
-pub committed_none : (names : List (List ℕ)) (h : List Item) (s : Settings) (n : ℕ) (old new : List ℕ) (rows : List (List Tally)) (d : ClaimView)
-    → CommitAllowed (seen start names h s (standing_of n old rows)) d → IsSound d.actor d.edits d.before d.after d.steps d.sends → steps_of d ≡ 0 → new ≡ change_at one_less d.actor.0 old
-    → HasCommitted (seen start names h s (standing_of n old rows)) d 0 (seen start names h s (standing_of n new rows))
-committed_none names h s n old new rows d allowed sound e put =
+pub committed_none : (base : World) (names : List (List ℕ)) (h : List Item) (s : Settings) (earlier : Earlier) (n : ℕ) (old new : List ℕ) (rows : List (List Tally)) (d : ClaimView)
+    → CommitAllowed (seen base names h s (standing_of earlier n old rows)) d → IsSound d.actor d.edits d.before d.after d.steps d.sends → steps_of d ≡ 0 → new ≡ change_at one_less d.actor.0 old
+    → HasCommitted (seen base names h s (standing_of earlier n old rows)) d 0 (seen base names h s (standing_of earlier n new rows))
+committed_none base names h s earlier n old new rows d allowed sound e put =
     let sent = none_sent d sound e in
     record {
       allowed = allowed;
       steps = sym e;
-      image = ap (λ (is : List Item). let x : ImageView = seen start names is s (standing_of n new rows) in x) (sym (append-nil h) ∙ ap (λ (is : List Item). h ++ is) (sym (items_none d e)));
+      image = ap (λ (is : List Item). let x : ImageView = seen base names is s (standing_of earlier n new rows) in x) (sym (append-nil h) ∙ ap (λ (is : List Item). h ++ is) (sym (items_none d e)));
       next_from = refl;
-      counted = counts_out one_less d.actor (seen start names h s (standing_of n old rows)) (seen start names h s (standing_of n new rows)) old new refl refl put (inr refl);
+      earlier = refl;
+      counted = counts_out one_less d.actor (seen base names h s (standing_of earlier n old rows)) (seen base names h s (standing_of earlier n new rows)) old new refl refl put (inr refl);
       tallied = λ id. ap (λ (o : Option SiteId). after_act_at id o (tally_at rows id)) (sym sent.1) ∙ ap (λ (ss : List Sent). after_act_at id (act_site d) (after_sends id ss (tally_at rows id))) (sym sent.0);
     }

@@ -32,11 +32,13 @@ counts_one counts made others h i b is same raised k = λ a.
     let one : changes_in (i ∷ []) a ≡ 0 + cond (a == b) 1 0 = ap (λ (t : Bool). 0 + cond t 1 0) (is a ∙ same_test b a) in
     omega (arith, k a, same a, raised a, one, changes_append h (i ∷ []) a)
 
--- the stamp of a claim that is handed out
-pub stamp_is : (counts made : List ℕ) (h : List Item) (b : ActorId) (t : Bool) (n : ℕ) → ((a : ℕ) → change_count made a ≡ change_count counts a) → CountsChanges counts h → n ≡ change_count made b.0 + cond t 1 0 → n ≡ changes_in (h ++ begun_items t b) b.0
-stamp_is counts made h b true n same k e =
+-- the changes of an actor after a checkout, by whether a message begins
+pub changes_out : (h : List Item) (b : ActorId) (t : Bool) → changes_in (h ++ begun_items t b) b.0 ≡ changes_in h b.0 + cond t 1 0
+changes_out h b true =
     let here : changes_in (Begun b ∷ []) b.0 ≡ 0 + 1 = (let s : (b.0 == b.0) ≡ true = grind (arith, nat_tests) in ap (λ (t : Bool). 0 + cond t 1 0) s) in
-    omega (arith, e, same b.0, k b.0, here, changes_append h (Begun b ∷ []) b.0)
-stamp_is counts made h b false n same k e =
-    let past : changes_in (h ++ []) b.0 ≡ changes_in h b.0 = ap (λ (is : List Item). changes_in is b.0) (append-nil h) in
-    omega (arith, e, same b.0, k b.0, past)
+    omega (arith, here, changes_append h (Begun b ∷ []) b.0)
+changes_out h b false = ap (λ (is : List Item). changes_in is b.0) (append-nil h) ∙ omega arith
+
+-- the stamp of a claim that is handed out
+pub stamp_is : (earlier : ℕ) (h : List Item) (b : ActorId) (t : Bool) (n : ℕ) → n ≡ earlier + changes_in h b.0 + cond t 1 0 → n ≡ earlier + changes_in (h ++ begun_items t b) b.0
+stamp_is earlier h b t n e = omega (arith, e, changes_out h b t)

@@ -10,7 +10,7 @@ use Rattle.st_image.specs.declared.settings.Settings.{Settings}
 use Rattle.st_image.specs.declared.items.Item.{Item}
 use Rattle.st_image.specs.declared.items.Item.TheVariants.{Edited}
 use Rattle.st_image.specs.Worlds.{World}
-use Rattle.st_image.specs.Images.{ImageView, constants, world, world_of, appended, edits_in, run_rules, no_room, Standing}
+use Rattle.st_image.specs.Images.{ImageView, constants, world, world_of, appended, edits_made, run_rules, no_room, Standing}
 use Rattle.st_image.specs.Replay.{replay}
 use Rattle.st_classes.specs.EditLists.{IsSoundEdit}
 use Rattle.st_image.specs.ActorViews.{ActorView}
@@ -34,7 +34,7 @@ pub edited : (base : World) (names : List (List ℕ)) (edits edits' : List Edit)
 edited base names edits edits' actors h made s from e k sound suits allowed after =
     let w : World = world_of (constants_of names s.capacity) base h in
     let both = off_append (edit_rules w.edits e) (run_rules (seen base names h s from)) allowed in
-    let o = off (nat_le 2048 (edits_in h)) (TooMany Edits) (no_room (seen base names h s from) 1 ∷ []) both.1 in
+    let o = off (nat_le 2048 (edits_made (seen base names h s from))) (TooMany Edits) (no_room (seen base names h s from) 1 ∷ []) both.1 in
     let back : w.edits ≡ edits = sym k.shows.edits_are in
     let suits' : edit_suits names edits e ≡ true = subst (λ (es : List Edit). edit_suits names es e ≡ true) back suits in
     let allowed' : first_of (edit_rules edits e) ≡ None = subst (λ (es : List Edit). first_of (edit_rules es e) ≡ None) back both.0 in

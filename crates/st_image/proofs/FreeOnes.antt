@@ -3,11 +3,13 @@ use Rattle.std.proofs.Common.{arith, ◌≡◌, ℕ, zero, suc, ◌<◌, ◌++�
 use Rattle.std.specs.Prelude.{not, ◌||◌, ◌&&◌, ◌==◌}
 use Rattle.std.proofs.Math.Dec.{eqb-suc-zero, eqb-zero-suc, eqb-suc-suc}
 use Rattle.std.proofs.Math.ListN.{length-set}
+use Rattle.std.proofs.Math.Seq.{set-append_seam}
 use Rattle.std.proofs.lemmas.Bool.Decides.{nat_tests}
 use Rattle.std.proofs.lemmas.List.{set-get_or, get_or_read}
 use Rattle.std.proofs.lemmas.Option.{slice_get-get_or}
 use Rattle.st_flags.specs.Flags.{is_raised}
 use Rattle.st_turn.specs.Idle.{is_idle}
+use Rattle.st_turn.specs.declared.body.Phase.TheVariants.{Fresh}
 use Rattle.st_mailbox.specs.declared.messages.Message.{Message}
 use Rattle.st_image.specs.Worlds.{change_at}
 use Rattle.st_image.specs.ClaimsOut.{claims_of, one_more}
@@ -177,3 +179,26 @@ pub put_count : (f : ℕ → ℕ) (ns : List ℕ) (a m n : ℕ) → a < length n
 put_count f ns a m n h e g =
     let at : slice_get ns a ≡ Some m = slice_get-get_or ns a m h ∙ ap Some (sym e) in
     ap (slice_set ns a) g ∙ sym (change_here f a ns m at)
+
+-- ---- an actor that is put last, ready or not
+
+set_last : {X : Type 0} (xs : List X) (x y : X) (n : ℕ) → n ≡ length xs → slice_set (xs ++ x ∷ []) n y ≡ xs ++ y ∷ []
+set_last xs x y n e = ap (λ (m : ℕ). slice_set (xs ++ x ∷ []) m y) e ∙ set-append_seam xs x [] y
+
+-- an actor in its place that is not ready
+abbrev pub at_rest : ActorView → ActorView
+at_rest k = record k { pending = []; body = record k.body { phase = Fresh } }
+
+and_none : (b : Bool) → (b && (0 == 0)) ≡ b
+and_none true = refl
+and_none false = refl
+
+pub push_any : (v : ActorsView) (free free' : List Bool) (k : ActorView) (n : ℕ) (r : Bool) → AreActors v free → length v.kept < 65536 → n ≡ length v.kept → r ≡ is_ready_view k → free' ≡ slice_set (free ++ false ∷ []) n r → AreActors (record { kept = v.kept ++ k ∷ []; out = v.out ++ 0 ∷ [] }) free'
+push_any v free free' k n r h few place ready set =
+    let rest : AreActors (record { kept = v.kept ++ at_rest k ∷ []; out = v.out ++ 0 ∷ [] }) (free ++ false ∷ []) = push_free v free (at_rest k) h few refl in
+    let within : n < length (v.kept ++ at_rest k ∷ []) = omega (arith, place, length-append v.kept (at_rest k ∷ [])) in
+    let put = put_free (record { kept = v.kept ++ at_rest k ∷ []; out = v.out ++ 0 ∷ [] }) (free ++ false ∷ []) n k 0 rest within in
+    let kept : slice_set (v.kept ++ at_rest k ∷ []) n k ≡ v.kept ++ k ∷ [] = set_last v.kept (at_rest k) k n place in
+    let out : slice_set (v.out ++ 0 ∷ []) n 0 ≡ v.out ++ 0 ∷ [] = set_last v.out 0 0 n (place ∙ sym h.each_count) in
+    let flags : slice_set (free ++ false ∷ []) n (is_ready_view k && (0 == 0)) ≡ free' = ap (slice_set (free ++ false ∷ []) n) (and_none (is_ready_view k) ∙ sym ready) ∙ sym set in
+    rw (kept, out, flags) at put

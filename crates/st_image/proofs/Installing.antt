@@ -40,7 +40,7 @@ use Rattle.st_image.specs.Replay.{replay}
 use Rattle.st_classes.specs.MethodSuits.{suits}
 use Rattle.st_image.specs.declared.items.Item.TheVariants.{Edited}
 use Rattle.st_image.specs.Worlds.{World}
-use Rattle.st_image.specs.Images.{ImageView, constants, world, appended, edits_in, run_rules}
+use Rattle.st_image.specs.Images.{ImageView, constants, world, appended, edits_made, run_rules}
 use Rattle.st_image.specs.WorldInvariant.{BeginsWithKernel}
 use Rattle.st_image.specs.Calls.{AnswersExactly}
 use Rattle.st_image.specs.Installs.{has_kernel, is_kernel_text, source_rules, image_install_rules, InternsAll, AddsNames, LeavesNames, with_names_of, Installs, memory, first as first_refusal, AnswersInstall}
@@ -251,7 +251,7 @@ tree_left i j c tree text e s h k some only untouched full refused =
     ]
 
 -- the refusals of an edit whose class is there and whose selector is no kernel method's
-edit_left_by : (i j : ImageView) (c : ClassId) (text : List ℕ) (e : Refusal) (t u v : Bool) → (es : List Edit) → nat_le 4096 (length es) ≡ t → nat_le 2048 (edits_in j.history) ≡ u → nat_lt j.most_items (length j.history + 1) ≡ v → AddsNames InternsAll i c text j → first_of (too_many_edits es ∷ run_rules j) ≡ Some e → LeavesNames i c text e j
+edit_left_by : (i j : ImageView) (c : ClassId) (text : List ℕ) (e : Refusal) (t u v : Bool) → (es : List Edit) → nat_le 4096 (length es) ≡ t → nat_le 2048 (edits_made j) ≡ u → nat_lt j.most_items (length j.history + 1) ≡ v → AddsNames InternsAll i c text j → first_of (too_many_edits es ∷ run_rules j) ≡ Some e → LeavesNames i c text e j
 edit_left_by i j c text e true u v es a b d adds refused =
     let now : Some (TooMany Edits) ≡ Some e = rw a at refused in
     subst (λ (r : Refusal). LeavesNames i c text r j) (some_refusal (TooMany Edits) e now) adds
@@ -280,7 +280,7 @@ edit_left (Err x) P i j k c tree text m s h f t e w b at same a =
       | inr first ↦
           let free : is_some (kernel_method c m.selector) ≡ false = number_free j.names b c (pattern_selector tree.pattern) m.selector at f in
           let here : is_class (world j).edits c ≡ true = subst (λ (v : World). is_class v.edits c ≡ true) (sym w) h in
-          edit_left_by i j c text x (nat_le 4096 (length (world j).edits)) (nat_le 2048 (edits_in j.history)) (nat_lt j.most_items (length j.history + 1)) (world j).edits refl refl refl adds (sym (edit_part (world j).edits j c m here free) ∙ first)
+          edit_left_by i j c text x (nat_le 4096 (length (world j).edits)) (nat_le 2048 (edits_made j)) (nat_lt j.most_items (length j.history + 1)) (world j).edits refl refl refl adds (sym (edit_part (world j).edits j c m here free) ∙ first)
     ])
   where
     code_there : (v : Option Refusal) → first_of (code_rules (world i).edits c tree) ≡ v → first_of (code_rules (world i).edits c tree) ≡ None

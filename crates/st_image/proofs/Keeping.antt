@@ -27,11 +27,13 @@ use Rattle.st_image.specs.declared.items.Item.TheVariants.{Edited, Created, Post
 use Rattle.st_image.specs.Worlds.{Constants, World, WorldActor, change, change_at, pending}
 use Rattle.st_image.specs.PostRules.{IsClients, post_rules}
 use Rattle.st_image.specs.Replay.{with_accepted, with_begun, new_world_actor, next, next_message, only_if, with_last, with_new}
+use Rattle.st_image.specs.Counts.{edits_of}
 use Rattle.st_image.specs.Images.{world_of, edits_in}
 use Rattle.st_image.specs.WorldInvariant.{HaveTurns, IsWorldActor, IsSoundItem, IsWorld}
 use Rattle.st_image.specs.ActorViews.{ActorView, Shows, view_begins, view_after_begin, actor_view, new_actor_view, view_with_message}
 use Rattle.st_image.specs.ActResults.{constants_of, world_after}
 use Rattle.st_image.specs.ImageInvariant.{IsImage}
+use Rattle.st_image.proofs.CountingItems.{weigh_append}
 use Rattle.st_image.proofs.Lists.{off}
 use Rattle.st_image.proofs.Places.{at_all}
 use Rattle.st_image.proofs.Changing.{All-change}
@@ -42,15 +44,6 @@ use Rattle.st_image.proofs.Deliveries.{IsNextMessage, next_is}
 use Rattle.st_image.proofs.Showing.{kept_accepting, kept_beginning, shows_change, shows_push}
 
 -- ---- an item more
-
-edits_in_append : (is js : List Item) → edits_in (is ++ js) ≡ edits_in is + edits_in js
-edits_in_append [] js = omega arith
-edits_in_append (Edited e ∷ is) js = omega (arith, edits_in_append is js)
-edits_in_append (Created c ∷ is) js = edits_in_append is js
-edits_in_append (Posted a m ∷ is) js = edits_in_append is js
-edits_in_append (Closed a ∷ is) js = edits_in_append is js
-edits_in_append (Begun a ∷ is) js = edits_in_append is js
-edits_in_append (Ran a n ∷ is) js = edits_in_append is js
 
 -- each mailbox has accepted at most so many messages
 abbrev pub AcceptAtMost : ℕ → List ActorView → Type 0
@@ -65,7 +58,7 @@ pub record IsNext (base : World) (names : List (List ℕ)) (edits : List Edit) (
   pub world : world_of (constants_of names s.capacity) base h ≡ v
 
 pub pushed : (base : World) (names : List (List ℕ)) (edits edits' : List Edit) (actors actors' : List ActorView) (h : List Item) (made made' : ℕ) (s : Settings) (i : Item) (v : World)
-    → IsImage base names edits actors h made s → IsSoundItem i → next (constants_of names s.capacity) (world_of (constants_of names s.capacity) base h) i ≡ Some v → Shows edits' actors' v → made' ≡ made + edits_in (i ∷ []) → length h + 1 ≤ s.history → AcceptAtMost (length h + 1) actors'
+    → IsImage base names edits actors h made s → IsSoundItem i → next (constants_of names s.capacity) (world_of (constants_of names s.capacity) base h) i ≡ Some v → Shows edits' actors' v → made' ≡ made + edits_in (i ∷ []) → length h + 1 ≤ s.history → AcceptAtMost (length h + 1024 + 1) actors'
     → IsNext base names edits' actors' (h ++ i ∷ []) made' s v
 pushed base names edits edits' actors actors' h made made' s i v k sound n shows count room acc =
     let c : Constants = constants_of names s.capacity in
@@ -81,10 +74,10 @@ pushed base names edits edits' actors actors' h made made' s i v k sound n shows
         shows = subst (Shows edits' actors') (sym both.1) shows;
         world = subst (IsWorld c) (sym both.1) keep.world;
         turns = subst (HaveTurns base) (sym both.1) (keep.turns base k.turns);
-        counted = count ∙ ap (λ (x : ℕ). x + edits_in (i ∷ [])) k.counted ∙ sym (edits_in_append h (i ∷ []));
+        counted = count ∙ ap (λ (x : ℕ). x + edits_in (i ∷ [])) k.counted ∙ sym (weigh_append edits_of h (i ∷ []));
         numbers = k.numbers;
         few_items = subst (λ (x : ℕ). x ≤ s.history) (sym len) room;
-        few_accepted = subst (λ (x : ℕ). AcceptAtMost x actors') (sym len) acc;
+        few_accepted = subst (λ (x : ℕ). AcceptAtMost x actors') (omega (arith, len)) acc;
       };
       world = both.1;
     }
@@ -124,8 +117,8 @@ created_kept base names edits actors actors' h made s class k inst room e =
     let inst' : has_instances w.edits class ≡ true = subst (λ (es : List Edit). has_instances es class ≡ true) k.shows.edits_are inst in
     let now : next c w (Created class) ≡ Some (with_new c class w) = through (has_instances w.edits class) (with_new c class w) inst' in
     let here : actors' ≡ actors ++ actor_view b ∷ [] = e ∙ ap (λ (es : List Edit). actors ++ new_actor_view class s.capacity (fresh_body es class) ∷ []) k.shows.edits_are in
-    let acc : AcceptAtMost (length h + 1) (actors ++ actor_view b ∷ []) = All-push (λ (x : ActorView). x.accepted ≤ length h + 1) actors (actor_view b) (accept_more (length h) actors k.few_accepted) (omega arith) in
-    pushed base names edits edits actors actors' h made made s (Created class) (with_new c class w) k tt now (shows_push edits actors actors' w (with_new c class w) b k.shows refl refl here) (omega arith) room (subst (AcceptAtMost (length h + 1)) (sym here) acc)
+    let acc : AcceptAtMost (length h + 1024 + 1) (actors ++ actor_view b ∷ []) = All-push (λ (x : ActorView). x.accepted ≤ length h + 1024 + 1) actors (actor_view b) (accept_more (length h + 1024) actors k.few_accepted) (omega arith) in
+    pushed base names edits edits actors actors' h made made s (Created class) (with_new c class w) k tt now (shows_push edits actors actors' w (with_new c class w) b k.shows refl refl here) (omega arith) room (subst (AcceptAtMost (length h + 1024 + 1)) (sym here) acc)
 
 -- ---- a client's message
 
@@ -145,7 +138,7 @@ posted_kept base names edits actors actors' h made s a m k allowed client room e
     let v : World = with_last m.sender m.seq (change (with_accepted m) a w) in
     let now : next c w (Posted a m) ≡ Some v = through (is_none (first_of (post_rules names w (slice_get w.actors a.0) m))) v (none_is_none (first_of (post_rules names w (slice_get w.actors a.0) m)) allowed) in
     let one : Shows edits actors' (change (with_accepted m) a w) = shows_change edits actors actors' w a (with_accepted m) (view_with_message m) k.shows (λ b at. kept_accepting m b (being_at c w a.0 b k.world at).begins) e in
-    pushed base names edits edits actors actors' h made made s (Posted a m) v k tt now (shows_last edits actors' (change (with_accepted m) a w) m.sender m.seq client one) (omega arith) room (subst (AcceptAtMost (length h + 1)) (sym e) (take_in_accepts (length h) actors m a.0 k.few_accepted))
+    pushed base names edits edits actors actors' h made made s (Posted a m) v k tt now (shows_last edits actors' (change (with_accepted m) a w) m.sender m.seq client one) (omega arith) room (subst (AcceptAtMost (length h + 1024 + 1)) (sym e) (take_in_accepts (length h + 1024) actors m a.0 k.few_accepted))
 
 -- ---- a message begins
 
@@ -166,8 +159,8 @@ begun_kept base names edits actors actors' h made s a m k first room e =
     let c : Constants = constants_of names s.capacity in
     let w : World = world_of c base h in
     let now : next c w (Begun a) ≡ Some (change (with_begun m) a w) = ap (option_map (λ n. change (with_begun n) a w)) first in
-    let same : (x : ActorView) → x.accepted ≤ length h + 1 → (view_after_begin x).accepted ≤ length h + 1 = λ x l. begun_accepts x x.pending (length h + 1) l in
-    pushed base names edits edits actors actors' h made made s (Begun a) (change (with_begun m) a w) k tt now (begins_kept c edits actors actors' w a m k.shows first e) (omega arith) room (subst (AcceptAtMost (length h + 1)) (sym e) (All-change (λ (x : ActorView). x.accepted ≤ length h + 1) view_after_begin a.0 actors (λ x at l. same x l) (accept_more (length h) actors k.few_accepted)))
+    let same : (x : ActorView) → x.accepted ≤ length h + 1024 + 1 → (view_after_begin x).accepted ≤ length h + 1024 + 1 = λ x l. begun_accepts x x.pending (length h + 1024 + 1) l in
+    pushed base names edits edits actors actors' h made made s (Begun a) (change (with_begun m) a w) k tt now (begins_kept c edits actors actors' w a m k.shows first e) (omega arith) room (subst (AcceptAtMost (length h + 1024 + 1)) (sym e) (All-change (λ (x : ActorView). x.accepted ≤ length h + 1024 + 1) view_after_begin a.0 actors (λ x at l. same x l) (accept_more (length h + 1024) actors k.few_accepted)))
   where
     begun_accepts : (x : ActorView) (ms : List Message) (n : ℕ) → x.accepted ≤ n → (view_begins x ms).accepted ≤ n
     begun_accepts x [] n l = l
@@ -176,7 +169,7 @@ begun_kept base names edits actors actors' h made s a m k first room e =
 -- ---- steps
 
 pub ran_kept : (base : World) (names : List (List ℕ)) (edits : List Edit) (actors actors' : List ActorView) (h : List Item) (made : ℕ) (s : Settings) (a : ActorId) (n : ℕ) (v : World)
-    → IsImage base names edits actors h made s → 0 < n → world_after (constants_of names s.capacity) a n (world_of (constants_of names s.capacity) base h) ≡ Some v → length h + 1 ≤ s.history → Shows edits actors' v → AcceptAtMost (length h + 1) actors'
+    → IsImage base names edits actors h made s → 0 < n → world_after (constants_of names s.capacity) a n (world_of (constants_of names s.capacity) base h) ≡ Some v → length h + 1 ≤ s.history → Shows edits actors' v → AcceptAtMost (length h + 1024 + 1) actors'
     → IsNext base names edits actors' (h ++ Ran a n ∷ []) made s v
 ran_kept base names edits actors actors' h made s a n v k some taken room shows acc =
     let c : Constants = constants_of names s.capacity in
@@ -199,7 +192,7 @@ edited_kept base names edits edits' actors h made made' s e k sound allowed suit
     let last : w.edits ++ e ∷ [] ≡ edits' = ap (λ (es : List Edit). es ++ e ∷ []) (sym same) ∙ sym after in
     let now : next c w (Edited e) ≡ Some v = through (is_none (first_of (edit_rules w.edits e)) && edit_suits names w.edits e) (record w { edits = w.edits ++ e ∷ [] }) ok ∙ ap (λ (es : List Edit). Some (record w { edits = es })) last in
     let shows : Shows edits' actors v = record { edits_are = refl; actors_are = k.shows.actors_are } in
-    pushed base names edits edits' actors actors h made made' s (Edited e) v k sound now shows (omega (arith, count)) room (accept_more (length h) actors k.few_accepted)
+    pushed base names edits edits' actors actors h made made' s (Edited e) v k sound now shows (omega (arith, count)) room (accept_more (length h + 1024) actors k.few_accepted)
 
 -- ---- how many edits there are
 

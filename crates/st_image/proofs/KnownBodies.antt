@@ -9,14 +9,15 @@ use Rattle.st_image.specs.Worlds.{Constants, World, WorldActor}
 use Rattle.st_image.specs.Replay.{replay}
 use Rattle.st_image.specs.Images.{ImageView, constants, world}
 use Rattle.st_image.specs.WorldInvariant.{IsLawful}
-use Rattle.st_image.specs.Changes.{changes_in}
-use Rattle.st_image.specs.Commits.{BodiesLast, HasCheckedOut, KnowsBody, body_at, new_claim}
+use Rattle.st_image.specs.Changes.{change_count, changes_in}
+use Rattle.st_image.specs.Earlier.{Earlier}
+use Rattle.st_image.specs.Commits.{BodiesLast, HasCheckedOut, KnowsBody, body_at, changed_at, new_claim}
 use Rattle.st_image.proofs.BodyChanges.{body_stays, changes_append}
 use Rattle.st_image.proofs.Replays.{replay_append}
 
 -- ---- the claim of a checkout
 
-new_knows : (i j : ImageView) (a : ActorId) (body : Body) → body_at j a ≡ Some body → KnowsBody j (new_claim (world i).edits a body (changes_in j.history a.0))
+new_knows : (i j : ImageView) (a : ActorId) (body : Body) → body_at j a ≡ Some body → KnowsBody j (new_claim (world i).edits a body (changed_at j a.0))
 new_knows i j a body there = record { early = omega arith; same = λ e. there }
 
 pub checked_out_knows : (i j : ImageView) (a : ActorId) (c : ClaimView) → HasCheckedOut i a c j → KnowsBody j c
@@ -25,10 +26,10 @@ checked_out_knows i j a c h = subst (KnowsBody j) (sym h.claim) (new_knows i j a
 -- ---- a claim that began as another
 
 by_parts : (i : ImageView) (a b : ActorId) (body other : Body) (m n : ℕ) → b ≡ a → other ≡ body → n ≡ m
-    → (m ≤ changes_in i.history a.0) → (m ≡ changes_in i.history a.0 → body_at i a ≡ Some body)
-    → (n ≤ changes_in i.history b.0) × (n ≡ changes_in i.history b.0 → body_at i b ≡ Some other)
+    → (m ≤ changed_at i a.0) → (m ≡ changed_at i a.0 → body_at i a ≡ Some body)
+    → (n ≤ changed_at i b.0) × (n ≡ changed_at i b.0 → body_at i b ≡ Some other)
 by_parts i a b body other m n e f g early same =
-    let actor : (ActorId → Type 0) = λ (x : ActorId). (n ≤ changes_in i.history x.0) × (n ≡ changes_in i.history x.0 → body_at i x ≡ Some other) in
+    let actor : (ActorId → Type 0) = λ (x : ActorId). (n ≤ changed_at i x.0) × (n ≡ changed_at i x.0 → body_at i x ≡ Some other) in
     subst actor (sym e) (omega (arith, g, early), λ h. same (sym g ∙ h) ∙ ap Some (sym f))
 
 pub knows_as : (i : ImageView) (c d : ClaimView) → BeganAs c d → KnowsBody i c → KnowsBody i d
@@ -38,15 +39,22 @@ knows_as i c d b k =
 
 -- ---- an image that goes on
 
+-- what was counted before stays, and the history goes on
+pub grown_by : (i j : ImageView) (items : List Item) (a : ℕ) → j.standing.earlier ≡ i.standing.earlier → j.history ≡ i.history ++ items → changed_at j a ≡ changed_at i a + changes_in items a
+grown_by i j items a earlier more =
+    let was : change_count j.standing.earlier.changes a ≡ change_count i.standing.earlier.changes a = ap (λ (e : Earlier). change_count e.changes a) earlier in
+    let grown : changes_in j.history a ≡ changes_in i.history a + changes_in items a = ap (λ (h : List Item). changes_in h a) more ∙ changes_append i.history items a in
+    omega (arith, was, grown)
+
 -- items that leave the actors
-pub last_with_actors : (i j : ImageView) (items : List Item) → (world j).actors ≡ (world i).actors → j.history ≡ i.history ++ items → BodiesLast i j
-last_with_actors i j items same more = λ a.
-    let grown : changes_in j.history a.0 ≡ changes_in i.history a.0 + changes_in items a.0 = ap (λ (h : List Item). changes_in h a.0) more ∙ changes_append i.history items a.0 in
+pub last_with_actors : (i j : ImageView) (items : List Item) → (world j).actors ≡ (world i).actors → j.standing.earlier ≡ i.standing.earlier → j.history ≡ i.history ++ items → BodiesLast i j
+last_with_actors i j items same earlier more = λ a.
+    let grown : changed_at j a.0 ≡ changed_at i a.0 + changes_in items a.0 = grown_by i j items a.0 earlier more in
     (omega (arith, grown), λ b e at. ap (λ (bs : List WorldActor). option_map (λ (x : WorldActor). x.body) (slice_get bs a.0)) same ∙ at)
 
 -- nothing happened
-pub last_as_before : (i j : ImageView) → world j ≡ world i → j.history ≡ i.history → BodiesLast i j
-last_as_before i j same history = last_with_actors i j [] (ap (λ (w : World). w.actors) same) (history ∙ sym (append-nil i.history))
+pub last_as_before : (i j : ImageView) → world j ≡ world i → j.standing.earlier ≡ i.standing.earlier → j.history ≡ i.history → BodiesLast i j
+last_as_before i j same earlier history = last_with_actors i j [] (ap (λ (w : World). w.actors) same) earlier (history ∙ sym (append-nil i.history))
 
 there_by : (o : Option WorldActor) (body : Body) → option_map (λ (x : WorldActor). x.body) o ≡ Some body → (b : WorldActor) × (o ≡ Some b) × (b.body ≡ body)
 there_by None body e = cc
@@ -63,9 +71,9 @@ goes_by c d base start w v h k items constants same more first last =
     ∙ last
 
 -- items by the same constants
-pub last_by_items : (i j : ImageView) (items : List Item) → IsLawful i → IsLawful j → constants j ≡ constants i → j.base ≡ i.base → j.history ≡ i.history ++ items → BodiesLast i j
-last_by_items i j items li lj c base more = λ a.
-    let grown : changes_in j.history a.0 ≡ changes_in i.history a.0 + changes_in items a.0 = ap (λ (h : List Item). changes_in h a.0) more ∙ changes_append i.history items a.0 in
+pub last_by_items : (i j : ImageView) (items : List Item) → IsLawful i → IsLawful j → constants j ≡ constants i → j.base ≡ i.base → j.standing.earlier ≡ i.standing.earlier → j.history ≡ i.history ++ items → BodiesLast i j
+last_by_items i j items li lj c base earlier more = λ a.
+    let grown : changed_at j a.0 ≡ changed_at i a.0 + changes_in items a.0 = grown_by i j items a.0 earlier more in
     let goes = goes_by (constants i) (constants j) i.base j.base (world i) (world j) i.history j.history items c base more li.lawful lj.lawful in (
       omega (arith, grown),
       λ b e at.
@@ -81,7 +89,7 @@ knows_later i j c last k =
     record {
       early = omega (arith, l.0, k.early);
       same = λ e.
-          let still : c.stamp ≡ changes_in i.history c.actor.0 = omega (arith, l.0, k.early, e) in
-          let equal : changes_in j.history c.actor.0 ≡ changes_in i.history c.actor.0 = sym e ∙ still in
+          let still : c.stamp ≡ changed_at i c.actor.0 = omega (arith, l.0, k.early, e) in
+          let equal : changed_at j c.actor.0 ≡ changed_at i c.actor.0 = sym e ∙ still in
           l.1 c.before equal (k.same still);
     }

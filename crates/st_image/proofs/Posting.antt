@@ -14,6 +14,7 @@ use Rattle.st_image.specs.Replay.{with_accepted, with_last}
 use Rattle.st_image.specs.PostRules.{IsClients, post_rules}
 use Rattle.st_image.specs.declared.tallies.Tally.{Tally}
 use Rattle.st_image.specs.ClaimsOut.{trimmed}
+use Rattle.st_image.specs.Earlier.{Earlier}
 use Rattle.st_image.specs.Images.{ImageView, Standing, world_of, image_post_rules, no_room, accepted_by}
 use Rattle.st_image.specs.ActorViews.{ActorView, actor_view, view_with_message}
 use Rattle.st_image.specs.ActResults.{constants_of}
@@ -28,8 +29,8 @@ abbrev pub seen : World → List (List ℕ) → List Item → Settings → Stand
 seen base names h s beside = record { base = base; names = names; history = h; capacity = s.capacity; most_items = s.history; standing = beside }
 
 -- what an image keeps beside its world, by its fields
-abbrev pub standing_of : ℕ → List ℕ → List (List Tally) → Standing
-standing_of next_from out tallies = record { next_from = next_from; claims_out = trimmed out; tallies = tallies }
+abbrev pub standing_of : Earlier → ℕ → List ℕ → List (List Tally) → Standing
+standing_of earlier next_from out tallies = record { next_from = next_from; claims_out = trimmed out; tallies = tallies; earlier = earlier }
 
 -- a post that isn't refused
 pub record IsPosted (base : World) (names : List (List ℕ)) (edits : List Edit) (actors : List ActorView) (h : List Item) (made : ℕ) (s : Settings) (a : ActorId) (n : ℕ) : Type 0 where

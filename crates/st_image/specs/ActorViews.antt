@@ -10,6 +10,7 @@ use Rattle.st_classes.specs.Refusals.{first_of}
 use Rattle.st_flags.specs.Flags.{is_no_later, is_raised}
 use Rattle.st_mailbox.specs.Mailboxes.{box_rules}
 use Rattle.st_mailbox.specs.declared.messages.Message.{Message}
+use Rattle.st_image.specs.declared.actor_part.ActorPart.{ActorPart}
 use Rattle.st_image.specs.Worlds.{World, WorldActor, pending}
 use Rattle.st_image.specs.Newest.{Kept, kept_of, kept_with}
 use Rattle.st_image.specs.ClaimsOut.{claims_of}
@@ -36,6 +37,17 @@ actor_view b = record {
   pending = pending b;
   accepted = length b.accepted;
   results = kept_of b.results;
+}
+
+-- the part of an actor
+abbrev pub view_part : ActorView → ActorPart
+view_part k = record {
+  class = k.class;
+  capacity = k.capacity;
+  is_open = k.is_open;
+  body = k.body;
+  last = k.last;
+  pending = k.pending;
 }
 
 -- what is kept of the actors is a world's, and so is the class table

@@ -17,7 +17,7 @@ use Rattle.st_image.specs.declared.items.Item.TheVariants.{Begun, Ran}
 use Rattle.st_image.specs.Worlds.{WorldActor, pending}
 use Rattle.st_image.specs.Images.{ImageView, appended, no_room, world}
 use Rattle.st_image.specs.Calls.{AnswersExactly}
-use Rattle.st_image.specs.Changes.{changes_in}
+use Rattle.st_image.specs.Changes.{change_count, changes_in}
 use Rattle.st_image.specs.ClaimsOut.{claims_of, one_less, one_more}
 use Rattle.st_image.specs.Tallies.{SameTallies, Tallied}
 
@@ -36,6 +36,10 @@ CountsOut count a i j = (b : ℕ) → out_at j b ≡ (if b == a.0 then count (ou
 -- an image with the numbers of claims out of another
 abbrev pub with_out : ImageView → ImageView → ImageView
 with_out i j = record i { standing = record i.standing { claims_out = j.standing.claims_out } }
+
+-- how often the body of an actor was changed since the image was new or loaded
+abbrev pub changed_at : ImageView → ℕ → ℕ
+changed_at i a = change_count i.standing.earlier.changes a + changes_in i.history a
 
 -- ---- checkout
 
@@ -67,7 +71,7 @@ new_claim edits a b stamp =
 pub record HasCheckedOut (i : ImageView) (a : ActorId) (c : ClaimView) (j : ImageView) : Type 0 where
   pub body : Body
   pub there : body_at j a ≡ Some body
-  pub claim : c ≡ new_claim (world i).edits a body (changes_in j.history a.0)
+  pub claim : c ≡ new_claim (world i).edits a body (changed_at j a.0)
   pub image : j ≡ with_out (after_checkout i a) j
   pub counted : CountsOut one_more a i j
 
@@ -107,14 +111,14 @@ IsUnchanged i c = body_at i c.actor ≡ Some c.before
 -- The stamp of a claim tells the body with which it began: the actor's body was changed so often by then, and it has been
 -- changed no more where it was changed no oftener.
 pub record KnowsBody (i : ImageView) (c : ClaimView) : Type 0 where
-  pub early : c.stamp ≤ changes_in i.history c.actor.0
-  pub same : c.stamp ≡ changes_in i.history c.actor.0 → IsUnchanged i c
+  pub early : c.stamp ≤ changed_at i c.actor.0
+  pub same : c.stamp ≡ changed_at i c.actor.0 → IsUnchanged i c
 
 -- One image goes on in another: each actor's body was changed no less often there, and is still the same where it was
 -- changed no more often.
 abbrev pub BodiesLast : ImageView → ImageView → Type 0
-BodiesLast i j = (a : ActorId) → (changes_in i.history a.0 ≤ changes_in j.history a.0)
-    × ((b : Body) → changes_in j.history a.0 ≡ changes_in i.history a.0 → body_at i a ≡ Some b → body_at j a ≡ Some b)
+BodiesLast i j = (a : ActorId) → (changed_at i a.0 ≤ changed_at j a.0)
+    × ((b : Body) → changed_at j a.0 ≡ changed_at i a.0 → body_at i a ≡ Some b → body_at j a ≡ Some b)
 
 -- why the history has no place for what a commit adds, if it has none
 abbrev pub commit_room : ImageView → ClaimView → Option Refusal
@@ -132,6 +136,7 @@ pub record HasCommitted (i : ImageView) (c : ClaimView) (n : ℕ) (j : ImageView
   pub steps : n ≡ steps_of c
   pub image : j ≡ record (appended i (items_of c)) { standing = j.standing }
   pub next_from : j.standing.next_from ≡ i.standing.next_from
+  pub earlier : j.standing.earlier ≡ i.standing.earlier
   pub counted : CountsOut one_less c.actor i j
   pub tallied : Tallied i.standing.tallies c.sends (act_site c) j.standing.tallies
 

@@ -1,5 +1,5 @@
 -- What is true of the fields of an image.
-use Rattle.std.specs.Prelude.{◌≡◌, ℕ, ◌<◌, ◌≤◌, List, length, Some, All}
+use Rattle.std.specs.Prelude.{◌≡◌, ℕ, ◌+◌, ◌<◌, ◌≤◌, List, length, Some, All}
 use Rattle.st_classes.specs.declared.values.ActorId.{ActorId}
 use Rattle.st_classes.specs.declared.edits.Edit.{Edit}
 use Rattle.st_classes.specs.Kernel.{does_not_understand}
@@ -16,6 +16,8 @@ use Rattle.st_image.specs.WorldInvariant.{AreSettings, HaveTurns, IsSoundItem, I
 use Rattle.st_image.specs.Senders.{InSendingOrder}
 use Rattle.st_image.specs.Clients.{KeepsClients}
 use Rattle.st_image.specs.Changes.{CountsChanges}
+use Rattle.st_image.specs.Counts.{CountsItems}
+use Rattle.st_image.specs.declared.counts.Counts.{Counts}
 use Rattle.st_image.specs.ActorViews.{ActorView, Shows}
 use Rattle.st_image.specs.ActResults.{constants_of}
 use Rattle.st_image.specs.declared.tallies.Tally.{Tally}
@@ -35,18 +37,20 @@ pub record IsImage (base : World) (names : List (List ℕ)) (edits : List Edit) 
   pub counted : made ≡ edits_in history
   pub numbers : AreSettings s
   pub few_items : length history ≤ s.history
-  pub few_accepted : All (λ (k : ActorView). k.accepted ≤ length history) actors
+  pub few_accepted : All (λ (k : ActorView). k.accepted ≤ length history + 1024) actors
 
 -- The history leads to what is kept; the numbers of clients are those that it leads to, the tallies count its sends and have
--- places for the methods of so many edits as are covered, and each actor's number is how often it changed the actor's body.
+-- places for the methods of so many edits as are covered, each actor's number is how often it changed the actor's body, and
+-- its posts and steps are counted.
 pub record HoldsImage (base : World) (names : List (List ℕ)) (edits : List Edit) (actors : List ActorView)
     (history : List Item) (made : ℕ) (s : Settings) (clients : List ℕ) (tallies : List (List Tally))
-    (covered : ℕ) (changes : List ℕ) : Type 0 where
+    (covered : ℕ) (changes : List ℕ) (counted : Counts) : Type 0 where
   pub image : IsImage base names edits actors history made s
   pub numbers_of_clients : KeepsClients clients base.clients history
   pub sends : CountsSends (constants_of names s.capacity) base history tallies
   pub places : Covers tallies covered edits
   pub counts : CountsChanges changes history
+  pub totals : CountsItems counted history
 
 -- a body fits a table whose edits are lawful and sound, so that its steps fit it too
 abbrev pub CanRun : List Edit → ActorId → Body → Type 0

@@ -11,19 +11,22 @@ use Rattle.st_classes.specs.Classes.{is_class}
 use Rattle.st_classes.specs.EditRules.{is_value_class, define_rules, remove_rules}
 use Rattle.st_mailbox.specs.declared.messages.Message.{Message}
 use Rattle.st_image.specs.declared.items.Item.{Item}
-use Rattle.st_image.specs.declared.items.Item.TheVariants.{Edited}
 use Rattle.st_image.specs.declared.settings.Settings.{Settings}
 use Rattle.st_image.specs.declared.tallies.Tally.{Tally}
 use Rattle.st_image.specs.Worlds.{Constants, World, WorldActor, start, is_capacity}
 use Rattle.st_image.specs.PostRules.{post_rules}
 use Rattle.st_image.specs.Replay.{replay}
+use Rattle.st_image.specs.Earlier.{Earlier, nothing_earlier}
+use Rattle.st_image.specs.Counts.{edits_of, posts_of, ran_of, weigh}
+use Rattle.st_image.specs.declared.counts.Counts.{Counts}
 
 -- what an image keeps beside its world: the number from which the next ready actor is looked for, how many claims of
--- each actor are out, up to the last that has one, and the tallies of the call sites
+-- each actor are out, up to the last that has one, the tallies of the call sites, and what was counted before its base
 pub record Standing : Type 0 where
   pub next_from : ℕ
   pub claims_out : List ℕ
   pub tallies : List (List Tally)
+  pub earlier : Earlier
 
 -- an image: the world that it began with, its names, its history, the capacity of new actors, the most items of the
 -- history, and what it keeps beside its world
@@ -49,9 +52,14 @@ world i = world_of (constants i) i.base i.history
 
 -- how many of the items are edits
 abbrev pub edits_in : List Item → ℕ
-edits_in [] = 0
-edits_in (Edited e ∷ is) = edits_in is + 1
-edits_in (_ ∷ is) = edits_in is
+edits_in = weigh edits_of
+
+-- how many messages of clients were accepted, and how many steps were taken, since the image was new or loaded
+abbrev pub counts_of : ImageView → Counts
+counts_of i = record {
+  posts = i.standing.earlier.posts + weigh posts_of i.history;
+  steps = i.standing.earlier.steps + weigh ran_of i.history;
+}
 
 -- a new image: the kernel's names and no history
 abbrev pub new_image : Settings → ImageView
@@ -61,7 +69,7 @@ new_image s = record {
   history = [];
   capacity = s.capacity;
   most_items = s.history;
-  standing = record { next_from = 0; claims_out = []; tallies = [] };
+  standing = record { next_from = 0; claims_out = []; tallies = []; earlier = nothing_earlier };
 }
 
 -- the image with items behind its history
@@ -80,9 +88,13 @@ settings_rules s =
 abbrev pub no_room : ImageView → ℕ → Rule
 no_room i n = (nat_lt i.most_items (length i.history + n), HistoryFull)
 
+-- how many edits the run has accepted
+abbrev pub edits_made : ImageView → ℕ
+edits_made i = i.standing.earlier.edits + edits_in i.history
+
 -- one run accepts 2,048 edits
 abbrev pub run_rules : ImageView → List Rule
-run_rules i = (nat_le 2048 (edits_in i.history), TooMany Edits) ∷ no_room i 1 ∷ []
+run_rules i = (nat_le 2048 (edits_made i), TooMany Edits) ∷ no_room i 1 ∷ []
 
 -- the refusals of a definition in an image, in their order
 abbrev pub image_define_rules : ImageView → List ℕ → ClassId → List (List ℕ) → List Rule

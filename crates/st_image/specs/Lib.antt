@@ -1,4 +1,7 @@
 pub mod Worlds
+pub mod Parts
+pub mod Earlier
+pub mod Counts
 pub mod PostRules
 pub mod Replay
 pub mod Changes
@@ -19,7 +22,11 @@ pub mod Installs
 pub mod Tallies
 pub mod Calls
 pub mod Commits
+pub mod GoingOn
 pub mod Stats
 pub mod SentMessages
 pub mod RanTargets
 pub mod OneClaim
+pub mod Loading
+pub mod SenderNumbers
+pub mod Loaded

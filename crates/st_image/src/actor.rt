@@ -2,6 +2,8 @@
 ghost use Rattle.st_turn.specs.Idle.{is_idle as idle};
 ghost use Rattle.st_turn.specs.Steps.{step};
 
+mod plain_data;
+
 use crate::results::Results;
 use st_classes::faults::Fault;
 use st_classes::refusals::Refusal;
@@ -125,14 +127,14 @@ impl<M: Mailbox> Actor<M> {
         !self.is_idle() || self.has_pending()
     }
 
-    /// How a turn ended, where the first of the results is that of turn 1.
-    pub(crate) fn outcome(&self, turn: u64) -> Result<Outcome, Refusal>
-        ensures { result ≡ kept_outcome 1 self.now.results turn }
+    /// How a turn ended, where the first of the results is that of a turn of this number.
+    pub(crate) fn outcome(&self, first: u64, turn: u64) -> Result<Outcome, Refusal>
+        ensures { result ≡ kept_outcome first self.now.results turn }
     {
-        if turn == 0 {
+        if turn < first {
             return Err(Refusal::Expired);
         }
-        self.results.outcome(turn - 1)
+        self.results.outcome(turn - first)
     }
 
     /// Why the mailbox refuses a message, if it does.

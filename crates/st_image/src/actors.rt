@@ -2,6 +2,8 @@
 ghost use Rattle.std.specs.Prelude.{◌≡◌, ◌&&◌, ◌==◌};
 ghost use Rattle.st_image.specs.ClaimsOut.{one_less as one_less_of, one_more as one_more_of};
 
+mod plain_data;
+
 use crate::actor::Actor;
 use st_classes::faults::Fault;
 use st_classes::values::{ActorId, Value};
@@ -163,17 +165,20 @@ impl<M: Mailbox> Actors<M> {
         kept.body_to_check_out(alloc)
     }
 
-    /// A claim more of an actor is out. An actor that is idle begins its first pending message, where one is pending.
-    pub(crate) fn check_out(&mut self, actor: ActorId)
+    /// A claim more of an actor is out. An actor that is idle begins its first pending message, where one is pending. The answer is
+    /// the number after the actor's.
+    pub(crate) fn check_out(&mut self, actor: ActorId) -> u32
         requires { actor.0 < length self.old.kept }
         ensures checked { self.new ≡ record { kept = change_at view_checked_out actor.0 self.old.kept; out = change_at one_more actor.0 self.old.out } }
         ensures counted { actor.0 < length self.old.out }
+        ensures next { result ≡ actor.0 + 1 }
     {
         let kept = &mut self.items[actor.0 as usize];
         kept.check_out();
         let out = one_more(self.out[actor.0 as usize]);
         self.out[actor.0 as usize] = out;
         self.free.set(actor.0, false);
+        actor.0 + 1
     }
 
     /// A claim of an actor is no longer out, where the actor is there.

@@ -41,18 +41,6 @@ impl Changes {
         }
     }
 
-    /// How often the body of an actor will have been changed, once it is changed again where it is to be.
-    pub(crate) fn count_after(&self, actor: ActorId, changes: bool) -> u32
-        requires { change_count self.now actor.0 + 1 < 2 ^ 32 }
-        ensures { result ≡ change_count self.now actor.0 + (if changes then 1 else 0) }
-    {
-        if changes {
-            self.count(actor) + 1
-        } else {
-            self.count(actor)
-        }
-    }
-
     /// Makes room for the number of an actor. No number changes.
     pub(crate) fn make_room(&mut self, actor: ActorId) -> Result<(), AllocError>
         ensures same { (a : ℕ) → change_count self.new a ≡ change_count self.old a }

@@ -1,6 +1,7 @@
 //! The last numbers of clients.
 ghost use Rattle.std.specs.Prelude.{◌≡◌, ◌<◌, ◌≤◌, ◌==◌, ℕ, [], length, if◌then◌else◌, IfOk, OnOk};
 ghost use Rattle.st_image.specs.Clients.{clients_from, number_of};
+ghost use Rattle.st_image.specs.Worlds.{client_last};
 
 use std::alloc::{AllocError, Global};
 use std::marker::Model;
@@ -44,6 +45,22 @@ impl Clients {
         Clients {
             numbers: Vec::new(alloc),
         }
+    }
+
+    /// These clients, each with its last number.
+    pub(crate) fn from_pairs(alloc: Global, pairs: &[(u16, u64)]) -> Result<Clients, AllocError>
+        ensures { IfOk result (λ c. (s : ℕ) → client_last s pairs.now ≡ number_of c s) }
+    {
+        let mut clients = Clients::new(alloc);
+        let mut left = pairs.len();
+        // From the last to the first: of two numbers of a client the first would count.
+        'pairs: while 0 < left {
+            left -= 1;
+            let (client, number) = pairs[left];
+            clients.make_room(client)?;
+            clients.set(client, number);
+        }
+        Ok(clients)
     }
 
     /// The last number of a client, 0 if it has sent no message.

@@ -5,20 +5,25 @@ ghost use Rattle.st_image.specs.Delivery.{Delivers};
 ghost use Rattle.st_image.specs.OneClaim.{CountsOnItsBody};
 ghost use Rattle.st_image.specs.WorldInvariant.{NamesMayGrow};
 
+mod at_base;
 mod checking_out;
 mod closing;
 mod committing;
 mod defining;
 mod installing;
 mod listing;
+mod parting;
 mod posting;
 mod removing;
 mod stating;
 
 use crate::actor::Actor;
 use crate::actors::Actors;
+use crate::base::Base;
 use crate::changes::Changes;
 use crate::clients::Clients;
+use crate::counts::Counts;
+use crate::earlier::Earlier;
 use crate::items::Item;
 use crate::settings::Settings;
 use crate::tallies::Tallies;
@@ -61,10 +66,12 @@ pub fn one_claim_counts()
 /// An image: a class table, actors, and the history that led to them.
 ///
 /// Contracts see the world that it began with, its names, its history, the numbers that are set, and what it keeps beside its
-/// world: the number from which the next ready actor is looked for, the claims that are out, and the tallies of call sites. All
-/// else follows from the history.
+/// world: the number from which the next ready actor is looked for, the claims that are out, the tallies of call sites, and what
+/// was counted before it began. All else follows from the history.
 #[derive(Drop)]
 pub struct Image<M: Mailbox> {
+    /// The world that it began with.
+    base: Base,
     names: Names,
     /// The present class table.
     token: Token,
@@ -80,6 +87,9 @@ pub struct Image<M: Mailbox> {
     /// How many edits, from the first on, are covered: the tallies have places for all code of the methods that they install.
     covered: u32,
     changes: Changes,
+    /// The posts and the steps of the history.
+    counts: Counts,
+    earlier: Earlier,
 }
 
 impl<M: Mailbox> Model for Image<M> {
@@ -88,12 +98,11 @@ impl<M: Mailbox> Model for Image<M> {
     ghost Value = { ImageView };
 
     ghost use Rattle.st_image.specs.ImageInvariant.{HoldsImage};
-    ghost use Rattle.st_image.specs.Worlds.{start};
     ghost use Rattle.st_image.specs.ClaimsOut.{trimmed};
 
-    ghost view = { λ i. record { base = start; names = i.names; history = i.history.items; capacity = i.settings.capacity; most_items = i.settings.history; standing = record { next_from = i.next_from; claims_out = trimmed i.actors.out; tallies = i.tallies } } };
+    ghost view = { λ i. record { base = i.base; names = i.names; history = i.history.items; capacity = i.settings.capacity; most_items = i.settings.history; standing = record { next_from = i.next_from; claims_out = trimmed i.actors.out; tallies = i.tallies; earlier = i.earlier } } };
 
-    ghost invariant = { λ i. HoldsImage start i.names i.token i.actors.kept i.history.items i.edits_made i.settings i.clients i.tallies i.covered i.changes };
+    ghost invariant = { λ i. HoldsImage i.base i.names i.token i.actors.kept i.history.items i.edits_made i.settings i.clients i.tallies i.covered i.changes i.counts };
 }
 
 impl<M: Mailbox> Image<M> {
@@ -131,7 +140,11 @@ impl<M: Mailbox> Image<M> {
         let Ok(token) = Token::publish(alloc, version) else {
             return Err(Refusal::NoMemory);
         };
+        let Ok(table) = token.again() else {
+            return Err(Refusal::NoMemory);
+        };
         Ok(Image {
+            base: Base::new(table, Vec::new(alloc), Vec::new(alloc)),
             names,
             token,
             actors: Actors::new(alloc),
@@ -143,6 +156,8 @@ impl<M: Mailbox> Image<M> {
             tallies: Tallies::new(alloc),
             covered: 0,
             changes: Changes::new(alloc),
+            counts: Counts { posts: 0, steps: 0 },
+            earlier: Earlier::none(alloc),
         })
     }
 
@@ -227,15 +242,16 @@ impl<M: Mailbox> Image<M> {
         self.names.intern(alloc, text)
     }
 
-    /// How a turn of an actor ended. Turns are numbered from 1, as the actor's accepted messages are.
+    /// How a turn of an actor ended. Turns are numbered from 1, as the actor's accepted messages are; turn 0 is the one with which
+    /// the actor began, in a turn or behind one.
     ///
-    /// Refusals, in this order: `UnknownActor`; `Expired` for turn 0, and for a turn whose result is no longer among the
-    /// newest 64; `Pending` where the turn has not ended, or there is none.
+    /// Refusals, in this order: `UnknownActor`; `Expired` for turn 0 where the actor began with none, and for a turn whose result
+    /// is no longer among the newest 64; `Pending` where the turn has not ended, or there is none.
     pub fn outcome(&self, actor: ActorId, turn: u64) -> Result<Outcome, Refusal>
         ensures { result ≡ image_outcome self.now actor turn }
     {
         match self.actors.get(actor) {
-            Some(kept) => kept.outcome(turn),
+            Some(kept) => kept.outcome(self.base.first_turn(actor), turn),
             None => Err(Refusal::UnknownActor),
         }
     }

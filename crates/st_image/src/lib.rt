@@ -6,11 +6,19 @@
 
 mod acting;
 mod actor;
+pub mod actor_part;
 mod actors;
+mod base;
 mod changes;
 mod clients;
+pub mod counts;
+mod earlier;
+pub mod edit_text;
+mod fitting;
 pub mod image;
 pub mod items;
+pub mod loader;
 mod results;
+mod senders;
 pub mod settings;
 pub mod tallies;

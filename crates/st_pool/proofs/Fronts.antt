@@ -6,9 +6,9 @@ use mathlib.Core.List.{IsPrefix}
 use Rattle.st_classes.specs.declared.edits.Edit.{Edit}
 use Rattle.st_classes.specs.EditLists.{Begins}
 use Rattle.st_image.specs.Images.{ImageView, world}
-use Rattle.st_image.specs.Changes.{changes_in}
+use Rattle.st_image.specs.Commits.{changed_at}
 use Rattle.st_image.proofs.KnownBodies.{last_as_before}
-use Rattle.st_pool.specs.Going.{GoesOnIn}
+use Rattle.st_image.specs.GoingOn.{GoesOnIn}
 use Rattle.st_pool.specs.Seen.{Along, Ends, LeadsTo, MayFollow}
 
 -- of two beginnings of one list the shorter begins the longer
@@ -33,7 +33,7 @@ pub begins_then : (es fs gs : List Edit) → Begins es fs → Begins fs gs → B
 begins_then es fs gs (more, h) (rest, k) = (more ++ rest, k ∙ ap (λ (l : List Edit). l ++ rest) h ∙ append_assoc es more rest)
 
 pub goes_same : (i : ImageView) → GoesOnIn i i
-goes_same i = record { edits = ([], sym (append-nil (world i).edits)); bodies = last_as_before i i refl refl }
+goes_same i = record { edits = ([], sym (append-nil (world i).edits)); bodies = last_as_before i i refl refl refl }
 
 pub goes_then : (i j k : ImageView) → GoesOnIn i j → GoesOnIn j k → GoesOnIn i k
 goes_then i j k p q = record {
@@ -43,8 +43,8 @@ goes_then i j k p q = record {
       let t = q.bodies a in (
         omega (arith, s.0, t.0),
         λ b e at.
-            let first : changes_in j.history a.0 ≡ changes_in i.history a.0 = omega (arith, s.0, t.0, e) in
-            let last : changes_in k.history a.0 ≡ changes_in j.history a.0 = omega (arith, s.0, t.0, e) in
+            let first : changed_at j a.0 ≡ changed_at i a.0 = omega (arith, s.0, t.0, e) in
+            let last : changed_at k a.0 ≡ changed_at j a.0 = omega (arith, s.0, t.0, e) in
             t.1 b last (s.1 b first at),
       );
 }

@@ -20,11 +20,11 @@ use Rattle.st_image.specs.Installs.{LeavesNames}
 use Rattle.st_image.specs.Commits.{ChecksOut, Commits, HasCheckedOut, IsReleased, RefusesCommit, idle_at, items_of, stands_before_act, steps_of, with_out}
 use Rattle.st_image.specs.WorldInvariant.{IsLawful}
 use Rattle.st_pool.specs.Books.{Grows, counted}
-use Rattle.st_pool.specs.Counts.{edits_of, posts_of, ran_of, weigh}
+use Rattle.st_image.specs.Counts.{edits_of, posts_of, ran_of, weigh}
 use Rattle.st_pool.specs.Done.{ReleasesBack, Settles, committed}
-use Rattle.st_pool.specs.Going.{GoesOnIn}
-use Rattle.st_pool.proofs.WorldEdits.{GoesOn, edits_go_on}
-use Rattle.st_pool.proofs.CallsLater.{commits_later, refused_later, released_later, same_image}
+use Rattle.st_image.specs.GoingOn.{GoesOnIn}
+use Rattle.st_image.proofs.GrowingEdits.{GoesOn, edits_longer as edits_go_on}
+use Rattle.st_image.proofs.CallsLater.{commits_later, refused_later, released_later, same_image}
 use Rattle.st_pool.proofs.Fronts.{goes_then}
 
 -- nothing is added

@@ -7,7 +7,8 @@ use Rattle.st_guard.specs.Moves.{CachesView}
 use Rattle.st_turn.specs.Claims.{BeganAs, ClaimView}
 use Rattle.st_image.specs.Images.{ImageView, world}
 use Rattle.st_image.proofs.KnownBodies.{knows_as, knows_later}
-use Rattle.st_pool.specs.Going.{FitsClaim, GoesOnIn, KeepsBeginning}
+use Rattle.st_image.specs.GoingOn.{FitsClaim, GoesOnIn}
+use Rattle.st_pool.specs.Going.{KeepsBeginning}
 use Rattle.st_pool.specs.Seen.{Along, Ends, Fits, Follows, LeadsTo, MayFollow, Precedes}
 use Rattle.st_pool.proofs.Fronts.{begins_then, carries, follows_later, follows_leads, goes_same}
 

@@ -3,16 +3,14 @@ use Rattle.std.proofs.Common.{◌≡◌, ℕ, ◌+◌, ◌*◌, ◌≤◌, List,
 use Rattle.std.proofs.lemmas.List.{drop-append-le}
 use Rattle.st_image.specs.declared.items.Item.{Item}
 use Rattle.st_image.specs.Images.{ImageView}
-use Rattle.st_pool.specs.Counts.{weigh, since, posts_of, edits_of, ran_of}
+use Rattle.st_image.specs.Counts.{weigh, posts_of, edits_of, ran_of}
+use Rattle.st_pool.specs.Counts.{since}
+use Rattle.st_image.proofs.CountingItems.{weigh_append}
 use Rattle.st_pool.specs.Books.{BooksView, Grows, Kept}
-
-pub weigh-append : (f : Item → ℕ) (xs ys : List Item) → weigh f (xs ++ ys) ≡ weigh f xs + weigh f ys
-weigh-append f [] ys = omega arith
-weigh-append f (x ∷ xs) ys = omega (arith, weigh-append f xs ys)
 
 -- since a place that was there already, items behind the history weigh so much more
 pub since-appended : (f : Item → ℕ) (start : ℕ) (i j : ImageView) (items : List Item) → j.history ≡ i.history ++ items → start ≤ length i.history → since f start j ≡ since f start i + weigh f items
-since-appended f start i j items is le = ap (λ h. weigh f (drop start h)) is ∙ (ap (weigh f) (drop-append-le start i.history items le) ∙ weigh-append f (drop start i.history) items)
+since-appended f start i j items is le = ap (λ h. weigh f (drop start h)) is ∙ (ap (weigh f) (drop-append-le start i.history items le) ∙ weigh_append f (drop start i.history) items)
 
 -- books that take what a call adds keep up
 pub kept_on : (start : ℕ) (i j : ImageView) (b c : BooksView) (posts edits steps : ℕ) → Kept start i b → Grows posts edits steps i j → c.posts ≡ b.posts + posts → c.edits ≡ b.edits + edits → c.steps ≡ b.steps + steps → Kept start j c

@@ -2,7 +2,8 @@
 use Rattle.std.specs.Prelude.{◌≡◌, ℕ, ◌+◌, ◌*◌, ◌≤◌, List, ◌++◌, Bool, length, if◌then◌else◌}
 use Rattle.st_image.specs.declared.items.Item.{Item}
 use Rattle.st_image.specs.Images.{ImageView}
-use Rattle.st_pool.specs.Counts.{posts_of, edits_of, ran_of, since, weigh}
+use Rattle.st_image.specs.Counts.{posts_of, edits_of, ran_of, weigh}
+use Rattle.st_pool.specs.Counts.{since}
 
 -- the sums of all shares, and how many shares were given out
 pub record BooksView : Type 0 where

@@ -10,7 +10,8 @@ use Rattle.st_image.specs.Commits.{Commits, IsReleased}
 use Rattle.st_image.specs.WorldInvariant.{IsLawful}
 use Rattle.st_pool.specs.declared.receipts.Receipt.{Receipt}
 use Rattle.st_pool.specs.Books.{BooksView}
-use Rattle.st_pool.specs.Counts.{posts_of, edits_of, since}
+use Rattle.st_image.specs.Counts.{posts_of, edits_of}
+use Rattle.st_pool.specs.Counts.{since}
 
 -- the edits that were accepted, and a receipt for each post that was
 pub record Done : Type 0 where

@@ -2,7 +2,8 @@
 use Rattle.std.specs.Prelude.{◌≡◌, ℕ, ◌+◌, List, All, length}
 use Rattle.std.specs.List.{sum_by}
 use Rattle.st_image.specs.Images.{ImageView}
-use Rattle.st_pool.specs.Counts.{posts_of, edits_of, ran_of, since}
+use Rattle.st_image.specs.Counts.{posts_of, edits_of, ran_of}
+use Rattle.st_pool.specs.Counts.{since}
 use Rattle.st_pool.specs.Books.{BooksView}
 use Rattle.st_pool.specs.Done.{Done, OfficeView, Stands}
 use Rattle.st_pool.specs.declared.totals.Totals.{Totals}

@@ -4,7 +4,7 @@ ghost use Rattle.std.specs.Borrow.{Bor};
 ghost use Rattle.std.specs.Fn.{FnOnceReturnsAt};
 ghost use Rattle.st_classes.specs.declared.refusals.Refusal.TheVariants.{NoMemory};
 ghost use Rattle.st_classes.specs.Refusals.{first_of};
-ghost use Rattle.st_image.specs.Calls.{AnswersExactly, Closes, Creates, InstallsIn, Posts, Removes};
+ghost use Rattle.st_image.specs.Calls.{AnswersExactly, Closes, Creates, Defines, InstallsIn, Posts, Removes};
 ghost use Rattle.st_image.specs.Images.{ImageView, world};
 ghost use Rattle.st_image.specs.Outcomes.{image_outcome};
 ghost use Rattle.st_image.specs.PostRules.{from_client};
@@ -76,7 +76,7 @@ impl<'a, K: Naming, M: Mailbox> Caller<'a, K, M> {
         ensures answers { (i : ImageView) × (j : ImageView) × HasAtLeast K.start self.old i × Interns i text.now result j }
     {
         let Caller { shared, share } = self;
-        let mut office = shared.office.lock(rt);
+        let mut office = shared.enter(rt);
         office.audit(share);
         office.intern(alloc, text)
     }
@@ -114,8 +114,7 @@ impl<'a, K: Naming, M: Mailbox> Caller<'a, K, M> {
             return Err(Refusal::NoMemory);
         }
         let (answer, place) = shared
-            .office
-            .lock(rt)
+            .enter(rt)
             .post(alloc, posted, edited, sender, seq, actor, selector, args);
         let turn = match answer {
             Ok(turn) => turn,
@@ -145,9 +144,10 @@ impl<'a, K: Naming, M: Mailbox> Caller<'a, K, M> {
         slots: Seq<Seq<u8>>,
     ) -> Result<u32, Refusal>
         ensures edits { self.new ≡ record self.old { edits = self.old.edits + counted (is_ok result) } }
+        ensures answers { (i : ImageView) × (j : ImageView) × HasAtLeast K.start self.old i × Defines i name.now parent slots result j }
     {
         let Caller { shared, share } = self;
-        let mut office = shared.office.lock(rt);
+        let mut office = shared.enter(rt);
         office.audit(share);
         let answer = office.define(alloc, share, name, parent, slots);
         drop(office);
@@ -167,7 +167,7 @@ impl<'a, K: Naming, M: Mailbox> Caller<'a, K, M> {
         ensures answers { (i : ImageView) × (j : ImageView) × HasAtLeast K.start self.old i × InstallsIn i class source.now result j }
     {
         let Caller { shared, share } = self;
-        let mut office = shared.office.lock(rt);
+        let mut office = shared.enter(rt);
         office.audit(share);
         let answer = office.install(alloc, share, class, source);
         drop(office);
@@ -187,7 +187,7 @@ impl<'a, K: Naming, M: Mailbox> Caller<'a, K, M> {
         ensures answers { (i : ImageView) × (j : ImageView) × HasAtLeast K.start self.old i × Removes i class selector result j }
     {
         let Caller { shared, share } = self;
-        let mut office = shared.office.lock(rt);
+        let mut office = shared.enter(rt);
         office.audit(share);
         let answer = office.remove(alloc, share, class, selector);
         drop(office);
@@ -206,7 +206,7 @@ impl<'a, K: Naming, M: Mailbox> Caller<'a, K, M> {
         ensures answers { (i : ImageView) × (j : ImageView) × HasAtLeast K.start self.old i × Creates i class result j }
     {
         let Caller { shared, share } = self;
-        let mut office = shared.office.lock(rt);
+        let mut office = shared.enter(rt);
         office.audit(share);
         let answer = office.create(alloc, class);
         drop(office);
@@ -220,7 +220,7 @@ impl<'a, K: Naming, M: Mailbox> Caller<'a, K, M> {
         ensures answers { (i : ImageView) × (j : ImageView) × HasAtLeast K.start self.old i × Closes i actor result j }
     {
         let Caller { shared, share } = self;
-        let mut office = shared.office.lock(rt);
+        let mut office = shared.enter(rt);
         office.audit(share);
         let answer = office.close(actor);
         drop(office);
@@ -240,7 +240,7 @@ impl<'a, K: Naming, M: Mailbox> Caller<'a, K, M> {
         ensures answers { (i : ImageView) × HasAtLeast K.start self.old i × (result ≡ image_outcome i actor turn) }
     {
         let Caller { shared, share } = self;
-        let mut office = shared.office.lock(rt);
+        let mut office = shared.enter(rt);
         office.audit(share);
         office.image().outcome(actor, turn)
     }
@@ -257,7 +257,7 @@ impl<'a, K: Naming, M: Mailbox> Caller<'a, K, M> {
         ensures answers { (i : ImageView) × HasAtLeast K.start self.old i × AnswersExactly (first_of (stats_rules i class selector)) result (λ list. list.items ≡ method_stats i (installed_own (world i).edits class selector)) }
     {
         let Caller { shared, share } = self;
-        let mut office = shared.office.lock(rt);
+        let mut office = shared.enter(rt);
         office.audit(share);
         office.image().stats(alloc, class, selector)
     }
@@ -281,7 +281,7 @@ impl<'a, K: Naming> Caller<'a, K, RingBox> {
         ensures looks { (i : ImageView) × HasAtLeast K.start self.old i × FnOnceReturnsAt F.FnOnce f i result }
     {
         let Caller { shared, share } = self;
-        let mut office = shared.office.lock(rt);
+        let mut office = shared.enter(rt);
         office.audit(share);
         f(office.image())
     }

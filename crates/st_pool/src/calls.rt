@@ -6,7 +6,7 @@ ghost use Rattle.st_image.specs.Images.{world};
 ghost use Rattle.st_image.specs.PostRules.{from_client};
 ghost use Rattle.st_image.specs.WorldInvariant.{IsLawful};
 ghost use Rattle.st_pool.specs.Going.{Interns};
-ghost use Rattle.st_pool.specs.Going.{FitsClaim, GoesOnIn};
+ghost use Rattle.st_image.specs.GoingOn.{FitsClaim, GoesOnIn};
 ghost use Rattle.st_pool.specs.Books.{Grows, counted};
 ghost use Rattle.st_pool.specs.Done.{Settles, committed};
 

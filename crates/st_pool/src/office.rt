@@ -87,7 +87,8 @@ impl<K: Naming, M: Mailbox> Office<K, M> {
     ghost use Rattle.st_image.specs.WorldInvariant.{IsLawful};
     ghost use Rattle.st_pool.specs.Going.{Interns};
     ghost use Rattle.st_pool.specs.Books.{counted, no_books};
-    ghost use Rattle.st_pool.specs.Counts.{since, posts_of, edits_of, ran_of};
+    ghost use Rattle.st_image.specs.Counts.{posts_of, edits_of, ran_of};
+    ghost use Rattle.st_pool.specs.Counts.{since};
     ghost use Rattle.st_pool.specs.Done.{HasAtLeast, Settles, committed, nothing_done};
 
     /// The image with empty books.

@@ -13,7 +13,14 @@ use st_classes::refusals::Refusal;
 use st_image::image::Image;
 use st_mailbox::mailboxes::Mailbox;
 use std::alloc::Global;
-use std::sync::{Condvar, Mutex, Wait};
+use std::hint::spin_loop;
+use std::sync::{Condvar, Mutex, MutexGuard, Wait};
+
+/// How often a thread looks for the lock before it sleeps for it. A hold takes a few microseconds, a sleep far more.
+const LOOKS: usize = 200;
+
+/// How many pauses there are between two looks.
+const PAUSES: usize = 4;
 
 /// An image that threads share, with books of what they do to it. Each call takes the lock once.
 #[derive(Drop)]
@@ -44,13 +51,26 @@ impl<K: Naming, M: Mailbox> Shared<K, M> {
         ensures new { IfOk result (λ c. c ≡ nothing_done) }
         ensures refused { IfErr result (λ e. e ≡ refusals.TooMany limits.Sessions) }
     {
-        let share = self.office.lock(rt).give(alloc)?;
+        let share = self.enter(rt).give(alloc)?;
         Ok(Caller::new(self, share))
+    }
+
+    /// Takes the lock. It is looked for some time before the thread sleeps for it.
+    pub(crate) fn enter<R: Wait>(&self, rt: &R) -> MutexGuard<'_, Office<K, M>> {
+        for _ in 0..LOOKS {
+            if let Some(office) = self.office.try_lock() {
+                return office;
+            }
+            for _ in 0..PAUSES {
+                spin_loop();
+            }
+        }
+        self.office.lock(rt)
     }
 
     /// Tells the workers to end, each when its quantum is over. Those that wait are woken.
     pub fn stop<R: Wait>(&self, rt: &R) {
-        self.office.lock(rt).stop();
+        self.enter(rt).stop();
         self.moved.notify_all();
     }
 }

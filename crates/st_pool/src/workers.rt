@@ -43,7 +43,7 @@ impl Gate for OpenGate {
 fn wait_past<K: Naming, M: Mailbox, R: Wait>(rt: &R, shared: &Shared<K, M>, seen: u64) {
     let _guard = shared
         .moved
-        .wait_while(rt, shared.office.lock(rt), |office| office.rests(seen));
+        .wait_while(rt, shared.enter(rt), |office| office.rests(seen));
 }
 
 /// What a worker does next.
@@ -53,7 +53,7 @@ fn next_work<K: Naming, M: Mailbox, R: Wait>(
     shared: &Shared<K, M>,
     share: &mut WorkerShare<K>,
 ) -> Work<K> {
-    shared.office.lock(rt).work(alloc, share)
+    shared.enter(rt).work(alloc, share)
 }
 
 /// Commits the steps of a quantum, and answers after how many moves the worker is to wait: `None` where it goes on at once. A commit
@@ -66,7 +66,7 @@ fn commit<K: Naming, M: Mailbox, R: Wait>(
     held: Held<K>,
     is_starved: bool,
 ) -> Option<u64> {
-    let mut office = shared.office.lock(rt);
+    let mut office = shared.enter(rt);
     let answer = office.commit(alloc, share, held);
     let moves = office.moves();
     drop(office);
@@ -105,7 +105,8 @@ fn take_quantum<G: Guard, K: Naming, M: Mailbox, T: Gate, R: Wait>(
 /// It is refused (`TooMany` sessions) where 4,294,967,295 workers were given out; then no actor has been checked out.
 ///
 /// A claim that is refused by `Stale` or `Changed` is dropped, and the worker goes on. Where nothing is ready, where memory ran out
-/// or where the history is full, it sleeps until a call of a caller, a commit with steps, or the stop.
+/// or where the history is full, it sleeps until another call may have changed that: an accepted post, an edit, a new actor or a close
+/// (refused ones too), a commit, or the stop. A refused post, `intern`, `outcome`, `stats` and `look` wake nobody.
 pub fn worker_loop<G: Guard, K: Naming, M: Mailbox, T: Gate, R: Wait>(
     rt: &R,
     alloc: Global,
@@ -117,7 +118,7 @@ pub fn worker_loop<G: Guard, K: Naming, M: Mailbox, T: Gate, R: Wait>(
 ) -> Result<WorkerShare<K>, Refusal>
     ensures refused { IfErr result (λ e. e ≡ refusals.TooMany limits.Sessions) }
 {
-    let mut share = shared.office.lock(rt).employ()?;
+    let mut share = shared.enter(rt).employ()?;
     let mut hand = Hand::new(worker);
     for _ in rt.forever() {
         match next_work(rt, alloc, shared, &mut share) {

@@ -10,7 +10,7 @@ use Rattle.st_classes.specs.declared.refusals.Refusal.{Refusal}
 use Rattle.st_classes.specs.declared.refusals.Refusal.TheVariants.{NoMemory, UnknownClass, BadCommand}
 use Rattle.st_classes.specs.Classes.{class_named}
 use Rattle.st_mailbox.specs.declared.messages.Message.{Message}
-use Rattle.st_image.specs.Calls.{Closes, Creates, InstallsIn, Posts, Removes}
+use Rattle.st_image.specs.Calls.{Closes, Creates, Defines, InstallsIn, Posts, Removes}
 use Rattle.st_image.specs.Images.{ImageView, world}
 use Rattle.st_image.specs.Outcomes.{image_outcome}
 use Rattle.st_image.specs.PostRules.{from_client}
@@ -108,7 +108,7 @@ PostsText start d a args text sender seq result e = (s : Result Selector Refusal
 -- by the command; a run is none here, since workers run the turns
 abbrev pub Attends : ℕ → Done → Command → Reply → Done → Type 0
 Attends start d (command.Define name parent slots) r e =
-    RepliesOn start d parent reply.Version (λ c result. Unit {0}) r × (e ≡ after_edit d r)
+    RepliesOn start d parent reply.Version (λ c. CallsOnce start d (λ i. Defines i name c slots)) r × (e ≡ after_edit d r)
 Attends start d (command.Method class source) r e =
     RepliesOn start d class reply.Version (λ c. CallsOnce start d (λ i. InstallsIn i c source)) r × (e ≡ after_edit d r)
 Attends start d (command.Remove class text) r e = RepliesOn start d class reply.Version (RemovesText start d text) r × (e ≡ after_edit d r)
@@ -117,5 +117,7 @@ Attends start d (command.Post a args text sender seq) r e = (result : Result ℕ
     × (r ≡ reply_by reply.Turn result)
 Attends start d (command.Run quanta) r e = (r ≡ reply.Refused BadCommand) × (e ≡ d)
 Attends start d (command.Outcome a turn) r e = Finds start d (λ i. Tells i (image_outcome i a turn) r) × (e ≡ d)
-Attends start d (command.Close a) r e = (result : Result Unit Refusal) × CallsOnce start d (λ i. Closes i a) result × (r ≡ reply_by (λ done. reply.Closed) result) × (e ≡ d)
+Attends start d (command.Close a) r e = (result : Result Unit Refusal) × CallsOnce start d (λ i. Closes i a) result
+    × (r ≡ reply_by (λ done. reply.Closed) result)
+    × (e ≡ d)
 Attends start d (command.Stats class text) r e = Finds start d (λ i. States i class text r) × (e ≡ d)

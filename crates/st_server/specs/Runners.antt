@@ -49,7 +49,7 @@ KeepsFirst i v = IfSome v.kept (λ k. Begins k (world i).edits)
 
 -- new caches: nothing was found yet, and the list of edits that they keep is empty, as the kernel's is
 pub record AreNew (v : CachesView GuardView) : Type 0 where
-  pub no_edits : v.guard ≡ record { edits = 0; all = 0; each = [] }
+  pub guard : v.guard ≡ record { edits = 0; all = 0; each = [] }
   pub no_site : NoSites v.sites
   pub no_recent : v.recent ≡ []
   pub count : v.edits ≡ 0

@@ -3,7 +3,7 @@
 //! A command may take the lock more than once, as where it names a class or interns a text; others may be answered between.
 ghost use Rattle.std.specs.Prelude.{◌≡◌, ◌⊎◌, Err};
 ghost use Rattle.st_classes.specs.declared.refusals.Refusal.TheVariants.{NoMemory};
-ghost use Rattle.st_image.specs.Calls.{Closes, Creates, InstallsIn};
+ghost use Rattle.st_image.specs.Calls.{Closes, Creates, Defines, InstallsIn};
 ghost use Rattle.st_image.specs.Outcomes.{image_outcome};
 ghost use Rattle.st_wire.specs.declared.replies.Reply.TheVariants as replies;
 ghost use Rattle.st_server.specs.ArgumentValues.{found_selector};
@@ -43,7 +43,7 @@ fn define<K: Naming, R: Wait>(
     parent: &[u8],
     slots: Seq<Seq<u8>>,
 ) -> Reply
-    ensures replies { RepliesOn K.start caller.old parent.now replies.Version (λ c answer. Unit {0}) result }
+    ensures replies { RepliesOn K.start caller.old parent.now replies.Version (λ c. CallsOnce K.start caller.old (λ i. Defines i name.now c slots)) result }
     ensures done { caller.new ≡ after_edit caller.old result }
 {
     let Some(parent) = class_named(rt, caller, parent) else {

@@ -1,5 +1,3 @@
-pub mod WorldEdits
-pub mod CallsLater
 pub mod Seats
 pub mod Interning
 pub mod ClaimsSeen

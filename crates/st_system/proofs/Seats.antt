@@ -10,7 +10,8 @@ use Rattle.st_guard.specs.Moves.{CachesView}
 use Rattle.st_turn.specs.Claims.{BeganAs, ClaimView}
 use Rattle.st_image.specs.Images.{ImageView, world}
 use Rattle.st_image.proofs.KnownBodies.{knows_as, knows_later, last_as_before}
-use Rattle.st_system.specs.Seats.{CanFollow, FitsClaim, FitsSeat, GoesOnIn, HaveNothing, KeepsBeginning, SeatView, TakesSeat}
+use Rattle.st_image.specs.GoingOn.{FitsClaim, GoesOnIn}
+use Rattle.st_system.specs.Seats.{CanFollow, FitsSeat, HaveNothing, KeepsBeginning, SeatView, TakesSeat}
 
 pub begins_same : (es : List Edit) → Begins es es
 begins_same es = ([], sym (append-nil es))
@@ -39,7 +40,7 @@ fits_as i c d b h = record {
 }
 
 pub goes_on_same : (i : ImageView) → GoesOnIn i i
-goes_on_same i = record { edits = begins_same (world i).edits; bodies = last_as_before i i refl refl }
+goes_on_same i = record { edits = begins_same (world i).edits; bodies = last_as_before i i refl refl refl }
 
 list_later : (o : Option (List Edit)) (fs gs : List Edit) → Begins fs gs → IfSome o (λ k. Begins k fs) → IfSome o (λ k. Begins k gs)
 list_later None fs gs b h = tt

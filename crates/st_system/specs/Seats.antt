@@ -8,7 +8,7 @@ use Rattle.st_guard.specs.SiteTables.{NoSites}
 use Rattle.st_guard.specs.Moves.{CachesView, IsAt}
 use Rattle.st_turn.specs.Claims.{ClaimView}
 use Rattle.st_image.specs.Images.{ImageView, world}
-use Rattle.st_image.specs.Commits.{BodiesLast, KnowsBody}
+use Rattle.st_image.specs.GoingOn.{FitsClaim}
 
 -- a worker's caches, and its claim, or none
 pub record SeatView (G : Type 0) : Type 0 where
@@ -28,21 +28,10 @@ KeepsBeginning edits v = IfSome v.kept (λ k. Begins k edits)
 abbrev pub CanFollow : {G : Type 0} → CachesView G → Option ClaimView → Type 0
 CanFollow v claim = IfSome claim (λ c. KeepsBeginning c.edits v)
 
--- the edits of a claim begin those of the class table, and its stamp tells its body
-pub record FitsClaim (i : ImageView) (c : ClaimView) : Type 0 where
-  pub edits : Begins c.edits (world i).edits
-  pub body : KnowsBody i c
-
 -- a worker's claim fits an image, and the edits that its caches keep begin those of the class table
 pub record FitsSeat {G : Type 0} (i : ImageView) (s : SeatView G) : Type 0 where
   pub claim : IfSome s.claim (FitsClaim i)
   pub kept : KeepsBeginning (world i).edits s.caches
-
--- an image goes on in another: the edits of the one begin those of the other, and bodies that were not changed are the
--- same
-pub record GoesOnIn (i j : ImageView) : Type 0 where
-  pub edits : Begins (world i).edits (world j).edits
-  pub bodies : BodiesLast i j
 
 -- each worker fits the image
 abbrev pub FitSeats : {G : Type 0} → SystemView G → Type 0

@@ -5,7 +5,7 @@ ghost use Rattle.st_image.specs.Calls.{Closes, Creates, Defines, InstallsIn, Pos
 ghost use Rattle.st_image.specs.Commits.{ChecksOut, Commits, IsReleased};
 ghost use Rattle.st_image.specs.PostRules.{from_client};
 ghost use Rattle.st_system.specs.ImageEvents.{Interns};
-ghost use Rattle.st_system.specs.Seats.{FitsClaim, GoesOnIn};
+ghost use Rattle.st_image.specs.GoingOn.{FitsClaim, GoesOnIn};
 
 use crate::copies::{copy_texts, copy_values};
 use st_classes::refusals::Refusal;

@@ -16,6 +16,7 @@ pub mod LaidFrames
 pub mod StackMoves
 pub mod StackDetermined
 pub mod StackMade
+pub mod WaitingFrames
 pub mod ClaimSteps
 pub mod Busy
 pub mod WorkerSteps

@@ -38,7 +38,7 @@ pub struct ClaimParts {
     pub before: Body,
     pub steps: u32,
     pub sends: Vec<Sent>,
-    pub stamp: u32,
+    pub stamp: u64,
 }
 
 /// Steps of an actor at a published version, which lead from a body of the actor's to another. Contracts see the actor, the edits of
@@ -54,7 +54,7 @@ pub struct Claim {
     steps: u32,
     sends: Vec<Sent>,
     /// Stands for the body before, as whoever made the claim says.
-    stamp: u32,
+    stamp: u64,
 }
 
 impl Model for Claim {
@@ -74,7 +74,7 @@ impl Claim {
         actor: ActorId,
         token: Token,
         body: Body,
-        stamp: u32,
+        stamp: u64,
     ) -> Result<Claim, AllocError>
         requires { FitsSome token actor body }
         ensures { IfOk result (λ c. c ≡ record { actor = actor; edits = token; before = body; after = body; steps = 0; sends = []; stamp = stamp }) }
@@ -147,7 +147,7 @@ impl Claim {
 
     /// The number that stands for the body before.
     #[inline]
-    pub fn stamp(&self) -> u32
+    pub fn stamp(&self) -> u64
         ensures { result ≡ self.now.stamp }
     {
         self.stamp

@@ -8,10 +8,10 @@ use st_turn::claim::Claim;
 use std::alloc::{AllocError, Global};
 
 impl<M: Mailbox> Image<M> {
-    ghost use Rattle.std.specs.Prelude.{◌≡◌, ◌<◌, length, slice_get, None, IfNone, IfOk, OnErr};
+    ghost use Rattle.std.specs.Prelude.{◌≡◌, ◌+◌, ◌-◌, ◌^◌, ◌<◌, length, slice_get, None, IfNone, IfOk, OnErr, if◌then◌else◌};
     ghost use Rattle.st_classes.specs.Refusals.{first_of};
     ghost use Rattle.st_image.specs.Images.{world};
-    ghost use Rattle.st_image.specs.Commits.{ChecksOut, HasCheckedOut, IsReleased, checkout_rules, idle_at};
+    ghost use Rattle.st_image.specs.Commits.{ChecksOut, HasCheckedOut, IsReleased, changed_at, checkout_rules, idle_at};
 
     /// Why a checkout is refused, if it is.
     fn checkout_refusal(&self, actor: ActorId) -> Option<Refusal>
@@ -40,6 +40,22 @@ impl<M: Mailbox> Image<M> {
         }
     }
 
+    /// How often the body of an actor was changed.
+    pub(super) fn changed(&self, actor: ActorId) -> u64
+        ensures count { result ≡ changed_at self.now actor.0 }
+        ensures few { result < 2 ^ 64 - 1 }
+    {
+        self.earlier.changes(actor) + u64::from(self.changes.count(actor))
+    }
+
+    /// How often the body of an actor will have been changed, once it is changed again where it is to be.
+    fn stamp_after(&self, actor: ActorId, changes: bool) -> u64
+        ensures { result ≡ changed_at self.now actor.0 + (if changes then 1 else 0) }
+    {
+        let changed = self.changed(actor);
+        if changes { changed + 1 } else { changed }
+    }
+
     /// Hands out a claim of an actor whose checkout is not refused. An error says that nothing changed.
     fn hand_out(&mut self, alloc: Global, actor: ActorId) -> Result<Claim, AllocError>
         requires { first_of (checkout_rules self.old (slice_get (world self.old).actors actor.0)) ≡ None }
@@ -47,17 +63,17 @@ impl<M: Mailbox> Image<M> {
         ensures err { OnErr result (self.new ≡ self.old) }
     {
         let begins = self.is_idle(actor);
+        let stamp = self.stamp_after(actor, begins);
         let body = self.actors.body_to_check_out(alloc, actor)?;
         self.changes.make_room(actor)?;
-        let stamp = self.changes.count_after(actor, begins);
         let claim = Claim::new(alloc, actor, self.token.again()?, body, stamp)?;
         if begins {
             self.history.reserve(1)?;
             self.history.push(Item::Begun(actor)).unwrap();
             self.changes.raise(actor);
         }
-        self.actors.check_out(actor);
-        self.next_from = actor.0 + 1;
+        let next = self.actors.check_out(actor);
+        self.next_from = next;
         Ok(claim)
     }
 

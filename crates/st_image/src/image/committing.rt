@@ -13,14 +13,14 @@ impl<M: Mailbox> Image<M> {
     ghost use Rattle.std.specs.Prelude.{◌≡◌, ◌≢◌, ◌↔◌, ◌<◌, IsTrue, None, MatchOption, IfErr, OnOk};
     ghost use Rattle.st_classes.specs.EditLists.{Begins};
     ghost use Rattle.st_image.specs.Images.{world};
-    ghost use Rattle.st_image.specs.Changes.{changes_in};
-    ghost use Rattle.st_image.specs.Commits.{Commits, CommitAllowed, CommitRefused, HasCommitted, IsAsBefore, IsUnchanged, KnowsBody, RefusesCommit, Survives, act_site, steps_of};
+    ghost use Rattle.st_image.specs.Commits.{Commits, CommitAllowed, CommitRefused, HasCommitted, IsAsBefore, IsUnchanged, KnowsBody, RefusesCommit, Survives, act_site, changed_at, steps_of};
 
     /// Whether the body of an actor was changed as often as the stamp of a claim says.
     fn is_stamped(&self, claim: &Claim) -> bool
-        ensures { IsTrue result ↔ (claim.now.stamp ≡ changes_in self.now.history claim.now.actor.0) }
+        ensures { IsTrue result ↔ (claim.now.stamp ≡ changed_at self.now claim.now.actor.0) }
     {
-        claim.stamp() == self.changes.count(claim.actor())
+        let changed = self.changed(claim.actor());
+        claim.stamp() == changed
     }
 
     /// Whether an actor is there and has the body that a claim began with, which is compared.
@@ -117,6 +117,7 @@ impl<M: Mailbox> Image<M> {
                 self.actors.release(actor);
                 self.changes.raise(actor);
                 self.history.push(Item::Ran { actor, steps }).unwrap();
+                self.counts.steps += u64::from(steps);
                 Ok(())
             }
             Err(after) => Err(Claim::from_parts(parts, after)),

@@ -22,7 +22,7 @@ impl<M: Mailbox> Image<M> {
     fn run_refusal(&self) -> Option<Refusal>
         ensures { result ≡ first_of (run_rules self.now) }
     {
-        if self.edits_made as usize >= RUN_EDITS {
+        if self.earlier.edits() as usize + self.edits_made as usize >= RUN_EDITS {
             return Some(Refusal::TooMany {
                 what: Limited::Edits,
             });

@@ -1,11 +1,12 @@
-//! Image::clients: the clients that have sent a message.
+//! Image::clients and counted: the clients that have sent a message, and how much there was of posts and steps.
+use crate::counts::Counts;
 use crate::image::Image;
 use st_mailbox::mailboxes::Mailbox;
 use std::alloc::{AllocError, Global};
 
 impl<M: Mailbox> Image<M> {
     ghost use Rattle.std.specs.Prelude.{◌≡◌, IfOk};
-    ghost use Rattle.st_image.specs.Images.{world};
+    ghost use Rattle.st_image.specs.Images.{counts_of, world};
 
     /// The clients that have sent a message, rising by their numbers, each with the number of its last message, which
     /// is at least 1.
@@ -13,5 +14,16 @@ impl<M: Mailbox> Image<M> {
         ensures { IfOk result (λ clients. clients.items ≡ (world self.now).clients) }
     {
         self.clients.list(alloc)
+    }
+
+    /// How many messages of clients were accepted, and how many steps were taken, since the image was new or loaded.
+    pub fn counted(&self) -> Counts
+        ensures { result ≡ counts_of self.now }
+    {
+        let earlier = self.earlier.counts();
+        Counts {
+            posts: earlier.posts + self.counts.posts,
+            steps: earlier.steps + self.counts.steps,
+        }
     }
 }

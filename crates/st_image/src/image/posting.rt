@@ -64,6 +64,7 @@ impl<M: Mailbox> Image<M> {
                 message: copy,
             })
             .unwrap();
+        self.counts.posts += 1;
         Ok(place)
     }
 

@@ -110,7 +110,7 @@ impl<M: Mailbox> Image<M> {
 
     /// Shows that the tallies count the sends of the history: the sends of each site are its send steps in the history, by the
     /// definitions of a step.
-    pub fn counted(&self)
+    pub fn sends_counted(&self)
         ensures { HasCounted self.now }
     {
         let _tallies = &self.tallies;
@@ -132,7 +132,7 @@ impl<M: Mailbox> Image<M> {
         ensures few { IfOk result (λ list. All HasFewSends list.items) }
     {
         self.known();
-        self.counted();
+        self.sends_counted();
         self.told(alloc, class, selector)
     }
 }

@@ -1,5 +1,5 @@
-use Rattle.st_pool.specs.Going.{GoesOnIn}
-use Rattle.st_pool.proofs.CallsLater.{checks_out_fits, checks_out_later}
+use Rattle.st_image.specs.GoingOn.{GoesOnIn}
+use Rattle.st_image.proofs.CallsLater.{checks_out_fits, checks_out_later}
 use Rattle.st_pool.proofs.Growing.{checks_out_grow, checks_out_present}
 use Rattle.st_pool.proofs.calls.check_out.Goals as goal
 

@@ -1,4 +1,4 @@
-use Rattle.st_pool.proofs.CallsLater.{closes_later}
+use Rattle.st_image.proofs.CallsLater.{closes_later}
 use Rattle.st_pool.proofs.Growing.{closes_grow}
 use Rattle.st_pool.proofs.calls.close.Goals as goal
 

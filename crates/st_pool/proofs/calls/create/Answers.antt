@@ -1,4 +1,4 @@
-use Rattle.st_pool.proofs.CallsLater.{creates_later}
+use Rattle.st_image.proofs.CallsLater.{creates_later}
 use Rattle.st_pool.proofs.Growing.{creates_grow}
 use Rattle.st_pool.proofs.calls.create.Goals as goal
 

@@ -1,4 +1,4 @@
-use Rattle.st_pool.proofs.CallsLater.{defines_later}
+use Rattle.st_image.proofs.CallsLater.{defines_later}
 use Rattle.st_pool.proofs.Growing.{defines_grow}
 use Rattle.st_pool.proofs.calls.define.Goals as goal
 

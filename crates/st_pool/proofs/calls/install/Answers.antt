@@ -1,4 +1,4 @@
-use Rattle.st_pool.proofs.CallsLater.{installs_in, installs_later}
+use Rattle.st_image.proofs.CallsLater.{installs_in, installs_later}
 use Rattle.st_pool.proofs.Growing.{installs_grow}
 use Rattle.st_pool.proofs.calls.install.Goals as goal
 

@@ -1,4 +1,4 @@
-use Rattle.st_pool.proofs.CallsLater.{interns_later}
+use Rattle.st_image.proofs.CallsLater.{interns_later}
 use Rattle.st_pool.proofs.Growing.{interns_grow}
 use Rattle.st_pool.proofs.calls.intern.Goals as goal
 

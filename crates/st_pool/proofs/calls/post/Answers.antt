@@ -1,5 +1,5 @@
 use Rattle.st_image.specs.PostRules.{from_client}
-use Rattle.st_pool.proofs.CallsLater.{posts_later}
+use Rattle.st_image.proofs.CallsLater.{posts_later}
 use Rattle.st_pool.proofs.Growing.{posts_grow}
 use Rattle.st_pool.proofs.calls.post.Goals as goal
 

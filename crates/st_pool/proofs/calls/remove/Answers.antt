@@ -1,4 +1,4 @@
-use Rattle.st_pool.proofs.CallsLater.{removes_later}
+use Rattle.st_image.proofs.CallsLater.{removes_later}
 use Rattle.st_pool.proofs.Growing.{removes_grow}
 use Rattle.st_pool.proofs.calls.remove.Goals as goal
 

@@ -1,5 +1,5 @@
-use Rattle.st_system.specs.Seats.{GoesOnIn}
-use Rattle.st_system.proofs.CallsLater.{checks_out_fits, checks_out_later}
+use Rattle.st_image.specs.GoingOn.{GoesOnIn}
+use Rattle.st_image.proofs.CallsLater.{checks_out_fits, checks_out_later}
 use Rattle.st_system.proofs.calls.check_out.Goals as goal
 
 pub returns-clause-fits : goal.returns-clause-fits

@@ -1,4 +1,4 @@
-use Rattle.st_system.proofs.CallsLater.{closes_later}
+use Rattle.st_image.proofs.CallsLater.{closes_later}
 use Rattle.st_system.proofs.calls.close.Goals as goal
 
 pub returns-clause-later : goal.returns-clause-later

@@ -1,4 +1,4 @@
-use Rattle.st_system.proofs.CallsLater.{commits_later}
+use Rattle.st_image.proofs.CallsLater.{commits_later}
 use Rattle.st_system.proofs.calls.commit.Goals as goal
 
 pub returns-clause-later : goal.returns-clause-later

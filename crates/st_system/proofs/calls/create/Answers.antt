@@ -1,4 +1,4 @@
-use Rattle.st_system.proofs.CallsLater.{creates_later}
+use Rattle.st_image.proofs.CallsLater.{creates_later}
 use Rattle.st_system.proofs.calls.create.Goals as goal
 
 pub returns-clause-later : goal.returns-clause-later

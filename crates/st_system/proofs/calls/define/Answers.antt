@@ -1,6 +1,6 @@
 use Rattle.std.proofs.Common.{subst, List, ℕ}
 use Rattle.st_image.specs.Calls.{Defines}
-use Rattle.st_system.proofs.CallsLater.{defines_later}
+use Rattle.st_image.proofs.CallsLater.{defines_later}
 use Rattle.st_system.proofs.calls.define.Goals as goal
 
 pub returns-clause-defines : goal.returns-clause-defines

@@ -1,4 +1,4 @@
-use Rattle.st_system.proofs.CallsLater.{installs_in, installs_later}
+use Rattle.st_image.proofs.CallsLater.{installs_in, installs_later}
 use Rattle.st_system.proofs.calls.install.Goals as goal
 
 pub returns-clause-later : goal.returns-clause-later

@@ -1,4 +1,4 @@
-use Rattle.st_system.proofs.CallsLater.{interns_later}
+use Rattle.st_image.proofs.CallsLater.{interns_later}
 use Rattle.st_system.proofs.calls.intern.Goals as goal
 
 pub returns-clause-later : goal.returns-clause-later

@@ -1,5 +1,5 @@
 use Rattle.st_image.specs.PostRules.{from_client}
-use Rattle.st_system.proofs.CallsLater.{posts_later}
+use Rattle.st_image.proofs.CallsLater.{posts_later}
 use Rattle.st_system.proofs.calls.post.Goals as goal
 
 pub returns-clause-later : goal.returns-clause-later

@@ -1,4 +1,4 @@
-use Rattle.st_system.proofs.CallsLater.{released_later}
+use Rattle.st_image.proofs.CallsLater.{released_later}
 use Rattle.st_system.proofs.calls.release.Goals as goal
 
 pub returns-clause-later : goal.returns-clause-later

@@ -1,4 +1,4 @@
-use Rattle.st_system.proofs.CallsLater.{removes_later}
+use Rattle.st_image.proofs.CallsLater.{removes_later}
 use Rattle.st_system.proofs.calls.remove.Goals as goal
 
 pub returns-clause-later : goal.returns-clause-later

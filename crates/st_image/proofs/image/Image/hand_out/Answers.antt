@@ -9,90 +9,88 @@ use Rattle.st_turn.specs.BodyFits.{FitsSome}
 use Rattle.st_image.specs.declared.image.Image.TheInside.{Inside}
 use Rattle.st_image.specs.declared.items.Item.{Item}
 use Rattle.st_image.specs.declared.items.Item.TheVariants.{Begun}
-use Rattle.st_image.specs.Worlds.{start, change_at}
+use Rattle.st_image.specs.Worlds.{change_at}
 use Rattle.st_image.specs.Images.{ImageView, Standing, world, world_of}
 use Rattle.st_image.specs.ActorViews.{ActorsView, view_checked_out}
 use Rattle.st_image.specs.ActResults.{constants_of}
-use Rattle.st_image.specs.Commits.{HasCheckedOut, checkout_rules, idle_at, new_claim}
+use Rattle.st_image.specs.Commits.{HasCheckedOut, changed_at, checkout_rules, idle_at, new_claim}
 use Rattle.st_image.specs.Changes.{change_count}
 use Rattle.st_image.specs.ClaimsOut.{one_more}
 use Rattle.st_image.specs.ImageInvariant.{IsImage}
 use Rattle.st_image.proofs.Posting.{seen, standing_of}
 use Rattle.st_image.proofs.Running.{fits_some}
-use Rattle.st_image.proofs.CheckingOut.{IsOut, begun_items, checked, hands, idle_there, outs, small_number}
+use Rattle.st_image.proofs.CheckingOut.{IsOut, begun_items, checked, hands, idle_there, outs}
 use Rattle.st_image.proofs.ClientNumbers.{kept_other}
 use Rattle.st_image.proofs.Sends.{sends_other}
-use Rattle.st_image.proofs.CountingChanges.{counts_one, counts_same, stamp_is}
+use Rattle.st_image.proofs.CountingChanges.{counts_one, counts_same, few_changes, stamp_is}
+use Rattle.st_image.proofs.CountingItems.{items_other}
 use Rattle.st_image.proofs.image.Image.hand_out.Goals as goal
 use Rattle.st_image.proofs.image.Image.hand_out.Goals.{then-begins+in_ok-reserve, else-begins}
 
 pub new-requires : goal.new-requires
 new-requires g c =
     let i = c.self.inside in
-    let beside : Standing = standing_of i.next_from i.actors.out i.tallies in
-    let allowed : first_of (checkout_rules (seen start i.names i.history.items i.settings beside) (slice_get (world_of (constants_of i.names i.settings.capacity) start i.history.items).actors c.args.actor.0)) ≡ None = subst (λ (v : ImageView). first_of (checkout_rules v (slice_get (world v).actors c.args.actor.0)) ≡ None) (sym c.self.view_is) c.requires in
-    let k = hands start i.names i.token i.actors.kept i.history.items i.edits_made i.settings beside c.args.actor c.self.invariant.image allowed in
-    let out : IsOut start i.names i.token (change_at view_checked_out c.args.actor.0 i.actors.kept) _ i.edits_made i.settings c.args.actor (view_checked_out k.0).body = outs start i.names i.token i.actors.kept i.history.items i.edits_made i.settings beside c.args.actor k.0 (is_idle k.0.body.phase) c.self.invariant.image allowed k.1 refl in
+    let beside : Standing = standing_of i.earlier i.next_from i.actors.out i.tallies in
+    let allowed : first_of (checkout_rules (seen i.base i.names i.history.items i.settings beside) (slice_get (world_of (constants_of i.names i.settings.capacity) i.base i.history.items).actors c.args.actor.0)) ≡ None = subst (λ (v : ImageView). first_of (checkout_rules v (slice_get (world v).actors c.args.actor.0)) ≡ None) (sym c.self.view_is) c.requires in
+    let k = hands i.base i.names i.token i.actors.kept i.history.items i.edits_made i.settings beside c.args.actor c.self.invariant.image allowed in
+    let out : IsOut i.base i.names i.token (change_at view_checked_out c.args.actor.0 i.actors.kept) _ i.edits_made i.settings c.args.actor (view_checked_out k.0).body = outs i.base i.names i.token i.actors.kept i.history.items i.edits_made i.settings beside c.args.actor k.0 (is_idle k.0.body.phase) c.self.invariant.image allowed k.1 refl in
     let fits : FitsSome i.token c.args.actor (view_checked_out k.0).body = fits_some i.token c.args.actor (view_checked_out k.0).body out.runs in
     subst (λ (es : List Edit). FitsSome es c.args.actor c.in_ok-body.body) (sym c.in_ok-again.ensures) (subst (FitsSome i.token c.args.actor) (sym (c.in_ok-body.ensures k.0 k.1)) fits)
 
-pub check_out-requires : goal.check_out-requires
-check_out-requires g c =
+pub raise-requires-clause-few : goal.raise-requires-clause-few
+raise-requires-clause-few g c =
     let i = c.self.inside in
-    let beside : Standing = standing_of i.next_from i.actors.out i.tallies in
-    let allowed : first_of (checkout_rules (seen start i.names i.history.items i.settings beside) (slice_get (world_of (constants_of i.names i.settings.capacity) start i.history.items).actors c.args.actor.0)) ≡ None = subst (λ (v : ImageView). first_of (checkout_rules v (slice_get (world v).actors c.args.actor.0)) ≡ None) (sym c.self.view_is) c.requires in
-    let k = hands start i.names i.token i.actors.kept i.history.items i.edits_made i.settings beside c.args.actor c.self.invariant.image allowed in
+    omega (arith, c.make_room.ensures.same c.args.actor.0, c.self.invariant.counts c.args.actor.0, few_changes i.history.items c.args.actor.0, c.self.invariant.image.few_items, c.self.invariant.image.numbers.few_items)
+
+pub check_out-next-requires : goal.check_out-next-requires
+check_out-next-requires g c =
+    let i = c.self.inside in
+    let beside : Standing = standing_of i.earlier i.next_from i.actors.out i.tallies in
+    let allowed : first_of (checkout_rules (seen i.base i.names i.history.items i.settings beside) (slice_get (world_of (constants_of i.names i.settings.capacity) i.base i.history.items).actors c.args.actor.0)) ≡ None = subst (λ (v : ImageView). first_of (checkout_rules v (slice_get (world v).actors c.args.actor.0)) ≡ None) (sym c.self.view_is) c.requires in
+    let k = hands i.base i.names i.token i.actors.kept i.history.items i.edits_made i.settings beside c.args.actor c.self.invariant.image allowed in
     let same : c.if-begins.self-inside.actors ≡ i.actors = elim c.if-begins.branch [ then-begins+in_ok-reserve w ↦ ap (λ (x : Inside _). x.actors) w.self-inside-is | else-begins w ↦ ap (λ (x : Inside _). x.actors) w.self-inside-is ] in
     subst (λ (v : ActorsView). c.args.actor.0 < length v.kept) (sym same) (slice_get_within i.actors.kept c.args.actor.0 k.0 k.1)
-
-pub overflow_add-self : goal.overflow_add-self
-overflow_add-self g c =
-    let i = c.self.inside in
-    let beside : Standing = standing_of i.next_from i.actors.out i.tallies in
-    let allowed : first_of (checkout_rules (seen start i.names i.history.items i.settings beside) (slice_get (world_of (constants_of i.names i.settings.capacity) start i.history.items).actors c.args.actor.0)) ≡ None = subst (λ (v : ImageView). first_of (checkout_rules v (slice_get (world v).actors c.args.actor.0)) ≡ None) (sym c.self.view_is) c.requires in
-    let k = hands start i.names i.token i.actors.kept i.history.items i.edits_made i.settings beside c.args.actor c.self.invariant.image allowed in
-    small_number i.names i.token i.actors.kept i.history.items i.edits_made i.settings c.args.actor.0 k.0 c.self.invariant.image k.1
 
 pub invariant_of-self-2 : goal.invariant_of-self-2
 invariant_of-self-2 g c =
     let i = c.self.inside in
-    let beside : Standing = standing_of i.next_from i.actors.out i.tallies in
-    let allowed : first_of (checkout_rules (seen start i.names i.history.items i.settings beside) (slice_get (world_of (constants_of i.names i.settings.capacity) start i.history.items).actors c.args.actor.0)) ≡ None = subst (λ (v : ImageView). first_of (checkout_rules v (slice_get (world v).actors c.args.actor.0)) ≡ None) (sym c.self.view_is) c.requires in
-    let k = hands start i.names i.token i.actors.kept i.history.items i.edits_made i.settings beside c.args.actor c.self.invariant.image allowed in
+    let beside : Standing = standing_of i.earlier i.next_from i.actors.out i.tallies in
+    let allowed : first_of (checkout_rules (seen i.base i.names i.history.items i.settings beside) (slice_get (world_of (constants_of i.names i.settings.capacity) i.base i.history.items).actors c.args.actor.0)) ≡ None = subst (λ (v : ImageView). first_of (checkout_rules v (slice_get (world v).actors c.args.actor.0)) ≡ None) (sym c.self.view_is) c.requires in
+    let k = hands i.base i.names i.token i.actors.kept i.history.items i.edits_made i.settings beside c.args.actor c.self.invariant.image allowed in
     let same : c.if-begins.self-inside.actors ≡ i.actors = elim c.if-begins.branch [ then-begins+in_ok-reserve w ↦ ap (λ (x : Inside _). x.actors) w.self-inside-is | else-begins w ↦ ap (λ (x : Inside _). x.actors) w.self-inside-is ] in
-    let put : c.check_out.new.self ≡ (let v : ActorsView = record { kept = change_at view_checked_out c.args.actor.0 i.actors.kept; out = change_at one_more c.args.actor.0 i.actors.out } in v) = c.check_out.ensures.checked ∙ ap (λ (x : ActorsView). let v : ActorsView = record { kept = change_at view_checked_out c.args.actor.0 x.kept; out = change_at one_more c.args.actor.0 x.out } in v) same in
-    let phase : c.is_idle-begins.result ≡ is_idle k.0.body.phase = c.is_idle-begins.ensures ∙ ap (λ (v : ImageView). idle_at (slice_get (world v).actors c.args.actor.0)) (sym c.self.view_is) ∙ idle_there i.token i.actors.kept (world_of (constants_of i.names i.settings.capacity) start i.history.items) c.args.actor k.0 c.self.invariant.image.shows k.1 in
+    let put : c.check_out-next.new.self ≡ (let v : ActorsView = record { kept = change_at view_checked_out c.args.actor.0 i.actors.kept; out = change_at one_more c.args.actor.0 i.actors.out } in v) = c.check_out-next.ensures.checked ∙ ap (λ (x : ActorsView). let v : ActorsView = record { kept = change_at view_checked_out c.args.actor.0 x.kept; out = change_at one_more c.args.actor.0 x.out } in v) same in
+    let phase : c.is_idle-begins.result ≡ is_idle k.0.body.phase = c.is_idle-begins.ensures ∙ ap (λ (v : ImageView). idle_at (slice_get (world v).actors c.args.actor.0)) (sym c.self.view_is) ∙ idle_there i.token i.actors.kept (world_of (constants_of i.names i.settings.capacity) i.base i.history.items) c.args.actor k.0 c.self.invariant.image.shows k.1 in
     elim c.if-begins.branch [
       | then-begins+in_ok-reserve w ↦ (
-          let out : IsOut start i.names i.token (change_at view_checked_out c.args.actor.0 i.actors.kept) (i.history.items ++ begun_items true c.args.actor) i.edits_made i.settings c.args.actor (view_checked_out k.0).body = outs start i.names i.token i.actors.kept i.history.items i.edits_made i.settings beside c.args.actor k.0 true c.self.invariant.image allowed k.1 (sym phase ∙ w.if-begins.true) in
+          let out : IsOut i.base i.names i.token (change_at view_checked_out c.args.actor.0 i.actors.kept) (i.history.items ++ begun_items true c.args.actor) i.edits_made i.settings c.args.actor (view_checked_out k.0).body = outs i.base i.names i.token i.actors.kept i.history.items i.edits_made i.settings beside c.args.actor k.0 true c.self.invariant.image allowed k.1 (sym phase ∙ w.if-begins.true) in
           let items : w.push.new.self.items ≡ i.history.items ++ Begun c.args.actor ∷ [] = grind (arith, common_steps) in
-          rw (w.self-inside-is, items, put) (record { image = out.image; numbers_of_clients = kept_other i.clients [] i.history.items (Begun c.args.actor) (λ qs. refl) c.self.invariant.numbers_of_clients; sends = sends_other start i.names i.token i.actors.kept i.history.items i.edits_made i.settings i.tallies (Begun c.args.actor) c.self.invariant.image c.self.invariant.sends refl; places = c.self.invariant.places; counts = counts_one i.changes c.make_room.new.self w.raise.new.self i.history.items (Begun c.args.actor) c.args.actor.0 (λ a. refl) c.make_room.ensures.same w.raise.ensures c.self.invariant.counts })
+          rw (w.self-inside-is, items, put) (record { image = out.image; numbers_of_clients = kept_other i.clients i.base.clients i.history.items (Begun c.args.actor) (λ qs. refl) c.self.invariant.numbers_of_clients; sends = sends_other i.base i.names i.token i.actors.kept i.history.items i.edits_made i.settings i.tallies (Begun c.args.actor) c.self.invariant.image c.self.invariant.sends refl; places = c.self.invariant.places; counts = counts_one i.changes c.make_room.new.self w.raise.new.self i.history.items (Begun c.args.actor) c.args.actor.0 (λ a. refl) c.make_room.ensures.same w.raise.ensures c.self.invariant.counts; totals = items_other i.counts i.history.items (Begun c.args.actor) refl refl c.self.invariant.totals })
           )
       | else-begins w ↦ (
-          let out : IsOut start i.names i.token (change_at view_checked_out c.args.actor.0 i.actors.kept) (i.history.items ++ begun_items false c.args.actor) i.edits_made i.settings c.args.actor (view_checked_out k.0).body = outs start i.names i.token i.actors.kept i.history.items i.edits_made i.settings beside c.args.actor k.0 false c.self.invariant.image allowed k.1 (sym phase ∙ w.if-begins.false) in
-          rw (w.self-inside-is, put) (record { image = subst (λ (x : List Item). IsImage start i.names i.token (change_at view_checked_out c.args.actor.0 i.actors.kept) x i.edits_made i.settings) (append-nil i.history.items) out.image; numbers_of_clients = c.self.invariant.numbers_of_clients; sends = c.self.invariant.sends; places = c.self.invariant.places; counts = counts_same i.changes c.make_room.new.self i.history.items c.make_room.ensures.same c.self.invariant.counts })
+          let out : IsOut i.base i.names i.token (change_at view_checked_out c.args.actor.0 i.actors.kept) (i.history.items ++ begun_items false c.args.actor) i.edits_made i.settings c.args.actor (view_checked_out k.0).body = outs i.base i.names i.token i.actors.kept i.history.items i.edits_made i.settings beside c.args.actor k.0 false c.self.invariant.image allowed k.1 (sym phase ∙ w.if-begins.false) in
+          rw (w.self-inside-is, put) (record { image = subst (λ (x : List Item). IsImage i.base i.names i.token (change_at view_checked_out c.args.actor.0 i.actors.kept) x i.edits_made i.settings) (append-nil i.history.items) out.image; numbers_of_clients = c.self.invariant.numbers_of_clients; sends = c.self.invariant.sends; places = c.self.invariant.places; counts = counts_same i.changes c.make_room.new.self i.history.items c.make_room.ensures.same c.self.invariant.counts; totals = c.self.invariant.totals })
           )
     ]
 
 pub returns-clause-ok : goal.returns-clause-ok
 returns-clause-ok g c =
     let i = c.self.inside in
-    let beside : Standing = standing_of i.next_from i.actors.out i.tallies in
-    let allowed : first_of (checkout_rules (seen start i.names i.history.items i.settings beside) (slice_get (world_of (constants_of i.names i.settings.capacity) start i.history.items).actors c.args.actor.0)) ≡ None = subst (λ (v : ImageView). first_of (checkout_rules v (slice_get (world v).actors c.args.actor.0)) ≡ None) (sym c.self.view_is) c.requires in
-    let k = hands start i.names i.token i.actors.kept i.history.items i.edits_made i.settings beside c.args.actor c.self.invariant.image allowed in
+    let beside : Standing = standing_of i.earlier i.next_from i.actors.out i.tallies in
+    let allowed : first_of (checkout_rules (seen i.base i.names i.history.items i.settings beside) (slice_get (world_of (constants_of i.names i.settings.capacity) i.base i.history.items).actors c.args.actor.0)) ≡ None = subst (λ (v : ImageView). first_of (checkout_rules v (slice_get (world v).actors c.args.actor.0)) ≡ None) (sym c.self.view_is) c.requires in
+    let k = hands i.base i.names i.token i.actors.kept i.history.items i.edits_made i.settings beside c.args.actor c.self.invariant.image allowed in
     let same : c.if-begins.self-inside.actors ≡ i.actors = elim c.if-begins.branch [ then-begins+in_ok-reserve w ↦ ap (λ (x : Inside _). x.actors) w.self-inside-is | else-begins w ↦ ap (λ (x : Inside _). x.actors) w.self-inside-is ] in
-    let put : c.check_out.new.self ≡ (let v : ActorsView = record { kept = change_at view_checked_out c.args.actor.0 i.actors.kept; out = change_at one_more c.args.actor.0 i.actors.out } in v) = c.check_out.ensures.checked ∙ ap (λ (x : ActorsView). let v : ActorsView = record { kept = change_at view_checked_out c.args.actor.0 x.kept; out = change_at one_more c.args.actor.0 x.out } in v) same in
-    let phase : c.is_idle-begins.result ≡ is_idle k.0.body.phase = c.is_idle-begins.ensures ∙ ap (λ (v : ImageView). idle_at (slice_get (world v).actors c.args.actor.0)) (sym c.self.view_is) ∙ idle_there i.token i.actors.kept (world_of (constants_of i.names i.settings.capacity) start i.history.items) c.args.actor k.0 c.self.invariant.image.shows k.1 in
-    let claim : c.in_ok-claim.claim ≡ new_claim i.token c.args.actor (view_checked_out k.0).body c.count_after-stamp.result = c.in_ok-claim.ensures ∙ ap (λ (es : List Edit). new_claim es c.args.actor c.in_ok-body.body c.count_after-stamp.result) c.in_ok-again.ensures ∙ ap (λ (b : Body). new_claim i.token c.args.actor b c.count_after-stamp.result) (c.in_ok-body.ensures k.0 k.1) in
-    let within : c.args.actor.0 < length i.actors.out = subst (λ (v : ActorsView). c.args.actor.0 < length v.out) same c.check_out.ensures.counted in
+    let put : c.check_out-next.new.self ≡ (let v : ActorsView = record { kept = change_at view_checked_out c.args.actor.0 i.actors.kept; out = change_at one_more c.args.actor.0 i.actors.out } in v) = c.check_out-next.ensures.checked ∙ ap (λ (x : ActorsView). let v : ActorsView = record { kept = change_at view_checked_out c.args.actor.0 x.kept; out = change_at one_more c.args.actor.0 x.out } in v) same in
+    let phase : c.is_idle-begins.result ≡ is_idle k.0.body.phase = c.is_idle-begins.ensures ∙ ap (λ (v : ImageView). idle_at (slice_get (world v).actors c.args.actor.0)) (sym c.self.view_is) ∙ idle_there i.token i.actors.kept (world_of (constants_of i.names i.settings.capacity) i.base i.history.items) c.args.actor k.0 c.self.invariant.image.shows k.1 in
+    let claim : c.in_ok-claim.claim ≡ new_claim i.token c.args.actor (view_checked_out k.0).body c.stamp_after-stamp.result = c.in_ok-claim.ensures ∙ ap (λ (es : List Edit). new_claim es c.args.actor c.in_ok-body.body c.stamp_after-stamp.result) c.in_ok-again.ensures ∙ ap (λ (b : Body). new_claim i.token c.args.actor b c.stamp_after-stamp.result) (c.in_ok-body.ensures k.0 k.1) in
+    let within : c.args.actor.0 < length i.actors.out = subst (λ (v : ActorsView). c.args.actor.0 < length v.out) same c.check_out-next.ensures.counted in
     elim c.if-begins.branch [
       | then-begins+in_ok-reserve w ↦ (
-          let out : IsOut start i.names i.token (change_at view_checked_out c.args.actor.0 i.actors.kept) (i.history.items ++ begun_items true c.args.actor) i.edits_made i.settings c.args.actor (view_checked_out k.0).body = outs start i.names i.token i.actors.kept i.history.items i.edits_made i.settings beside c.args.actor k.0 true c.self.invariant.image allowed k.1 (sym phase ∙ w.if-begins.true) in
+          let out : IsOut i.base i.names i.token (change_at view_checked_out c.args.actor.0 i.actors.kept) (i.history.items ++ begun_items true c.args.actor) i.edits_made i.settings c.args.actor (view_checked_out k.0).body = outs i.base i.names i.token i.actors.kept i.history.items i.edits_made i.settings beside c.args.actor k.0 true c.self.invariant.image allowed k.1 (sym phase ∙ w.if-begins.true) in
           let items : w.push.new.self.items ≡ i.history.items ++ Begun c.args.actor ∷ [] = grind (arith, common_steps) in
-          rw (← c.self.view_is, w.self-inside-is, items, put) (checked start i.names i.token i.actors.kept i.history.items i.edits_made i.settings i.next_from i.actors.out i.tallies c.args.actor k.0 true c.in_ok-claim.claim c.count_after-stamp.result c.self.invariant.image k.1 within (sym phase ∙ w.if-begins.true) out claim (stamp_is i.changes c.make_room.new.self i.history.items c.args.actor true c.count_after-stamp.result c.make_room.ensures.same c.self.invariant.counts (c.count_after-stamp.ensures ∙ ap (λ (t : Bool). change_count c.make_room.new.self c.args.actor.0 + cond t 1 0) w.if-begins.true)))
+          rw (← c.self.view_is, w.self-inside-is, items, put, c.check_out-next.ensures.next) (checked i.base i.names i.token i.actors.kept i.history.items i.edits_made i.settings i.earlier i.next_from i.actors.out i.tallies c.args.actor k.0 true c.in_ok-claim.claim c.stamp_after-stamp.result c.self.invariant.image k.1 within (sym phase ∙ w.if-begins.true) out claim (stamp_is (change_count i.earlier.changes c.args.actor.0) i.history.items c.args.actor true c.stamp_after-stamp.result (c.stamp_after-stamp.ensures ∙ ap (λ (t : Bool). changed_at c.args.self.now c.args.actor.0 + cond t 1 0) w.if-begins.true ∙ ap (λ (v : ImageView). changed_at v c.args.actor.0 + cond true 1 0) (sym c.self.view_is))))
           )
       | else-begins w ↦ (
-          let out : IsOut start i.names i.token (change_at view_checked_out c.args.actor.0 i.actors.kept) (i.history.items ++ begun_items false c.args.actor) i.edits_made i.settings c.args.actor (view_checked_out k.0).body = outs start i.names i.token i.actors.kept i.history.items i.edits_made i.settings beside c.args.actor k.0 false c.self.invariant.image allowed k.1 (sym phase ∙ w.if-begins.false) in
-          rw (← c.self.view_is, w.self-inside-is, put) (subst (λ (x : List Item). HasCheckedOut (seen start i.names i.history.items i.settings beside) c.args.actor c.in_ok-claim.claim (seen start i.names x i.settings (standing_of (c.args.actor.0 + 1) (change_at one_more c.args.actor.0 i.actors.out) i.tallies))) (append-nil i.history.items) (checked start i.names i.token i.actors.kept i.history.items i.edits_made i.settings i.next_from i.actors.out i.tallies c.args.actor k.0 false c.in_ok-claim.claim c.count_after-stamp.result c.self.invariant.image k.1 within (sym phase ∙ w.if-begins.false) out claim (stamp_is i.changes c.make_room.new.self i.history.items c.args.actor false c.count_after-stamp.result c.make_room.ensures.same c.self.invariant.counts (c.count_after-stamp.ensures ∙ ap (λ (t : Bool). change_count c.make_room.new.self c.args.actor.0 + cond t 1 0) w.if-begins.false))))
+          let out : IsOut i.base i.names i.token (change_at view_checked_out c.args.actor.0 i.actors.kept) (i.history.items ++ begun_items false c.args.actor) i.edits_made i.settings c.args.actor (view_checked_out k.0).body = outs i.base i.names i.token i.actors.kept i.history.items i.edits_made i.settings beside c.args.actor k.0 false c.self.invariant.image allowed k.1 (sym phase ∙ w.if-begins.false) in
+          rw (← c.self.view_is, w.self-inside-is, put, c.check_out-next.ensures.next) (subst (λ (x : List Item). HasCheckedOut (seen i.base i.names i.history.items i.settings beside) c.args.actor c.in_ok-claim.claim (seen i.base i.names x i.settings (standing_of i.earlier (c.args.actor.0 + 1) (change_at one_more c.args.actor.0 i.actors.out) i.tallies))) (append-nil i.history.items) (checked i.base i.names i.token i.actors.kept i.history.items i.edits_made i.settings i.earlier i.next_from i.actors.out i.tallies c.args.actor k.0 false c.in_ok-claim.claim c.stamp_after-stamp.result c.self.invariant.image k.1 within (sym phase ∙ w.if-begins.false) out claim (stamp_is (change_count i.earlier.changes c.args.actor.0) i.history.items c.args.actor false c.stamp_after-stamp.result (c.stamp_after-stamp.ensures ∙ ap (λ (t : Bool). changed_at c.args.self.now c.args.actor.0 + cond t 1 0) w.if-begins.false ∙ ap (λ (v : ImageView). changed_at v c.args.actor.0 + cond false 1 0) (sym c.self.view_is)))))
           )
     ]

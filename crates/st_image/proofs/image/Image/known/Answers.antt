@@ -1,5 +1,5 @@
 use Rattle.std.proofs.Common.{arith, ◌≡◌, length, subst}
-use Rattle.st_image.specs.Worlds.{World, start}
+use Rattle.st_image.specs.Worlds.{World}
 use Rattle.st_image.specs.Images.{world_of}
 use Rattle.st_image.specs.WorldInvariant.{IsLawful}
 use Rattle.st_image.specs.ActResults.{constants_of}
@@ -10,7 +10,7 @@ pub returns : goal.returns
 returns g c =
     let i = c.self.inside in
     let k = c.self.invariant.image in
-    let w : World = world_of (constants_of i.names i.settings.capacity) start i.history.items in
+    let w : World = world_of (constants_of i.names i.settings.capacity) i.base i.history.items in
     let count : length i.actors.kept ≡ length w.actors = count_is i.token i.actors.kept w k.shows in
     subst IsLawful c.self.view_is (record {
       base = k.base_is;

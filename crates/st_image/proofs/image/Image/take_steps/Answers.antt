@@ -1,4 +1,4 @@
-use Rattle.std.proofs.Common.{length, ◌≡◌, ◌==◌, ◌+◌, cond, ℕ, ◌<◌, refl, sym, ap, subst, slice_get, ◌∙◌, ◌++◌, [], ◌∷◌, false, Some, List, Option, arith}
+use Rattle.std.proofs.Common.{length, ◌≡◌, ◌==◌, ◌+◌, ◌^◌, cond, ℕ, ◌<◌, refl, sym, ap, subst, slice_get, ◌∙◌, ◌++◌, [], ◌∷◌, false, Some, List, Option, arith}
 use Rattle.std.proofs.lemmas.Grind.{common_steps}
 use Rattle.st_classes.specs.declared.values.ActorId.{ActorId}
 use Rattle.st_classes.specs.declared.keys.SiteId.{SiteId}
@@ -8,7 +8,7 @@ use Rattle.st_turn.specs.Claims.{ClaimView}
 use Rattle.st_turn.specs.Surviving.{SameSteps}
 use Rattle.st_turn.proofs.ClaimsLater.{claims_survive}
 use Rattle.st_turn.specs.Idle.{is_idle}
-use Rattle.st_image.specs.Worlds.{World, change, change_at, start}
+use Rattle.st_image.specs.Worlds.{World, change, change_at}
 use Rattle.st_image.specs.Replay.{with_body}
 use Rattle.st_image.specs.Images.{ImageView, Standing, world_of}
 use Rattle.st_image.specs.ActorViews.{ActorView, actor_view, view_after_steps}
@@ -28,35 +28,36 @@ use Rattle.st_image.proofs.CountingOut.{counts_same_out}
 use Rattle.st_image.proofs.ClientNumbers.{kept_other}
 use Rattle.st_image.proofs.CountingChanges.{counts_one}
 use Rattle.st_image.proofs.Covering.{covers_kept, has_places}
+use Rattle.st_image.proofs.CountingItems.{few_steps_of, items_ran}
 use Rattle.st_image.proofs.image.Image.take_steps.Goals as goal
 
 pub put_steps-requires-clause-busy : goal.put_steps-requires-clause-busy
 put_steps-requires-clause-busy g c = λ k e.
     let i = c.self.inside in
     let d : ClaimView = c.args.claim in
-    let beside : Standing = standing_of i.next_from i.actors.out i.tallies in
-    let allowed : CommitAllowed (seen start i.names i.history.items i.settings beside) d = subst (λ (v : ImageView). CommitAllowed v d) (sym c.self.view_is) c.requires.allowed in
-    let may : MayCommit i.names i.token i.actors.kept i.history.items i.settings d = may_commit i.names i.token i.actors.kept i.history.items i.edits_made i.settings beside d c.self.invariant.image allowed c.known.ensures (subst (λ (n : ℕ). 0 < n) c.requires.steps c.requires.some) in
+    let beside : Standing = standing_of i.earlier i.next_from i.actors.out i.tallies in
+    let allowed : CommitAllowed (seen i.base i.names i.history.items i.settings beside) d = subst (λ (v : ImageView). CommitAllowed v d) (sym c.self.view_is) c.requires.allowed in
+    let may : MayCommit i.base i.names i.token i.actors.kept i.history.items i.settings d = may_commit i.base i.names i.token i.actors.kept i.history.items i.edits_made i.settings beside d c.self.invariant.image allowed c.known.ensures (subst (λ (n : ℕ). 0 < n) c.requires.steps c.requires.some) in
     let at : slice_get i.actors.kept d.actor.0 ≡ Some k = subst (λ (b : ActorId). slice_get i.actors.kept b.0 ≡ Some k) c.actor-actor.ensures e in
-    let same : actor_view may.went.being ≡ k = some_kept (actor_view may.went.being) k (sym (kept_at i.token i.actors.kept (world_of (constants_of i.names i.settings.capacity) start i.history.items) d.actor.0 may.went.being c.self.invariant.image.shows may.went.at) ∙ at) in
+    let same : actor_view may.went.being ≡ k = some_kept (actor_view may.went.being) k (sym (kept_at i.token i.actors.kept (world_of (constants_of i.names i.settings.capacity) i.base i.history.items) d.actor.0 may.went.being c.self.invariant.image.shows may.went.at) ∙ at) in
     subst (λ (x : ActorView). is_idle x.body.phase ≡ false) same may.went.busy
 
 pub put_steps-requires-clause-shown : goal.put_steps-requires-clause-shown
 put_steps-requires-clause-shown g c =
     let i = c.self.inside in
     let d : ClaimView = c.args.claim in
-    let beside : Standing = standing_of i.next_from i.actors.out i.tallies in
-    let allowed : CommitAllowed (seen start i.names i.history.items i.settings beside) d = subst (λ (v : ImageView). CommitAllowed v d) (sym c.self.view_is) c.requires.allowed in
-    let may : MayCommit i.names i.token i.actors.kept i.history.items i.settings d = may_commit i.names i.token i.actors.kept i.history.items i.edits_made i.settings beside d c.self.invariant.image allowed c.known.ensures (subst (λ (n : ℕ). 0 < n) c.requires.steps c.requires.some) in
-    (change (with_body d.after) d.actor (world_of (constants_of i.names i.settings.capacity) start i.history.items), rw (c.shown-version.ensures, c.actor-actor.ensures, c.into_parts-parts.ensures.after) may.went.shown)
+    let beside : Standing = standing_of i.earlier i.next_from i.actors.out i.tallies in
+    let allowed : CommitAllowed (seen i.base i.names i.history.items i.settings beside) d = subst (λ (v : ImageView). CommitAllowed v d) (sym c.self.view_is) c.requires.allowed in
+    let may : MayCommit i.base i.names i.token i.actors.kept i.history.items i.settings d = may_commit i.base i.names i.token i.actors.kept i.history.items i.edits_made i.settings beside d c.self.invariant.image allowed c.known.ensures (subst (λ (n : ℕ). 0 < n) c.requires.steps c.requires.some) in
+    (change (with_body d.after) d.actor (world_of (constants_of i.names i.settings.capacity) i.base i.history.items), rw (c.shown-version.ensures, c.actor-actor.ensures, c.into_parts-parts.ensures.after) may.went.shown)
 
 pub count-requires-clause-places : goal.count-requires-clause-places
 count-requires-clause-places g c =
     let i = c.self.inside in
     let d : ClaimView = c.args.claim in
-    let beside : Standing = standing_of i.next_from i.actors.out i.tallies in
-    let allowed : CommitAllowed (seen start i.names i.history.items i.settings beside) d = subst (λ (v : ImageView). CommitAllowed v d) (sym c.self.view_is) c.requires.allowed in
-    let w : World = world_of (constants_of i.names i.settings.capacity) start i.history.items in
+    let beside : Standing = standing_of i.earlier i.next_from i.actors.out i.tallies in
+    let allowed : CommitAllowed (seen i.base i.names i.history.items i.settings beside) d = subst (λ (v : ImageView). CommitAllowed v d) (sym c.self.view_is) c.requires.allowed in
+    let w : World = world_of (constants_of i.names i.settings.capacity) i.base i.history.items in
     let same : SameSteps w.edits d = claims_survive w.edits d c.self.invariant.image.world.lawful c.self.invariant.image.world.sound c.known.ensures allowed.survives in
     let edits : c.shown-version.result.now ≡ w.edits = c.shown-version.ensures ∙ c.self.invariant.image.shows.edits_are in
     let all : Covers c.cover.new.self (length w.edits) w.edits = subst (λ (es : List Edit). Covers c.cover.new.self (length es) es) edits (subst (λ (n : ℕ). Covers c.cover.new.self n c.shown-version.result.now) c.in-Ok-cover.ensures.ok c.cover.ensures.covers) in
@@ -67,10 +68,10 @@ pub invariant_of-self-in-Ok-put_steps : goal.invariant_of-self-in-Ok-put_steps
 invariant_of-self-in-Ok-put_steps g c =
     let i = c.self.inside in
     let d : ClaimView = c.args.claim in
-    let beside : Standing = standing_of i.next_from i.actors.out i.tallies in
-    let allowed : CommitAllowed (seen start i.names i.history.items i.settings beside) d = subst (λ (v : ImageView). CommitAllowed v d) (sym c.self.view_is) c.requires.allowed in
-    let may : MayCommit i.names i.token i.actors.kept i.history.items i.settings d = may_commit i.names i.token i.actors.kept i.history.items i.edits_made i.settings beside d c.self.invariant.image allowed c.known.ensures (subst (λ (n : ℕ). 0 < n) c.requires.steps c.requires.some) in
-    let w : World = world_of (constants_of i.names i.settings.capacity) start i.history.items in
+    let beside : Standing = standing_of i.earlier i.next_from i.actors.out i.tallies in
+    let allowed : CommitAllowed (seen i.base i.names i.history.items i.settings beside) d = subst (λ (v : ImageView). CommitAllowed v d) (sym c.self.view_is) c.requires.allowed in
+    let may : MayCommit i.base i.names i.token i.actors.kept i.history.items i.settings d = may_commit i.base i.names i.token i.actors.kept i.history.items i.edits_made i.settings beside d c.self.invariant.image allowed c.known.ensures (subst (λ (n : ℕ). 0 < n) c.requires.steps c.requires.some) in
+    let w : World = world_of (constants_of i.names i.settings.capacity) i.base i.history.items in
     let raw = c.in-Ok-put_steps.ensures.ok (change (with_body d.after) d.actor w) (rw (c.shown-version.ensures, c.actor-actor.ensures, c.into_parts-parts.ensures.after) may.went.shown) in
     let takes : TakesOuter (constants_of i.names i.settings.capacity) i.token (change_at (view_after_steps d.after) d.actor.0 i.actors.kept) c.put_steps.new.actors.kept d.actor (change (with_body d.after) d.actor w) c.in-Ok-put_steps.field-0 = rw (c.shown-version.ensures, c.actor-actor.ensures, c.into_parts-parts.ensures.after) at raw in
     let sent : c.as_slice.result.now ≡ d.sends = c.as_slice.ensures.value ∙ c.into_parts-parts.ensures.sends in
@@ -81,17 +82,17 @@ invariant_of-self-in-Ok-put_steps g c =
     ∙ ap (λ (t : Tally). after_act_at id (act_site d) (after_sends id d.sends t)) (c.cover.ensures.same id) in
     let pushed : c.push.new.self.items ≡ i.history.items ++ Ran c.actor-actor.result c.args.steps ∷ [] = grind (arith, common_steps) in
     let items : c.push.new.self.items ≡ i.history.items ++ Ran d.actor c.args.steps ∷ [] = pushed ∙ ap (λ (b : ActorId). i.history.items ++ Ran b c.args.steps ∷ []) c.actor-actor.ensures in
-    let taken : HasTaken i.names i.token c.put_steps.new.actors.kept i.history.items i.edits_made i.settings c.count.new.self d.actor c.args.steps = has_taken i.names i.token i.actors.kept c.put_steps.new.actors.kept i.history.items i.edits_made i.settings beside i.tallies c.count.new.self d c.args.steps c.in-Ok-put_steps.field-0 c.self.invariant.image c.self.invariant.sends c.known.ensures allowed c.requires.steps c.requires.some may takes c.in-Ok-put_steps.ensures.grown tallied in
-    rw (items, kept_is _ _ c.release.ensures) (record { image = taken.image; numbers_of_clients = kept_other i.clients [] i.history.items (Ran d.actor c.args.steps) (λ qs. refl) c.self.invariant.numbers_of_clients; sends = taken.sends; places = covers_kept c.cover.new.self c.count.new.self c.cover.new.covered i.token c.count.ensures.keeps (subst (Covers c.cover.new.self c.cover.new.covered) c.shown-version.ensures c.cover.ensures.covers); counts = counts_one i.changes c.make_room.new.self c.raise.new.self i.history.items (Ran d.actor c.args.steps) d.actor.0 (λ a. refl) c.make_room.ensures.same (subst (λ (b : ActorId). (a : ℕ) → change_count c.raise.new.self a ≡ change_count c.make_room.new.self a + cond (a == b.0) 1 0) c.actor-actor.ensures c.raise.ensures) c.self.invariant.counts })
+    let taken : HasTaken i.base i.names i.token c.put_steps.new.actors.kept i.history.items i.edits_made i.settings c.count.new.self d.actor c.args.steps = has_taken i.base i.names i.token i.actors.kept c.put_steps.new.actors.kept i.history.items i.edits_made i.settings beside i.tallies c.count.new.self d c.args.steps c.in-Ok-put_steps.field-0 c.self.invariant.image c.self.invariant.sends c.known.ensures allowed c.requires.steps c.requires.some may takes c.in-Ok-put_steps.ensures.grown tallied in
+    rw (items, kept_is _ _ c.release.ensures, c.from.ensures) (record { image = taken.image; numbers_of_clients = kept_other i.clients i.base.clients i.history.items (Ran d.actor c.args.steps) (λ qs. refl) c.self.invariant.numbers_of_clients; sends = taken.sends; places = covers_kept c.cover.new.self c.count.new.self c.cover.new.covered i.token c.count.ensures.keeps (subst (Covers c.cover.new.self c.cover.new.covered) c.shown-version.ensures c.cover.ensures.covers); counts = counts_one i.changes c.make_room.new.self c.raise.new.self i.history.items (Ran d.actor c.args.steps) d.actor.0 (λ a. refl) c.make_room.ensures.same (subst (λ (b : ActorId). (a : ℕ) → change_count c.raise.new.self a ≡ change_count c.make_room.new.self a + cond (a == b.0) 1 0) c.actor-actor.ensures c.raise.ensures) c.self.invariant.counts; totals = items_ran i.counts i.history.items d.actor c.args.steps (subst (λ (n : ℕ). n < 2 ^ 32) (sym c.requires.steps) (few_steps_of d c.known.ensures.few)) c.self.invariant.totals })
 
 pub returns-in-Ok-put_steps-clause-ok : goal.returns-in-Ok-put_steps-clause-ok
 returns-in-Ok-put_steps-clause-ok g c =
     let i = c.self.inside in
     let d : ClaimView = c.args.claim in
-    let beside : Standing = standing_of i.next_from i.actors.out i.tallies in
-    let allowed : CommitAllowed (seen start i.names i.history.items i.settings beside) d = subst (λ (v : ImageView). CommitAllowed v d) (sym c.self.view_is) c.requires.allowed in
-    let may : MayCommit i.names i.token i.actors.kept i.history.items i.settings d = may_commit i.names i.token i.actors.kept i.history.items i.edits_made i.settings beside d c.self.invariant.image allowed c.known.ensures (subst (λ (n : ℕ). 0 < n) c.requires.steps c.requires.some) in
-    let w : World = world_of (constants_of i.names i.settings.capacity) start i.history.items in
+    let beside : Standing = standing_of i.earlier i.next_from i.actors.out i.tallies in
+    let allowed : CommitAllowed (seen i.base i.names i.history.items i.settings beside) d = subst (λ (v : ImageView). CommitAllowed v d) (sym c.self.view_is) c.requires.allowed in
+    let may : MayCommit i.base i.names i.token i.actors.kept i.history.items i.settings d = may_commit i.base i.names i.token i.actors.kept i.history.items i.edits_made i.settings beside d c.self.invariant.image allowed c.known.ensures (subst (λ (n : ℕ). 0 < n) c.requires.steps c.requires.some) in
+    let w : World = world_of (constants_of i.names i.settings.capacity) i.base i.history.items in
     let raw = c.in-Ok-put_steps.ensures.ok (change (with_body d.after) d.actor w) (rw (c.shown-version.ensures, c.actor-actor.ensures, c.into_parts-parts.ensures.after) may.went.shown) in
     let takes : TakesOuter (constants_of i.names i.settings.capacity) i.token (change_at (view_after_steps d.after) d.actor.0 i.actors.kept) c.put_steps.new.actors.kept d.actor (change (with_body d.after) d.actor w) c.in-Ok-put_steps.field-0 = rw (c.shown-version.ensures, c.actor-actor.ensures, c.into_parts-parts.ensures.after) at raw in
     let sent : c.as_slice.result.now ≡ d.sends = c.as_slice.ensures.value ∙ c.into_parts-parts.ensures.sends in
@@ -102,14 +103,15 @@ returns-in-Ok-put_steps-clause-ok g c =
     ∙ ap (λ (t : Tally). after_act_at id (act_site d) (after_sends id d.sends t)) (c.cover.ensures.same id) in
     let pushed : c.push.new.self.items ≡ i.history.items ++ Ran c.actor-actor.result c.args.steps ∷ [] = grind (arith, common_steps) in
     let items : c.push.new.self.items ≡ i.history.items ++ Ran d.actor c.args.steps ∷ [] = pushed ∙ ap (λ (b : ActorId). i.history.items ++ Ran b c.args.steps ∷ []) c.actor-actor.ensures in
-    let old : ImageView = seen start i.names i.history.items i.settings beside in
-    let new : ImageView = seen start i.names (i.history.items ++ Ran d.actor c.args.steps ∷ []) i.settings (standing_of i.next_from c.release.new.self.out c.count.new.self) in
+    let old : ImageView = seen i.base i.names i.history.items i.settings beside in
+    let new : ImageView = seen i.base i.names (i.history.items ++ Ran d.actor c.args.steps ∷ []) i.settings (standing_of i.earlier i.next_from c.release.new.self.out c.count.new.self) in
     let out : c.release.new.self.out ≡ change_at one_less d.actor.0 c.put_steps.new.actors.out = out_same _ _ c.release.ensures ∙ ap (λ (b : ActorId). change_at one_less b.0 c.put_steps.new.actors.out) c.actor-actor.ensures in
     let committed : HasCommitted old d c.args.steps new = record {
       allowed = allowed;
       steps = c.requires.steps;
       image = ap (λ (is : List Item). let x : ImageView = record new { history = i.history.items ++ is } in x) (sym (items_are d c.args.steps c.args.steps c.requires.steps refl c.requires.some));
       next_from = refl;
+      earlier = refl;
       counted = counts_same_out one_less d.actor old new i.actors.out c.put_steps.new.actors.out c.release.new.self.out refl refl c.in-Ok-put_steps.ensures.out out refl;
       tallied = tallied;
     } in

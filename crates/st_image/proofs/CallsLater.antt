@@ -20,32 +20,40 @@ use Rattle.st_image.specs.Worlds.{World}
 use Rattle.st_image.specs.Images.{ImageView, accepted_by, appended, constants, close_rules, create_rules, image_define_rules, image_post_rules, image_remove_rules, world}
 use Rattle.st_image.specs.Calls.{Adds, Closes, Creates, Defines, InstallsIn, Posts, Removes}
 use Rattle.st_image.specs.Installs.{AnswersInstall, LeavesNames}
-use Rattle.st_image.specs.Commits.{ChecksOut, Commits, IsReleased, RefusesCommit, idle_at, items_of, with_out}
+use Rattle.st_image.specs.Commits.{IsAsBefore, ChecksOut, Commits, IsReleased, RefusesCommit, idle_at, items_of, with_out}
 use Rattle.st_image.specs.WorldInvariant.{IsLawful}
 use Rattle.st_image.proofs.KnownBodies.{checked_out_knows, last_as_before, last_by_items, last_with_actors}
-use Rattle.st_pool.specs.Going.{FitsClaim, GoesOnIn}
-use Rattle.st_pool.proofs.WorldEdits.{GoesOn, later}
+use Rattle.st_image.specs.GoingOn.{FitsClaim, GoesOnIn}
+use Rattle.st_image.proofs.GrowingEdits.{GoesOn, edits_grow as later}
 
 -- ---- nothing was edited
 
 same_edits : (i j : ImageView) → (world j).edits ≡ (world i).edits → Begins (world i).edits (world j).edits
 same_edits i j h = ([], h ∙ sym (append-nil (world i).edits))
 
-pub same_world : (i j : ImageView) → world j ≡ world i → j.history ≡ i.history → GoesOnIn i j
-same_world i j h history = record { edits = same_edits i j (ap (λ (w : World). w.edits) h); bodies = last_as_before i j h history }
+-- what was counted before the base, and the history, are those of another image
+pub record SameCounts (i j : ImageView) : Type 0 where
+  pub earlier : j.standing.earlier ≡ i.standing.earlier
+  pub history : j.history ≡ i.history
+
+counts_by : (i j : ImageView) → j ≡ i → SameCounts i j
+counts_by i j h = record { earlier = ap (λ (x : ImageView). x.standing.earlier) h; history = ap (λ (x : ImageView). x.history) h }
+
+pub same_world : (i j : ImageView) → world j ≡ world i → SameCounts i j → GoesOnIn i j
+same_world i j h same = record { edits = same_edits i j (ap (λ (w : World). w.edits) h); bodies = last_as_before i j h same.earlier same.history }
 
 pub same_image : (i j : ImageView) → j ≡ i → GoesOnIn i j
-same_image i j h = same_world i j (ap world h) (ap (λ (x : ImageView). x.history) h)
+same_image i j h = same_world i j (ap world h) (counts_by i j h)
 
 -- ---- items were added
 
-on_by : (i j : ImageView) → IsLawful i → IsLawful j → constants j ≡ constants i → GoesOn i j → GoesOnIn i j
-on_by i j li lj c g = record { edits = later i j li lj g; bodies = last_by_items i j g.items li lj c g.base g.history }
+on_by : (i j : ImageView) → IsLawful i → IsLawful j → constants j ≡ constants i → j.standing.earlier ≡ i.standing.earlier → GoesOn i j → GoesOnIn i j
+on_by i j li lj c earlier g = record { edits = later i j li lj g; bodies = last_by_items i j g.items li lj c g.base earlier g.history }
 
 -- ---- calls that add one item
 
 pub adds_later : {T : Type 0} (rules : List Rule) (i j : ImageView) (item : Item) (answer : ImageView → T) (r : Result T Refusal) → IsLawful i → IsLawful j → Adds rules i item answer r j → GoesOnIn i j
-adds_later rules i j item answer (Ok v) li lj h = on_by i j li lj (ap constants h.0.1.0) (record { base = ap (λ (x : ImageView). x.base) h.0.1.0; items = item ∷ []; history = ap (λ (x : ImageView). x.history) h.0.1.0 })
+adds_later rules i j item answer (Ok v) li lj h = on_by i j li lj (ap constants h.0.1.0) (ap (λ (x : ImageView). x.standing.earlier) h.0.1.0) (record { base = ap (λ (x : ImageView). x.base) h.0.1.0; items = item ∷ []; history = ap (λ (x : ImageView). x.history) h.0.1.0 })
 adds_later rules i j item answer (Err e) li lj h = same_image i j h.1
 
 pub defines_later : (i j : ImageView) (name : List ℕ) (parent : ClassId) (slots : List (List ℕ)) (r : Result ℕ Refusal) → IsLawful i → IsLawful j → Defines i name parent slots r j → GoesOnIn i j
@@ -70,28 +78,31 @@ pub installs_in : (i j : ImageView) (c : ClassId) (text : List ℕ) (r : Result 
 installs_in i j c text (Ok n) a l w = (a, tt)
 installs_in i j c text (Err e) a l w = (a, (l, w))
 
-named_history : (i j : ImageView) (c : ClassId) (text : List ℕ) (e : Refusal) → LeavesNames i c text e j → j.history ≡ i.history
-named_history i j c text NoMemory (inl h) = ap (λ (x : ImageView). x.history) h
-named_history i j c text NoMemory (inr h) = ap (λ (x : ImageView). x.history) h.only
-named_history i j c text (TooMany Names) h = ap (λ (x : ImageView). x.history) h.0.only
-named_history i j c text (TooMany Edits) h = ap (λ (x : ImageView). x.history) h.only
-named_history i j c text HistoryFull h = ap (λ (x : ImageView). x.history) h.only
-named_history i j c text e h = ap (λ (x : ImageView). x.history) h
+named_counts : (i j : ImageView) (names : List (List ℕ)) → j ≡ record i { names = names } → SameCounts i j
+named_counts i j names h = record { earlier = ap (λ (x : ImageView). x.standing.earlier) h; history = ap (λ (x : ImageView). x.history) h }
+
+left_counts : (i j : ImageView) (c : ClassId) (text : List ℕ) (e : Refusal) → LeavesNames i c text e j → SameCounts i j
+left_counts i j c text NoMemory (inl h) = counts_by i j h
+left_counts i j c text NoMemory (inr h) = named_counts i j j.names h.only
+left_counts i j c text (TooMany Names) h = named_counts i j j.names h.0.only
+left_counts i j c text (TooMany Edits) h = named_counts i j j.names h.only
+left_counts i j c text HistoryFull h = named_counts i j j.names h.only
+left_counts i j c text e h = counts_by i j h
 
 pub installs_later : (i j : ImageView) (c : ClassId) (text : List ℕ) (r : Result ℕ Refusal) → InstallsIn i c text r j → GoesOnIn i j
 installs_later i j c text (Ok n) h =
     let in_it = h.0.3 in
     record {
       edits = (Install c in_it.parts ∷ [], ap (λ (x : World). x.edits) in_it.grown);
-      bodies = last_with_actors i j (Edited (Install c in_it.parts) ∷ []) (ap (λ (x : World). x.actors) in_it.grown) (ap (λ (x : ImageView). x.history) in_it.added);
+      bodies = last_with_actors i j (Edited (Install c in_it.parts) ∷ []) (ap (λ (x : World). x.actors) in_it.grown) (ap (λ (x : ImageView). x.standing.earlier) in_it.added) (ap (λ (x : ImageView). x.history) in_it.added);
     }
-installs_later i j c text (Err e) h = same_world i j h.1.1 (named_history i j c text e h.1.0)
+installs_later i j c text (Err e) h = same_world i j h.1.1 (left_counts i j c text e h.1.0)
 
 -- ---- a text is interned
 
 pub interns_later : (i j : ImageView) (text : List ℕ) (r : Result Selector Refusal) → OnOk r (j ≡ record i { names = interned i.names text }) → OnErr r (j ≡ i) → world j ≡ world i → GoesOnIn i j
-interns_later i j text (Ok s) h e w = same_world i j w (ap (λ (x : ImageView). x.history) h)
-interns_later i j text (Err x) h e w = same_world i j w (ap (λ (x : ImageView). x.history) e)
+interns_later i j text (Ok s) h e w = same_world i j w (named_counts i j (interned i.names text) h)
+interns_later i j text (Err x) h e w = same_world i j w (counts_by i j e)
 
 -- ---- claims
 
@@ -99,12 +110,14 @@ went_out : (idle : Bool) (i j : ImageView) (a : ActorId) → j ≡ with_out (let
 went_out true i j a h = record { base = ap (λ (x : ImageView). x.base) h; items = Begun a ∷ []; history = ap (λ (x : ImageView). x.history) h }
 went_out false i j a h = record { base = ap (λ (x : ImageView). x.base) h; items = []; history = ap (λ (x : ImageView). x.history) h ∙ sym (append-nil i.history) }
 
-went_by : (idle : Bool) (i j : ImageView) (a : ActorId) → j ≡ with_out (let begun : ImageView = if idle then appended i (Begun a ∷ []) else i in record begun { standing = record begun.standing { next_from = a.0 + 1 } }) j → constants j ≡ constants i
-went_by true i j a h = ap constants h
-went_by false i j a h = ap constants h
+went_by : (idle : Bool) (i j : ImageView) (a : ActorId) → j ≡ with_out (let begun : ImageView = if idle then appended i (Begun a ∷ []) else i in record begun { standing = record begun.standing { next_from = a.0 + 1 } }) j → (constants j ≡ constants i) × (j.standing.earlier ≡ i.standing.earlier)
+went_by true i j a h = (ap constants h, ap (λ (x : ImageView). x.standing.earlier) h)
+went_by false i j a h = (ap constants h, ap (λ (x : ImageView). x.standing.earlier) h)
 
 pub checks_out_later : (i j : ImageView) (a : ActorId) (r : Result ClaimView Refusal) → IsLawful i → IsLawful j → ChecksOut i a r j → GoesOnIn i j
-checks_out_later i j a (Ok c) li lj h = on_by i j li lj (went_by (idle_at (slice_get (world i).actors a.0)) i j a h.0.1.image) (went_out (idle_at (slice_get (world i).actors a.0)) i j a h.0.1.image)
+checks_out_later i j a (Ok c) li lj h =
+    let by = went_by (idle_at (slice_get (world i).actors a.0)) i j a h.0.1.image in
+    on_by i j li lj by.0 by.1 (went_out (idle_at (slice_get (world i).actors a.0)) i j a h.0.1.image)
 checks_out_later i j a (Err e) li lj h = same_image i j h.1
 
 pub checks_out_fits : (i j : ImageView) (a : ActorId) (r : Result ClaimView Refusal) → ChecksOut i a r j → GoesOnIn i j → IfOk r (FitsClaim j)
@@ -115,17 +128,21 @@ checks_out_fits i j a (Ok c) h on = record {
 checks_out_fits i j a (Err e) h on = tt
 
 pub released_later : (i j : ImageView) (a : ActorId) → IsReleased i a j → GoesOnIn i j
-released_later i j a h = same_world i j (ap world h.image) (ap (λ (x : ImageView). x.history) h.image)
+released_later i j a h = same_world i j (ap world h.image) (record { earlier = ap (λ (x : ImageView). x.standing.earlier) h.image; history = ap (λ (x : ImageView). x.history) h.image })
+
+-- nothing changed but rows of tallies
+before_later : (i j : ImageView) → IsAsBefore i j → GoesOnIn i j
+before_later i j h = same_world i j (ap world h.image) (record { earlier = ap (λ (x : ImageView). x.standing.earlier) h.image; history = ap (λ (x : ImageView). x.history) h.image })
 
 pub refused_later : (i j : ImageView) (c : ClaimView) (e : Refusal) (back : Option ClaimView) → RefusesCommit i c e back j → GoesOnIn i j
 refused_later i j c (Stale version) back h = released_later i j c.actor h.2
 refused_later i j c Changed back h = released_later i j c.actor h.2
-refused_later i j c HistoryFull back h = same_world i j (ap world h.2.image) (ap (λ (x : ImageView). x.history) h.2.image)
-refused_later i j c NoMemory back h = same_world i j (ap world h.2.image) (ap (λ (x : ImageView). x.history) h.2.image)
+refused_later i j c HistoryFull back h = before_later i j h.2
+refused_later i j c NoMemory back h = before_later i j h.2
 refused_later i j c _ back h = absurd h
 
 pub commits_later : (i j : ImageView) (c : ClaimView) (r : Result ℕ (Refusal × Option ClaimView)) → IsLawful i → IsLawful j → Commits i c r j → GoesOnIn i j
-commits_later i j c (Ok n) li lj h = on_by i j li lj (ap constants h.image) (record { base = ap (λ (x : ImageView). x.base) h.image; items = items_of c; history = ap (λ (x : ImageView). x.history) h.image })
+commits_later i j c (Ok n) li lj h = on_by i j li lj (ap constants h.image) h.earlier (record { base = ap (λ (x : ImageView). x.base) h.image; items = items_of c; history = ap (λ (x : ImageView). x.history) h.image })
 commits_later i j c (Err refused) li lj h = refused_later i j c refused.0 refused.1 h
 
 handed_back_or_none : (i j : ImageView) (c : ClaimView) (e : Refusal) (back : Option ClaimView) → RefusesCommit i c e back j → (back ≡ None) ⊎ (back ≡ Some c)

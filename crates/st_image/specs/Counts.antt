@@ -1,0 +1,47 @@
+-- How many posts, edits and steps a history has.
+use Rattle.std.specs.Prelude.{◌≡◌, ℕ, ◌+◌, ◌*◌, ◌^◌, ◌≤◌, List, [], ◌∷◌, length}
+use Rattle.st_image.specs.declared.items.Item.{Item}
+use Rattle.st_image.specs.declared.items.Item.TheVariants.{Edited, Created, Posted, Closed, Begun, Ran}
+use Rattle.st_image.specs.declared.counts.Counts.{Counts}
+
+-- an item's posts
+abbrev pub posts_of : Item → ℕ
+posts_of (Edited e) = 0
+posts_of (Created c) = 0
+posts_of (Posted a m) = 1
+posts_of (Closed a) = 0
+posts_of (Begun a) = 0
+posts_of (Ran a n) = 0
+
+-- an item's edits
+abbrev pub edits_of : Item → ℕ
+edits_of (Edited e) = 1
+edits_of (Created c) = 0
+edits_of (Posted a m) = 0
+edits_of (Closed a) = 0
+edits_of (Begun a) = 0
+edits_of (Ran a n) = 0
+
+-- an item's steps
+abbrev pub ran_of : Item → ℕ
+ran_of (Edited e) = 0
+ran_of (Created c) = 0
+ran_of (Posted a m) = 0
+ran_of (Closed a) = 0
+ran_of (Begun a) = 0
+ran_of (Ran a n) = n
+
+-- what the items weigh together
+abbrev pub weigh : (Item → ℕ) → List Item → ℕ
+weigh f [] = 0
+weigh f (item ∷ items) = f item + weigh f items
+
+-- how many messages clients posted, and how many steps actors took
+abbrev pub counts_in : List Item → Counts
+counts_in history = record { posts = weigh posts_of history; steps = weigh ran_of history }
+
+-- these are the counts of a history, whose items have no more than 2^32 steps each
+pub record CountsItems (c : Counts) (history : List Item) : Type 0 where
+  pub counts : c ≡ counts_in history
+  pub few_posts : weigh posts_of history ≤ length history
+  pub few_steps : weigh ran_of history ≤ length history * 2 ^ 32

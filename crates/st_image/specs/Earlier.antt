@@ -1,0 +1,14 @@
+-- What was counted in an image before the world that it began with: a history that is emptied leaves its counts here.
+use Rattle.std.specs.Prelude.{ℕ, List, []}
+
+-- how often each actor's body was changed, by the actors' numbers, past the end never; and how many edits, posts and steps
+-- there were
+pub record Earlier : Type 0 where
+  pub changes : List ℕ
+  pub edits : ℕ
+  pub posts : ℕ
+  pub steps : ℕ
+
+-- nothing was counted before
+abbrev pub nothing_earlier : Earlier
+nothing_earlier = record { changes = []; edits = 0; posts = 0; steps = 0 }

@@ -1,0 +1,124 @@
+-- How the names and the class table of a file grow, name by name and edit by edit.
+use Rattle.std.specs.Prelude.{◌≡◌, ◌⊎◌, ℕ, List, [], ◌∷◌, ◌++◌, false, Some, None, Result, Ok, Err}
+use Rattle.st_classes.specs.declared.values.ClassId.{ClassId}
+use Rattle.st_classes.specs.declared.edits.Edit.{Edit}
+use Rattle.st_classes.specs.declared.edits.Edit.TheVariants.{Define, Install, Remove}
+use Rattle.st_classes.specs.declared.methods.MethodParts.{MethodParts}
+use Rattle.st_classes.specs.declared.refusals.Refusal.{Refusal}
+use Rattle.st_classes.specs.declared.refusals.Refusal.TheVariants.{BadImage, NoMemory}
+use Rattle.st_classes.specs.declared.refusals.ImagePlace.TheVariants as place
+use Rattle.st_classes.specs.Refusals.{first_of}
+use Rattle.st_classes.specs.Kernel.{selector}
+use Rattle.st_classes.specs.Names.{is_name, interned, intern_rules}
+use Rattle.st_classes.specs.Selectors.{place_of}
+use Rattle.st_classes.specs.Classes.{class_named}
+use Rattle.st_classes.specs.EditRules.{edit_rules}
+use Rattle.st_reader.specs.Syntax.{Method}
+use Rattle.st_reader.specs.Spelling.{Spells}
+use Rattle.st_compile.specs.CompiledMethod.{IsCompiled}
+use Rattle.st_compile.specs.CompileRules.{method_rules}
+use Rattle.st_compile.specs.NeededNames.{interned_all, needed_texts}
+use Rattle.st_image.specs.declared.edit_text.EditText.{EditText}
+use Rattle.st_image.specs.declared.edit_text.EditText.TheVariants as text
+
+-- names, and a list of edits
+pub record LoaderView : Type 0 where
+  pub names : List (List ℕ)
+  pub edits : List Edit
+
+-- ---- names
+
+-- a name of a file isn't there yet and is accepted as a name; it goes last
+pub record LoadsName (l : LoaderView) (name : List ℕ) (m : LoaderView) : Type 0 where
+  pub new : is_name l.names name ≡ false
+  pub allowed : first_of (intern_rules l.names name) ≡ None
+  pub added : m ≡ record l { names = interned l.names name }
+
+-- ---- edits
+
+-- an edit that no rule refuses goes last
+pub record Accepts (l : LoaderView) (e : Edit) (m : LoaderView) : Type 0 where
+  pub allowed : first_of (edit_rules l.edits e) ≡ None
+  pub added : m.edits ≡ l.edits ++ e ∷ []
+
+-- a class under that of a name
+pub record LoadsDefine (l : LoaderView) (name parent : List ℕ) (slots : List (List ℕ)) (m : LoaderView) : Type 0 where
+  pub above : ClassId
+  pub named : class_named l.edits parent ≡ Some above
+  pub accepts : Accepts l (Define name above slots) m
+  pub names : m.names ≡ l.names
+
+-- a method in a class, compiled at this place of the list. The names that it needs go last
+pub record InstallsTree (l : LoaderView) (holder : ClassId) (method : Method) (source : List ℕ) (m : LoaderView)
+    : Type 0 where
+  pub parts : MethodParts
+  pub accepted : first_of (method_rules l.names l.edits holder method) ≡ None
+  pub names : m.names ≡ interned_all l.names (needed_texts method)
+  pub compiled : IsCompiled m.names l.edits holder method source parts
+  pub accepts : Accepts l (Install holder parts) m
+
+-- the method that a source spells, in the class of a name
+pub record InstallsFrom (l : LoaderView) (class source : List ℕ) (m : LoaderView) : Type 0 where
+  pub holder : ClassId
+  pub method : Method
+  pub named : class_named l.edits class ≡ Some holder
+  pub spelled : Spells method source
+  pub installs : InstallsTree l holder method source m
+
+-- a method less
+pub record LoadsRemove (l : LoaderView) (class name : List ℕ) (m : LoaderView) : Type 0 where
+  pub holder : ClassId
+  pub number : ℕ
+  pub named : class_named l.edits class ≡ Some holder
+  pub there : place_of l.names name ≡ Some number
+  pub accepts : Accepts l (Remove holder (selector number)) m
+  pub names : m.names ≡ l.names
+
+-- by the kind of the edit
+abbrev pub LoadsEdit : LoaderView → EditText → LoaderView → Type 0
+LoadsEdit l (text.Define name parent slots) m = LoadsDefine l name parent slots m
+LoadsEdit l (text.Install class source) m = InstallsFrom l class source m
+LoadsEdit l (text.Remove class name) m = LoadsRemove l class name m
+
+-- one after the other
+abbrev pub LoadsAll : {T : Type 0} → (LoaderView → T → LoaderView → Type 0) → LoaderView → List T → LoaderView → Type 0
+LoadsAll step l [] n = n ≡ l
+LoadsAll step l (x ∷ xs) n = (m : LoaderView) × step l x m × LoadsAll step m xs n
+
+-- a step from a table by a text leads to one table
+abbrev pub LeadsToOne : {T : Type 0} → (LoaderView → T → LoaderView → Type 0) → Type 0
+LeadsToOne {T} step = (l : LoaderView) (x : T) (m n : LoaderView) → step l x m → step l x n → m ≡ n
+
+-- ---- answers
+
+-- nothing does it
+abbrev pub Nowhere : (LoaderView → Type 0) → Type 0
+Nowhere P = (m : LoaderView) → P m → ⊥
+
+-- it is done; or nothing does it; or memory was refused
+abbrev pub AnswersEdit : (LoaderView → Type 0) → LoaderView → Result (Unit {0}) Refusal → Type 0
+AnswersEdit P new (Ok _) = P new
+AnswersEdit P new (Err e) = (e ≡ NoMemory) ⊎ ((e ≡ BadImage place.Edits) × Nowhere P)
+
+abbrev pub AnswersTree : LoaderView → ClassId → Method → List ℕ → LoaderView → Result (Unit {0}) Refusal → Type 0
+AnswersTree old c method source new r = AnswersEdit (InstallsTree old c method source) new r
+
+abbrev pub AnswersName : LoaderView → List ℕ → LoaderView → Result (Unit {0}) Refusal → Type 0
+AnswersName old name new (Ok _) = LoadsName old name new
+AnswersName old name new (Err e) = (new ≡ old) × ((e ≡ NoMemory) ⊎ ((e ≡ BadImage place.Names) × Nowhere (LoadsName old name)))
+
+-- only names were added
+pub record OnlyNames (old new : LoaderView) : Type 0 where
+  pub more : List (List ℕ)
+  pub names : new.names ≡ old.names ++ more
+  pub edits : new.edits ≡ old.edits
+
+-- want of memory as it is, and any other refusal of an edit as that of the file's edits
+abbrev pub edits_refusal : Refusal → Refusal
+edits_refusal NoMemory = NoMemory
+edits_refusal _ = BadImage place.Edits
+
+-- want of memory as it is, and any other refusal of a name as that of the file's names
+abbrev pub names_refusal : Refusal → Refusal
+names_refusal NoMemory = NoMemory
+names_refusal _ = BadImage place.Names

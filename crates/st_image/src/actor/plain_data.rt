@@ -1,0 +1,87 @@
+//! Actors as plain data: made of their parts, and copied as such.
+ghost use Rattle.std.specs.Prelude.{◌≡◌, ◌≤◌, [], length, true, IfOk, OnOk};
+ghost use Rattle.st_image.specs.ActorViews.{actor_view, view_part};
+ghost use Rattle.st_image.specs.Parts.{actor_of};
+
+use crate::actor::Actor;
+use crate::actor_part::ActorPart;
+use crate::results::Results;
+use st_classes::seq::Seq;
+use st_mailbox::mailboxes::Mailbox;
+use st_mailbox::messages::Message;
+use st_turn::body::Phase;
+use std::alloc::{AllocError, Global};
+
+/// Puts copies of messages in an empty mailbox that has room for them.
+fn fill<M: Mailbox>(alloc: Global, mailbox: &mut M, messages: &[Message]) -> Result<(), AllocError>
+    requires opened { (M.shown mailbox.old).is_open ≡ true }
+    requires empty { (M.shown mailbox.old).items ≡ [] }
+    requires few { length messages.now ≤ (M.shown mailbox.old).capacity }
+    ensures { OnOk result (M.shown mailbox.new ≡ record (M.shown mailbox.old) { items = messages.now }) }
+{
+    'messages: for place in 0..messages.len() {
+        let copy = messages[place].copy(alloc)?;
+        let Ok(()) = mailbox.accept(copy) else {
+            unreachable!()
+        };
+    }
+    Ok(())
+}
+
+/// Copies of the messages of a mailbox.
+fn copied<M: Mailbox>(alloc: Global, mailbox: &M) -> Result<Seq<Message>, AllocError>
+    ensures { IfOk result (λ messages. messages ≡ (M.shown mailbox.now).items) }
+{
+    let count = mailbox.len();
+    let mut messages = Vec::with_capacity(alloc, count as usize)?;
+    'messages: for place in 0..count {
+        let Some(message) = mailbox.item(place) else {
+            unreachable!()
+        };
+        messages.push(message.copy(alloc)?)?;
+    }
+    Ok(Seq::from_vec(messages))
+}
+
+impl<M: Mailbox> Actor<M> {
+    /// The actor as plain data, in memory of its own.
+    pub(crate) fn part(&self, alloc: Global) -> Result<ActorPart, AllocError>
+        ensures { IfOk result (λ part. part ≡ view_part self.now) }
+    {
+        Ok(ActorPart {
+            class: self.class,
+            capacity: self.mailbox.capacity(),
+            is_open: self.mailbox.is_open(),
+            body: self.body.copy(alloc)?,
+            last: self.last,
+            pending: copied(alloc, &self.mailbox)?,
+        })
+    }
+
+    /// The actor of a part, in memory of its own.
+    pub(crate) fn from_part(alloc: Global, part: &ActorPart) -> Result<Actor<M>, AllocError>
+        requires some { 1 ≤ part.now.capacity }
+        requires few { part.now.capacity ≤ 1024 }
+        requires within { length part.now.pending ≤ part.now.capacity }
+        ensures { IfOk result (λ a. a ≡ actor_view (actor_of part.now)) }
+    {
+        let mut mailbox = M::with_capacity(alloc, part.capacity)?;
+        fill(alloc, &mut mailbox, part.pending.as_slice())?;
+        if !part.is_open {
+            mailbox.close();
+        }
+        let mut results = Results::new(alloc)?;
+        if let Phase::Done(outcome) = &part.body.phase {
+            results.reserve()?;
+            results.push(*outcome);
+        }
+        Ok(Actor {
+            class: part.class,
+            mailbox,
+            body: part.body.copy(alloc)?,
+            last: part.last,
+            accepted: part.pending.len() as u64,
+            results,
+        })
+    }
+}

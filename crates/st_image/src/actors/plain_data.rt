@@ -1,0 +1,43 @@
+//! The actors of an image that is loaded.
+ghost use Rattle.std.specs.Prelude.{◌≡◌, ◌+◌, ◌<◌, ◌≤◌, ◌++◌, [], ◌∷◌, length, map, replicate, All, IfOk, OnOk};
+ghost use Rattle.st_image.specs.ActorViews.{actor_view};
+ghost use Rattle.st_image.specs.Parts.{FitsMailbox, actor_of};
+ghost use Rattle.st_image.specs.declared.actor_part.ActorPart.{ActorPart as PartOf};
+
+use crate::actor::Actor;
+use crate::actor_part::ActorPart;
+use crate::actors::Actors;
+use st_mailbox::mailboxes::Mailbox;
+use std::alloc::{AllocError, Global};
+
+impl<M: Mailbox> Actors<M> {
+    /// Puts an actor last. No claim of it is out.
+    fn add(&mut self, actor: Actor<M>) -> Result<(), AllocError>
+        requires few { length self.old.kept < 65536 }
+        ensures { OnOk result (self.new ≡ record { kept = self.old.kept ++ actor ∷ []; out = self.old.out ++ 0 ∷ [] }) }
+    {
+        let number = self.items.len() as u32;
+        let is_ready = actor.is_ready();
+        self.items.reserve(1)?;
+        self.out.reserve(1)?;
+        self.free.push()?;
+        self.items.push(actor).unwrap();
+        self.out.push(0).unwrap();
+        self.free.set(number, is_ready);
+        Ok(())
+    }
+
+    /// The actors of parts, in memory of their own. No claim is out.
+    pub(crate) fn from_parts(alloc: Global, parts: &[ActorPart]) -> Result<Actors<M>, AllocError>
+        requires few { length parts.now ≤ 65536 }
+        requires fit { All FitsMailbox parts.now }
+        ensures { IfOk result (λ a. a ≡ record { kept = map (λ (p : PartOf). actor_view (actor_of p)) parts.now; out = replicate (length parts.now) 0 }) }
+    {
+        let mut actors = Actors::new(alloc);
+        'parts: for place in 0..parts.len() {
+            let actor = Actor::from_part(alloc, &parts[place])?;
+            actors.add(actor)?;
+        }
+        Ok(actors)
+    }
+}

@@ -1,0 +1,282 @@
+//! The names and the class table of a file.
+ghost use Rattle.std.specs.Prelude.{◌≡◌, IfOk};
+ghost use Rattle.st_image.specs.Loading.{LeadsToOne, LoadsAll, LoadsEdit, LoadsName, edits_refusal, names_refusal};
+
+mod finishing;
+
+use crate::edit_text::EditText;
+use st_classes::edits::Edit;
+use st_classes::methods::Method;
+use st_classes::names::Names;
+use st_classes::refusals::{ImagePlace, Refusal};
+use st_classes::seq::Seq;
+use st_classes::values::ClassId;
+use st_classes::version::Version;
+use st_compile::compile::compile;
+use st_reader::reader::{one_reading, read_method};
+use st_reader::trees::MethodTree;
+use std::alloc::{AllocError, Global};
+use std::marker::Model;
+
+/// What a name or an edit of a file leads to is determined, and so is what several lead to, one after the other.
+#[tactic(auto, using(crate::proofs::LoadedOnce::name_once, crate::proofs::LoadedOnce::edit_once, crate::proofs::LoadedOnce::all_once))]
+pub fn leads_to_one()
+    ensures name { LeadsToOne LoadsName }
+    ensures edit { LeadsToOne LoadsEdit }
+    ensures names { LeadsToOne (LoadsAll LoadsName) }
+    ensures edits { LeadsToOne (LoadsAll LoadsEdit) }
+{
+    one_reading();
+}
+
+const EDITS: Refusal = Refusal::BadImage {
+    place: ImagePlace::Edits,
+};
+
+/// Want of memory as it is, and any other refusal of an edit as that of the file's edits.
+fn refused(refusal: Refusal) -> Refusal
+    ensures { result ≡ edits_refusal refusal }
+{
+    match refusal {
+        Refusal::NoMemory => Refusal::NoMemory,
+        _ => EDITS,
+    }
+}
+
+const NAMES: Refusal = Refusal::BadImage {
+    place: ImagePlace::Names,
+};
+
+/// Want of memory as it is, and any other refusal of a name as that of the file's names.
+fn refused_name(refusal: Refusal) -> Refusal
+    ensures { result ≡ names_refusal refusal }
+{
+    match refusal {
+        Refusal::NoMemory => Refusal::NoMemory,
+        _ => NAMES,
+    }
+}
+
+/// Names and a class table, to which those of a file are added one after the other.
+#[derive(Drop)]
+pub struct Loader {
+    names: Names,
+    version: Version,
+}
+
+impl Model for Loader {
+    ghost use Rattle.st_image.specs.Loading.{LoaderView};
+    ghost use Rattle.st_classes.specs.EditLists.{AllSuit};
+
+    ghost Value = { LoaderView };
+
+    ghost view = { λ l. record { names = l.names; edits = l.version } };
+
+    ghost invariant = { λ l. AllSuit l.names l.version };
+}
+
+impl Loader {
+    ghost use Rattle.std.specs.Prelude.{◌≡◌, ◌++◌, [], ◌∷◌, true, IfOk, OnOk, OnErr};
+    ghost use Rattle.st_classes.specs.Classes.{is_class};
+    ghost use Rattle.st_compile.specs.CompiledMethod.{IsCompiled};
+    ghost use Rattle.st_compile.specs.CompileRules.{method_rules};
+    ghost use Rattle.st_compile.specs.NeededNames.{interned_all, needed_texts};
+    ghost use Rattle.st_classes.specs.EditRules.{edit_rules};
+    ghost use Rattle.st_classes.specs.MethodSuits.{edit_suits};
+    ghost use Rattle.st_classes.specs.Refusals.{first_of, Answers};
+    ghost use Rattle.st_image.specs.Loading.{AnswersEdit, AnswersName, AnswersTree, InstallsFrom, LoadsDefine, LoadsRemove, LoadsEdit, OnlyNames};
+    ghost use Rattle.st_classes.specs.Kernel.{kernel_selectors};
+    ghost use Rattle.st_classes.specs.Names.{AreNames};
+    ghost use Rattle.st_classes.specs.EditLists.{AllSuit, AllSound, AreLawful};
+
+    /// The kernel's names and classes.
+    pub fn new(alloc: Global) -> Result<Loader, AllocError>
+        ensures { IfOk result (λ l. l ≡ record { names = kernel_selectors; edits = [] }) }
+    {
+        Ok(Loader {
+            names: Names::kernel(alloc)?,
+            version: Version::kernel(alloc)?,
+        })
+    }
+
+    /// What is true of every loader: of its names and its class table what is true of all, and the methods suit the names.
+    pub fn known(&self)
+        ensures names { AreNames self.now.names }
+        ensures lawful { AreLawful self.now.edits }
+        ensures sound { AllSound self.now.edits }
+        ensures suited { AllSuit self.now.names self.now.edits }
+    {
+        self.names.known();
+        self.version.known();
+    }
+
+    pub fn names(&self) -> &Names
+        ensures { result.now ≡ self.now.names }
+    {
+        &self.names
+    }
+
+    pub fn version(&self) -> &Version
+        ensures { result.now ≡ self.now.edits }
+    {
+        &self.version
+    }
+
+    /// Puts a name last.
+    ///
+    /// `BadImage`, at the names, says that the text is no selector, that it is a name already, or that there are 8,192 names.
+    /// Else the only refusal is `NoMemory`. A refused name changes nothing.
+    pub fn name(&mut self, alloc: Global, text: &[u8]) -> Result<(), Refusal>
+        ensures { AnswersName self.old text.now self.new result }
+    {
+        if self.names.find(text).is_some() {
+            return Err(NAMES);
+        }
+        if let Err(refusal) = self.names.intern(alloc, text) {
+            return Err(refused_name(refusal));
+        }
+        Ok(())
+    }
+
+    /// Puts an edit last. An install's source is read and compiled, and the names that its code needs are put last too.
+    ///
+    /// `BadImage`, at the edits, says that an image would refuse the edit for another cause than the limits of a run or of the
+    /// history. Else the only refusal is `NoMemory`. A refused edit adds names at most.
+    pub fn edit(&mut self, alloc: Global, edit: &EditText) -> Result<(), Refusal>
+        ensures answers { AnswersEdit (LoadsEdit self.old edit.now) self.new result }
+        ensures refused { OnErr result (OnlyNames self.old self.new) }
+    {
+        match edit {
+            EditText::Define {
+                name,
+                parent,
+                slots,
+            } => self.define(alloc, name.as_slice(), parent.as_slice(), slots),
+            EditText::Install { class, source } => {
+                self.install(alloc, class.as_slice(), source.as_slice())
+            }
+            EditText::Remove { class, selector } => {
+                self.remove(alloc, class.as_slice(), selector.as_slice())
+            }
+        }
+    }
+
+    /// An edit that suits, or why it is refused.
+    fn accept(&mut self, alloc: Global, edit: Edit) -> Result<(), Refusal>
+        requires { edit_suits self.old.names self.old.edits edit ≡ true }
+        ensures answers { Answers (first_of (edit_rules self.old.edits edit)) result (λ _. self.new ≡ record self.old { edits = self.old.edits ++ edit ∷ [] }) }
+        ensures refused { OnErr result (self.new ≡ self.old) }
+    {
+        self.version.known();
+        let version = self.version.with_edit(alloc, edit)?;
+        self.version = version;
+        Ok(())
+    }
+
+    fn define(
+        &mut self,
+        alloc: Global,
+        name: &[u8],
+        parent: &[u8],
+        slots: &Seq<Seq<u8>>,
+    ) -> Result<(), Refusal>
+        ensures answers { AnswersEdit (LoadsDefine self.old name.now parent.now slots.now) self.new result }
+        ensures refused { OnErr result (OnlyNames self.old self.new) }
+    {
+        let Some(parent) = self.version.class_named(parent) else {
+            return Err(EDITS);
+        };
+        let Ok(name) = name.to_vec(alloc) else {
+            return Err(Refusal::NoMemory);
+        };
+        let Ok(slots) = copied(alloc, slots.as_slice()) else {
+            return Err(Refusal::NoMemory);
+        };
+        let edit = Edit::Define {
+            name: Seq::from_vec(name),
+            parent,
+            slots,
+        };
+        match self.accept(alloc, edit) {
+            Ok(()) => Ok(()),
+            Err(refusal) => Err(refused(refusal)),
+        }
+    }
+
+    fn install(&mut self, alloc: Global, class: &[u8], source: &[u8]) -> Result<(), Refusal>
+        ensures answers { AnswersEdit (InstallsFrom self.old class.now source.now) self.new result }
+        ensures refused { OnErr result (OnlyNames self.old self.new) }
+    {
+        let Some(class) = self.version.class_named(class) else {
+            return Err(EDITS);
+        };
+        let tree = match read_method(alloc, source) {
+            Ok(tree) => tree,
+            Err(refusal) => return Err(refused(refusal)),
+        };
+        self.install_tree(alloc, class, &tree)
+    }
+
+    /// The method of a tree in a class, and the names that it needs.
+    fn compiled(
+        &mut self,
+        alloc: Global,
+        tree: &MethodTree,
+        class: ClassId,
+    ) -> Result<Method, Refusal>
+        requires { is_class self.old.edits class ≡ true }
+        ensures answers { Answers (first_of (method_rules self.old.names self.old.edits class tree.now.syntax)) result
+            (λ m. IsCompiled self.new.names self.old.edits class tree.now.syntax tree.now.source m) }
+        ensures names { OnOk result (self.new.names ≡ interned_all self.old.names (needed_texts tree.now.syntax)) }
+        ensures only { OnlyNames self.old self.new }
+    {
+        compile(alloc, tree, class, &self.version, &mut self.names)
+    }
+
+    /// Installs the method of a tree.
+    fn install_tree(
+        &mut self,
+        alloc: Global,
+        class: ClassId,
+        tree: &MethodTree,
+    ) -> Result<(), Refusal>
+        requires { is_class self.old.edits class ≡ true }
+        ensures answers { AnswersTree self.old class tree.now.syntax tree.now.source self.new result }
+        ensures refused { OnErr result (OnlyNames self.old self.new) }
+    {
+        let method = match self.compiled(alloc, tree, class) {
+            Ok(method) => method,
+            Err(refusal) => return Err(refused(refusal)),
+        };
+        match self.accept(alloc, Edit::Install { class, method }) {
+            Ok(()) => Ok(()),
+            Err(refusal) => Err(refused(refusal)),
+        }
+    }
+
+    fn remove(&mut self, alloc: Global, class: &[u8], selector: &[u8]) -> Result<(), Refusal>
+        ensures answers { AnswersEdit (LoadsRemove self.old class.now selector.now) self.new result }
+        ensures refused { OnErr result (OnlyNames self.old self.new) }
+    {
+        let Some(class) = self.version.class_named(class) else {
+            return Err(EDITS);
+        };
+        let Some(selector) = self.names.find(selector) else {
+            return Err(EDITS);
+        };
+        match self.accept(alloc, Edit::Remove { class, selector }) {
+            Ok(()) => Ok(()),
+            Err(refusal) => Err(refused(refusal)),
+        }
+    }
+}
+
+fn copied(alloc: Global, texts: &[Seq<u8>]) -> Result<Seq<Seq<u8>>, AllocError>
+    ensures { IfOk result (λ copy. copy ≡ texts.now) }
+{
+    let mut copy = Vec::with_capacity(alloc, texts.len())?;
+    for text in texts {
+        copy.push(Seq::from_vec(text.as_slice().to_vec(alloc)?))?;
+    }
+    Ok(Seq::from_vec(copy))
+}

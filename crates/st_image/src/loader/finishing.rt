@@ -1,0 +1,63 @@
+//! Loader::finish: the image of what was loaded.
+ghost use Rattle.std.specs.Prelude.{◌≡◌, ◌≤◌, length, Decides, IfOk};
+ghost use Rattle.st_image.specs.Loaded.{AreBaseActors, AreBaseSenders, Finishes};
+
+use crate::actor_part::ActorPart;
+use crate::fitting::actors_fit;
+use crate::image::Image;
+use crate::loader::Loader;
+use crate::senders::{in_sending_order, senders_are_there};
+use st_classes::limits::ACTORS;
+use st_classes::names::Names;
+use st_classes::refusals::{ImagePlace, Refusal};
+use st_classes::version::Version;
+use st_mailbox::mailboxes::Mailbox;
+use std::alloc::Global;
+
+/// Whether actors are those of a base.
+fn are_base_actors(names: &Names, version: &Version, parts: &[ActorPart]) -> bool
+    ensures { Decides result (AreBaseActors names.now version.now parts.now) }
+{
+    if parts.len() > ACTORS {
+        return false;
+    }
+    actors_fit(names, version, parts.len() as u32, parts) && senders_are_there(parts)
+}
+
+impl Loader {
+    /// The image whose base has the names and the class table that were loaded, these actors, and these clients with the numbers of
+    /// their last messages. It is set as by default, and its history is empty.
+    ///
+    /// Refusals, in this order: `BadImage` of the actors where there are more than 65,536, one is none of a world with these names,
+    /// this table and so many actors, or an actor that sent a message is not there; `BadImage` of the senders where clients do not rise, a client's last number is 0, the
+    /// numbers of a sender do not rise in a mailbox, one is 0 or above its sender's last, or one stands in two mailboxes.
+    pub fn finish<M: Mailbox>(
+        self,
+        alloc: Global,
+        parts: Vec<ActorPart>,
+        clients: Vec<(u16, u64)>,
+    ) -> Result<Image<M>, Refusal>
+        ensures { Finishes self.names self.edits parts.items clients.items result }
+    {
+        self.known();
+        let Loader { names, version } = self;
+        if !are_base_actors(&names, &version, parts.as_slice()) {
+            return Err(Refusal::BadImage {
+                place: ImagePlace::Actors,
+            });
+        }
+        match in_sending_order(alloc, parts.as_slice(), clients.as_slice()) {
+            Ok(true) => {}
+            Ok(false) => {
+                return Err(Refusal::BadImage {
+                    place: ImagePlace::Senders,
+                });
+            }
+            Err(_) => return Err(Refusal::NoMemory),
+        }
+        match Image::at_base(alloc, names, version, parts, clients) {
+            Ok(image) => Ok(image),
+            Err(_) => Err(Refusal::NoMemory),
+        }
+    }
+}

@@ -99,7 +99,7 @@ enum Damage {
     TwoMailboxes,
 }
 
-fn damage(parts: &mut Vec<ActorPart>, clients: &mut Vec<(u16, u64)>, damage: Damage) {
+fn spoil(parts: &mut Vec<ActorPart>, clients: &mut Vec<(u16, u64)>, damage: Damage) {
     match damage {
         Damage::NoCapacity => {
             if let Some(part) = parts.get_mut(0) {
@@ -131,7 +131,7 @@ fn refused(alloc: Global, image: &Image, kind: Damage) -> Option<Refusal> {
             parts.push(part).ok()?;
         }
     }
-    damage(&mut parts, &mut clients, kind);
+    spoil(&mut parts, &mut clients, kind);
     finished(alloc, loader, parts, clients).err()
 }
 

@@ -1,0 +1,7 @@
+pub mod Answers
+pub mod Describes
+pub mod Files
+pub mod Meanings
+pub mod Named
+pub mod Shapes
+pub mod Tellable

@@ -1,7 +1,3 @@
 pub mod Answers
-pub mod Describes
-pub mod Files
-pub mod Meanings
-pub mod Named
 pub mod Shapes
 pub mod Tellable

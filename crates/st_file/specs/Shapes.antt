@@ -10,6 +10,7 @@ use Rattle.st_mailbox.specs.declared.messages.Sender.{Sender}
 use Rattle.st_mailbox.specs.declared.messages.Sender.TheVariants as sender
 use Rattle.st_wire.specs.Fields.{size, text, text_at, texts_at, each_of, within, whole_at, actor_at, number_at}
 use Rattle.st_wire.specs.Commands.{has_just}
+use Rattle.st_wire.specs.Names.{fault_name}
 use Rattle.st_file.specs.declared.texts.ValueText.{ValueText}
 use Rattle.st_file.specs.declared.texts.ValueText.TheVariants.{Int, Bool as Boolean, Nil, Symbol, Class, Actor, Local}
 use Rattle.st_file.specs.declared.texts.MessageText.{MessageText}
@@ -19,8 +20,8 @@ use Rattle.st_file.specs.declared.texts.PhaseText.{PhaseText}
 use Rattle.st_file.specs.declared.texts.PhaseText.TheVariants as phase
 use Rattle.st_file.specs.declared.texts.BodyText.{BodyText}
 use Rattle.st_file.specs.declared.texts.ActorText.{ActorText}
-use Rattle.st_image.specs.declared.edit_text.EditText.{EditText}
-use Rattle.st_image.specs.declared.edit_text.EditText.TheVariants as edit
+use Rattle.st_file.specs.declared.edit_text.EditText.{EditText}
+use Rattle.st_file.specs.declared.edit_text.EditText.TheVariants as edit
 use Rattle.st_file.specs.declared.texts.ImageText.{ImageText}
 
 -- what is there, where an object has just these keys
@@ -114,19 +115,21 @@ frame_in d =
     (one_at value_in (codes "receiver") d)
     (values_at (codes "temps") d))
 
+-- all faults
+abbrev pub faults : List Fault
+faults =
+    NotUnderstood ∷ Overflow ∷ ZeroDivide ∷ BadArgument ∷ MustBeBoolean ∷ StackOverflow ∷ HeapFull ∷ LocalArgument
+    ∷ TooManyActors
+    ∷ []
+
+-- the first of these that has a name
+abbrev pub fault_among : List Fault → List ℕ → Option Fault
+fault_among [] name = None
+fault_among (f ∷ fs) name = if bytes_eq name (fault_name f) then Some f else fault_among fs name
+
 -- the fault of a name
 abbrev pub fault_of : List ℕ → Option Fault
-fault_of name =
-    if bytes_eq name (codes "notUnderstood") then Some NotUnderstood
-    else (if bytes_eq name (codes "overflow") then Some Overflow
-    else (if bytes_eq name (codes "zeroDivide") then Some ZeroDivide
-    else (if bytes_eq name (codes "badArgument") then Some BadArgument
-    else (if bytes_eq name (codes "mustBeBoolean") then Some MustBeBoolean
-    else (if bytes_eq name (codes "stackOverflow") then Some StackOverflow
-    else (if bytes_eq name (codes "heapFull") then Some HeapFull
-    else (if bytes_eq name (codes "localArgument") then Some LocalArgument
-    else (if bytes_eq name (codes "tooManyActors") then Some TooManyActors
-    else None))))))))
+fault_of = fault_among faults
 
 abbrev pub start_from : Option (List ValueText) → Option (List ℕ) → Option PhaseText
 start_from (Some args) (Some selector) = Some (phase.Start args selector)
@@ -236,7 +239,7 @@ count null = 0
 count (boolean b) = 0
 count (number n) = 0
 count (string s) = 0
-count (object members) = 0
+count (object ms) = 0
 
 -- a whole number of a range at a place of an array
 abbrev pub whole_in : ℕ → ℕ → ℕ → Data → Option ℕ

@@ -4,7 +4,7 @@
 //! edits one after the other; [`resolving`] finds what the texts of its actors mean; and the loader makes the image.
 #![tactic(auto)]
 
+pub mod edit_text;
 mod fields;
 pub mod reading;
-pub mod resolving;
 pub mod texts;

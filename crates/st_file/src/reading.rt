@@ -17,7 +17,7 @@ use crate::texts::{
 use serde_json::Value;
 use st_classes::faults::Fault;
 use st_classes::refusals::Refusal;
-use st_image::edit_text::EditText;
+use crate::edit_text::EditText;
 use st_mailbox::messages::Sender;
 use std::alloc::Global;
 

@@ -2,7 +2,7 @@
 use st_classes::faults::Fault;
 use st_classes::seq::Seq;
 use st_classes::values::ActorId;
-use st_image::edit_text::EditText;
+use crate::edit_text::EditText;
 use st_mailbox::messages::Sender;
 
 /// A value, whose names are texts.

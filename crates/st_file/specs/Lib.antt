@@ -1,3 +1,4 @@
 pub mod Answers
+pub mod Says
 pub mod Shapes
 pub mod Tellable

@@ -28,6 +28,10 @@ use Rattle.st_file.specs.declared.texts.ImageText.{ImageText}
 abbrev pub of_keys : {T : Type 0} → List (List ℕ) → Data → Option T → Option T
 of_keys keys d found = if has_just keys d then found else None
 
+-- what each item of an array is
+abbrev pub list_in : {T : Type 0} → (Data → Option T) → Data → Option (List T)
+list_in f d = option_and_then (each_of f) (as_array d)
+
 -- what each item of a key's array is
 abbrev pub list_at : {T : Type 0} → (Data → Option T) → List ℕ → Data → Option (List T)
 list_at f key d = option_and_then (each_of f) (option_and_then as_array (get key d))

@@ -7,4 +7,5 @@
 pub mod edit_text;
 mod fields;
 pub mod reading;
+pub mod telling;
 pub mod texts;

@@ -5,6 +5,7 @@
 #![tactic(auto)]
 
 pub mod edit_text;
+mod faults;
 mod fields;
 pub mod reading;
 pub mod telling;

@@ -1,13 +1,21 @@
 //! From what an image file says to a JSON value.
-ghost use Rattle.std.specs.Prelude.{ℕ, suc, IfOk, All, Option};
-ghost use Rattle.serde_json.specs.Data.{Data};
+ghost use Rattle.std.specs.Prelude.{◌≡◌, ◌≤◌, ℕ, suc, true, false, IfOk, All, Option, Some};
+ghost use Rattle.serde_json.specs.Data.{Data, depth};
 ghost use Rattle.serde_json.specs.View.{view};
+ghost use Rattle.serde_json.specs.Written.{has_float};
 ghost use Rattle.st_wire.specs.Fields as spec;
+ghost use Rattle.st_wire.specs.Replies.{keys_rise};
+ghost use Rattle.st_file.specs.declared.texts.PhaseText.TheVariants as phase;
+ghost use Rattle.st_file.specs.declared.edit_text.EditText.TheVariants as edit;
 ghost use Rattle.st_file.specs.Says.{Says};
 ghost use Rattle.st_file.specs.Shapes as shapes;
-ghost use Rattle.st_file.specs.Tellable.{IsText, ValueIsText, MessageIsText};
+ghost use Rattle.st_file.specs.Tellable.{IsText, ValueIsText, MessageIsText, ObjectIsText, FrameIsText, PhaseIsText, BodyIsText, ActorIsText, EditIsText, HasSent, ImageIsText};
 
-use crate::texts::{MessageText, ValueText};
+use crate::edit_text::EditText;
+use crate::faults::fault_name;
+use crate::texts::{
+    ActorText, BodyText, FrameText, ImageText, MessageText, ObjectText, PhaseText, ValueText,
+};
 use serde_json::{Value, json};
 use st_classes::seq::Seq;
 use st_mailbox::messages::Sender;
@@ -117,5 +125,253 @@ impl Telling for MessageText {
         let selector = selector.tell(alloc)?;
         let sender = sender.tell(alloc)?;
         json!(in alloc; {"args": args, "selector": selector, "sender": sender, "seq": seq})
+    }
+}
+
+impl Telling for ObjectText {
+    ghost form = { shapes.object_in };
+
+    ghost deep = { 3 };
+
+    ghost is_text = { ObjectIsText };
+
+    fn tell(self, alloc: Global) -> Result<Value, AllocError> {
+        let ObjectText { class, slots } = self;
+        let class = class.tell(alloc)?;
+        let slots = list(alloc, slots)?;
+        json!(in alloc; {"class": class, "slots": slots})
+    }
+}
+
+impl Telling for FrameText {
+    ghost form = { shapes.frame_in };
+
+    ghost deep = { 3 };
+
+    ghost is_text = { FrameIsText };
+
+    fn tell(self, alloc: Global) -> Result<Value, AllocError> {
+        let FrameText {
+            method,
+            operands,
+            pc,
+            receiver,
+            temps,
+        } = self;
+        let operands = list(alloc, operands)?;
+        let receiver = receiver.tell(alloc)?;
+        let temps = list(alloc, temps)?;
+        json!(in alloc; {
+            "method": method,
+            "operands": operands,
+            "pc": pc,
+            "receiver": receiver,
+            "temps": temps
+        })
+    }
+}
+
+/// The arguments and the selector of a turn that starts.
+fn start(
+    alloc: Global,
+    args: Seq<ValueText>,
+    selector: Seq<u8>,
+) -> Result<Value, AllocError>
+    requires args { All ValueIsText args }
+    requires selector { IsText selector }
+    ensures { IfOk result (λ v. Says shapes.start_in 3 (phase.Start args selector) (view v)) }
+{
+    let args = list(alloc, args)?;
+    let selector = selector.tell(alloc)?;
+    json!(in alloc; {"args": args, "selector": selector})
+}
+
+impl Telling for PhaseText {
+    ghost form = { shapes.phase_in };
+
+    ghost deep = { 5 };
+
+    ghost is_text = { PhaseIsText };
+
+    fn tell(self, alloc: Global) -> Result<Value, AllocError> {
+        match self {
+            PhaseText::Fresh => json!(in alloc; "fresh"),
+            PhaseText::Start { args, selector } => {
+                let start = start(alloc, args, selector)?;
+                json!(in alloc; {"start": start})
+            }
+            PhaseText::Frames(frames) => {
+                let frames = list(alloc, frames)?;
+                json!(in alloc; {"frames": frames})
+            }
+            PhaseText::Answer(answer) => {
+                let answer = answer.tell(alloc)?;
+                json!(in alloc; {"answer": answer})
+            }
+            PhaseText::Fault(fault) => json!(in alloc; {"fault": fault_name(fault)}),
+        }
+    }
+}
+
+impl Telling for BodyText {
+    ghost form = { shapes.body_in };
+
+    ghost deep = { 6 };
+
+    ghost is_text = { BodyIsText };
+
+    fn tell(self, alloc: Global) -> Result<Value, AllocError> {
+        let BodyText { objects, phase } = self;
+        let objects = list(alloc, objects)?;
+        let phase = phase.tell(alloc)?;
+        json!(in alloc; {"objects": objects, "phase": phase})
+    }
+}
+
+impl Telling for ActorText {
+    ghost form = { shapes.actor_in };
+
+    ghost deep = { 7 };
+
+    ghost is_text = { ActorIsText };
+
+    fn tell(self, alloc: Global) -> Result<Value, AllocError> {
+        let ActorText {
+            body,
+            capacity,
+            class,
+            last,
+            is_open,
+            pending,
+        } = self;
+        let body = body.tell(alloc)?;
+        let class = class.tell(alloc)?;
+        let pending = list(alloc, pending)?;
+        json!(in alloc; {
+            "body": body,
+            "capacity": capacity,
+            "class": class,
+            "last": last,
+            "open": is_open,
+            "pending": pending
+        })
+    }
+}
+
+fn define(
+    alloc: Global,
+    name: Seq<u8>,
+    parent: Seq<u8>,
+    slots: Seq<Seq<u8>>,
+) -> Result<Value, AllocError>
+    requires name { IsText name }
+    requires parent { IsText parent }
+    requires slots { All IsText slots }
+    ensures { IfOk result (λ v. Says shapes.define_in 2 (edit.Define name parent slots) (view v)) }
+{
+    let name = name.tell(alloc)?;
+    let slots = list(alloc, slots)?;
+    let parent = parent.tell(alloc)?;
+    json!(in alloc; {"name": name, "slots": slots, "super": parent})
+}
+
+fn install(alloc: Global, class: Seq<u8>, source: Seq<u8>) -> Result<Value, AllocError>
+    requires class { IsText class }
+    requires source { IsText source }
+    ensures { IfOk result (λ v. Says shapes.install_in 1 (edit.Install class source) (view v)) }
+{
+    let class = class.tell(alloc)?;
+    let source = source.tell(alloc)?;
+    json!(in alloc; {"class": class, "source": source})
+}
+
+fn remove(alloc: Global, class: Seq<u8>, selector: Seq<u8>) -> Result<Value, AllocError>
+    requires class { IsText class }
+    requires selector { IsText selector }
+    ensures { IfOk result (λ v. Says shapes.remove_in 1 (edit.Remove class selector) (view v)) }
+{
+    let class = class.tell(alloc)?;
+    let selector = selector.tell(alloc)?;
+    json!(in alloc; {"class": class, "selector": selector})
+}
+
+impl Telling for EditText {
+    ghost form = { shapes.edit_in };
+
+    ghost deep = { 3 };
+
+    ghost is_text = { EditIsText };
+
+    fn tell(self, alloc: Global) -> Result<Value, AllocError> {
+        match self {
+            EditText::Define {
+                name,
+                parent,
+                slots,
+            } => {
+                let define = define(alloc, name, parent, slots)?;
+                json!(in alloc; {"define": define})
+            }
+            EditText::Install { class, source } => {
+                let install = install(alloc, class, source)?;
+                json!(in alloc; {"install": install})
+            }
+            EditText::Remove { class, selector } => {
+                let remove = remove(alloc, class, selector)?;
+                json!(in alloc; {"remove": remove})
+            }
+        }
+    }
+}
+
+impl Telling for (u16, u64) {
+    ghost form = { shapes.client_in };
+
+    ghost deep = { 1 };
+
+    ghost is_text = { HasSent };
+
+    fn tell(self, alloc: Global) -> Result<Value, AllocError> {
+        let (client, last) = self;
+        json!(in alloc; [client, last])
+    }
+}
+
+/// The JSON value that says this: what is read of it is this again. Only want of memory is an error.
+pub fn image_data(alloc: Global, text: ImageText) -> Result<Value, AllocError>
+    requires { ImageIsText text }
+    ensures read { IfOk result (λ v. shapes.image_in (view v) ≡ Some text) }
+    ensures shallow { IfOk result (λ v. depth (view v) ≤ 9) }
+    ensures whole { IfOk result (λ v. has_float (view v) ≡ false) }
+    ensures ordered { IfOk result (λ v. keys_rise (view v) ≡ true) }
+{
+    text.tell(alloc)
+}
+
+impl Telling for ImageText {
+    ghost form = { shapes.image_in };
+
+    ghost deep = { 9 };
+
+    ghost is_text = { ImageIsText };
+
+    fn tell(self, alloc: Global) -> Result<Value, AllocError> {
+        let ImageText {
+            actors,
+            edits,
+            names,
+            senders,
+        } = self;
+        let actors = list(alloc, actors)?;
+        let edits = list(alloc, edits)?;
+        let names = list(alloc, names)?;
+        let senders = list(alloc, senders)?;
+        json!(in alloc; {
+            "actors": actors,
+            "edits": edits,
+            "format": 1u64,
+            "names": names,
+            "senders": senders
+        })
     }
 }

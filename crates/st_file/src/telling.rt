@@ -1,10 +1,10 @@
 //! From what an image file says to a JSON value.
-ghost use Rattle.std.specs.Prelude.{◌≡◌, ◌≤◌, ℕ, suc, true, false, IfOk, All, Option, Some};
-ghost use Rattle.serde_json.specs.Data.{Data, depth};
+ghost use Rattle.std.specs.Prelude.{◌≡◌, ◌≤◌, ℕ, suc, true, false, IfOk, All, Option, Some, codes};
+ghost use Rattle.serde_json.specs.Data.{Data, boolean, object, no_members, member, depth};
 ghost use Rattle.serde_json.specs.View.{view};
 ghost use Rattle.serde_json.specs.Written.{has_float};
 ghost use Rattle.st_wire.specs.Fields as spec;
-ghost use Rattle.st_wire.specs.Replies.{keys_rise};
+ghost use Rattle.st_wire.specs.Replies.{keys_rise, whole};
 ghost use Rattle.st_file.specs.declared.texts.PhaseText.TheVariants as phase;
 ghost use Rattle.st_file.specs.declared.edit_text.EditText.TheVariants as edit;
 ghost use Rattle.st_file.specs.Says.{Says};
@@ -247,15 +247,37 @@ impl Telling for ActorText {
         let body = body.tell(alloc)?;
         let class = class.tell(alloc)?;
         let pending = list(alloc, pending)?;
-        json!(in alloc; {
-            "body": body,
-            "capacity": capacity,
-            "class": class,
-            "last": last,
-            "open": is_open,
-            "pending": pending
-        })
+        actor(alloc, body, capacity, class, last, is_open, pending)
     }
+}
+
+/// The object of an actor.
+fn actor(
+    alloc: Global,
+    body: Value,
+    capacity: u64,
+    class: Value,
+    last: u64,
+    is_open: bool,
+    pending: Value,
+) -> Result<Value, AllocError>
+    ensures { IfOk result (λ v. view v ≡ object
+        (member (codes "body") (view body)
+        (member (codes "capacity") (whole capacity)
+        (member (codes "class") (view class)
+        (member (codes "last") (whole last)
+        (member (codes "open") (boolean is_open)
+        (member (codes "pending") (view pending)
+        no_members))))))) }
+{
+    json!(in alloc; {
+        "body": body,
+        "capacity": capacity,
+        "class": class,
+        "last": last,
+        "open": is_open,
+        "pending": pending
+    })
 }
 
 fn define(

@@ -7,6 +7,7 @@ ghost use Rattle.serde_json.specs.View.{view};
 ghost use Rattle.st_file.specs.Answers.{Reads};
 ghost use Rattle.st_file.specs.Shapes as shapes;
 
+use crate::faults::fault_of;
 use crate::fields::{
     Readable, SHAPE, actor_at, client_number, count, has_just, just_keys, last_number, list_at, number_at, one_at,
     size, text_at, whole_at,
@@ -15,7 +16,6 @@ use crate::texts::{
     ActorText, BodyText, FrameText, ImageText, MessageText, ObjectText, PhaseText, ValueText, ValueTexts,
 };
 use serde_json::Value;
-use st_classes::faults::Fault;
 use st_classes::refusals::Refusal;
 use crate::edit_text::EditText;
 use st_mailbox::messages::Sender;
@@ -130,24 +130,6 @@ impl Readable for FrameText {
             receiver: one_at(alloc, value, "receiver")?,
             temps: values_at(alloc, value, "temps")?,
         })
-    }
-}
-
-/// The fault of a name.
-fn fault_of(name: &str) -> Option<Fault>
-    ensures { result ≡ shapes.fault_of name.now }
-{
-    match name {
-        "notUnderstood" => Some(Fault::NotUnderstood),
-        "overflow" => Some(Fault::Overflow),
-        "zeroDivide" => Some(Fault::ZeroDivide),
-        "badArgument" => Some(Fault::BadArgument),
-        "mustBeBoolean" => Some(Fault::MustBeBoolean),
-        "stackOverflow" => Some(Fault::StackOverflow),
-        "heapFull" => Some(Fault::HeapFull),
-        "localArgument" => Some(Fault::LocalArgument),
-        "tooManyActors" => Some(Fault::TooManyActors),
-        _ => None,
     }
 }
 

@@ -388,12 +388,31 @@ impl Telling for ImageText {
         let edits = list(alloc, edits)?;
         let names = list(alloc, names)?;
         let senders = list(alloc, senders)?;
-        json!(in alloc; {
-            "actors": actors,
-            "edits": edits,
-            "format": 1u64,
-            "names": names,
-            "senders": senders
-        })
+        image(alloc, actors, edits, names, senders)
     }
+}
+
+/// The object of an image.
+fn image(
+    alloc: Global,
+    actors: Value,
+    edits: Value,
+    names: Value,
+    senders: Value,
+) -> Result<Value, AllocError>
+    ensures { IfOk result (λ v. view v ≡ object
+        (member (codes "actors") (view actors)
+        (member (codes "edits") (view edits)
+        (member (codes "format") (whole 1)
+        (member (codes "names") (view names)
+        (member (codes "senders") (view senders)
+        no_members)))))) }
+{
+    json!(in alloc; {
+        "actors": actors,
+        "edits": edits,
+        "format": 1u64,
+        "names": names,
+        "senders": senders
+    })
 }

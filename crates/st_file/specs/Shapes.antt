@@ -1,14 +1,14 @@
 -- The forms of an image file: what a JSON value says, in texts.
-use Rattle.std.specs.Prelude.{ℕ, ◌^◌, ◌-◌, ◌==◌, ◌&&◌, Bool, List, [], ◌∷◌, codes, if◌then◌else◌, Option, Some, None, option_map, option_and_then}
+use Rattle.std.specs.Prelude.{ℕ, ◌^◌, ◌-◌, ◌==◌, Bool, List, [], ◌∷◌, codes, if◌then◌else◌, Option, Some, None, option_map, option_and_then}
 use Rattle.std.specs.Str.{bytes_eq}
-use Rattle.serde_json.specs.Data.{Data, null, boolean, number, string, array, object, Items}
+use Rattle.serde_json.specs.Data.{Data, null, boolean, number, string, array, object}
 use Rattle.serde_json.specs.Find.{get, at, as_bool, as_number, as_array, as_u64, as_i64}
 use Rattle.serde_json.specs.Events.{items_len}
 use Rattle.st_classes.specs.declared.faults.Fault.{Fault}
 use Rattle.st_classes.specs.declared.faults.Fault.TheVariants.{NotUnderstood, Overflow, ZeroDivide, BadArgument, MustBeBoolean, StackOverflow, HeapFull, LocalArgument, TooManyActors}
 use Rattle.st_mailbox.specs.declared.messages.Sender.{Sender}
 use Rattle.st_mailbox.specs.declared.messages.Sender.TheVariants as sender
-use Rattle.st_wire.specs.Fields.{size, text, text_at, texts_at, each_of, within, whole_at, actor_at, number_at}
+use Rattle.st_wire.specs.Fields.{size, text_at, texts_at, each_of, within, whole_at, actor_at, number_at}
 use Rattle.st_wire.specs.Commands.{has_just}
 use Rattle.st_wire.specs.Names.{fault_name}
 use Rattle.st_file.specs.declared.texts.ValueText.{ValueText}

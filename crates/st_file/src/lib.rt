@@ -2,6 +2,7 @@
 //!
 //! A file is read in layers. [`reading`] takes a JSON value apart into [`texts`]; the loader of st_image takes its names and its
 //! edits one after the other; [`resolving`] finds what the texts of its actors mean; and the loader makes the image.
+//! [`telling`] is the way back: the JSON value that says some [`texts`].
 #![tactic(auto)]
 
 pub mod edit_text;

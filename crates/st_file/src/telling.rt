@@ -21,8 +21,19 @@ use st_classes::seq::Seq;
 use st_mailbox::messages::Sender;
 use std::alloc::{AllocError, Global};
 
+/// The JSON value that says this: what is read of it is this again. Only want of memory is an error.
+pub fn image_data(alloc: Global, text: ImageText) -> Result<Value, AllocError>
+    requires { ImageIsText text }
+    ensures read { IfOk result (λ v. shapes.image_in (view v) ≡ Some text) }
+    ensures shallow { IfOk result (λ v. depth (view v) ≤ 9) }
+    ensures whole { IfOk result (λ v. has_float (view v) ≡ false) }
+    ensures ordered { IfOk result (λ v. keys_rise (view v) ≡ true) }
+{
+    text.tell(alloc)
+}
+
 /// What a JSON value can say.
-pub(crate) trait Telling: Drop {
+trait Telling: Drop {
     ghost use Rattle.std.specs.Prelude.{ℕ, Option, IfOk};
     ghost use Rattle.serde_json.specs.Data.{Data};
 
@@ -54,7 +65,7 @@ impl Telling for Seq<u8> {
 }
 
 /// A list of such.
-pub(crate) fn list<T: Telling>(alloc: Global, parts: Seq<T>) -> Result<Value, AllocError>
+fn list<T: Telling>(alloc: Global, parts: Seq<T>) -> Result<Value, AllocError>
     requires { All T.is_text parts }
     ensures { IfOk result (λ v. Says (shapes.list_in T.form) (suc T.deep) parts (view v)) }
 {
@@ -172,11 +183,7 @@ impl Telling for FrameText {
 }
 
 /// The arguments and the selector of a turn that starts.
-fn start(
-    alloc: Global,
-    args: Seq<ValueText>,
-    selector: Seq<u8>,
-) -> Result<Value, AllocError>
+fn start(alloc: Global, args: Seq<ValueText>, selector: Seq<u8>) -> Result<Value, AllocError>
     requires args { All ValueIsText args }
     requires selector { IsText selector }
     ensures { IfOk result (λ v. Says shapes.start_in 3 (phase.Start args selector) (view v)) }
@@ -357,17 +364,6 @@ impl Telling for (u16, u64) {
         let (client, last) = self;
         json!(in alloc; [client, last])
     }
-}
-
-/// The JSON value that says this: what is read of it is this again. Only want of memory is an error.
-pub fn image_data(alloc: Global, text: ImageText) -> Result<Value, AllocError>
-    requires { ImageIsText text }
-    ensures read { IfOk result (λ v. shapes.image_in (view v) ≡ Some text) }
-    ensures shallow { IfOk result (λ v. depth (view v) ≤ 9) }
-    ensures whole { IfOk result (λ v. has_float (view v) ≡ false) }
-    ensures ordered { IfOk result (λ v. keys_rise (view v) ≡ true) }
-{
-    text.tell(alloc)
 }
 
 impl Telling for ImageText {

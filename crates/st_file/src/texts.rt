@@ -1,8 +1,8 @@
 //! What an image file says, in its own texts: names and classes are texts, and methods are sources.
+use crate::edit_text::EditText;
 use st_classes::faults::Fault;
 use st_classes::seq::Seq;
 use st_classes::values::ActorId;
-use crate::edit_text::EditText;
 use st_mailbox::messages::Sender;
 
 /// A value, whose names are texts.
@@ -50,10 +50,7 @@ pub struct FrameText {
 #[derive(Drop)]
 pub enum PhaseText {
     Fresh,
-    Start {
-        args: ValueTexts,
-        selector: Seq<u8>,
-    },
+    Start { args: ValueTexts, selector: Seq<u8> },
     Frames(Seq<FrameText>),
     Answer(ValueText),
     Fault(Fault),

@@ -20,8 +20,8 @@ use Rattle.st_file.specs.declared.texts.PhaseText.{PhaseText}
 use Rattle.st_file.specs.declared.texts.PhaseText.TheVariants as phase
 use Rattle.st_file.specs.declared.texts.BodyText.{BodyText}
 use Rattle.st_file.specs.declared.texts.ActorText.{ActorText}
-use Rattle.st_file.specs.declared.edit_text.EditText.{EditText}
-use Rattle.st_file.specs.declared.edit_text.EditText.TheVariants as edit
+use Rattle.st_image.specs.declared.edit_text.EditText.{EditText}
+use Rattle.st_image.specs.declared.edit_text.EditText.TheVariants as edit
 use Rattle.st_file.specs.declared.texts.ImageText.{ImageText}
 
 -- what is there, where an object has just these keys

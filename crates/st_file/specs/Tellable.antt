@@ -1,8 +1,8 @@
 -- Texts that a JSON value can hold: they are UTF-8.
 use Rattle.std.specs.Prelude.{◌≡◌, ◌≤◌, ℕ, List, true, All}
 use Rattle.std.specs.Str.{is_utf8}
-use Rattle.st_file.specs.declared.edit_text.EditText.{EditText}
-use Rattle.st_file.specs.declared.edit_text.EditText.TheVariants as edit
+use Rattle.st_image.specs.declared.edit_text.EditText.{EditText}
+use Rattle.st_image.specs.declared.edit_text.EditText.TheVariants as edit
 use Rattle.st_file.specs.declared.texts.ValueText.{ValueText}
 use Rattle.st_file.specs.declared.texts.ValueText.TheVariants.{Symbol, Class}
 use Rattle.st_file.specs.declared.texts.MessageText.{MessageText}

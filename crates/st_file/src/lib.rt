@@ -5,9 +5,9 @@
 //! [`telling`] is the way back: the JSON value that says some [`texts`].
 #![tactic(auto)]
 
-pub mod edit_text;
 mod faults;
 mod fields;
 pub mod reading;
+pub mod resolving;
 pub mod telling;
 pub mod texts;

@@ -7,7 +7,6 @@ ghost use Rattle.serde_json.specs.View.{view};
 ghost use Rattle.st_file.specs.Answers.{Reads};
 ghost use Rattle.st_file.specs.Shapes as shapes;
 
-use crate::edit_text::EditText;
 use crate::faults::fault_of;
 use crate::fields::{
     Readable, SHAPE, actor_at, client_number, count, has_just, last_number, list_at, number_at,
@@ -19,6 +18,7 @@ use crate::texts::{
 };
 use serde_json::Value;
 use st_classes::refusals::Refusal;
+use st_image::edit_text::EditText;
 use st_mailbox::messages::Sender;
 use std::alloc::Global;
 

@@ -6,18 +6,18 @@ ghost use Rattle.serde_json.specs.Written.{has_float};
 ghost use Rattle.st_wire.specs.Fields as spec;
 ghost use Rattle.st_wire.specs.Replies.{keys_rise, whole};
 ghost use Rattle.st_file.specs.declared.texts.PhaseText.TheVariants as phase;
-ghost use Rattle.st_file.specs.declared.edit_text.EditText.TheVariants as edit;
+ghost use Rattle.st_image.specs.declared.edit_text.EditText.TheVariants as edit;
 ghost use Rattle.st_file.specs.Says.{Says};
 ghost use Rattle.st_file.specs.Shapes as shapes;
 ghost use Rattle.st_file.specs.Tellable.{IsText, ValueIsText, MessageIsText, ObjectIsText, FrameIsText, PhaseIsText, BodyIsText, ActorIsText, EditIsText, HasSent, ImageIsText};
 
-use crate::edit_text::EditText;
 use crate::faults::fault_name;
 use crate::texts::{
     ActorText, BodyText, FrameText, ImageText, MessageText, ObjectText, PhaseText, ValueText,
 };
 use serde_json::{Value, json};
 use st_classes::seq::Seq;
+use st_image::edit_text::EditText;
 use st_mailbox::messages::Sender;
 use std::alloc::{AllocError, Global};
 

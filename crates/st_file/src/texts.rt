@@ -1,8 +1,8 @@
 //! What an image file says, in its own texts: names and classes are texts, and methods are sources.
-use crate::edit_text::EditText;
 use st_classes::faults::Fault;
 use st_classes::seq::Seq;
 use st_classes::values::ActorId;
+use st_image::edit_text::EditText;
 use st_mailbox::messages::Sender;
 
 /// A value, whose names are texts.

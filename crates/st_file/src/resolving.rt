@@ -4,7 +4,9 @@ ghost use Rattle.st_classes.specs.Classes.{class_named};
 ghost use Rattle.st_file.specs.Answers.{Finds};
 ghost use Rattle.st_file.specs.Meanings as spec;
 
-use crate::texts::{ActorText, BodyText, FrameText, MessageText, ObjectText, PhaseText, ValueText};
+use crate::texts::{
+    ActorText, BodyText, FrameText, MessageText, ObjectText, PhaseText, ValueText,
+};
 use st_classes::names::Names;
 use st_classes::refusals::{ImagePlace, Refusal};
 use st_classes::seq::Seq;
@@ -73,7 +75,12 @@ fn selector_of(names: &Names, text: &[u8]) -> Result<Selector, Refusal>
 impl Means<Value> for ValueText {
     ghost meaning = { spec.value_meant };
 
-    fn resolve(&self, _alloc: Global, names: &Names, version: &Version) -> Result<Value, Refusal> {
+    fn resolve(
+        &self,
+        _alloc: Global,
+        names: &Names,
+        version: &Version,
+    ) -> Result<Value, Refusal> {
         match self {
             ValueText::Int(number) => Ok(Value::Int(*number)),
             ValueText::Bool(truth) => Ok(Value::Bool(*truth)),
@@ -106,7 +113,12 @@ fn values_of(
 impl Means<Message> for MessageText {
     ghost meaning = { spec.message_meant };
 
-    fn resolve(&self, alloc: Global, names: &Names, version: &Version) -> Result<Message, Refusal> {
+    fn resolve(
+        &self,
+        alloc: Global,
+        names: &Names,
+        version: &Version,
+    ) -> Result<Message, Refusal> {
         Ok(Message {
             sender: self.sender,
             seq: self.seq,
@@ -205,16 +217,21 @@ fn frames_of(
 impl Means<Phase> for PhaseText {
     ghost meaning = { spec.phase_meant };
 
-    fn resolve(&self, alloc: Global, names: &Names, version: &Version) -> Result<Phase, Refusal> {
+    fn resolve(
+        &self,
+        alloc: Global,
+        names: &Names,
+        version: &Version,
+    ) -> Result<Phase, Refusal> {
         match self {
             PhaseText::Fresh => Ok(Phase::Fresh),
             PhaseText::Start { args, selector } => {
                 start_of(alloc, names, version, args, selector)
             }
             PhaseText::Frames(frames) => frames_of(alloc, names, version, frames),
-            PhaseText::Answer(value) => Ok(Phase::Done(Outcome::Answer(value.resolve(
-                alloc, names, version,
-            )?))),
+            PhaseText::Answer(value) => Ok(Phase::Done(Outcome::Answer(
+                value.resolve(alloc, names, version)?,
+            ))),
             PhaseText::Fault(fault) => Ok(Phase::Done(Outcome::Fault(*fault))),
         }
     }
@@ -223,7 +240,12 @@ impl Means<Phase> for PhaseText {
 impl Means<Body> for BodyText {
     ghost meaning = { spec.body_meant };
 
-    fn resolve(&self, alloc: Global, names: &Names, version: &Version) -> Result<Body, Refusal> {
+    fn resolve(
+        &self,
+        alloc: Global,
+        names: &Names,
+        version: &Version,
+    ) -> Result<Body, Refusal> {
         Ok(Body {
             objects: resolve_all(alloc, names, version, self.objects.as_slice())?,
             phase: self.phase.resolve(alloc, names, version)?,

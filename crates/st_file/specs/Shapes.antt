@@ -1,15 +1,16 @@
 -- The forms of an image file: what a JSON value says, in texts.
-use Rattle.std.specs.Prelude.{ℕ, ◌^◌, ◌-◌, ◌==◌, ◌&&◌, Bool, List, [], ◌∷◌, codes, if◌then◌else◌, Option, Some, None, option_map, option_and_then}
+use Rattle.std.specs.Prelude.{ℕ, ◌^◌, ◌-◌, ◌==◌, Bool, List, [], ◌∷◌, codes, if◌then◌else◌, Option, Some, None, option_map, option_and_then}
 use Rattle.std.specs.Str.{bytes_eq}
-use Rattle.serde_json.specs.Data.{Data, null, boolean, number, string, array, object, Items}
+use Rattle.serde_json.specs.Data.{Data, null, boolean, number, string, array, object}
 use Rattle.serde_json.specs.Find.{get, at, as_bool, as_number, as_array, as_u64, as_i64}
 use Rattle.serde_json.specs.Events.{items_len}
 use Rattle.st_classes.specs.declared.faults.Fault.{Fault}
 use Rattle.st_classes.specs.declared.faults.Fault.TheVariants.{NotUnderstood, Overflow, ZeroDivide, BadArgument, MustBeBoolean, StackOverflow, HeapFull, LocalArgument, TooManyActors}
 use Rattle.st_mailbox.specs.declared.messages.Sender.{Sender}
 use Rattle.st_mailbox.specs.declared.messages.Sender.TheVariants as sender
-use Rattle.st_wire.specs.Fields.{size, text, text_at, texts_at, each_of, within, whole_at, actor_at, number_at}
+use Rattle.st_wire.specs.Fields.{size, text_at, texts_at, each_of, within, whole_at, actor_at, number_at}
 use Rattle.st_wire.specs.Commands.{has_just}
+use Rattle.st_wire.specs.Names.{fault_name}
 use Rattle.st_file.specs.declared.texts.ValueText.{ValueText}
 use Rattle.st_file.specs.declared.texts.ValueText.TheVariants.{Int, Bool as Boolean, Nil, Symbol, Class, Actor, Local}
 use Rattle.st_file.specs.declared.texts.MessageText.{MessageText}
@@ -26,6 +27,10 @@ use Rattle.st_file.specs.declared.texts.ImageText.{ImageText}
 -- what is there, where an object has just these keys
 abbrev pub of_keys : {T : Type 0} → List (List ℕ) → Data → Option T → Option T
 of_keys keys d found = if has_just keys d then found else None
+
+-- what each item of an array is
+abbrev pub list_in : {T : Type 0} → (Data → Option T) → Data → Option (List T)
+list_in f d = option_and_then (each_of f) (as_array d)
 
 -- what each item of a key's array is
 abbrev pub list_at : {T : Type 0} → (Data → Option T) → List ℕ → Data → Option (List T)
@@ -114,19 +119,21 @@ frame_in d =
     (one_at value_in (codes "receiver") d)
     (values_at (codes "temps") d))
 
+-- all faults
+abbrev pub faults : List Fault
+faults =
+    NotUnderstood ∷ Overflow ∷ ZeroDivide ∷ BadArgument ∷ MustBeBoolean ∷ StackOverflow ∷ HeapFull ∷ LocalArgument
+    ∷ TooManyActors
+    ∷ []
+
+-- the first of these that has a name
+abbrev pub fault_among : List Fault → List ℕ → Option Fault
+fault_among [] name = None
+fault_among (f ∷ fs) name = if bytes_eq name (fault_name f) then Some f else fault_among fs name
+
 -- the fault of a name
 abbrev pub fault_of : List ℕ → Option Fault
-fault_of name =
-    if bytes_eq name (codes "notUnderstood") then Some NotUnderstood
-    else (if bytes_eq name (codes "overflow") then Some Overflow
-    else (if bytes_eq name (codes "zeroDivide") then Some ZeroDivide
-    else (if bytes_eq name (codes "badArgument") then Some BadArgument
-    else (if bytes_eq name (codes "mustBeBoolean") then Some MustBeBoolean
-    else (if bytes_eq name (codes "stackOverflow") then Some StackOverflow
-    else (if bytes_eq name (codes "heapFull") then Some HeapFull
-    else (if bytes_eq name (codes "localArgument") then Some LocalArgument
-    else (if bytes_eq name (codes "tooManyActors") then Some TooManyActors
-    else None))))))))
+fault_of = fault_among faults
 
 abbrev pub start_from : Option (List ValueText) → Option (List ℕ) → Option PhaseText
 start_from (Some args) (Some selector) = Some (phase.Start args selector)
@@ -236,7 +243,7 @@ count null = 0
 count (boolean b) = 0
 count (number n) = 0
 count (string s) = 0
-count (object members) = 0
+count (object ms) = 0
 
 -- a whole number of a range at a place of an array
 abbrev pub whole_in : ℕ → ℕ → ℕ → Data → Option ℕ

@@ -1,8 +1,6 @@
 //! The parts of a JSON value.
-ghost use Rattle.std.specs.Prelude.{◌≡◌, ◌≤◌, IfOk, Ok, Err, map, if◌then◌else◌};
+ghost use Rattle.std.specs.Prelude.{◌≡◌, ◌≤◌, IfOk, map};
 ghost use Rattle.serde_json.specs.View.{view, items_view};
-ghost use Rattle.st_classes.specs.declared.refusals.Refusal.TheVariants.{BadImage};
-ghost use Rattle.st_classes.specs.declared.refusals.ImagePlace.TheVariants.{Shape};
 ghost use Rattle.st_wire.specs.Fields as spec;
 ghost use Rattle.st_wire.specs.Commands.{has_just as has_just_keys, has_all as has_all_keys};
 ghost use Rattle.st_file.specs.Answers.{Reads};
@@ -127,17 +125,6 @@ fn has_all(object: &Value, keys: &[&str]) -> bool
         }
     }
     true
-}
-
-/// Refuses an object of other keys than these.
-pub(crate) fn just_keys(object: &Value, keys: &[&str]) -> Result<(), Refusal>
-    ensures { result ≡ (if has_just_keys (map (λ key. key.now) keys.now) (view object.now) then Ok tt else Err (BadImage Shape)) }
-{
-    if has_just(object, keys) {
-        Ok(())
-    } else {
-        Err(SHAPE)
-    }
 }
 
 /// A whole number in a range, with both ends in it.

@@ -7,15 +7,16 @@ ghost use Rattle.serde_json.specs.View.{view};
 ghost use Rattle.st_file.specs.Answers.{Reads};
 ghost use Rattle.st_file.specs.Shapes as shapes;
 
+use crate::faults::fault_of;
 use crate::fields::{
-    Readable, SHAPE, actor_at, client_number, count, has_just, just_keys, last_number, list_at, number_at, one_at,
-    size, text_at, whole_at,
+    Readable, SHAPE, actor_at, client_number, count, has_just, last_number, list_at, number_at,
+    one_at, size, text_at, whole_at,
 };
 use crate::texts::{
-    ActorText, BodyText, FrameText, ImageText, MessageText, ObjectText, PhaseText, ValueText, ValueTexts,
+    ActorText, BodyText, FrameText, ImageText, MessageText, ObjectText, PhaseText, ValueText,
+    ValueTexts,
 };
 use serde_json::Value;
-use st_classes::faults::Fault;
 use st_classes::refusals::Refusal;
 use st_image::edit_text::EditText;
 use st_mailbox::messages::Sender;
@@ -25,7 +26,9 @@ use std::alloc::Global;
 pub fn read_image(alloc: Global, value: &Value) -> Result<ImageText, Refusal>
     ensures { Reads (shapes.image_in (view value.now)) result }
 {
-    just_keys(value, &["actors", "edits", "format", "names", "senders"])?;
+    if !has_just(value, &["actors", "edits", "format", "names", "senders"]) {
+        return Err(SHAPE);
+    }
     whole_at(value, "format", 1, 1)?;
     Ok(ImageText {
         actors: list_at(alloc, value, "actors")?,
@@ -84,7 +87,9 @@ impl Readable for Sender {
         match value {
             Value::Number(number) => Ok(Sender::Client(client_number(number.as_u64())?)),
             Value::Object(_) => {
-                just_keys(value, &["ref"])?;
+                if !has_just(value, &["ref"]) {
+                    return Err(SHAPE);
+                }
                 Ok(Sender::Actor(actor_at(value, "ref")?))
             }
             _ => Err(SHAPE),
@@ -96,7 +101,9 @@ impl Readable for MessageText {
     ghost form = { shapes.message_in };
 
     fn read(alloc: Global, value: &Value) -> Result<MessageText, Refusal> {
-        just_keys(value, &["args", "selector", "sender", "seq"])?;
+        if !has_just(value, &["args", "selector", "sender", "seq"]) {
+            return Err(SHAPE);
+        }
         Ok(MessageText {
             args: values_at(alloc, value, "args")?,
             selector: text_at(alloc, value, "selector")?,
@@ -110,7 +117,9 @@ impl Readable for ObjectText {
     ghost form = { shapes.object_in };
 
     fn read(alloc: Global, value: &Value) -> Result<ObjectText, Refusal> {
-        just_keys(value, &["class", "slots"])?;
+        if !has_just(value, &["class", "slots"]) {
+            return Err(SHAPE);
+        }
         Ok(ObjectText {
             class: text_at(alloc, value, "class")?,
             slots: values_at(alloc, value, "slots")?,
@@ -122,7 +131,9 @@ impl Readable for FrameText {
     ghost form = { shapes.frame_in };
 
     fn read(alloc: Global, value: &Value) -> Result<FrameText, Refusal> {
-        just_keys(value, &["method", "operands", "pc", "receiver", "temps"])?;
+        if !has_just(value, &["method", "operands", "pc", "receiver", "temps"]) {
+            return Err(SHAPE);
+        }
         Ok(FrameText {
             method: number_at(value, "method")?,
             operands: values_at(alloc, value, "operands")?,
@@ -133,28 +144,12 @@ impl Readable for FrameText {
     }
 }
 
-/// The fault of a name.
-fn fault_of(name: &str) -> Option<Fault>
-    ensures { result ≡ shapes.fault_of name.now }
-{
-    match name {
-        "notUnderstood" => Some(Fault::NotUnderstood),
-        "overflow" => Some(Fault::Overflow),
-        "zeroDivide" => Some(Fault::ZeroDivide),
-        "badArgument" => Some(Fault::BadArgument),
-        "mustBeBoolean" => Some(Fault::MustBeBoolean),
-        "stackOverflow" => Some(Fault::StackOverflow),
-        "heapFull" => Some(Fault::HeapFull),
-        "localArgument" => Some(Fault::LocalArgument),
-        "tooManyActors" => Some(Fault::TooManyActors),
-        _ => None,
-    }
-}
-
 fn start(alloc: Global, value: &Value) -> Result<PhaseText, Refusal>
     ensures { Reads (shapes.start_in (view value.now)) result }
 {
-    just_keys(value, &["args", "selector"])?;
+    if !has_just(value, &["args", "selector"]) {
+        return Err(SHAPE);
+    }
     Ok(PhaseText::Start {
         args: values_at(alloc, value, "args")?,
         selector: text_at(alloc, value, "selector")?,
@@ -213,7 +208,9 @@ impl Readable for BodyText {
     ghost form = { shapes.body_in };
 
     fn read(alloc: Global, value: &Value) -> Result<BodyText, Refusal> {
-        just_keys(value, &["objects", "phase"])?;
+        if !has_just(value, &["objects", "phase"]) {
+            return Err(SHAPE);
+        }
         Ok(BodyText {
             objects: list_at(alloc, value, "objects")?,
             phase: one_at(alloc, value, "phase")?,
@@ -256,7 +253,9 @@ impl Readable for ActorText {
 fn define(alloc: Global, value: &Value) -> Result<EditText, Refusal>
     ensures { Reads (shapes.define_in (view value.now)) result }
 {
-    just_keys(value, &["name", "slots", "super"])?;
+    if !has_just(value, &["name", "slots", "super"]) {
+        return Err(SHAPE);
+    }
     Ok(EditText::Define {
         name: text_at(alloc, value, "name")?,
         slots: list_at(alloc, value, "slots")?,
@@ -267,7 +266,9 @@ fn define(alloc: Global, value: &Value) -> Result<EditText, Refusal>
 fn install(alloc: Global, value: &Value) -> Result<EditText, Refusal>
     ensures { Reads (shapes.install_in (view value.now)) result }
 {
-    just_keys(value, &["class", "source"])?;
+    if !has_just(value, &["class", "source"]) {
+        return Err(SHAPE);
+    }
     Ok(EditText::Install {
         class: text_at(alloc, value, "class")?,
         source: text_at(alloc, value, "source")?,
@@ -277,7 +278,9 @@ fn install(alloc: Global, value: &Value) -> Result<EditText, Refusal>
 fn remove(alloc: Global, value: &Value) -> Result<EditText, Refusal>
     ensures { Reads (shapes.remove_in (view value.now)) result }
 {
-    just_keys(value, &["class", "selector"])?;
+    if !has_just(value, &["class", "selector"]) {
+        return Err(SHAPE);
+    }
     Ok(EditText::Remove {
         class: text_at(alloc, value, "class")?,
         selector: text_at(alloc, value, "selector")?,

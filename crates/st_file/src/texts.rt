@@ -50,10 +50,7 @@ pub struct FrameText {
 #[derive(Drop)]
 pub enum PhaseText {
     Fresh,
-    Start {
-        args: ValueTexts,
-        selector: Seq<u8>,
-    },
+    Start { args: ValueTexts, selector: Seq<u8> },
     Frames(Seq<FrameText>),
     Answer(ValueText),
     Fault(Fault),

@@ -1,0 +1,4 @@
+pub mod AllOf
+pub mod Arrays
+pub mod FaultNames
+pub mod ToldLists

@@ -1,9 +1,9 @@
 //! Faults by their names.
 ghost use Rattle.std.specs.Prelude.{◌≡◌};
-ghost use Rattle.st_wire.specs.Names as spec;
 ghost use Rattle.st_file.specs.Shapes as shapes;
 
 use st_classes::faults::Fault;
+use st_wire::names::fault_name;
 
 /// All faults.
 const FAULTS: [Fault; 9] = [
@@ -28,21 +28,4 @@ pub(crate) fn fault_of(name: &str) -> Option<Fault>
         }
     }
     None
-}
-
-/// The name of a fault.
-pub(crate) fn fault_name(fault: Fault) -> &'static str
-    ensures { result.now ≡ spec.fault_name fault }
-{
-    match fault {
-        Fault::NotUnderstood => "notUnderstood",
-        Fault::Overflow => "overflow",
-        Fault::ZeroDivide => "zeroDivide",
-        Fault::BadArgument => "badArgument",
-        Fault::MustBeBoolean => "mustBeBoolean",
-        Fault::StackOverflow => "stackOverflow",
-        Fault::HeapFull => "heapFull",
-        Fault::LocalArgument => "localArgument",
-        Fault::TooManyActors => "tooManyActors",
-    }
 }

@@ -11,7 +11,6 @@ ghost use Rattle.st_file.specs.Says.{Says};
 ghost use Rattle.st_file.specs.Shapes as shapes;
 ghost use Rattle.st_file.specs.Tellable.{IsText, ValueIsText, MessageIsText, ObjectIsText, FrameIsText, PhaseIsText, BodyIsText, ActorIsText, EditIsText, HasSent, ImageIsText};
 
-use crate::faults::fault_name;
 use crate::texts::{
     ActorText, BodyText, FrameText, ImageText, MessageText, ObjectText, PhaseText, ValueText,
 };
@@ -19,6 +18,7 @@ use serde_json::{Value, json};
 use st_classes::seq::Seq;
 use st_image::edit_text::EditText;
 use st_mailbox::messages::Sender;
+use st_wire::names::fault_name;
 use std::alloc::{AllocError, Global};
 
 /// The JSON value that says this: what is read of it is this again. Only want of memory is an error.

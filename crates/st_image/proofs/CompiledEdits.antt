@@ -1,12 +1,11 @@
 -- Methods that are compiled from their sources stay so with more names, and with one edit more.
-use Rattle.std.proofs.Common.{arith, ◌≡◌, ℕ, ◌<◌, ◌≤◌, Bool, true, false, List, [], ◌∷◌, ◌++◌, length, take, Option, Some, None, option_map, option_and_then, Result, Ok, Err, OnOk, OnErr, slice_get, inl, inr, refl, sym, ap, subst, ◌∙◌}
+use Rattle.std.proofs.Common.{arith, ◌≡◌, ℕ, ◌≤◌, Bool, true, false, List, [], ◌∷◌, ◌++◌, length, take, Option, Some, None, option_map, option_and_then, Result, Ok, Err, OnOk, OnErr, inl, inr, refl, sym, ap, subst, ◌∙◌}
 use Rattle.std.specs.List.{flat_map}
 use Rattle.st_classes.specs.declared.values.ClassId.{ClassId}
 use Rattle.st_classes.specs.declared.edits.Edit.{Edit}
 use Rattle.st_classes.specs.declared.edits.Edit.TheVariants.{Install}
 use Rattle.st_classes.specs.declared.instructions.Instruction.{Instruction}
 use Rattle.st_classes.specs.declared.methods.MethodParts.{MethodParts}
-use Rattle.st_classes.specs.Kernel.{selector}
 use Rattle.st_classes.specs.Refusals.{first_of}
 use Rattle.st_classes.specs.Names.{is_name, interned}
 use Rattle.st_classes.specs.Selectors.{place_of}

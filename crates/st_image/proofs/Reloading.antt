@@ -1,5 +1,5 @@
 -- A table that is told as texts is loaded again.
-use Rattle.std.proofs.Common.{arith, ◌≡◌, ℕ, ◌+◌, ◌<◌, ◌≤◌, Bool, true, false, List, [], ◌∷◌, ◌++◌, ◌&&◌, ◌==◌, length, map, drop, take, take-append-drop, Option, Some, None, slice_get, is_some, unwrap_or, nat_le, refl, sym, ap, subst, ◌∙◌, length-append, not, ltb-true}
+use Rattle.std.proofs.Common.{arith, ◌≡◌, ℕ, ◌+◌, ◌<◌, ◌≤◌, Bool, true, false, List, [], ◌∷◌, ◌++◌, ◌&&◌, ◌==◌, length, map, drop, take-append-drop, Option, Some, None, slice_get, is_some, unwrap_or, nat_le, refl, sym, ap, subst, ◌∙◌, length-append, not, ltb-true}
 use Rattle.std.proofs.lemmas.List.{append_assoc, append-nil}
 use Rattle.std.proofs.lemmas.Bool.{and_parts, not-false}
 use Rattle.std.proofs.lemmas.Bool.Decides.{nat_tests}
@@ -18,8 +18,8 @@ use Rattle.st_classes.specs.declared.methods.MethodParts.{MethodParts}
 use Rattle.st_classes.specs.declared.refusals.Refusal.TheVariants.{UnknownClass, NoSuchMethod}
 use Rattle.st_classes.specs.Refusals.{first_of}
 use Rattle.st_classes.specs.Kernel.{kernel_selectors}
-use Rattle.st_classes.specs.Names.{AreNames, is_name, interned, intern_rules}
-use Rattle.st_classes.specs.Selectors.{is_selector, place_of}
+use Rattle.st_classes.specs.Names.{AreNames, is_name}
+use Rattle.st_classes.specs.Selectors.{is_selector}
 use Rattle.st_classes.specs.Classes.{class_count, class_named, classes, is_class, slots}
 use Rattle.st_classes.specs.EditLists.{AreLawful, AllSuit}
 use Rattle.st_classes.specs.EditRules.{edit_rules}
@@ -29,9 +29,8 @@ use Rattle.st_classes.specs.Walks.{own, user_method}
 use Rattle.st_classes.proofs.LawLists.{no_rule, slice_get_here, slice_get_kept, take_whole}
 use Rattle.st_classes.proofs.LawLookup.{own_stands, stands_at}
 use Rattle.st_compile.proofs.Places.{first, at-first, place-of_name}
-use Rattle.st_image.specs.declared.edit_text.EditText.{EditText}
 use Rattle.st_image.specs.CompiledEdits.{AllCompiled, IsCompiledFrom}
-use Rattle.st_image.specs.Loading.{InstallsFrom, LoadsAll, LoadsEdit, LoadsName, Reloads, TablesReload, class_text, edit_text, edit_texts, selector_text}
+use Rattle.st_image.specs.Loading.{InstallsFrom, LoadsAll, LoadsEdit, LoadsName, TablesReload, class_text, edit_text, selector_text}
 use Rattle.st_image.proofs.ClassPlaces.{NamedOnce, class_again, kernel_once, once_after}
 use Rattle.st_image.proofs.CompiledEdits.{needs_none, rules_none}
 use Rattle.st_image.proofs.LoadedNames.{made, no_first}

@@ -31,7 +31,6 @@ pub fn leads_to_one()
 
 /// A class table whose methods are compiled from their sources, as that of every image and of every loader is, loads again from the
 /// texts of its names and of its edits.
-#[tactic(auto, using(crate::proofs::Reloading::tables_reload))]
 pub fn reloads()
     ensures { TablesReload }
 {

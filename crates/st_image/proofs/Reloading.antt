@@ -73,8 +73,7 @@ name_loads names text more a =
 names_load : (names more : List (List ℕ)) → AreNames (names ++ more) → LoadsAll LoadsName (made names []) more (made (names ++ more) [])
 names_load names [] a = ap (λ (ns : List (List ℕ)). made ns []) (append-nil names)
 names_load names (text ∷ more) a =
-    let next : (names ++ text ∷ []) ++ more ≡ names ++ text ∷ more = append_assoc names (text ∷ []) more in
-    (
+    let next : (names ++ text ∷ []) ++ more ≡ names ++ text ∷ more = append_assoc names (text ∷ []) more in (
       made (names ++ text ∷ []) [],
       name_loads names text more a,
       subst (λ (ns : List (List ℕ)). LoadsAll LoadsName (made (names ++ text ∷ []) []) more (made ns [])) next (names_load (names ++ text ∷ []) more (subst AreNames (sym next) a)),
@@ -179,8 +178,7 @@ edits_load : (names : List (List ℕ)) (edits more : List Edit) → IsTable name
 edits_load names edits [] t once = ap (λ (es : List Edit). made names es) (append-nil edits)
 edits_load names edits (e ∷ more) t once =
     let allowed = allowed_here names edits more e t in
-    let next : (edits ++ e ∷ []) ++ more ≡ edits ++ e ∷ more = append_assoc edits (e ∷ []) more in
-    (
+    let next : (edits ++ e ∷ []) ++ more ≡ edits ++ e ∷ more = append_assoc edits (e ∷ []) more in (
       made names (edits ++ e ∷ []),
       edit_loads names edits e more t once allowed,
       subst (λ (es : List Edit). LoadsAll LoadsEdit (made names (edits ++ e ∷ [])) (map (edit_text names es) more) (made names es)) next (edits_load names (edits ++ e ∷ []) more (subst (IsTable names) (sym next) t) (once_after edits e allowed once)),

@@ -33,8 +33,7 @@ pub fn leads_to_one()
 /// texts of its names and of its edits.
 pub fn reloads()
     ensures { TablesReload }
-{
-}
+{}
 
 const EDITS: Refusal = Refusal::BadImage {
     place: ImagePlace::Edits,

@@ -1,29 +1,41 @@
--- Lists that are read item by item.
-use Rattle.std.proofs.Common.{◌≡◌, ℕ, ◌+◌, ◌<◌, List, [], ◌∷◌, ◌++◌, length, get_or, drop, Option, Some, None, option_map, refl, sym, ap, drop-cons, add-one, append_assoc}
-use Rattle.st_turn.specs.FrameViews.{FrameView}
-use Rattle.st_file.specs.declared.parts.PhaseParts.TheVariants as parts
-use Rattle.st_file.specs.Resolved.{all_of, cons_of, frames_of}
-
--- the items before those that are still to be read
-abbrev pub after : {T : Type 0} → List T → Option (List T) → Option (List T)
-after found rest = option_map (λ more. found ++ more) rest
-
-after_one : {T : Type 0} (found : List T) (x : T) (rest : Option (List T)) → after found (cons_of (Some x) rest) ≡ after (found ++ x ∷ []) rest
-after_one found x None = refl
-after_one found x (Some more) = ap Some (sym (append_assoc found (x ∷ []) more))
+-- Lists that mean something item by item.
+use Rattle.std.proofs.Common.{◌≡◌, ℕ, ◌+◌, ◌<◌, List, [], ◌∷◌, ◌++◌, length, get_or, take, drop, Option, Some, None, slice_get, refl, ap, ◌∙◌, sym, drop-cons, add-one}
+use Rattle.std.proofs.lemmas.List.{take_more}
+use Rattle.std.proofs.lemmas.Option.{slice_get_within, get_or_from_slice_get}
+use Rattle.st_wire.specs.Fields.{cons_of}
+use Rattle.st_wire.proofs.Lists.{after, after_one}
+use Rattle.st_file.specs.Meanings.{all_of}
 
 -- one item more
-pub all-more : {S T : Type 0} (f : S → Option T) (xs : List S) (i : ℕ) (d : S) (x : T) (found : List T) → i < length xs → f (get_or xs i d) ≡ Some x
-    → after found (all_of f (drop i xs)) ≡ after (found ++ x ∷ []) (all_of f (drop (i + 1) xs))
-all-more f xs i d x found h e = rw (add-one, drop-cons xs i d, e) (after_one found x _)
+pub all-more : {S T : Type 0} (f : S → Option T) (xs : List S) (i : ℕ) (x : S) (y : T) (found more : List T) → i < length xs → x ≡ get_or xs i x → f x ≡ Some y
+    → more ≡ found ++ y ∷ [] → all_of f xs ≡ after found (all_of f (drop i xs)) → all_of f xs ≡ after more (all_of f (drop (i + 1) xs))
+all-more f xs i x y found more h at e longer so_far =
+    let here : f (get_or xs i x) ≡ Some y = ap f (sym at) ∙ e in
+    so_far ∙ rw (longer, add-one, drop-cons xs i x, here) (after_one found y _)
 
 -- an item that is none
-pub all-none : {S T : Type 0} (f : S → Option T) (xs : List S) (i : ℕ) (d : S) (found : List T) → i < length xs → f (get_or xs i d) ≡ None
-    → after found (all_of f (drop i xs)) ≡ None
-all-none f xs i d found h e = rw (drop-cons xs i d, e)
+pub all-none : {S T : Type 0} (f : S → Option T) (xs : List S) (i : ℕ) (x : S) (found : List T) → i < length xs → x ≡ get_or xs i x → f x ≡ None
+    → all_of f xs ≡ after found (all_of f (drop i xs)) → all_of f xs ≡ None
+all-none f xs i x found h at e so_far =
+    let here : f (get_or xs i x) ≡ None = ap f (sym at) ∙ e in
+    so_far ∙ rw (drop-cons xs i x, here)
 
--- frames of which the last runs
-pub frames-push : (callers : List FrameView) (running : FrameView) → frames_of (callers ++ running ∷ []) ≡ Some (parts.Frames callers running)
-frames-push [] running = refl
-frames-push (f ∷ []) running = refl
-frames-push (f ∷ g ∷ fs) running = rw (frames-push (g ∷ fs) running) refl
+further : {T : Type 0} (o : Option T) (p q : Option (List T)) (ys : List T) (y : T) → ((zs : List T) → p ≡ Some zs → q ≡ Some (zs ++ y ∷ [])) → cons_of o p ≡ Some ys → cons_of o q ≡ Some (ys ++ y ∷ [])
+further None p q ys y k h = cc
+further (Some z) None q ys y k h = cc
+further (Some z) (Some zs) q ys y k h =
+    let e : z ∷ zs ≡ ys = cc in
+    rw (k zs refl) (ap (λ (us : List _). Some (us ++ y ∷ [])) e)
+
+-- an item behind others
+pub all-push : {S T : Type 0} (f : S → Option T) (xs : List S) (x : S) (ys : List T) (y : T) → all_of f xs ≡ Some ys → f x ≡ Some y → all_of f (xs ++ x ∷ []) ≡ Some (ys ++ y ∷ [])
+all-push f [] x ys y h e = let s : [] ≡ ys = cc in rw e (ap (λ (us : List _). Some (us ++ y ∷ [])) s)
+all-push f (z ∷ xs) x ys y h e = further (f z) (all_of f xs) (all_of f (xs ++ x ∷ [])) ys y (λ zs k. all-push f xs x zs y k e) h
+
+-- the next of some parts is told
+pub all-told : {S T : Type 0} (f : S → Option T) (told : List S) (parts : List T) (i : ℕ) (d : T) (t : S) → i < length parts → all_of f told ≡ Some (take i parts) → f t ≡ Some (get_or parts i d) → all_of f (told ++ t ∷ []) ≡ Some (take (i + 1) parts)
+all-told f told parts i d t h e next = all-push f told t (take i parts) (get_or parts i d) e next ∙ ap Some (sym (take_more parts i d h))
+
+-- the same, by the part at its place
+pub all-told-at : {S T : Type 0} (f : S → Option T) (told : List S) (parts : List T) (i : ℕ) (x : T) (t : S) → slice_get parts i ≡ Some x → all_of f told ≡ Some (take i parts) → f t ≡ Some x → all_of f (told ++ t ∷ []) ≡ Some (take (i + 1) parts)
+all-told-at f told parts i x t at e next = all-told f told parts i x t (slice_get_within parts i x at) e (next ∙ ap Some (sym (get_or_from_slice_get parts i x x at)))

@@ -82,9 +82,9 @@ impl<K: Naming, M: Mailbox> Office<K, M> {
     pub(crate) fn settle(self, shares: Shares<K>) -> Result<(Image<M>, Totals), Refusal>
         ensures image { IfOk result (λ r. r.0 ≡ self.image) }
         ensures sums { IfOk result (λ r. AreSums r.1 shares.callers.items shares.workers.items) }
-        ensures counts { IfOk result (λ r. AreCounts K.start self.image r.1) }
+        ensures counts { IfOk result (λ r. AreCounts K.start r.0 r.1) }
         ensures all { OnOk result (AreAll self.books shares.callers.items shares.workers.items) }
-        ensures stand { OnOk result (AllStand self.image shares.callers.items) }
+        ensures stand { IfOk result (λ r. AllStand r.0 shares.callers.items) }
         ensures refused { IfErr result (λ e. ((e ≡ refusals.BadArguments) × ¬ (AreAll self.books shares.callers.items shares.workers.items)) ⊎ ((e ≡ refusals.Changed) × AreAll self.books shares.callers.items shares.workers.items × ¬ (AllStand self.image shares.callers.items))) }
     {
         let Shares { callers, workers } = shares;
@@ -129,8 +129,6 @@ pub fn settle<K: Naming, M: Mailbox>(
     ensures history { IfOk result (λ t. (i : ImageView) × AreCounts K.start i t × AllStand i shares.callers.items) }
     ensures refused { IfErr result (λ e. (e ≡ refusals.BadArguments) ⊎ (e ≡ refusals.Changed)) }
 {
-    match settle_image(shared, shares) {
-        Ok((_, totals)) => Ok(totals),
-        Err(refusal) => Err(refusal),
-    }
+    let (_, totals) = settle_image(shared, shares)?;
+    Ok(totals)
 }

@@ -15,7 +15,7 @@ tell_actors-requires g c =
     let parts = map part_of (world i).actors in
     let same : c.deref.result.now ≡ parts = c.deref.ensures.value ∙ c.in_ok-parts.ensures in
     rw (same, c.names-names.ensures, c.version-version.ensures)
-        (world_actors_are_named i.names (world i).edits _ parts c.can_be_base.ensures.actors.each)
+    (world_actors_are_named i.names (world i).edits _ parts c.can_be_base.ensures.actors.each)
 
 pub returns-clause-text : goal.returns-clause-text
 returns-clause-text g c =

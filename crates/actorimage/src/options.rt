@@ -16,7 +16,7 @@ pub struct ScriptOptions<'a> {
 }
 
 impl<'a> ScriptOptions<'a> {
-    const NONE: ScriptOptions<'a> = ScriptOptions {
+    const NONE: ScriptOptions<'static> = ScriptOptions {
         quantum: None,
         capacity: None,
         image: None,

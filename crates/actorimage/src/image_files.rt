@@ -72,7 +72,12 @@ fn replace_file<R: Files>(rt: &R, alloc: Global, path: &str, image: &Image) -> R
 /// Saves an image to a file. The text is written beside the file and moved into its place, so that the file holds the old image or
 /// the new one, whenever the program is killed. A link leads to the file that is replaced. `WriteFault` says that the text was not
 /// written whole, and then the file is as it was.
-pub fn save_file<R: Files>(rt: &R, alloc: Global, path: &str, image: &Image) -> Result<(), Refusal> {
+pub fn save_file<R: Files>(
+    rt: &R,
+    alloc: Global,
+    path: &str,
+    image: &Image,
+) -> Result<(), Refusal> {
     if let Ok(target) = rt.canonicalize(alloc, path) {
         if let Some(target) = target.to_str() {
             return replace_file(rt, alloc, target, image);

@@ -62,7 +62,9 @@ fn image_option<'a>(alloc: Global) -> Arg<'a> {
     Arg::new(alloc, "image")
         .long("image")
         .value_name("FILE")
-        .help("Keeps the image in a file: begins with it where it is there, and saves to it at the end")
+        .help(
+            "Keeps the image in a file: begins with it where it is there, and saves to it at the end",
+        )
 }
 
 fn script_command<'a>(alloc: Global) -> Result<Command<'a>, AllocError> {
@@ -114,7 +116,9 @@ fn check_command<'a>(alloc: Global) -> Result<Command<'a>, AllocError> {
         .help("The image file")
         .required(true);
     Command::new(alloc, "check")
-        .about("Tells how many actors, classes and edits an image file holds, or what is wrong with it")
+        .about(
+            "Tells how many actors, classes and edits an image file holds, or what is wrong with it",
+        )
         .arg(file)
 }
 

@@ -55,7 +55,10 @@ impl<'a> Write for Taking<'a> {
 /// Why the text is refused that a device gives with so many reads, if it is.
 fn refused_after(alloc: Global, reads: u32) -> Option<Refusal> {
     let left = PENDING.as_bytes();
-    let image: Result<Image, Refusal> = load::<Mailbox, _>(alloc, &mut Reader::new(Giving { left, reads }));
+    let image: Result<Image, Refusal> = load::<Mailbox, _>(
+        alloc,
+        &mut Reader::new(Giving { left, reads }),
+    );
     image.err()
 }
 
@@ -63,7 +66,14 @@ fn refused_after(alloc: Global, reads: u32) -> Option<Refusal> {
 fn holds_after(alloc: Global, writes: u32, wanted: Result<(), Refusal>) -> Result<bool, Refusal> {
     let image = loaded(alloc, PENDING.as_bytes())?;
     let mut taken = Vec::new(alloc);
-    let result = save(alloc, &image, &mut Writer::new(Taking { taken: &mut taken, writes }));
+    let result = save(
+        alloc,
+        &image,
+        &mut Writer::new(Taking {
+            taken: &mut taken,
+            writes,
+        }),
+    );
     let length = PIECE * writes as usize;
     let text = PENDING.as_bytes();
     let is_front = if length < text.len() + 1 {

@@ -11,8 +11,9 @@ ghost use Rattle.st_server.specs.Checks.{Told, checked, status_of};
 use crate::images::{Image, Mailbox};
 use st_classes::refusals::Refusal;
 use st_file::files::load;
-use st_wire::replies::{Reply, reply_text};
-use st_wire::streams::{Input, Output, write_all};
+use st_session::writing::write_reply;
+use st_wire::replies::Reply;
+use st_wire::streams::{Input, Output};
 use std::alloc::Global;
 
 /// The reply that tells of the image of a file, or why the file has none.
@@ -47,11 +48,8 @@ pub fn check_on<I: Input, O: Output>(
 {
     let loaded: Result<Image, Refusal> = load::<Mailbox, I>(alloc, input);
     let status = u8::from(loaded.is_err());
-    let Ok(text) = reply_text(alloc, &reply_of(&loaded)) else {
-        return Err(Refusal::NoMemory);
-    };
-    match write_all(output, &text) {
+    match write_reply(alloc, output, &reply_of(&loaded)) {
         Ok(()) => Ok(status),
-        Err(_) => Err(Refusal::WriteFault),
+        Err(refusal) => Err(refusal),
     }
 }

@@ -61,7 +61,10 @@ pub enum Reply {
     /// No more messages are accepted.
     Closed,
     /// What a run took.
-    Ran { quanta: u32, steps: u64 },
+    Ran {
+        quanta: u32,
+        steps: u64,
+    },
     /// What an image file holds. The kernel's classes are counted.
     Checked {
         actors: u32,

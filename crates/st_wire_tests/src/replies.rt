@@ -30,7 +30,13 @@ fn writes_what_is_done(rt: HostRuntime) -> Result<(), Fail> {
         classes: 9,
         edits: 5,
     };
-    assert!(rt; is_line(alloc, checked, r#"{"ok":{"actors":1,"classes":9,"edits":5}}"#)?);
+    assert!(rt;
+        is_line(
+            alloc,
+            checked,
+            r#"{"ok":{"actors":1,"classes":9,"edits":5}}"#
+        )?
+    );
     let fault = Reply::Fault(Fault::NotUnderstood);
     assert!(rt; is_line(alloc, fault, r#"{"ok":{"fault":"notUnderstood"}}"#)?);
     Ok(())

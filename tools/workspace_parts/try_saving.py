@@ -89,6 +89,27 @@ def not_written(program):
         same((content(folder), os.path.exists(os.path.join(folder, "two.image"))), (before, False))
 
 
+def fails_later(program):
+    """What was saved before is loaded, and only what came later is done once more."""
+    with tempfile.TemporaryDirectory() as folder:
+        beside = os.path.join(folder, NAME + ".new")
+        terminal = Terminal([WORKSPACE, "--program", program, *OPTIONS], folder, folder)
+        terminal.see("\n> ")
+        for line in [*BUMPED, "c bump"]:
+            terminal.ask(line)
+        same(terminal.ask(":save"), f"{NAME}: {ONE}\n")
+        same(terminal.ask("c bump"), "3\n")
+        os.mkdir(beside)
+        same(FULL in terminal.ask(":save"), True)
+        same(terminal.ask("c bump"), "4\n")
+        same(FULL in terminal.ask(":save"), True)
+        same(terminal.ask(":turn 0 of c"), "turn 0 of actor 0 answers 2\n")
+        os.rmdir(beside)
+        same(terminal.ask(":save"), f"{NAME}: {ONE}\n")
+        same(terminal.ask(":turn 0 of c"), "turn 0 of actor 0 answers 4\n")
+        same(terminal.end(), 0)
+
+
 def not_written_at_terminal(program):
     """At a terminal an end without the file goes on once more."""
     for is_mended in (True, False):
@@ -118,6 +139,15 @@ def of_server(program):
         same(told[-1], "the image has 1 actor, numbered from 0")
 
 
+def endless_on_server(program):
+    """A turn that goes on in the file goes on in the server, and in the file that it leaves."""
+    with tempfile.TemporaryDirectory() as folder:
+        typed(program, folder, ["C : Object", "C >> m  [true] whileTrue: [nil]", "c := C actor", ":post c m", ":step"])
+        told = served(program, folder, ["c := actor 0", ":turn 0 of c"])
+        same(told, ["actor 0", "Pending: turn 0 of actor 0 has not ended, or its message was not posted yet; ask again later"])
+        same(typed(program, folder, [":step"])[0], [f"{NAME}: 1 class, 1 method, 1 actor, 1 turn to run", "1 quantum, 256 steps"])
+
+
 def served(program, folder, lines):
     """What a workspace prints in the only session of a server that keeps the image."""
     with Server(program, folder, "--workers", "2", "--sessions", "1", *OPTIONS) as server:
@@ -126,4 +156,5 @@ def served(program, folder, lines):
     return [line for line in printed if not line.startswith("> ")]
 
 
-TRIALS = (saved, without_option, back, no_image_there, not_written, not_written_at_terminal, of_server)
+OF_FAILURES = (not_written, fails_later, not_written_at_terminal)
+TRIALS = (saved, without_option, back, no_image_there, *OF_FAILURES, of_server, endless_on_server)

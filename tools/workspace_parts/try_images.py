@@ -64,7 +64,7 @@ def as_typed(program):
     """What is known of a file is what is known where all is typed in; actors that methods made have their class besides."""
     with tempfile.TemporaryDirectory() as folder:
         sessions = [Session(OwnImage(program, (), os.path.join(folder, NAME)), Breaks(), lambda line: None)]
-        for line in [*ALL, *KID, ":close actor 2", ":post c bump", ":post m again"]:
+        for line in [*ALL, *KID, "m again", ":close actor 2", ":post c bump", ":post m again"]:
             sessions[0].do(line)
         sessions[0].close()
         sessions.append(Session(OwnImage(program, (), os.path.join(folder, NAME)), Breaks(), lambda line: None))
@@ -125,9 +125,12 @@ def linked(program):
     """Behind a link the image is kept where the link leads."""
     with tempfile.TemporaryDirectory() as folder:
         os.mkdir(os.path.join(folder, "kept"))
-        os.symlink("kept/file", os.path.join(folder, NAME))
-        typed(program, folder, ["C : Object"])
-        same((os.readlink(os.path.join(folder, NAME)), os.listdir(os.path.join(folder, "kept"))), ("kept/file", ["file"]))
+        for name in (NAME, "two.image"):
+            os.symlink("kept/" + name, os.path.join(folder, name))
+        typed(program, folder, ["C : Object", ":save two.image"])
+        same(sorted(os.listdir(os.path.join(folder, "kept"))), [NAME, "two.image"])
+        for name in (NAME, "two.image"):
+            same(os.readlink(os.path.join(folder, name)), "kept/" + name)
         same(typed(program, folder, [":classes"])[0][1:], ["C : Object"])
 
 

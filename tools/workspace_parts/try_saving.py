@@ -112,14 +112,14 @@ def fails_later(program):
 
 def not_written_at_terminal(program):
     """At a terminal an end without the file goes on once more."""
-    for is_mended in (True, False):
+    for is_mended, typed_to_end in ((True, "\x04"), (False, ":quit\n")):
         with tempfile.TemporaryDirectory() as folder:
             beside = os.path.join(folder, NAME + ".new")
             os.mkdir(beside)
             terminal = Terminal([WORKSPACE, "--program", program, *OPTIONS], folder, folder)
             terminal.see("\n> ")
             terminal.ask("C : Object")
-            terminal.type("\x04")
+            terminal.type(typed_to_end)
             terminal.see(f"{FULL}; end the workspace again once it can, or now to lose what the file has not\n> ")
             same(terminal.ask(":classes"), "C : Object\n")
             if is_mended:

@@ -6,7 +6,8 @@ ghost use Rattle.st_image.specs.Images.{ImageView};
 ghost use Rattle.st_wire.specs.Streams.{input_view};
 ghost use Rattle.st_session.specs.Sessions.{end_of, failures_after};
 ghost use Rattle.st_file.specs.Files.{LoadsFile};
-ghost use Rattle.st_server.specs.Checks.{Told, checked, status_of};
+ghost use Rattle.st_server.specs.Checks as spec;
+ghost use Rattle.st_server.specs.Checks.{Told, checked};
 
 use crate::images::{Image, Mailbox};
 use st_classes::refusals::Refusal;
@@ -30,6 +31,16 @@ fn reply_of(loaded: &Result<Image, Refusal>) -> Reply
     }
 }
 
+/// The status that tells whether there is an image.
+fn status_of(loaded: &Result<Image, Refusal>) -> u8
+    ensures { result ≡ spec.status_of loaded.now }
+{
+    match loaded {
+        Ok(_) => 0,
+        Err(_) => 1,
+    }
+}
+
 /// Loads an image and writes to an output how many actors, classes and edits it has, the kernel's classes counted, or why it was
 /// refused. The answer is the status: 0, or 1 where the image was refused.
 ///
@@ -47,7 +58,7 @@ pub fn check_on<I: Input, O: Output>(
     ensures failures { O.failures output.new ≡ failures_after (end_of result) (O.failures output.old) }
 {
     let loaded: Result<Image, Refusal> = load::<Mailbox, I>(alloc, input);
-    let status = u8::from(loaded.is_err());
+    let status = status_of(&loaded);
     match write_reply(alloc, output, &reply_of(&loaded)) {
         Ok(()) => Ok(status),
         Err(refusal) => Err(refusal),

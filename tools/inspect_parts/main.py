@@ -13,15 +13,14 @@ place refuses it, where in the JSON, and what is wrong there; the status is 1.
 import argparse
 import os
 import sys
-import threading
 
+from .deep import deeply
 from .page import page
 from .reading import read_image
 from .refused import BadImage
 
-# A source may open thousands of brackets before it is refused.
-DEEPEST_CALLS = 200_000
-STACK = 256 * 1024 * 1024
+# The status where the work did not end well.
+BROKE = 3
 
 
 def arguments():
@@ -70,22 +69,12 @@ def wrong(sentence):
     return 1
 
 
-def deeply(work):
-    """What `work` answers, with room for many calls inside one another."""
-    answers = []
-    sys.setrecursionlimit(DEEPEST_CALLS)
-    threading.stack_size(STACK)
-    worker = threading.Thread(target=lambda: answers.append(work()), daemon=True)
-    worker.start()
-    worker.join()
-    return answers[0] if answers else 3
-
-
 def main():
     given = arguments()
     sys.stderr.reconfigure(errors="backslashreplace")
     try:
-        sys.exit(deeply(try_all if given.trials else lambda: show(given.file)))
+        status = deeply(try_all if given.trials else lambda: show(given.file))
+        sys.exit(BROKE if status is None else status)
     except KeyboardInterrupt:
         wrong("broken off")
         sys.exit(130)

@@ -20,8 +20,8 @@ REFUSALS = {
     "Closed": "the mailbox of {actor} is closed for ever; make a new actor",
     "Expired": "how turn {turn} of {actor} ended is no longer kept, or its number is 0; ask for one of the newest 64",
     "Full": "the mailbox of {actor} is full; :run makes room",
-    "HistoryFull": "the history is full, often of the quanta of an endless turn, and nothing more is accepted; :save what you "
-    "need and start anew with :restart",
+    "HistoryFull": "the history is full, often of the quanta of an endless turn, and nothing more is accepted; :save FILE keeps "
+    "the image and begins a new history",
     "KernelClass": "{class} is a class of the kernel; take Object or a class of your own",
     "KernelMethod": "{class} has this method from the kernel, where it stays; take another name, or a class of your own",
     "NoMemory": "memory ran out, and this was not done; try again, or start anew with :restart",
@@ -43,7 +43,8 @@ REFUSALS = {
 MOST = {
     "actors": "there are 65,536 actors, and no more can be made; let the old ones do more, or start anew with :restart",
     "classes": "there are 1,024 classes, and no more can be defined; start anew with :restart",
-    "edits": "the classes were edited as often as a session may, 2,048 times; :save them and start anew with :restart",
+    "edits": "the classes were edited as often as they may, 2,048 times in a session and 4,096 times in all; :save FILE begins a "
+    "new session, and :sources FILE writes them for a new image",
     "names": "there are 8,192 selectors and symbols, and no more can be added; start anew with :restart",
     "sessions": "the program serves as many sessions as it may; try again later",
     "slots": "an object would have over 64 variables; move some into a class of their own",

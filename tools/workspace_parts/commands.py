@@ -2,7 +2,7 @@
 
 from dataclasses import dataclass
 
-from . import advice, browsing, files, running
+from . import advice, browsing, files, running, saving
 from .known import near
 from .wrong import Wrong
 
@@ -69,14 +69,6 @@ def help_lines(session, names):
     return [f"{COMMANDS[name].form.ljust(width)}  {own.get(name, COMMANDS[name].help)}" for name in names]
 
 
-def restart(session, rest):
-    if session.image.is_served:
-        raise Wrong("the image is the server's, and others use it; who started the server can end it and start it anew")
-    session.close()
-    session.start()
-    session.say("a new image, without classes and actors")
-
-
 def quit_session(session, rest):
     session.is_over = True
 
@@ -96,11 +88,12 @@ COMMANDS = {
         Described(":names", "lists what was named", browsing.names),
         Described(":stats Counter bump", "shows how the caches answered the sends of a method", browsing.stats),
         Described(":load FILE", "does what a file has: definitions, messages, comments", files.load),
-        Described(":save FILE", "writes all classes and methods to a file", files.save),
+        Described(":save FILE", "writes the image to a file now; alone, to that of --image", saving.save),
+        Described(":sources FILE", "writes all classes and methods to a file, for :load", files.sources),
         Described(":log FILE", "writes what was sent so far, and answered, as JSON; alone, shows it for the line before", files.log),
         Described(":why heapFull", "says what a refusal or fault means, and what to do; alone, the last one", why),
         Described(":help :step", "helps with a command; alone, with all", help_on),
-        Described(":restart", "starts anew, with nothing defined", restart),
-        Described(":quit", "ends the workspace", quit_session),
+        Described(":restart", "starts anew, with nothing defined; with --image, as it was saved last", saving.restart),
+        Described(":quit", "ends the workspace; with --image, the image is kept", quit_session),
     )
 }

@@ -9,28 +9,32 @@ from .wrong import Ended
 
 # A longer line would end the session (docs/LIMITS.md).
 LONGEST_LINE = 8192
-NOTHING_RUN = b'{"ok":{"quanta":0,"steps":0}}\n'
+# A question that changes no image, and how each image answers it: no actor has the highest number of all.
+GREETING = {"cmd": "outcome", "actor": 2**32 - 1, "turn": 0}
+ITS_REPLY = b'{"error":"UnknownActor"}\n'
 HOW_BUILT = "./actorimage builds the program, and README.md says what that needs"
 # What a status says of a program that ends before its first reply.
 STARTS = {
-    1: f"could not be started, for the reason above; {HOW_BUILT}",
+    1: f"could not be started, or refused its image, for the reason above; {HOW_BUILT}",
     2: "refused its options; --quantum and --capacity are 1 to 1,024",
 }
 
 
-# So long a program may take to end when it was told to.
+# So long a program may take to end when it was told to, and to save its image before.
 SECONDS_TO_END = 5
+SECONDS_TO_SAVE = 60
 # The signals that end the workspace, and the program with it.
 ENDING = (signal.SIGINT, signal.SIGTERM, signal.SIGHUP)
 
 
 class Connection:
     """A script that runs, by a pipe. It is in a group of processes of its own: a Ctrl-C does not reach the program, so that
-    only a run is broken off, and a build that the program starts ends with the group."""
+    only a run is broken off, and a build that the program starts ends with the group. `is_kept` says whether somebody wants what
+    the program saves at its end."""
 
-    def __init__(self, program, options):
-        self.program = program
-        self.process = None
+    def __init__(self, program, options, is_kept=False):
+        self.program, self.is_kept = program, is_kept
+        self.process, self.is_greeted = None, False
         try:
             self.start([program, "script", *options])
             self.greet()
@@ -57,11 +61,12 @@ class Connection:
     def greet(self):
         """Waits until the program replies, which takes long where it is built first."""
         try:
-            self.send({"cmd": "run"})
+            self.send(GREETING)
             reply = self.process.stdout.readline()
         except BrokenPipeError:
             reply = b""
-        if reply == NOTHING_RUN:
+        if reply == ITS_REPLY:
+            self.is_greeted = True
             return
         self.close()
         why = None if reply else STARTS.get(self.process.returncode)
@@ -77,7 +82,8 @@ class Connection:
                 return {"error": "TooLong"}
             return json.loads(self.process.stdout.readline())
         except (BrokenPipeError, ValueError):
-            raise Ended(f"the program ended with status {self.process.wait()}; start the workspace again") from None
+            again = "start the workspace again" + (", on the image as it was saved last" if self.is_kept else "")
+            raise Ended(f"the program ended with status {self.process.wait()}; {again}") from None
 
     def send(self, command):
         """Whether a command is short enough to be sent."""
@@ -88,15 +94,25 @@ class Connection:
         self.process.stdin.flush()
         return True
 
-    def close(self):
+    def close(self, seconds=None):
+        """Ends the session of the program, which saves its image then. The status tells whether it did."""
         try:
             self.process.stdin.close()
         except BrokenPipeError:
             pass
-        self.process.wait()
+        return self.process.wait(seconds)
 
     def end(self):
-        """Ends the program where it has not ended, with all that it started."""
+        """Ends the program where it has not ended, in such a way that an image is kept which somebody wants."""
+        if self.is_kept and self.is_greeted and self.process.poll() is None:
+            try:
+                self.close(SECONDS_TO_SAVE)
+            except (subprocess.TimeoutExpired, KeyboardInterrupt):
+                pass
+        self.kill()
+
+    def kill(self):
+        """Ends the program where it has not ended, with all that it started. It saves nothing."""
         if self.process is None or self.process.poll() is not None:
             return
         os.killpg(self.process.pid, signal.SIGTERM)
@@ -105,19 +121,6 @@ class Connection:
         except subprocess.TimeoutExpired:
             os.killpg(self.process.pid, signal.SIGKILL)
             self.process.wait()
-
-
-class Log:
-    """A connection whose commands and replies are kept."""
-
-    def __init__(self, connection):
-        self.connection = connection
-        self.lines = []
-
-    def ask(self, command):
-        reply = self.connection.ask(command)
-        self.lines.append(as_line({"sent": command, "answered": reply}))
-        return reply
 
 
 def as_line(value):

@@ -10,6 +10,8 @@ from .wrong import Wrong
 
 # So many refused entries say that a file is not meant to be loaded.
 MOST_REFUSED = 20
+# How an image file begins.
+IMAGE = '{"actors":['
 
 
 @dataclass
@@ -38,6 +40,8 @@ def load(session, rest):
         raise Wrong(f"{rest} cannot be read (it is no text in UTF-8)") from None
     except OSError as error:
         raise Wrong(f"{rest} cannot be read ({error.strerror})") from None
+    if lines[0].startswith(IMAGE):
+        raise Wrong(f"{rest} is an image, and no definitions; start a workspace on it with  tools/workspace --image {rest}")
     session.loading.append(Loading(rest, real))
     try:
         done = load_lines(session, lines)
@@ -61,9 +65,9 @@ def load_lines(session, lines):
     return done
 
 
-def save(session, rest):
+def sources(session, rest):
     if not rest:
-        raise Wrong("write the name of a file after it, as in  :save counter.st")
+        raise Wrong("write the name of a file after it, as in  :sources counter.st")
     known, defined = session.known.classes.values(), session.known.user_classes()
     lines = [it.written() for it in defined]
     lines += [line for it in known for line in it.method_lines()]

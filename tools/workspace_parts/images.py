@@ -1,34 +1,62 @@
 """Where what is typed goes: to a script that the workspace starts, or to an image that is served to many."""
 
-from . import served_advice
+import os
+import tempfile
+
+from . import image_file, served_advice
 from .connection import Connection
 from .reconnecting import Reconnecting
 from .served_turns import ServedTurns
 from .socket_connection import SocketConnection
 from .turns import Turns
+from .wrong import Ended, Wrong
+
+
+# What is said of image files. What :save loses is lost where a workspace begins with a file, too.
+HELP = """\
+With --image FILE the workspace begins with the image of that file, and keeps it there when it ends; c := actor 0 names an actor
+of it. :save goes on in a new session on the image: statistics begin at 0, turns are numbered anew, and of the outcomes each
+actor's last one is kept, as that of turn 0. What was named stays.
+""".splitlines()
 
 
 class OwnImage:
     """A script of the workspace's own: nobody else edits it. `advice`, `in_general` and `commands` have sentences in place of those
-    for a script, and `help` has lines that `:help` says besides."""
+    for a script, and `help` has lines that `:help` says besides. `kept` is the name of the file in which the image is kept, if one
+    was given, and `path` is that of the file with which the program works. `loaded` is what was there when the program began."""
 
     is_served = False
-    advice, in_general, commands, help = {}, {}, {}, []
+    advice, in_general, commands, help = {}, {}, {}, HELP
 
-    def __init__(self, program, options):
-        self.program, self.options = program, options
+    def __init__(self, program, options, kept=None):
+        self.program, self.options, self.kept = program, options, kept
+        self.folder = None if kept else tempfile.TemporaryDirectory()
+        self.path = os.path.realpath(kept or os.path.join(self.folder.name, "image"))
+        self.loaded = None
 
     def connect(self, session):
-        return Connection(self.program, self.options)
+        try:
+            name = self.kept or self.path
+            image_file.check_room(name)
+            self.loaded = image_file.read(name)
+        except Wrong as wrong:
+            raise Ended(wrong.sentence) from None
+        return Connection(self.program, ["--image", self.path, *self.options], bool(self.kept))
 
     def turns(self, connection, breaks):
         return Turns(connection, breaks)
+
+    def forget(self):
+        """A file that nobody named goes with its image."""
+        if not self.kept and os.path.exists(self.path):
+            os.remove(self.path)
 
 
 class ServedImage:
     """An image that a server keeps, which others edit as well. Messages are numbered as those of a sender."""
 
     is_served = True
+    kept = loaded = None
     advice, in_general = served_advice.REFUSALS, served_advice.IN_GENERAL
     commands, help = served_advice.COMMANDS, served_advice.HELP
 

@@ -1,10 +1,11 @@
 """A workspace: Smalltalk is typed here, and a script of actorimage does it, or a server.
 
-    tools/workspace [--program PROGRAM] [--quantum N] [--capacity N] [FILE..]
+    tools/workspace [--image IMAGE] [--program PROGRAM] [--quantum N] [--capacity N] [FILE..]
     tools/workspace --socket PATH [--sender N] [FILE..]
 
-The first starts a script with an image of its own. The second connects to an image that a server keeps for many:
-`./actorimage serve --socket PATH --workers 4` starts one.
+The first starts a script with an image of its own. With --image it begins with the image of that file, if it is there, and keeps
+it there when it ends. The second connects to an image that a server keeps for many: `./actorimage serve --socket PATH --workers 4`
+starts one.
 
 The FILEs are loaded first. Then lines are read from standard input; at a terminal `:help` lists what can be typed. If
 standard input is no terminal, each line is printed after `> ` before what it gives, and a line that begins with two spaces
@@ -16,7 +17,7 @@ import os
 import signal
 import sys
 
-from . import files
+from . import files, saving
 from .breaks import Breaks
 from .cutting import entries
 from .images import OwnImage, ServedImage, WatchedImage
@@ -35,6 +36,7 @@ def arguments():
         prog="tools/workspace", description=__doc__, formatter_class=plain, usage=argparse.SUPPRESS
     )
     parser.add_argument("files", metavar="FILE", nargs="*")
+    parser.add_argument("--image", metavar="IMAGE", help="the file in which the image is kept")
     parser.add_argument("--program", help="the program (that of this repository)")
     parser.add_argument("--quantum", metavar="N", help="steps that an actor takes before the next one runs")
     parser.add_argument("--capacity", metavar="N", help="messages that the mailbox of a new actor holds")
@@ -43,15 +45,21 @@ def arguments():
     return parser.parse_args()
 
 
+def given_of(*options):
+    """Those that were given."""
+    return [(name, value) for name, value in options if value is not None]
+
+
 def image(given):
     """The image that the options tell of."""
-    of_script = (("--program", given.program), ("--quantum", given.quantum), ("--capacity", given.capacity))
-    named = [(name, value) for name, value in of_script if value is not None]
+    settings = given_of(("--quantum", given.quantum), ("--capacity", given.capacity))
+    named = given_of(("--image", given.image), ("--program", given.program)) + settings
     if given.socket is None:
         if given.sender is not None:
             raise Ended("--sender is for a server; give it beside --socket PATH")
-        words = [word for name, value in named if name != "--program" for word in (name, value)]
-        return OwnImage(given.program or os.path.join(TOP, "actorimage"), words)
+        if given.image == "":
+            raise Ended("--image takes the name of a file")
+        return OwnImage(given.program or os.path.join(TOP, "actorimage"), sum(settings, ()), given.image)
     if named:
         raise Ended(f"{named[0][0]} is for a script; a server at a socket has its own, so leave it out")
     kind = WatchedImage if sys.stdin.isatty() else ServedImage
@@ -81,9 +89,13 @@ def transcript(session):
 
 
 def talk(session):
+    """Goes on once more where what was typed cannot be kept."""
     from . import terminal
 
     terminal.talk(session)
+    if not saving.ends(session):
+        terminal.talk(session)
+        saving.end(session)
 
 
 def load(session, name):
@@ -98,9 +110,14 @@ def work(session, names):
     is_terminal = sys.stdin.isatty()
     if is_terminal:
         session.say(WELCOME)
+    saving.begin(session)
     for name in names:
         load(session, name)
-    (talk if is_terminal else transcript)(session)
+    if is_terminal:
+        talk(session)
+    else:
+        transcript(session)
+        saving.end(session)
 
 
 def end_at_signals():
@@ -119,7 +136,6 @@ def main():
         session = Session(image(given), Breaks(), lambda line: print(line, flush=True))
         try:
             work(session, given.files)
-            session.close()
         finally:
             session.end()
     except Ended as ended:

@@ -28,9 +28,18 @@ class Terminal:
         os.write(self.ours, text.encode())
 
     def interrupt(self):
-        """Ctrl-C, once what was shown last is over and something is awaited: a signal just before would wait with it."""
-        time.sleep(0.2)
+        """Ctrl-C."""
+        self.be_awaited()
         self.type("\x03")
+
+    def signal(self, number):
+        """Sends a signal to the workspace."""
+        self.be_awaited()
+        self.process.send_signal(number)
+
+    def be_awaited(self):
+        """Until what was shown last is over and something is awaited: a signal just before would wait with it."""
+        time.sleep(0.2)
 
     def see(self, wanted, seconds=20):
         """What is shown up to and with a text, which is awaited."""

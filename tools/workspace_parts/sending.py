@@ -44,8 +44,14 @@ class Sending:
             command = LEAVE.get(name, name)
             if command in self.session.command_names:
                 raise Wrong(f"nothing is named {name}; did you mean :{command}?", place)
-            hint = near(name, self.known.names) or f"; make an actor of a class, as in  {name} := Counter actor"
+            hint = near(name, self.known.names) or self.hint(name)
             raise Wrong(f"nothing is named {name}{hint}", place)
+
+    def hint(self, name):
+        """How a name comes about: an image that was loaded has actors, and no names of theirs."""
+        if self.session.image.loaded and self.known.actors:
+            return f"; :actors lists the actors, and  {name} := actor 0  names one"
+        return f"; make an actor of a class, as in  {name} := Counter actor"
 
     def give_names(self, statement, value, actor, is_last):
         """Names the value, after it was shown: an actor that has no name yet is shown by its number."""

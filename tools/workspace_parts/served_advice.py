@@ -7,7 +7,7 @@ REFUSALS = {
     "take another name",
     "Full": "the mailbox of {actor} is full; send it again when the actor has come further",
     "HistoryFull": "the history of the server is full, often of the quanta of an endless turn, and nothing more is accepted; "
-    ":save what you need, and have the server started anew",
+    ":sources FILE writes what you typed, and the server has to be started anew",
     "NoMemory": "memory ran out in the server, and this was not done; try again",
     "NoSuchMethod": "{class} has no method {selector} of its own, or no longer; look for a slip in its name",
     "Old": "another client posts under this number as well; type it again, or start with another --sender",
@@ -15,7 +15,7 @@ REFUSALS = {
     "UnknownActor": "there is no {actor}; :actors tells how many there are",
     "actors": f"there are 65,536 actors, and no more can be made; let the old ones do more, {ANEW}",
     "classes": f"there are 1,024 classes, and no more can be defined; do with those, {ANEW}",
-    "edits": f"the classes were edited as often as they may; :save them, {ANEW}",
+    "edits": f"the classes were edited as often as they may; do with those, {ANEW}",
     "names": f"there are 8,192 selectors and symbols, and no more can be added; do with those, {ANEW}",
 }
 
@@ -37,8 +37,8 @@ HELP = """\
 This image is served to many, and the server's workers run the actors: a message that is typed waits until its turn has ended.
 :post does not wait; its turn is told of with a later answer, and :turn asks for it. Ctrl-C stops the waiting, and the turn goes on.
 c := actor 0 names an actor by its number, also one that others made. Edits of others take effect at the next send, and are not told:
-no command lists their classes or methods. :classes, :methods, :names, :save and Tab have what this session typed. :stats, :turn
-and, for how many there are, :actors ask the image.
+no command lists their classes or methods. :classes, :methods, :names, :sources and Tab have what this session typed. :stats, :turn
+and, for how many there are, :actors ask the image. The server saves its image at its end, if it was started with --image FILE.
 """.splitlines()
 
 FOR_SCRIPT = "is for a script; here the server's workers run the actors"
@@ -51,6 +51,8 @@ COMMANDS = {
     "methods": "lists the methods of a class that this session wrote; alone, all of them",
     "actors": "lists the actors that this session saw, and tells how many there are",
     "names": "lists what this session named",
-    "save": "writes the classes and methods of this session to a file",
+    "save": "is for a script; here the server saves its image at its end",
+    "sources": "writes the classes and methods of this session to a file, for :load",
     "restart": "is for a script; here the image is the server's",
+    "quit": "ends the workspace; the image goes on",
 }

@@ -1,9 +1,10 @@
 """A session: each entry is done, and what it gives is said."""
 
 from . import advice, commands
-from .connection import Log
 from .entries import Command, Definition, Method, form
 from .known import Known
+from .learning import learn
+from .log import Log
 from .refused import lines as refused_lines
 from .sending import Sending
 from .sources import marked
@@ -27,12 +28,37 @@ class Session:
         self.start()
 
     def start(self):
-        """An image of which nothing is known."""
+        """An image of which nothing is known but what stands in its file."""
         self.log = Log(self.image.connect(self))
         self.told = 0
         self.why = []
+        self.learn({})
+
+    def learn(self, names):
+        """What is known where a session of the program begins."""
         self.known = Known()
+        self.known.names = names
         self.turns = self.image.turns(self.log, self.breaks)
+        if self.image.loaded:
+            learn(self.image.loaded, self.known, self.turns)
+
+    def save(self):
+        """Whether the image was saved. The program saves it where its session ends, and another one goes on."""
+        is_saved = self.log.connection.close() == 0
+        self.go_on(is_saved)
+        return is_saved
+
+    def go_on(self, is_saved):
+        """Goes on with the image after the program has ended."""
+        self.log.go_on(self.image.connect(self), is_saved)
+        if is_saved:
+            self.learn(self.known.names)
+
+    def restart(self):
+        """Begins anew with what was saved last, if it was to be kept."""
+        self.log.connection.kill()
+        self.image.forget()
+        self.start()
 
     def forget_turns(self):
         """The image may be a new one, in which the numbers of actors and turns mean others."""
@@ -40,7 +66,11 @@ class Session:
         self.known.actors = {}
 
     def close(self):
-        self.log.connection.close()
+        """Ends the session, and says whether what was to be kept is kept."""
+        if self.image.is_served or not self.image.kept:
+            self.end()
+            return True
+        return self.log.connection.close() == 0
 
     def end(self):
         self.log.connection.end()

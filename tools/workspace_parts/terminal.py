@@ -121,7 +121,7 @@ def words(known, before, text):
 
 
 def command_words(known, name, given, text):
-    if name in ("load", "save", "log"):
+    if name in ("load", "save", "sources", "log"):
         return files(text)
     if name in ("methods", "stats", "remove"):
         return [*known.classes] if not given else own_selectors(known, given[0])

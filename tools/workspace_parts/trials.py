@@ -2,9 +2,10 @@
 
 import subprocess
 
-from . import try_pretended, try_program, try_served, try_terminal, try_words
+from . import try_images, try_pretended, try_program, try_saving, try_served, try_terminal, try_words
 
-TRIALS = try_words.TRIALS + try_terminal.TRIALS + try_program.TRIALS + try_served.TRIALS + try_pretended.TRIALS
+OF_SCRIPTS = try_words.TRIALS + try_terminal.TRIALS + try_program.TRIALS + try_images.TRIALS + try_saving.TRIALS
+TRIALS = OF_SCRIPTS + try_served.TRIALS + try_pretended.TRIALS
 
 
 def failures(program):

@@ -60,7 +60,7 @@ def no_program(program):
     for name, wanted in (
         ("/no/such", f"/no/such cannot be started (No such file or directory); {how}"),
         ("/bin/true", "/bin/true is not the program of actorimage"),
-        ("/bin/false", f"/bin/false could not be started, for the reason above; {how}"),
+        ("/bin/false", f"/bin/false could not be started, or refused its image, for the reason above; {how}"),
     ):
         ended = piped(name, [])
         same((ended.stderr.decode(), ended.returncode), (f"tools/workspace: {wanted}\n", 1))
@@ -78,7 +78,7 @@ def no_file(program):
 
 def lost_program(program):
     """A program that ends in the middle, or replies what is no reply."""
-    greeting = """read line; echo '{"ok":{"quanta":0,"steps":0}}'; read line; """
+    greeting = """read line; echo '{"error":"UnknownActor"}'; read line; """
     with tempfile.TemporaryDirectory() as folder:
         for more, wanted in (("exit 3", "the program ended with status 3"), ("echo no", "the program ended with status 0")):
             ended = piped(shell_program(folder, greeting + more), ["C : Object", "C actor"])

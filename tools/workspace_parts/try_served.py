@@ -124,6 +124,7 @@ def no_server(program):
     with tempfile.TemporaryDirectory() as folder:
         for options, wanted in (
             ([], NOTHING),
+            (["--image", "x"], "--image is for a script; a server at a socket has its own, so leave it out"),
             (["--quantum", "1"], "--quantum is for a script; a server at a socket has its own, so leave it out"),
             (["--capacity", "1"], "--capacity is for a script; a server at a socket has its own, so leave it out"),
             (["--program", program], "--program is for a script; a server at a socket has its own, so leave it out"),

@@ -87,11 +87,11 @@ class Turns:
         return self.ask({"cmd": "outcome", "actor": turn.actor, "turn": turn.number})
 
     def ask_for(self, actor):
-        """Refused if there is no such actor. Turn 0 of one that is there is never kept."""
+        """Refused if there is no such actor. Of one that is there, turn 0 has an outcome only in an image that was loaded."""
         try:
             self.outcome(Turn(actor, 0))
         except Refused as refused:
-            if refused.reply["error"] != "Expired":
+            if refused.reply["error"] not in ("Expired", "Pending"):
                 raise
 
     def forget(self, turn):

@@ -1,20 +1,24 @@
 //! The program `actorimage`.
 #![tactic(auto)]
 
+mod image_files;
 mod options;
 
+use crate::image_files::{Unreadable, load_file, save_file};
 use crate::options::{Request, ScriptOptions, ServeOptions, invalid_utf8_error, parsed_request};
 use boxcar::Vec as Faults;
 use clap::Error;
 use st_classes::refusals::Refusal;
+use st_image::settings::Settings;
+use st_server::checking::check_on;
 use st_server::images::Image;
 use st_server::scripts::script_on;
-use st_server::sockets::serve_on;
+use st_server::sockets::serve_image;
 use st_wire::names::refusal_name;
 use st_wire::streams::{Reader, Writer};
 use std::alloc::Global;
 use std::env;
-use std::fs::{self, Files, Permissions};
+use std::fs::{self, File, Files, Permissions};
 use std::io::{self, BufWriter, ErrorKind};
 use std::net::Net;
 use std::os::unix::fs::PermissionsExt;
@@ -23,20 +27,57 @@ use std::process::ExitCode;
 use std::sync::Wait;
 use std::thread::Threads;
 
-/// Runs the commands of standard input on a new image, with the replies on standard output.
-fn script<R: Input + Print + AllocGlobal>(rt: &R, options: ScriptOptions) -> Result<u64, Refusal> {
+/// The image of a file, where one is given and is there; else a new image.
+fn first_image<R: Files + AllocGlobal>(rt: &R, path: Option<&str>) -> Result<Image, Refusal> {
     let alloc = rt.alloc();
-    let settings = options.settings();
-    let image = Image::new(alloc, settings.of_image())?;
+    if let Some(path) = path {
+        if let Some(image) = load_file(rt, alloc, path)? {
+            return Ok(image);
+        }
+    }
+    Image::new(alloc, Settings::DEFAULT)
+}
+
+/// Runs the commands of standard input on an image, with the replies on standard output.
+fn run_script<R: Input + Print + AllocGlobal>(
+    rt: &R,
+    options: ScriptOptions<'_>,
+    image: Image,
+) -> (Image, Result<u64, Refusal>) {
+    let alloc = rt.alloc();
     let Ok(buffered) = BufWriter::new(alloc, io::writer(rt)) else {
-        return Err(Refusal::NoMemory);
+        return (image, Err(Refusal::NoMemory));
     };
     let mut input = Reader::new(rt.reader());
     let mut output = Writer::new(buffered);
-    let (_, result) = script_on(alloc, &mut input, &mut output, settings, image);
+    let (image, result) = script_on(alloc, &mut input, &mut output, options.settings(), image);
     match output.finish() {
-        Ok(_) => result,
-        Err(_) => Err(Refusal::WriteFault),
+        Ok(_) => (image, result),
+        Err(_) => (image, Err(Refusal::WriteFault)),
+    }
+}
+
+/// Runs a script on a new image or on that of a file, to which the image is saved unless the session is refused.
+fn script<R: Input + Print + Files + AllocGlobal>(
+    rt: &R,
+    options: ScriptOptions<'_>,
+) -> Result<(), Refusal> {
+    let image = first_image(rt, options.image)?;
+    let (image, result) = run_script(rt, options, image);
+    result?;
+    match options.image {
+        Some(path) => save_file(rt, rt.alloc(), path, &image),
+        None => Ok(()),
+    }
+}
+
+/// Tells on standard output what an image file holds. The answer is the status.
+fn check<R: Print + Files + AllocGlobal>(rt: &R, path: &str) -> Result<u8, Refusal> {
+    let alloc = rt.alloc();
+    let mut output = Writer::new(io::writer(rt));
+    match File::open(rt, path) {
+        Ok(file) => check_on(alloc, &mut Reader::new(file), &mut output),
+        Err(_) => check_on(alloc, &mut Reader::new(Unreadable), &mut output),
     }
 }
 
@@ -57,23 +98,25 @@ fn sorted_names(alloc: Global, faults: &Faults<Refusal>) -> Result<Vec<&'static 
 }
 
 /// Serves sessions over a socket that is there, and tells in the end what all have done together, and how sessions ended that were
-/// refused.
+/// refused. The answer is the image.
 fn serve_over<R: Threads + Wait + Print + Eprint + AllocGlobal + Sync>(
     rt: &R,
     listener: &UnixListener,
     options: ServeOptions<'_>,
-) -> Result<(), Refusal> {
+    image: Image,
+) -> Result<Image, Refusal> {
     let alloc = rt.alloc();
     let Ok(faults) = Faults::new(alloc) else {
         return Err(Refusal::NoMemory);
     };
-    let totals = serve_on(
+    let (image, totals) = serve_image(
         rt,
         alloc,
         listener,
         &faults,
         options.workers,
         options.sessions,
+        image,
     )?;
     let names = sorted_names(alloc, &faults)?;
     for name in &names {
@@ -82,23 +125,29 @@ fn serve_over<R: Threads + Wait + Print + Eprint + AllocGlobal + Sync>(
     let posts = totals.posts;
     let steps = totals.steps;
     match println!(rt; "{{\"ok\":{{\"posts\":{posts},\"steps\":{steps}}}}}") {
-        Ok(()) => Ok(()),
+        Ok(()) => Ok(image),
         Err(_) => Err(Refusal::WriteFault),
     }
 }
 
-/// Serves sessions over a socket whose file it makes, for its owner alone, and takes away in the end.
+/// Serves sessions over a socket whose file it makes, for its owner alone, and takes away in the end: a new image or that of a file,
+/// to which the image is then saved.
 fn serve<R: Threads + Wait + Net + Files + Print + Eprint + AllocGlobal + Sync>(
     rt: &R,
     options: ServeOptions<'_>,
 ) -> Result<(), Refusal> {
+    let image = first_image(rt, options.image)?;
     let Ok(listener) = UnixListener::bind(rt, options.socket) else {
         return Err(Refusal::ReadFault);
     };
     let _ = fs::set_permissions(rt, options.socket, Permissions::from_mode(OWNER_ALONE));
-    let result = serve_over(rt, &listener, options);
+    let result = serve_over(rt, &listener, options, image);
     let _ = fs::remove_file(rt, options.socket);
-    result
+    let image = result?;
+    match options.image {
+        Some(path) => save_file(rt, rt.alloc(), path, &image),
+        None => Ok(()),
+    }
 }
 
 /// The words of the command line.
@@ -120,7 +169,7 @@ fn show_error(rt: &HostRuntime, error: Error) -> ExitCode {
     ExitCode::from(error.exit_code() as u8)
 }
 
-/// Runs what the command line asks for. The status is 0, or 1 if the session was refused, or 2 if the command line was.
+/// Runs what the command line asks for. The status is 0; 1 if a session, a file or a socket was refused; 2 if the command line was.
 fn main(rt: HostRuntime) -> io::Result<ExitCode> {
     let words = match words(&rt) {
         Ok(words) => words,
@@ -137,11 +186,12 @@ fn main(rt: HostRuntime) -> io::Result<ExitCode> {
         Err(error) => return Ok(show_error(&rt, error)),
     };
     let result = match request {
-        Request::Script(options) => script(&rt, options).map(|_| ()),
-        Request::Serve(options) => serve(&rt, options),
+        Request::Script(options) => script(&rt, options).map(|_| 0),
+        Request::Serve(options) => serve(&rt, options).map(|_| 0),
+        Request::Check(path) => check(&rt, path),
     };
     match result {
-        Ok(()) => Ok(ExitCode::SUCCESS),
+        Ok(status) => Ok(ExitCode::from(status)),
         Err(refusal) => Ok(report_refusal(&rt, refusal)),
     }
 }

@@ -8,15 +8,18 @@ use std::alloc::{AllocError, Global};
 
 /// The options of a script that the command line gives.
 #[derive(Clone, Copy, PartialEq, Eq, Debug)]
-pub struct ScriptOptions {
+pub struct ScriptOptions<'a> {
     quantum: Option<u32>,
     capacity: Option<u32>,
+    /// The path of the image's file, where the image is kept in one.
+    pub image: Option<&'a str>,
 }
 
-impl ScriptOptions {
-    const NONE: ScriptOptions = ScriptOptions {
+impl<'a> ScriptOptions<'a> {
+    const NONE: ScriptOptions<'static> = ScriptOptions {
         quantum: None,
         capacity: None,
+        image: None,
     };
 
     /// The settings of the script. What the command line does not give is as by default, and the history always is.
@@ -41,13 +44,27 @@ pub struct ServeOptions<'a> {
     pub workers: u32,
     /// From 1 to 1,000,000, where the server is to end.
     pub sessions: Option<u32>,
+    /// The path of the image's file, where the image is kept in one.
+    pub image: Option<&'a str>,
 }
 
 /// What the command line asks for.
 #[derive(Clone, Copy, PartialEq, Eq, Debug)]
 pub enum Request<'a> {
-    Script(ScriptOptions),
+    Script(ScriptOptions<'a>),
     Serve(ServeOptions<'a>),
+    /// Look at the image file of this path.
+    Check(&'a str),
+}
+
+/// The option of an image's file, which a script and a server have.
+fn image_option<'a>(alloc: Global) -> Arg<'a> {
+    Arg::new(alloc, "image")
+        .long("image")
+        .value_name("FILE")
+        .help(
+            "Keeps the image in a file: begins with it where it is there, and saves to it at the end",
+        )
 }
 
 fn script_command<'a>(alloc: Global) -> Result<Command<'a>, AllocError> {
@@ -63,6 +80,7 @@ fn script_command<'a>(alloc: Global) -> Result<Command<'a>, AllocError> {
         .value_parser(value_parser!(u32).range(1..=1024));
     Command::new(alloc, "script")
         .about("Runs the commands on standard input and writes a reply to each")
+        .arg(image_option(alloc))?
         .arg(quantum)?
         .arg(capacity)
 }
@@ -88,7 +106,20 @@ fn serve_command<'a>(alloc: Global) -> Result<Command<'a>, AllocError> {
         .about("Serves one image to sessions over a Unix socket")
         .arg(socket)?
         .arg(workers)?
-        .arg(sessions)
+        .arg(sessions)?
+        .arg(image_option(alloc))
+}
+
+fn check_command<'a>(alloc: Global) -> Result<Command<'a>, AllocError> {
+    let file = Arg::new(alloc, "file")
+        .value_name("FILE")
+        .help("The image file")
+        .required(true);
+    Command::new(alloc, "check")
+        .about(
+            "Tells how many actors, classes and edits an image file holds, or what is wrong with it",
+        )
+        .arg(file)
 }
 
 fn program<'a>(alloc: Global) -> Result<Command<'a>, AllocError> {
@@ -97,13 +128,15 @@ fn program<'a>(alloc: Global) -> Result<Command<'a>, AllocError> {
         .subcommand_required(true)
         .arg_required_else_help(true)
         .subcommand(script_command(alloc)?)?
-        .subcommand(serve_command(alloc)?)
+        .subcommand(serve_command(alloc)?)?
+        .subcommand(check_command(alloc)?)
 }
 
-fn script_options(matches: &ArgMatches<'_>) -> ScriptOptions {
+fn script_options<'a>(matches: &ArgMatches<'a>) -> ScriptOptions<'a> {
     ScriptOptions {
         quantum: matches.get_one::<u32>("quantum"),
         capacity: matches.get_one::<u32>("capacity"),
+        image: matches.get_str("image"),
     }
 }
 
@@ -112,6 +145,7 @@ fn serve_options<'a>(matches: &ArgMatches<'a>) -> ServeOptions<'a> {
         socket: matches.get_str("socket").unwrap_or(""),
         workers: matches.get_one::<u32>("workers").unwrap_or(1),
         sessions: matches.get_one::<u32>("sessions"),
+        image: matches.get_str("image"),
     }
 }
 
@@ -120,6 +154,9 @@ pub fn parsed_request<'a>(alloc: Global, words: &'a [String]) -> Result<Request<
     let matches = program(alloc)?.try_get_matches_from(words)?;
     if let Some(serve) = matches.subcommand_matches("serve") {
         return Ok(Request::Serve(serve_options(serve)));
+    }
+    if let Some(check) = matches.subcommand_matches("check") {
+        return Ok(Request::Check(check.get_str("file").unwrap_or("")));
     }
     Ok(Request::Script(match matches.subcommand_matches("script") {
         Some(script) => script_options(script),

@@ -30,6 +30,7 @@ pub mod Counting
 pub mod ClaimSends
 pub mod Covering
 pub mod Sends
+pub mod CompiledEdits
 pub mod Naming
 pub mod Installing
 pub mod Editing
@@ -54,6 +55,8 @@ pub mod Alls
 pub mod LoadedNames
 pub mod LoadedOnce
 pub mod LoadingAll
+pub mod ClassPlaces
+pub mod Reloading
 pub mod SenderNumbers
 pub mod NumberedClients
 pub mod PartsInOrder

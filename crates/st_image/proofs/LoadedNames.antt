@@ -29,7 +29,8 @@ use Rattle.st_classes.specs.EditLists.{AllSuit}
 use Rattle.st_classes.specs.MethodSuits.{suits}
 use Rattle.st_classes.specs.declared.refusals.ImagePlace.TheVariants as place
 use Rattle.st_classes.proofs.LawGrowing.{all_suit_more_names}
-use Rattle.st_image.specs.Loading.{LoaderView, LoadsName, InstallsTree, InstallsFrom, Nowhere, OnlyNames, AnswersTree, AnswersEdit, names_refusal}
+use Rattle.st_image.proofs.CompiledEdits.{all_grown}
+use Rattle.st_image.specs.Loading.{HoldsLoader, LoaderView, LoadsName, InstallsTree, InstallsFrom, Nowhere, OnlyNames, AnswersTree, AnswersEdit, names_refusal}
 
 -- ---- names
 
@@ -38,7 +39,7 @@ passed true rest l f h = cc
 passed false None l f h = f refl
 passed false (Some n) l f h = cc
 
-no_first : (text : List ℕ) (xs : List (List ℕ)) → first (bytes_eq text) xs ≡ None → list_any (bytes_eq text) xs ≡ false
+pub no_first : (text : List ℕ) (xs : List (List ℕ)) → first (bytes_eq text) xs ≡ None → list_any (bytes_eq text) xs ≡ false
 no_first text [] h = refl
 no_first text (x ∷ xs) h = passed (bytes_eq text x) (first (bytes_eq text) xs) (list_any (bytes_eq text) xs) (no_first text xs) h
 
@@ -147,8 +148,11 @@ from_tree l n name source text holder method (Err e) named same spelled only (in
 )
 
 -- names that go on
-pub grown_suits : (names after : List (List ℕ)) (edits : List Edit) → (more : List (List ℕ)) × (after ≡ names ++ more) → AllSuit names edits → AllSuit after edits
-grown_suits names after edits g h = subst (λ (ns : List (List ℕ)). AllSuit ns edits) (sym g.1) (all_suit_more_names names g.0 edits h)
+pub grown_holds : (names after : List (List ℕ)) (edits : List Edit) → (more : List (List ℕ)) × (after ≡ names ++ more) → HoldsLoader names edits → HoldsLoader after edits
+grown_holds names after edits g h = record {
+  suited = subst (λ (ns : List (List ℕ)). AllSuit ns edits) (sym g.1) (all_suit_more_names names g.0 edits h.suited);
+  compiled = all_grown names after edits g h.compiled;
+}
 
 pub only_grown : (l : LoaderView) (names after : List (List ℕ)) (edits : List Edit) → record { names = names; edits = edits } ≡ l → (more : List (List ℕ)) × (after ≡ names ++ more) → OnlyNames l (record { names = after; edits = edits })
 only_grown l names after edits is g = record {

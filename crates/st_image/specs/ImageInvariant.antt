@@ -17,6 +17,7 @@ use Rattle.st_image.specs.Senders.{InSendingOrder}
 use Rattle.st_image.specs.Clients.{KeepsClients}
 use Rattle.st_image.specs.Changes.{CountsChanges}
 use Rattle.st_image.specs.Counts.{CountsItems}
+use Rattle.st_image.specs.CompiledEdits.{AllCompiled}
 use Rattle.st_image.specs.declared.counts.Counts.{Counts}
 use Rattle.st_image.specs.ActorViews.{ActorView, Shows}
 use Rattle.st_image.specs.ActResults.{constants_of}
@@ -40,8 +41,8 @@ pub record IsImage (base : World) (names : List (List ℕ)) (edits : List Edit) 
   pub few_accepted : All (λ (k : ActorView). k.accepted ≤ length history + 1024) actors
 
 -- The history leads to what is kept; the numbers of clients are those that it leads to, the tallies count its sends and have
--- places for the methods of so many edits as are covered, each actor's number is how often it changed the actor's body, and
--- its posts and steps are counted.
+-- places for the methods of so many edits as are covered, each actor's number is how often it changed the actor's body,
+-- its posts and steps are counted, and the methods of the table are compiled from their sources.
 pub record HoldsImage (base : World) (names : List (List ℕ)) (edits : List Edit) (actors : List ActorView)
     (history : List Item) (made : ℕ) (s : Settings) (clients : List ℕ) (tallies : List (List Tally))
     (covered : ℕ) (changes : List ℕ) (counted : Counts) : Type 0 where
@@ -51,6 +52,7 @@ pub record HoldsImage (base : World) (names : List (List ℕ)) (edits : List Edi
   pub places : Covers tallies covered edits
   pub counts : CountsChanges changes history
   pub totals : CountsItems counted history
+  pub compiled : AllCompiled names edits
 
 -- a body fits a table whose edits are lawful and sound, so that its steps fit it too
 abbrev pub CanRun : List Edit → ActorId → Body → Type 0

@@ -27,6 +27,7 @@ pub mod Stats
 pub mod SentMessages
 pub mod RanTargets
 pub mod OneClaim
+pub mod CompiledEdits
 pub mod Loading
 pub mod SenderNumbers
 pub mod Loaded

@@ -11,6 +11,7 @@ use Rattle.st_image.specs.Parts.{actor_of, world_of_parts}
 use Rattle.st_image.specs.SenderNumbers.{HasSenders}
 use Rattle.st_image.specs.Senders.{InSendingOrder}
 use Rattle.st_image.specs.WorldInvariant.{AreClientsFrom, IsWorldActor}
+use Rattle.st_image.specs.Worlds.{World}
 
 -- actors of a base: there are at most 65,536, each is one of a world with these names and edits, and who sent what is pending is
 -- there
@@ -25,15 +26,19 @@ abbrev pub AreBaseSenders : List Edit → List ActorPart → List (ℕ × ℕ) �
 AreBaseSenders edits parts clients = AreClientsFrom 0 clients × InSendingOrder (world_of_parts edits parts clients)
 
 -- the image at a base, set as by default: nothing has happened yet
-abbrev pub loaded_image : List (List ℕ) → List Edit → List ActorPart → List (ℕ × ℕ) → ImageView
-loaded_image names edits parts clients = record {
-  base = world_of_parts edits parts clients;
+abbrev pub image_at : List (List ℕ) → World → ImageView
+image_at names base = record {
+  base = base;
   names = names;
   history = [];
   capacity = 64;
   most_items = 1000000;
   standing = record { next_from = 0; claims_out = []; tallies = []; earlier = nothing_earlier };
 }
+
+-- the image at the world of these parts
+abbrev pub loaded_image : List (List ℕ) → List Edit → List ActorPart → List (ℕ × ℕ) → ImageView
+loaded_image names edits parts clients = image_at names (world_of_parts edits parts clients)
 
 -- an image is made, or its actors, or the numbers of its senders, are none of a world; or memory ran out
 abbrev pub Finishes : List (List ℕ) → List Edit → List ActorPart → List (ℕ × ℕ) → Result ImageView Refusal → Type 0

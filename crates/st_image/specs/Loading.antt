@@ -1,6 +1,7 @@
 -- How the names and the class table of a file grow, name by name and edit by edit.
-use Rattle.std.specs.Prelude.{◌≡◌, ◌⊎◌, ℕ, List, [], ◌∷◌, ◌++◌, false, Some, None, Result, Ok, Err}
+use Rattle.std.specs.Prelude.{◌≡◌, ◌⊎◌, ℕ, List, [], ◌∷◌, ◌++◌, false, Some, None, Result, Ok, Err, drop, map, slice_get, unwrap_or}
 use Rattle.st_classes.specs.declared.values.ClassId.{ClassId}
+use Rattle.st_classes.specs.declared.values.Selector.{Selector}
 use Rattle.st_classes.specs.declared.edits.Edit.{Edit}
 use Rattle.st_classes.specs.declared.edits.Edit.TheVariants.{Define, Install, Remove}
 use Rattle.st_classes.specs.declared.methods.MethodParts.{MethodParts}
@@ -8,10 +9,11 @@ use Rattle.st_classes.specs.declared.refusals.Refusal.{Refusal}
 use Rattle.st_classes.specs.declared.refusals.Refusal.TheVariants.{BadImage, NoMemory}
 use Rattle.st_classes.specs.declared.refusals.ImagePlace.TheVariants as place
 use Rattle.st_classes.specs.Refusals.{first_of}
-use Rattle.st_classes.specs.Kernel.{selector}
-use Rattle.st_classes.specs.Names.{is_name, interned, intern_rules}
+use Rattle.st_classes.specs.Kernel.{kernel_selectors, selector}
+use Rattle.st_classes.specs.Names.{AreNames, is_name, interned, intern_rules}
 use Rattle.st_classes.specs.Selectors.{place_of}
-use Rattle.st_classes.specs.Classes.{class_named}
+use Rattle.st_classes.specs.Classes.{class_name, class_named}
+use Rattle.st_classes.specs.EditLists.{AllSuit, AreLawful}
 use Rattle.st_classes.specs.EditRules.{edit_rules}
 use Rattle.st_reader.specs.Syntax.{Method}
 use Rattle.st_reader.specs.Spelling.{Spells}
@@ -20,11 +22,17 @@ use Rattle.st_compile.specs.CompileRules.{method_rules}
 use Rattle.st_compile.specs.NeededNames.{interned_all, needed_texts}
 use Rattle.st_image.specs.declared.edit_text.EditText.{EditText}
 use Rattle.st_image.specs.declared.edit_text.EditText.TheVariants as text
+use Rattle.st_image.specs.CompiledEdits.{AllCompiled}
 
 -- names, and a list of edits
 pub record LoaderView : Type 0 where
   pub names : List (List ℕ)
   pub edits : List Edit
+
+-- what is true of the fields of a loader: the methods suit the names, and are compiled from their sources
+pub record HoldsLoader (names : List (List ℕ)) (edits : List Edit) : Type 0 where
+  pub suited : AllSuit names edits
+  pub compiled : AllCompiled names edits
 
 -- ---- names
 
@@ -122,3 +130,35 @@ edits_refusal _ = BadImage place.Edits
 abbrev pub names_refusal : Refusal → Refusal
 names_refusal NoMemory = NoMemory
 names_refusal _ = BadImage place.Names
+
+-- ---- tables told as texts
+
+-- the name of a class, and the text of a number
+abbrev pub class_text : List Edit → ClassId → List ℕ
+class_text edits c = unwrap_or (class_name edits c) []
+
+abbrev pub selector_text : List (List ℕ) → Selector → List ℕ
+selector_text names s = unwrap_or (slice_get names s.0) []
+
+-- an edit as text, by the names and the classes of a table
+abbrev pub edit_text : List (List ℕ) → List Edit → Edit → EditText
+edit_text names edits (Define name parent slots) = text.Define name (class_text edits parent) slots
+edit_text names edits (Install c m) = text.Install (class_text edits c) m.source
+edit_text names edits (Remove c s) = text.Remove (class_text edits c) (selector_text names s)
+
+-- all edits of a table as texts
+abbrev pub edit_texts : List (List ℕ) → List Edit → List EditText
+edit_texts names edits = map (edit_text names edits) edits
+
+-- a table's names load again after the kernel's, and then its edits, and give the table
+pub record Reloads (names : List (List ℕ)) (edits : List Edit) : Type 0 where
+  pub named : LoadsAll LoadsName (record { names = kernel_selectors; edits = [] }) (drop 22 names)
+      (record { names = names; edits = [] })
+  pub edited : LoadsAll LoadsEdit (record { names = names; edits = [] }) (edit_texts names edits)
+      (record { names = names; edits = edits })
+
+-- each table reloads whose edits were accepted, and whose methods suit the names and are compiled from their sources
+abbrev pub TablesReload : Type 0
+TablesReload = (names : List (List ℕ)) (edits : List Edit)
+    → AreNames names → AreLawful edits → AllSuit names edits → AllCompiled names edits
+    → Reloads names edits

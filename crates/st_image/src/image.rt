@@ -112,6 +112,7 @@ impl<M: Mailbox> Image<M> {
     ghost use Rattle.st_classes.specs.Names.{interned, intern_rules, is_name};
     ghost use Rattle.st_classes.specs.Refusals.{first_of, Answers};
     ghost use Rattle.st_image.specs.Calls.{Creates};
+    ghost use Rattle.st_image.specs.CompiledEdits.{AllCompiled};
     ghost use Rattle.st_image.specs.Images.{create_rules, new_image, no_room, settings_rules, world};
     ghost use Rattle.st_image.specs.PostRules.{sender_last as last_of_sender};
     ghost use Rattle.st_image.specs.Outcomes.{image_outcome};
@@ -180,6 +181,13 @@ impl<M: Mailbox> Image<M> {
     /// What is true of every image.
     pub fn known(&self)
         ensures { IsLawful self.now }
+    {
+        self.actors.len();
+    }
+
+    /// Each method that was installed is the one that its own source spells, compiled in its class at the edits before it.
+    pub fn all_compiled(&self)
+        ensures { AllCompiled self.now.names (world self.now).edits }
     {
         self.actors.len();
     }

@@ -1,6 +1,6 @@
 //! The names and the class table of a file.
 ghost use Rattle.std.specs.Prelude.{◌≡◌, IfOk};
-ghost use Rattle.st_image.specs.Loading.{LeadsToOne, LoadsAll, LoadsEdit, LoadsName, edits_refusal, names_refusal};
+ghost use Rattle.st_image.specs.Loading.{LeadsToOne, LoadsAll, LoadsEdit, LoadsName, TablesReload, edits_refusal, names_refusal};
 
 mod finishing;
 
@@ -28,6 +28,12 @@ pub fn leads_to_one()
 {
     one_reading();
 }
+
+/// A class table whose methods are compiled from their sources, as that of every image and of every loader is, loads again from the
+/// texts of its names and of its edits.
+pub fn reloads()
+    ensures { TablesReload }
+{}
 
 const EDITS: Refusal = Refusal::BadImage {
     place: ImagePlace::Edits,
@@ -65,14 +71,13 @@ pub struct Loader {
 }
 
 impl Model for Loader {
-    ghost use Rattle.st_image.specs.Loading.{LoaderView};
-    ghost use Rattle.st_classes.specs.EditLists.{AllSuit};
+    ghost use Rattle.st_image.specs.Loading.{HoldsLoader, LoaderView};
 
     ghost Value = { LoaderView };
 
     ghost view = { λ l. record { names = l.names; edits = l.version } };
 
-    ghost invariant = { λ l. AllSuit l.names l.version };
+    ghost invariant = { λ l. HoldsLoader l.names l.version };
 }
 
 impl Loader {
@@ -88,6 +93,7 @@ impl Loader {
     ghost use Rattle.st_classes.specs.Kernel.{kernel_selectors};
     ghost use Rattle.st_classes.specs.Names.{AreNames};
     ghost use Rattle.st_classes.specs.EditLists.{AllSuit, AllSound, AreLawful};
+    ghost use Rattle.st_image.specs.CompiledEdits.{AllCompiled, IsCompiledEdit};
 
     /// The kernel's names and classes.
     pub fn new(alloc: Global) -> Result<Loader, AllocError>
@@ -99,12 +105,14 @@ impl Loader {
         })
     }
 
-    /// What is true of every loader: of its names and its class table what is true of all, and the methods suit the names.
+    /// What is true of every loader: of its names and its class table what is true of all, and the methods suit the names and are
+    /// compiled from their sources.
     pub fn known(&self)
         ensures names { AreNames self.now.names }
         ensures lawful { AreLawful self.now.edits }
         ensures sound { AllSound self.now.edits }
         ensures suited { AllSuit self.now.names self.now.edits }
+        ensures compiled { AllCompiled self.now.names self.now.edits }
     {
         self.names.known();
         self.version.known();
@@ -161,9 +169,10 @@ impl Loader {
         }
     }
 
-    /// An edit that suits, or why it is refused.
+    /// An edit that suits, with a method that is compiled from its source, or why it is refused.
     fn accept(&mut self, alloc: Global, edit: Edit) -> Result<(), Refusal>
-        requires { edit_suits self.old.names self.old.edits edit ≡ true }
+        requires suits { edit_suits self.old.names self.old.edits edit ≡ true }
+        requires compiled { IsCompiledEdit self.old.names self.old.edits edit }
         ensures answers { Answers (first_of (edit_rules self.old.edits edit)) result (λ _. self.new ≡ record self.old { edits = self.old.edits ++ edit ∷ [] }) }
         ensures refused { OnErr result (self.new ≡ self.old) }
     {
@@ -244,6 +253,7 @@ impl Loader {
         ensures answers { AnswersTree self.old class tree.now.syntax tree.now.source self.new result }
         ensures refused { OnErr result (OnlyNames self.old self.new) }
     {
+        tree.known();
         let method = match self.compiled(alloc, tree, class) {
             Ok(method) => method,
             Err(refusal) => return Err(refused(refusal)),

@@ -15,6 +15,7 @@ use crate::shares::{CallerShare, WorkerShare};
 use crate::totals::Totals;
 use st_classes::refusals::Refusal;
 use st_classes::values::Value;
+use st_image::image::Image;
 use st_image::items::Item;
 use st_mailbox::mailboxes::Mailbox;
 use st_mailbox::messages::Message;
@@ -76,13 +77,14 @@ impl<K: Naming, M: Mailbox> Office<K, M> {
     ghost use Rattle.st_classes.specs.declared.refusals.Refusal.TheVariants as refusals;
     ghost use Rattle.st_pool.specs.Settled.{AreAll, AllStand, AreSums, AreCounts};
 
-    /// What all threads have done together. It is refused by `BadArguments` exactly where not all shares that were given out are here,
+    /// The image, and what all threads have done together. It is refused by `BadArguments` exactly where not all shares that were given out are here,
     /// and then by `Changed` exactly where a receipt's message does not stand at its place.
-    pub(crate) fn settle(self, shares: Shares<K>) -> Result<Totals, Refusal>
-        ensures sums { IfOk result (λ t. AreSums t shares.callers.items shares.workers.items) }
-        ensures counts { IfOk result (λ t. AreCounts K.start self.image t) }
+    pub(crate) fn settle(self, shares: Shares<K>) -> Result<(Image<M>, Totals), Refusal>
+        ensures image { IfOk result (λ r. r.0 ≡ self.image) }
+        ensures sums { IfOk result (λ r. AreSums r.1 shares.callers.items shares.workers.items) }
+        ensures counts { IfOk result (λ r. AreCounts K.start r.0 r.1) }
         ensures all { OnOk result (AreAll self.books shares.callers.items shares.workers.items) }
-        ensures stand { OnOk result (AllStand self.image shares.callers.items) }
+        ensures stand { IfOk result (λ r. AllStand r.0 shares.callers.items) }
         ensures refused { IfErr result (λ e. ((e ≡ refusals.BadArguments) × ¬ (AreAll self.books shares.callers.items shares.workers.items)) ⊎ ((e ≡ refusals.Changed) × AreAll self.books shares.callers.items shares.workers.items × ¬ (AllStand self.image shares.callers.items))) }
     {
         let Shares { callers, workers } = shares;
@@ -95,16 +97,30 @@ impl<K: Naming, M: Mailbox> Office<K, M> {
             return Err(Refusal::Changed);
         }
         self.image.known();
-        let Office { books, .. } = self;
-        Ok(books.close(callers, workers))
+        let Office { books, image, .. } = self;
+        Ok((image, books.close(callers, workers)))
     }
 }
 
-/// What all threads have done together, once they have handed back their shares: the sums of the shares, which are the counts of the
-/// history since the pool was made. The message of each receipt stands in that history, posted to its actor, at its place.
+/// The image, and what all threads have done together, once they have handed back their shares: the sums of the shares, which are
+/// the counts of the image's history since the pool was made. The message of each receipt stands in that history, posted to its
+/// actor, at its place.
 ///
 /// It is refused by `BadArguments` where not all shares that were given out are here, and then by `Changed` where a receipt's message
 /// does not stand. All is spent either way.
+pub fn settle_image<K: Naming, M: Mailbox>(
+    shared: Shared<K, M>,
+    shares: Shares<K>,
+) -> Result<(Image<M>, Totals), Refusal>
+    ensures sums { IfOk result (λ r. AreSums r.1 shares.callers.items shares.workers.items) }
+    ensures history { IfOk result (λ r. AreCounts K.start r.0 r.1 × AllStand r.0 shares.callers.items) }
+    ensures refused { IfErr result (λ e. (e ≡ refusals.BadArguments) ⊎ (e ≡ refusals.Changed)) }
+{
+    let Shared { office, .. } = shared;
+    office.into_inner().settle(shares)
+}
+
+/// The same without the image.
 pub fn settle<K: Naming, M: Mailbox>(
     shared: Shared<K, M>,
     shares: Shares<K>,
@@ -113,6 +129,6 @@ pub fn settle<K: Naming, M: Mailbox>(
     ensures history { IfOk result (λ t. (i : ImageView) × AreCounts K.start i t × AllStand i shares.callers.items) }
     ensures refused { IfErr result (λ e. (e ≡ refusals.BadArguments) ⊎ (e ≡ refusals.Changed)) }
 {
-    let Shared { office, .. } = shared;
-    office.into_inner().settle(shares)
+    let (_, totals) = settle_image(shared, shares)?;
+    Ok(totals)
 }

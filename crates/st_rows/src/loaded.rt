@@ -59,7 +59,13 @@ fn a_pending_message_goes_on(rt: HostRuntime) -> Result<(), Fail> {
         assert!(rt; answer(&image, turn) == Some(Value::Int(14)));
     }
     assert!(rt; outcome(&image, 0) == Err(Refusal::Expired));
-    assert!(rt; counted(&image) == Counts { posts: 1, steps: 14 });
+    assert!(rt;
+        counted(&image)
+            == Counts {
+                posts: 1,
+                steps: 14
+            }
+    );
     Ok(())
 }
 

@@ -141,5 +141,10 @@ pub(crate) fn finished(
 /// The image at the present world of another.
 pub(crate) fn reloaded(alloc: Global, image: &Image) -> Result<Box<Image>, Refusal> {
     let loader = loader_of(alloc, image)?;
-    finished(alloc, loader, parts_of(alloc, image)?, clients_of(alloc, image)?)
+    finished(
+        alloc,
+        loader,
+        parts_of(alloc, image)?,
+        clients_of(alloc, image)?,
+    )
 }

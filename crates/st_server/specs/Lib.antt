@@ -1,4 +1,5 @@
 pub mod ArgumentValues
+pub mod Checks
 pub mod SiteReports
 pub mod Runners
 pub mod CommandReplies

@@ -6,6 +6,7 @@
 
 mod asking;
 pub mod attending;
+pub mod checking;
 pub mod images;
 mod pool_asking;
 mod quantum;

@@ -12,7 +12,7 @@ use st_pool::books::Blanks;
 use st_pool::callers::Caller;
 use st_pool::front::Opened;
 use st_pool::naming::Naming;
-use st_pool::settling::{Shares, settle};
+use st_pool::settling::{Shares, settle_image};
 use st_pool::shared::Shared;
 use st_pool::shares::{CallerShare, WorkerShare};
 use st_pool::totals::Totals;
@@ -267,7 +267,7 @@ fn serve<K: Naming + Send + Sync, R: Threads + Wait + Sync>(
     workers: Vec<Worker>,
     quantum: Quantum,
     sessions: Option<u32>,
-) -> Result<Totals, Refusal>
+) -> Result<(Image, Totals), Refusal>
     requires posts { blanks.posts.name ≡ K.posts }
     requires edits { blanks.edits.name ≡ K.edits }
     requires steps { blanks.steps.name ≡ K.steps }
@@ -285,7 +285,7 @@ fn serve<K: Naming + Send + Sync, R: Threads + Wait + Sync>(
     };
     let workers = work(rt, alloc, listener, &room, workers, quantum, sessions)?;
     let callers = shares.into_inner();
-    settle(shared, Shares { callers, workers })
+    settle_image(shared, Shares { callers, workers })
 }
 
 /// Whether sessions are served by so many workers until so many of them have ended.
@@ -297,22 +297,24 @@ fn is_served(workers: u32, sessions: Option<u32>) -> bool {
     1 <= workers && workers <= 16 && is_counted
 }
 
-/// Serves a new image, set as by default, over a socket: each session in a thread of its own, at most 64 at once, and its actors by
-/// workers, from 1 to 16. A client beyond 64 is told so and is let go.
+/// Serves an image over a socket: each session in a thread of its own, at most 64 at once, and its actors by workers, from 1 to 16.
+/// A client beyond 64 is told so and is let go.
 ///
-/// After so many sessions, from 1 to 1,000,000, it waits for their ends, stops the workers, and answers what all have done together;
-/// the refusal of each session that ended by one goes to `faults`, where there is memory. Without a number it goes on.
+/// After so many sessions, from 1 to 1,000,000, it waits for their ends, stops the workers, and answers the image and what all have
+/// done together; the refusal of each session that ended by one goes to `faults`, where there is memory. Without a number it goes
+/// on.
 ///
 /// It is refused by `BadArguments` where a number is out of its range, `NoMemory` where there was none to begin, `ReadFault`
 /// where accepting failed, and `Changed` where what the callers have done is not in the history.
-pub fn serve_on<R: Threads + Wait + Sync>(
+pub fn serve_image<R: Threads + Wait + Sync>(
     rt: &R,
     alloc: Global,
     listener: &UnixListener,
     faults: &Faults<Refusal>,
     workers: u32,
     sessions: Option<u32>,
-) -> Result<Totals, Refusal> {
+    image: Image,
+) -> Result<(Image, Totals), Refusal> {
     if !is_served(workers, sessions) {
         return Err(Refusal::BadArguments);
     }
@@ -322,7 +324,6 @@ pub fn serve_on<R: Threads + Wait + Sync>(
     let Ok(workers) = new_workers(alloc, workers) else {
         return Err(Refusal::NoMemory);
     };
-    let image = Image::new(alloc, Settings::DEFAULT)?;
     serve::<Brand, R>(
         rt,
         alloc,
@@ -335,4 +336,18 @@ pub fn serve_on<R: Threads + Wait + Sync>(
         quantum,
         sessions,
     )
+}
+
+/// Serves a new image, set as by default, in the same way.
+pub fn serve_on<R: Threads + Wait + Sync>(
+    rt: &R,
+    alloc: Global,
+    listener: &UnixListener,
+    faults: &Faults<Refusal>,
+    workers: u32,
+    sessions: Option<u32>,
+) -> Result<Totals, Refusal> {
+    let image = Image::new(alloc, Settings::DEFAULT)?;
+    let (_, totals) = serve_image(rt, alloc, listener, faults, workers, sessions, image)?;
+    Ok(totals)
 }

@@ -12,29 +12,14 @@ ghost use Rattle.st_session.specs.Answering.{IsTold, Served, AnswersNext, Answer
 
 use crate::handlers::{Handler, reply_to};
 use crate::unread::{Cut, Unread};
+use crate::writing::write_reply;
 use st_classes::refusals::Refusal;
-use st_wire::replies::{Reply, reply_text};
-use st_wire::streams::{Input, Output, write_all};
+use st_wire::replies::Reply;
+use st_wire::streams::{Input, Output};
 use std::alloc::Global;
 
 /// The most bytes of a read.
 pub(crate) const PIECE: usize = 8192;
-
-/// Writes the line of a reply.
-fn write_reply<O: Output>(alloc: Global, output: &mut O, reply: &Reply) -> Result<(), Refusal>
-    ensures written { (part : List ℕ) × Appends (O.contents output.old) (O.contents output.new) part
-        × MatchResult result (λ _. part ≡ line_of reply.now) (λ e. Breaks (line_of reply.now) part e) }
-    ensures failures { O.failures output.new ≡ failures_after (end_of result) (O.failures output.old) }
-    ensures unflushed { O.flushes output.new ≡ O.flushes output.old }
-{
-    let Ok(text) = reply_text(alloc, reply) else {
-        return Err(Refusal::NoMemory);
-    };
-    match write_all(output, &text) {
-        Ok(()) => Ok(()),
-        Err(_) => Err(Refusal::WriteFault),
-    }
-}
 
 /// Writes that a line ends the session, and says why the session ends.
 fn tell<O: Output>(alloc: Global, output: &mut O, last: Refusal) -> Result<bool, Refusal>

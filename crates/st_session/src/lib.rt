@@ -9,3 +9,4 @@ pub mod handlers;
 pub mod lines;
 pub mod sessions;
 mod unread;
+pub mod writing;

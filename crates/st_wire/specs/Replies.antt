@@ -80,6 +80,12 @@ reply_data (reply.Turn n) = ok (only (codes "turn") (whole n))
 reply_data reply.Closed = ok (object no_members)
 reply_data (reply.Ran quanta steps) =
     ok (object (member (codes "quanta") (whole quanta) (member (codes "steps") (whole steps) no_members)))
+reply_data (reply.Checked actors classes edits) =
+    ok (object
+    (member (codes "actors") (whole actors)
+    (member (codes "classes") (whole classes)
+    (member (codes "edits") (whole edits)
+    no_members))))
 reply_data (reply.Answer value) = ok (only (codes "answer") (answered_data value))
 reply_data (reply.Fault fault) = ok (only (codes "fault") (string (fault_name fault)))
 reply_data (reply.Sites sites) = ok (only (codes "sites") (array (site_items sites)))

@@ -5,7 +5,8 @@ ghost use Rattle.st_wire.specs.Names as spec;
 use st_classes::faults::Fault;
 use st_classes::refusals::{ImagePlace, Limited, Refusal, SourceFault};
 
-pub(crate) fn fault_name(fault: Fault) -> &'static str
+/// The name of a fault.
+pub fn fault_name(fault: Fault) -> &'static str
     ensures { result.now ≡ spec.fault_name fault }
 {
     match fault {

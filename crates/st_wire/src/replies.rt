@@ -1,7 +1,7 @@
 //! Replies, and how they are written.
 ghost use Rattle.std.specs.Prelude.{◌≡◌, [], ◌∷◌, IfOk, codes, decimal};
 ghost use Rattle.json.specs.Token.{key, string, number, begin_object, end_object};
-ghost use Rattle.st_wire.specs.declared.replies.Reply.TheVariants.{Closed as ClosedReply, Ran, Answer, Fault as FaultReply, Sites, Refused};
+ghost use Rattle.st_wire.specs.declared.replies.Reply.TheVariants.{Closed as ClosedReply, Ran, Checked, Answer, Fault as FaultReply, Sites, Refused};
 ghost use Rattle.st_wire.specs.Replies.{line_of, reply_data, answered_data, state_name as name_of, site_data, site_items, refusal_fields, ok, only, whole, RepliesHaveKeysInOrder};
 ghost use Rattle.st_wire.specs.Writing.{Adds, data_tokens, items_tokens, members_tokens};
 
@@ -61,7 +61,16 @@ pub enum Reply {
     /// No more messages are accepted.
     Closed,
     /// What a run took.
-    Ran { quanta: u32, steps: u64 },
+    Ran {
+        quanta: u32,
+        steps: u64,
+    },
+    /// What an image file holds. The kernel's classes are counted.
+    Checked {
+        actors: u32,
+        classes: u32,
+        edits: u32,
+    },
     /// The turn ended with this answer.
     Answer(Answered),
     /// The turn ended with this fault.
@@ -98,6 +107,11 @@ impl Reply {
             Reply::Turn(turn) => write_number(writer, "turn", *turn),
             Reply::Closed => write_closed(writer),
             Reply::Ran { quanta, steps } => write_ran(writer, (*quanta).into(), *steps),
+            Reply::Checked {
+                actors,
+                classes,
+                edits,
+            } => write_checked(writer, (*actors).into(), (*classes).into(), (*edits).into()),
             Reply::Answer(value) => write_answer(writer, value),
             Reply::Fault(fault) => write_fault(writer, *fault),
             Reply::Sites(sites) => write_sites(writer, sites.as_slice()),
@@ -225,6 +239,21 @@ fn write_ran(writer: &mut Writer, quanta: u64, steps: u64) -> Result<(), AllocEr
     begin_ok(writer)?;
     number_at(writer, "quanta", quanta)?;
     number_at(writer, "steps", steps)?;
+    end_ok(writer)
+}
+
+fn write_checked(
+    writer: &mut Writer,
+    actors: u64,
+    classes: u64,
+    edits: u64,
+) -> Result<(), AllocError>
+    ensures { Adds result writer.old writer.new (data_tokens (reply_data (Checked actors classes edits))) }
+{
+    begin_ok(writer)?;
+    number_at(writer, "actors", actors)?;
+    number_at(writer, "classes", classes)?;
+    number_at(writer, "edits", edits)?;
     end_ok(writer)
 }
 

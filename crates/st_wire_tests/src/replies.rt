@@ -25,6 +25,18 @@ fn writes_what_is_done(rt: HostRuntime) -> Result<(), Fail> {
         steps: 7,
     };
     assert!(rt; is_line(alloc, ran, r#"{"ok":{"quanta":1,"steps":7}}"#)?);
+    let checked = Reply::Checked {
+        actors: 1,
+        classes: 9,
+        edits: 5,
+    };
+    assert!(rt;
+        is_line(
+            alloc,
+            checked,
+            r#"{"ok":{"actors":1,"classes":9,"edits":5}}"#
+        )?
+    );
     let fault = Reply::Fault(Fault::NotUnderstood);
     assert!(rt; is_line(alloc, fault, r#"{"ok":{"fault":"notUnderstood"}}"#)?);
     Ok(())

@@ -18,6 +18,7 @@ use std::alloc::{AllocError, Global};
 impl<M: Mailbox> Image<M> {
     ghost use Rattle.std.specs.Prelude.{◌≡◌, IfOk};
     ghost use Rattle.st_classes.specs.EditLists.{AllSuit};
+    ghost use Rattle.st_image.specs.CompiledEdits.{AllCompiled};
     ghost use Rattle.st_image.specs.Loaded.{AreBaseActors, AreBaseSenders, loaded_image};
 
     /// The image at a base, set as by default.
@@ -29,6 +30,7 @@ impl<M: Mailbox> Image<M> {
         clients: Vec<(u16, u64)>,
     ) -> Result<Image<M>, AllocError>
         requires suited { AllSuit names version }
+        requires compiled { AllCompiled names version }
         requires actors { AreBaseActors names version parts.items }
         requires senders { AreBaseSenders version parts.items clients.items }
         ensures { IfOk result (λ i. i ≡ loaded_image names version parts.items clients.items) }

@@ -16,6 +16,7 @@ impl<M: Mailbox> Image<M> {
     ghost use Rattle.st_classes.specs.MethodSuits.{edit_suits};
     ghost use Rattle.st_classes.specs.Refusals.{first_of};
     ghost use Rattle.st_image.specs.Calls.{Defines, Edits};
+    ghost use Rattle.st_image.specs.CompiledEdits.{IsCompiledEdit};
     ghost use Rattle.st_image.specs.Images.{run_rules, world};
 
     /// Why an edit more is refused, if it is.
@@ -40,9 +41,10 @@ impl<M: Mailbox> Image<M> {
         }
     }
 
-    /// Makes an edit. The answer is the number of edits. Memory can run out only where no rule refuses it.
+    /// Makes an edit; the method of an install is compiled from its source. The answer is the number of edits. Memory can run out only where no rule refuses it.
     pub(super) fn edit(&mut self, alloc: Global, edit: Edit) -> Result<u32, Refusal>
-        requires { edit_suits self.old.names (world self.old).edits edit ≡ true }
+        requires suits { edit_suits self.old.names (world self.old).edits edit ≡ true }
+        requires compiled { IsCompiledEdit self.old.names (world self.old).edits edit }
         ensures { Edits (edit_rules (world self.old).edits edit ++ run_rules self.old) edit self.old result self.new }
     {
         edit.known();

@@ -29,6 +29,7 @@ invariant_of-result g c =
       places = covers_none [] edits;
       counts = λ a. refl;
       totals = record { counts = refl; few_posts = omega arith; few_steps = omega arith };
+      compiled = c.requires.compiled;
     })
 
 pub returns : goal.returns

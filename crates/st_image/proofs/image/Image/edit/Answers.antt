@@ -7,6 +7,8 @@ use Rattle.st_classes.specs.EditRules.{edit_rules}
 use Rattle.st_classes.specs.MethodSuits.{edit_suits}
 use Rattle.st_image.specs.declared.items.Item.TheVariants.{Edited}
 use Rattle.st_image.specs.Images.{ImageView, run_rules, world, world_of}
+use Rattle.st_image.specs.CompiledEdits.{AllCompiled, IsCompiledEdit}
+use Rattle.st_image.proofs.CompiledEdits.{all_with}
 use Rattle.st_image.proofs.Posting.{seen, standing_of}
 use Rattle.st_image.proofs.Keeping.{edits_few}
 use Rattle.st_image.proofs.Lists.{off_append}
@@ -27,27 +29,29 @@ with_accepted-requires-clause-accepted g c =
     rw (c.version.ensures, c.in-Ok.ensures) accepted
 
 pub with_accepted-requires-clause-suits : goal.with_accepted-requires-clause-suits
-with_accepted-requires-clause-suits g c = (c.args.self.now.names, rw (c.version.ensures, c.in-Ok.ensures) c.requires)
+with_accepted-requires-clause-suits g c = (c.args.self.now.names, rw (c.version.ensures, c.in-Ok.ensures) c.requires.suits)
 
 pub invariant_of-self-2 : goal.invariant_of-self-2
 invariant_of-self-2 g c =
     let i = c.self.inside in
     let w = world_of (constants_of i.names i.settings.capacity) i.base i.history.items in
-    let suits : edit_suits i.names w.edits c.args.edit ≡ true = subst (λ (v : ImageView). edit_suits v.names (world v).edits c.args.edit ≡ true) (sym c.self.view_is) c.requires in
+    let suits : edit_suits i.names w.edits c.args.edit ≡ true = subst (λ (v : ImageView). edit_suits v.names (world v).edits c.args.edit ≡ true) (sym c.self.view_is) c.requires.suits in
     let allowed : first_of (edit_rules w.edits c.args.edit ++ run_rules (seen i.base i.names i.history.items i.settings (standing_of i.earlier i.next_from i.actors.out i.tallies))) ≡ None = subst (λ (v : ImageView). first_of (edit_rules (world v).edits c.args.edit ++ run_rules v) ≡ None) (sym c.self.view_is) (sym c.in_default.ensures) in
     let put_last : c.in-Ok-publish.token ≡ (world c.args.self.now).edits ++ c.args.edit ∷ [] = c.in-Ok-publish.ensures ∙ c.in-Ok-with_accepted.ensures ∙ ap (λ (es : List Edit). es ++ c.in-Ok.shared ∷ []) c.version.ensures ∙ ap (λ (x : Edit). (world c.args.self.now).edits ++ x ∷ []) c.in-Ok.ensures in
     let after : c.in-Ok-publish.token ≡ w.edits ++ c.args.edit ∷ [] = subst (λ (v : ImageView). c.in-Ok-publish.token ≡ (world v).edits ++ c.args.edit ∷ []) (sym c.self.view_is) put_last in
     let item : c.in-Ok-again.item ≡ c.args.edit = c.in-Ok-again.ensures ∙ c.in-Ok.ensures in
     let put : c.push.new.self.items ≡ i.history.items ++ Edited c.in-Ok-again.item ∷ [] = grind (arith, common_steps) in
     let items : c.push.new.self.items ≡ i.history.items ++ Edited c.args.edit ∷ [] = subst (λ (x : Edit). c.push.new.self.items ≡ i.history.items ++ Edited x ∷ []) item put in
+    let here : IsCompiledEdit i.names i.token c.args.edit = subst (λ (es : List Edit). IsCompiledEdit i.names es c.args.edit) (sym c.self.invariant.image.shows.edits_are) (subst (λ (v : ImageView). IsCompiledEdit v.names (world v).edits c.args.edit) (sym c.self.view_is) c.requires.compiled) in
+    let compiled : AllCompiled i.names c.in-Ok-publish.token = subst (AllCompiled i.names) (sym (after ∙ ap (λ (es : List Edit). es ++ c.args.edit ∷ []) (sym c.self.invariant.image.shows.edits_are))) (all_with i.names i.token c.args.edit c.self.invariant.compiled here) in
     let e : IsEdited i.base i.names c.in-Ok-publish.token i.actors.kept (i.history.items ++ Edited c.args.edit ∷ []) (i.edits_made + 1) i.settings = edited i.base i.names i.token c.in-Ok-publish.token i.actors.kept i.history.items i.edits_made i.settings (standing_of i.earlier i.next_from i.actors.out i.tallies) c.args.edit c.self.invariant.image c.known.ensures suits allowed after in
-    rw items (record { image = e.image; numbers_of_clients = kept_other i.clients i.base.clients i.history.items (Edited c.args.edit) (λ qs. refl) c.self.invariant.numbers_of_clients; sends = sends_other i.base i.names i.token i.actors.kept i.history.items i.edits_made i.settings i.tallies (Edited c.args.edit) c.self.invariant.image c.self.invariant.sends refl; places = covers_push i.tallies i.covered i.token c.in-Ok-publish.token c.args.edit (after ∙ ap (λ (es : List Edit). es ++ c.args.edit ∷ []) (sym c.self.invariant.image.shows.edits_are)) c.self.invariant.places; counts = counts_other i.changes i.history.items (Edited c.args.edit) (λ a. refl) c.self.invariant.counts; totals = items_other i.counts i.history.items (Edited c.args.edit) refl refl c.self.invariant.totals })
+    rw items (record { image = e.image; numbers_of_clients = kept_other i.clients i.base.clients i.history.items (Edited c.args.edit) (λ qs. refl) c.self.invariant.numbers_of_clients; sends = sends_other i.base i.names i.token i.actors.kept i.history.items i.edits_made i.settings i.tallies (Edited c.args.edit) c.self.invariant.image c.self.invariant.sends refl; places = covers_push i.tallies i.covered i.token c.in-Ok-publish.token c.args.edit (after ∙ ap (λ (es : List Edit). es ++ c.args.edit ∷ []) (sym c.self.invariant.image.shows.edits_are)) c.self.invariant.places; counts = counts_other i.changes i.history.items (Edited c.args.edit) (λ a. refl) c.self.invariant.counts; totals = items_other i.counts i.history.items (Edited c.args.edit) refl refl c.self.invariant.totals; compiled = compiled })
 
 pub returns : goal.returns
 returns g c =
     let i = c.self.inside in
     let w = world_of (constants_of i.names i.settings.capacity) i.base i.history.items in
-    let suits : edit_suits i.names w.edits c.args.edit ≡ true = subst (λ (v : ImageView). edit_suits v.names (world v).edits c.args.edit ≡ true) (sym c.self.view_is) c.requires in
+    let suits : edit_suits i.names w.edits c.args.edit ≡ true = subst (λ (v : ImageView). edit_suits v.names (world v).edits c.args.edit ≡ true) (sym c.self.view_is) c.requires.suits in
     let allowed : first_of (edit_rules w.edits c.args.edit ++ run_rules (seen i.base i.names i.history.items i.settings (standing_of i.earlier i.next_from i.actors.out i.tallies))) ≡ None = subst (λ (v : ImageView). first_of (edit_rules (world v).edits c.args.edit ++ run_rules v) ≡ None) (sym c.self.view_is) (sym c.in_default.ensures) in
     let put_last : c.in-Ok-publish.token ≡ (world c.args.self.now).edits ++ c.args.edit ∷ [] = c.in-Ok-publish.ensures ∙ c.in-Ok-with_accepted.ensures ∙ ap (λ (es : List Edit). es ++ c.in-Ok.shared ∷ []) c.version.ensures ∙ ap (λ (x : Edit). (world c.args.self.now).edits ++ x ∷ []) c.in-Ok.ensures in
     let after : c.in-Ok-publish.token ≡ w.edits ++ c.args.edit ∷ [] = subst (λ (v : ImageView). c.in-Ok-publish.token ≡ (world v).edits ++ c.args.edit ∷ []) (sym c.self.view_is) put_last in

@@ -83,7 +83,7 @@ invariant_of-self-in-Ok-put_steps g c =
     let pushed : c.push.new.self.items ≡ i.history.items ++ Ran c.actor-actor.result c.args.steps ∷ [] = grind (arith, common_steps) in
     let items : c.push.new.self.items ≡ i.history.items ++ Ran d.actor c.args.steps ∷ [] = pushed ∙ ap (λ (b : ActorId). i.history.items ++ Ran b c.args.steps ∷ []) c.actor-actor.ensures in
     let taken : HasTaken i.base i.names i.token c.put_steps.new.actors.kept i.history.items i.edits_made i.settings c.count.new.self d.actor c.args.steps = has_taken i.base i.names i.token i.actors.kept c.put_steps.new.actors.kept i.history.items i.edits_made i.settings beside i.tallies c.count.new.self d c.args.steps c.in-Ok-put_steps.field-0 c.self.invariant.image c.self.invariant.sends c.known.ensures allowed c.requires.steps c.requires.some may takes c.in-Ok-put_steps.ensures.grown tallied in
-    rw (items, kept_is _ _ c.release.ensures, c.from.ensures) (record { image = taken.image; numbers_of_clients = kept_other i.clients i.base.clients i.history.items (Ran d.actor c.args.steps) (λ qs. refl) c.self.invariant.numbers_of_clients; sends = taken.sends; places = covers_kept c.cover.new.self c.count.new.self c.cover.new.covered i.token c.count.ensures.keeps (subst (Covers c.cover.new.self c.cover.new.covered) c.shown-version.ensures c.cover.ensures.covers); counts = counts_one i.changes c.make_room.new.self c.raise.new.self i.history.items (Ran d.actor c.args.steps) d.actor.0 (λ a. refl) c.make_room.ensures.same (subst (λ (b : ActorId). (a : ℕ) → change_count c.raise.new.self a ≡ change_count c.make_room.new.self a + cond (a == b.0) 1 0) c.actor-actor.ensures c.raise.ensures) c.self.invariant.counts; totals = items_ran i.counts i.history.items d.actor c.args.steps (subst (λ (n : ℕ). n < 2 ^ 32) (sym c.requires.steps) (few_steps_of d c.known.ensures.few)) c.self.invariant.totals })
+    rw (items, kept_is _ _ c.release.ensures, c.from.ensures) (record { image = taken.image; numbers_of_clients = kept_other i.clients i.base.clients i.history.items (Ran d.actor c.args.steps) (λ qs. refl) c.self.invariant.numbers_of_clients; sends = taken.sends; places = covers_kept c.cover.new.self c.count.new.self c.cover.new.covered i.token c.count.ensures.keeps (subst (Covers c.cover.new.self c.cover.new.covered) c.shown-version.ensures c.cover.ensures.covers); counts = counts_one i.changes c.make_room.new.self c.raise.new.self i.history.items (Ran d.actor c.args.steps) d.actor.0 (λ a. refl) c.make_room.ensures.same (subst (λ (b : ActorId). (a : ℕ) → change_count c.raise.new.self a ≡ change_count c.make_room.new.self a + cond (a == b.0) 1 0) c.actor-actor.ensures c.raise.ensures) c.self.invariant.counts; totals = items_ran i.counts i.history.items d.actor c.args.steps (subst (λ (n : ℕ). n < 2 ^ 32) (sym c.requires.steps) (few_steps_of d c.known.ensures.few)) c.self.invariant.totals; compiled = c.self.invariant.compiled })
 
 pub returns-in-Ok-put_steps-clause-ok : goal.returns-in-Ok-put_steps-clause-ok
 returns-in-Ok-put_steps-clause-ok g c =

@@ -5,11 +5,11 @@ use Rattle.st_compile.specs.CompileRules.{method_rules}
 use Rattle.st_compile.proofs.Interning.{first-grows}
 use Rattle.st_compile.specs.NeededNames.{needed_texts}
 use Rattle.st_image.specs.Loading.{LoaderView}
-use Rattle.st_image.proofs.LoadedNames.{grown_suits, only_grown}
+use Rattle.st_image.proofs.LoadedNames.{grown_holds, only_grown}
 use Rattle.st_image.proofs.loader.Loader.compiled.Goals as goal
 
 pub invariant_of-self : goal.invariant_of-self
-invariant_of-self c = grown_suits c.self.inside.names c.compile.new.names c.self.inside.version (first-grows c.self.inside.names (needed_texts c.args.tree.now.syntax) c.compile.new.names c.compile.ensures.some) c.self.invariant
+invariant_of-self c = grown_holds c.self.inside.names c.compile.new.names c.self.inside.version (first-grows c.self.inside.names (needed_texts c.args.tree.now.syntax) c.compile.new.names c.compile.ensures.some) c.self.invariant
 
 pub returns-clause-answers : goal.returns-clause-answers
 returns-clause-answers c =

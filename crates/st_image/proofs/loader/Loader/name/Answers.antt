@@ -1,7 +1,7 @@
 use Rattle.std.proofs.Common.{inr, sym, refl, subst, ◌∙◌, ℕ, List}
-use Rattle.st_classes.specs.EditLists.{AllSuit}
 use Rattle.st_compile.proofs.Interning.{grows-interned}
-use Rattle.st_image.proofs.LoadedNames.{name_err, name_added, name_found, none_found, grown_suits}
+use Rattle.st_image.specs.Loading.{HoldsLoader}
+use Rattle.st_image.proofs.LoadedNames.{name_err, name_added, name_found, none_found, grown_holds}
 use Rattle.st_image.proofs.loader.Loader.name.Goals as goal
 
 pub returns-then-is_some : goal.returns-then-is_some
@@ -16,9 +16,9 @@ returns c =
     name_added c.args.self.now c.self.inside.names c.intern.new.self c.self.inside.version c.args.text.now c.self.view_is absent c.in_default.ensures.answers.0 c.in_default.ensures.names
 
 pub invariant_of-self : goal.invariant_of-self
-invariant_of-self c = subst (λ (ns : List (List ℕ)). AllSuit ns c.self.inside.version) (sym c.in-Err.ensures.unchanged) c.self.invariant
+invariant_of-self c = subst (λ (ns : List (List ℕ)). HoldsLoader ns c.self.inside.version) (sym c.in-Err.ensures.unchanged) c.self.invariant
 
 pub invariant_of-self-2 : goal.invariant_of-self-2
 invariant_of-self-2 c =
     let g = grows-interned c.self.inside.names c.args.text.now in
-    grown_suits c.self.inside.names c.intern.new.self c.self.inside.version (g.0, c.in_default.ensures.names ∙ g.1) c.self.invariant
+    grown_holds c.self.inside.names c.intern.new.self c.self.inside.version (g.0, c.in_default.ensures.names ∙ g.1) c.self.invariant

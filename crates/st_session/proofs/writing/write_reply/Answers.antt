@@ -1,6 +1,6 @@
 use Rattle.std.proofs.Common.{◌++◌, take, drop, suc, get_or, refl, sym, ap, ◌∙◌, inr, drop-cons}
 use Rattle.std.proofs.lemmas.List.{take-append-drop}
-use Rattle.st_session.proofs.answering.write_reply.Goals as goal
+use Rattle.st_session.proofs.writing.write_reply.Goals as goal
 
 pub returns-clause-written : goal.returns-clause-written
 returns-clause-written g c =

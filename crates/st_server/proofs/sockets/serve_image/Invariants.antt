@@ -1,5 +1,5 @@
 use Rattle.std.proofs.Common.{length}
-use Rattle.st_server.proofs.sockets.serve_on.Given as goal
+use Rattle.st_server.proofs.sockets.serve_image.Given as goal
 
 -- the ledgers are the blanks', the book is that of what was opened, and all begin at the end of the history
 abbrev pub ghosts-serve : goal.ghosts-serve

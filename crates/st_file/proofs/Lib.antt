@@ -1,0 +1,16 @@
+pub mod AllOf
+pub mod Arrays
+pub mod AsciiNames
+pub mod Described
+pub mod DescribedOnce
+pub mod FaultNames
+pub mod FoundAgain
+pub mod NamedParts
+pub mod OneMore
+pub mod ReadSoFar
+pub mod Rebasing
+pub mod RunningLast
+pub mod SpelledTexts
+pub mod TableTexts
+pub mod ToldLists
+pub mod Written

@@ -1,0 +1,22 @@
+-- Image files: the document of a text, and what a load answers.
+use Rattle.std.specs.Prelude.{◌≡◌, ◌⊎◌, ℕ, List, Some, None, Result, Err}
+use Rattle.serde_json.specs.Data.{Data}
+use Rattle.st_classes.specs.declared.refusals.Refusal.{Refusal}
+use Rattle.st_classes.specs.declared.refusals.Refusal.TheVariants.{BadImage, NoMemory}
+use Rattle.st_classes.specs.declared.refusals.ImagePlace.TheVariants as place
+use Rattle.st_image.specs.Images.{ImageView}
+use Rattle.st_wire.specs.Commands.{value_of}
+use Rattle.st_wire.specs.Streams.{InputView}
+use Rattle.st_file.specs.Describes.{LoadsImage}
+use Rattle.st_file.specs.Inputs.{GivesAll, StopsShort}
+
+-- the text is JSON, and its value is loaded; or it is none; or memory ran out
+abbrev pub LoadsText : List ℕ → Result ImageView Refusal → Type 0
+LoadsText text result = ((v : Data) × (value_of text ≡ Some v) × LoadsImage v result)
+    ⊎ ((value_of text ≡ None) × (result ≡ Err (BadImage place.Json)))
+    ⊎ (result ≡ Err NoMemory)
+
+-- an input was read to its end, and its text is loaded; or it was not read to its end, and the refusal says why
+abbrev pub LoadsFile : InputView → InputView → Result ImageView Refusal → Type 0
+LoadsFile before after result = ((text : List ℕ) × GivesAll before after text × LoadsText text result)
+    ⊎ ((e : Refusal) × (result ≡ Err e) × StopsShort before after e)

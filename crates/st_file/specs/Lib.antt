@@ -1,0 +1,11 @@
+pub mod Answers
+pub mod Describes
+pub mod Files
+pub mod Inputs
+pub mod Layers
+pub mod Meanings
+pub mod Named
+pub mod Saving
+pub mod Says
+pub mod Shapes
+pub mod Tellable

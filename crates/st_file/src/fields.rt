@@ -1,0 +1,180 @@
+//! The parts of a JSON value.
+ghost use Rattle.std.specs.Prelude.{◌≡◌, ◌≤◌, IfOk, map};
+ghost use Rattle.serde_json.specs.View.{view, items_view};
+ghost use Rattle.st_wire.specs.Fields as spec;
+ghost use Rattle.st_wire.specs.Commands.{has_just as has_just_keys, has_all as has_all_keys};
+ghost use Rattle.st_file.specs.Answers.{Reads};
+ghost use Rattle.st_file.specs.Shapes as shapes;
+
+use serde_json::Value;
+use st_classes::refusals::{ImagePlace, Refusal};
+use st_classes::seq::Seq;
+use st_classes::values::ActorId;
+use std::alloc::{AllocError, Global};
+
+/// The refusal of a value that has not the form of an image's.
+pub(crate) const SHAPE: Refusal = Refusal::BadImage {
+    place: ImagePlace::Shape,
+};
+
+/// What a JSON value can be read as.
+pub(crate) trait Readable: Drop {
+    ghost use Rattle.std.specs.Prelude.{Option};
+    ghost use Rattle.serde_json.specs.Data.{Data};
+
+    /// What is read of each value, where it has the form.
+    ghost form: { Data → Option Self };
+
+    /// Reads a value.
+    fn read(alloc: Global, value: &Value) -> Result<Self, Refusal>
+        ensures { Reads (form (view value.now)) result };
+}
+
+impl Readable for Seq<u8> {
+    ghost form = { spec.text };
+
+    fn read(alloc: Global, value: &Value) -> Result<Seq<u8>, Refusal> {
+        let Some(text) = value.as_str() else {
+            return Err(SHAPE);
+        };
+        match Vec::from_slice(alloc, text.as_bytes()) {
+            Ok(bytes) => Ok(Seq::from_vec(bytes)),
+            Err(AllocError) => Err(Refusal::NoMemory),
+        }
+    }
+}
+
+fn each<T: Readable>(alloc: Global, values: &Vec<Value>) -> Result<Seq<T>, Refusal>
+    ensures { Reads (spec.each_of T.form (items_view values.now.items)) result }
+{
+    let mut found = Vec::new(alloc);
+    for value in values {
+        let one = T::read(alloc, value)?;
+        if found.push(one).is_err() {
+            return Err(Refusal::NoMemory);
+        }
+    }
+    Ok(Seq::from_vec(found))
+}
+
+/// What each item of a key's array is.
+pub(crate) fn list_at<T: Readable>(
+    alloc: Global,
+    object: &Value,
+    key: &str,
+) -> Result<Seq<T>, Refusal>
+    ensures { Reads (shapes.list_at T.form key.now (view object.now)) result }
+{
+    match object.get(key).and_then(Value::as_array) {
+        Some(values) => each(alloc, values),
+        None => Err(SHAPE),
+    }
+}
+
+/// What the value of a key is.
+pub(crate) fn one_at<T: Readable>(alloc: Global, object: &Value, key: &str) -> Result<T, Refusal>
+    ensures { Reads (shapes.one_at T.form key.now (view object.now)) result }
+{
+    match object.get(key) {
+        Some(value) => T::read(alloc, value),
+        None => Err(SHAPE),
+    }
+}
+
+/// The text of a key.
+pub(crate) fn text_at(alloc: Global, object: &Value, key: &str) -> Result<Seq<u8>, Refusal>
+    ensures { Reads (spec.text_at key.now (view object.now)) result }
+{
+    one_at(alloc, object, key)
+}
+
+/// The number of keys of an object, and 0 for another value.
+pub(crate) fn size(object: &Value) -> usize
+    ensures { result ≡ spec.size (view object.now) }
+{
+    match object.as_object() {
+        Some(members) => members.len(),
+        None => 0,
+    }
+}
+
+/// The number of items of an array, and 0 for another value.
+pub(crate) fn count(array: &Value) -> usize
+    ensures { result ≡ shapes.count (view array.now) }
+{
+    match array.as_array() {
+        Some(items) => items.len(),
+        None => 0,
+    }
+}
+
+/// Whether a value is an object of just these keys.
+pub(crate) fn has_just(object: &Value, keys: &[&str]) -> bool
+    ensures { result ≡ has_just_keys (map (λ key. key.now) keys.now) (view object.now) }
+{
+    size(object) == keys.len() && has_all(object, keys)
+}
+
+/// Whether all of some keys are there.
+fn has_all(object: &Value, keys: &[&str]) -> bool
+    ensures { result ≡ has_all_keys (map (λ key. key.now) keys.now) (view object.now) }
+{
+    for key in keys {
+        if object.get(*key).is_none() {
+            return false;
+        }
+    }
+    true
+}
+
+/// A whole number in a range, with both ends in it.
+fn within(number: Option<u64>, least: u64, most: u64) -> Result<u64, Refusal>
+    ensures read { Reads (spec.within least most number) result }
+    ensures within { IfOk result (λ n. n ≤ most) }
+{
+    match number {
+        Some(n) if least <= n && n <= most => Ok(n),
+        _ => Err(SHAPE),
+    }
+}
+
+/// A whole number of a key in a range, with both ends in it.
+pub(crate) fn whole_at(object: &Value, key: &str, least: u64, most: u64) -> Result<u64, Refusal>
+    ensures read { Reads (spec.whole_at key.now least most (view object.now)) result }
+    ensures within { IfOk result (λ n. n ≤ most) }
+{
+    match object.get(key).and_then(Value::as_u64) {
+        Some(n) if least <= n && n <= most => Ok(n),
+        _ => Err(SHAPE),
+    }
+}
+
+/// A number of 64 bits.
+pub(crate) fn number_at(object: &Value, key: &str) -> Result<u64, Refusal>
+    ensures { Reads (spec.number_at key.now (view object.now)) result }
+{
+    whole_at(object, key, 0, u64::MAX)
+}
+
+/// An actor's number.
+pub(crate) fn actor_at(object: &Value, key: &str) -> Result<ActorId, Refusal>
+    ensures { Reads (spec.actor_at key.now (view object.now)) result }
+{
+    let number = whole_at(object, key, 0, 4_294_967_295)?;
+    Ok(ActorId(number as u32))
+}
+
+/// A client's number.
+pub(crate) fn client_number(number: Option<u64>) -> Result<u16, Refusal>
+    ensures { Reads (spec.within 0 65535 number) result }
+{
+    let number = within(number, 0, 65_535)?;
+    Ok(number as u16)
+}
+
+/// The last number of a client that sent something.
+pub(crate) fn last_number(number: Option<u64>) -> Result<u64, Refusal>
+    ensures { Reads (spec.within 1 18446744073709551615 number) result }
+{
+    within(number, 1, u64::MAX)
+}

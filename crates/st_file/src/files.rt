@@ -1,0 +1,58 @@
+//! The image of a file.
+ghost use Rattle.std.specs.Prelude.{◌≡◌, ◌⊎◌, None, Some, IfErr, IfOk};
+ghost use Rattle.serde_json.specs.View.{view};
+ghost use Rattle.st_classes.specs.declared.refusals.Refusal.TheVariants.{BadImage, NoMemory};
+ghost use Rattle.st_classes.specs.declared.refusals.ImagePlace.TheVariants as place;
+ghost use Rattle.st_wire.specs.Commands.{value_of};
+ghost use Rattle.st_wire.specs.Streams.{input_view};
+ghost use Rattle.st_file.specs.Files.{LoadsFile, LoadsText};
+
+use crate::images::image_of;
+use crate::inputs::read_all;
+use serde_json::{Category, Value};
+use st_classes::refusals::{ImagePlace, Refusal};
+use st_image::image::Image;
+use st_mailbox::mailboxes::Mailbox;
+use st_wire::streams::Input;
+use std::alloc::Global;
+
+/// The image of the text that an input gives. All of the text is read before anything is made of it.
+///
+/// It is `ReadFault` where a read failed, or 2^32 of them found no end. Else it is the image of the text, or its refusal.
+pub fn load<M: Mailbox, I: Input>(alloc: Global, input: &mut I) -> Result<Image<M>, Refusal>
+    ensures { let before = input_view I.remaining I.failures I.reads input.old in
+        let after = input_view I.remaining I.failures I.reads input.new in
+        LoadsFile before after result }
+{
+    match read_all(alloc, input) {
+        Ok(text) => image_of_bytes(alloc, &text),
+        Err(refusal) => Err(refusal),
+    }
+}
+
+/// The image of a text. It is `BadImage` of the place `Json` where the text is none of JSON, and else the image that its value
+/// describes, or the refusal of the value.
+pub fn image_of_bytes<M: Mailbox>(alloc: Global, text: &[u8]) -> Result<Image<M>, Refusal>
+    ensures { LoadsText text.now result }
+{
+    match value_of_bytes(alloc, text) {
+        Ok(value) => image_of(alloc, &value),
+        Err(refusal) => Err(refusal),
+    }
+}
+
+/// The JSON value of a text.
+fn value_of_bytes(alloc: Global, text: &[u8]) -> Result<Value, Refusal>
+    ensures value { IfOk result (λ v. value_of text.now ≡ Some (view v)) }
+    ensures none { IfErr result (λ e. (e ≡ NoMemory) ⊎ ((e ≡ BadImage place.Json) × (value_of text.now ≡ None))) }
+{
+    match Value::from_slice(alloc, text) {
+        Ok(value) => Ok(value),
+        Err(error) => Err(match error.classify() {
+            Category::Memory => Refusal::NoMemory,
+            _ => Refusal::BadImage {
+                place: ImagePlace::Json,
+            },
+        }),
+    }
+}

@@ -1,0 +1,101 @@
+//! What the texts of a file mean, for names and a class table.
+ghost use Rattle.std.specs.Prelude.{◌^◌};
+ghost use Rattle.st_classes.specs.Classes.{class_named};
+ghost use Rattle.st_file.specs.Answers.{Finds};
+ghost use Rattle.st_file.specs.Meanings as spec;
+
+mod actors;
+mod bodies;
+mod values;
+
+use crate::texts::ActorText;
+use st_classes::names::Names;
+use st_classes::refusals::{ImagePlace, Refusal};
+use st_classes::seq::Seq;
+use st_classes::values::{ClassId, Selector};
+use st_classes::version::Version;
+use st_image::actor_part::ActorPart;
+use std::alloc::Global;
+
+/// The refusal of actors that mean nothing.
+const ACTORS: Refusal = Refusal::BadImage {
+    place: ImagePlace::Actors,
+};
+
+/// What means a part of an image.
+pub(crate) trait Means<P: Drop> {
+    ghost use Rattle.std.specs.Prelude.{ℕ, List, Option};
+    ghost use Rattle.st_classes.specs.declared.edits.Edit.{Edit};
+
+    /// What it means, for names and a class table.
+    ghost meaning: { List (List ℕ) → List Edit → Self → Option P };
+
+    /// The part that it means.
+    fn resolve(&self, alloc: Global, names: &Names, version: &Version) -> Result<P, Refusal>
+        ensures { Finds (meaning names.now version.now self.now) result };
+}
+
+/// The parts that some texts mean.
+fn resolve_all<P: Drop, T: Means<P>>(
+    alloc: Global,
+    names: &Names,
+    version: &Version,
+    texts: &[T],
+) -> Result<Seq<P>, Refusal>
+    ensures { Finds (spec.all_of (T.meaning names.now version.now) texts.now) result }
+{
+    let mut found = Vec::new(alloc);
+    for text in texts {
+        let one = match text.resolve(alloc, names, version) {
+            Ok(one) => one,
+            Err(refusal) => return Err(refusal),
+        };
+        let Ok(()) = found.push(one) else {
+            return Err(Refusal::NoMemory);
+        };
+    }
+    Ok(Seq::from_vec(found))
+}
+
+/// The class of a name.
+fn class_of(version: &Version, text: &[u8]) -> Result<ClassId, Refusal>
+    ensures { Finds (class_named version.now text.now) result }
+{
+    match version.class_named(text) {
+        Some(class) => Ok(class),
+        None => Err(ACTORS),
+    }
+}
+
+/// The selector of a text.
+fn selector_of(names: &Names, text: &[u8]) -> Result<Selector, Refusal>
+    ensures { Finds (spec.selector_of names.now text.now) result }
+{
+    match names.find(text) {
+        Some(selector) => Ok(selector),
+        None => Err(ACTORS),
+    }
+}
+
+/// A number of 32 bits.
+fn word(number: u64) -> Result<u32, Refusal>
+    ensures { Finds (spec.below (2 ^ 32) number) result }
+{
+    if number < 4_294_967_296 {
+        Ok(number as u32)
+    } else {
+        Err(ACTORS)
+    }
+}
+
+/// The actors of a file.
+pub fn actors_of(
+    alloc: Global,
+    names: &Names,
+    version: &Version,
+    actors: &Seq<ActorText>,
+) -> Result<Seq<ActorPart>, Refusal>
+    ensures { Finds (spec.actors_meant names.now version.now actors.now) result }
+{
+    resolve_all(alloc, names, version, actors.as_slice())
+}

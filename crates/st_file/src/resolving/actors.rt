@@ -1,0 +1,30 @@
+//! What actors mean.
+ghost use Rattle.st_file.specs.Meanings as spec;
+
+use crate::resolving::{Means, class_of, resolve_all, word};
+use crate::texts::ActorText;
+use st_classes::names::Names;
+use st_classes::refusals::Refusal;
+use st_classes::version::Version;
+use st_image::actor_part::ActorPart;
+use std::alloc::Global;
+
+impl Means<ActorPart> for ActorText {
+    ghost meaning = { spec.actor_meant };
+
+    fn resolve(
+        &self,
+        alloc: Global,
+        names: &Names,
+        version: &Version,
+    ) -> Result<ActorPart, Refusal> {
+        Ok(ActorPart {
+            class: class_of(version, self.class.as_slice())?,
+            capacity: word(self.capacity)?,
+            is_open: self.is_open,
+            body: self.body.resolve(alloc, names, version)?,
+            last: self.last,
+            pending: resolve_all(alloc, names, version, self.pending.as_slice())?,
+        })
+    }
+}

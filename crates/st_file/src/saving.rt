@@ -1,0 +1,86 @@
+//! From an image to the text of a file.
+ghost use Rattle.std.specs.Prelude.{◌≡◌, ◌≤◌, ℕ, List, true, false, IfOk, OnOk};
+ghost use Rattle.std.specs.Io.KnownBytes.{Appends};
+ghost use Rattle.serde_json.specs.Data.{depth};
+ghost use Rattle.serde_json.specs.View.{view};
+ghost use Rattle.serde_json.specs.Written.{has_float};
+ghost use Rattle.st_wire.specs.Replies.{keys_rise};
+ghost use Rattle.st_wire.specs.Streams.{one_more};
+ghost use Rattle.st_file.specs.Saving.{DescribesImage, Saves, TellsImage, failures_after};
+ghost use Rattle.st_file.specs.Tellable.{ImageIsText};
+
+mod parts;
+mod tables;
+mod writing;
+
+use crate::part_texts::tell_actors;
+use crate::saving::parts::{can_be_base, parts};
+use crate::saving::tables::{edit_texts, name_texts};
+use crate::saving::writing::write_value;
+use crate::telling::image_data;
+use crate::texts::ImageText;
+use serde_json::Value;
+use st_classes::refusals::Refusal;
+use st_classes::seq::Seq;
+use st_image::image::Image;
+use st_image::loader::reloads;
+use st_mailbox::mailboxes::Mailbox;
+use st_wire::streams::Output;
+use std::alloc::{AllocError, Global};
+
+/// What a file says of an image. Only want of memory is an error.
+fn image_text<M: Mailbox>(alloc: Global, image: &Image<M>) -> Result<ImageText, AllocError>
+    ensures tells { IfOk result (λ t. TellsImage image.now t) }
+    ensures text { IfOk result (λ t. ImageIsText t) }
+{
+    can_be_base(image);
+    image.all_compiled();
+    image.known();
+    let parts = parts(alloc, image)?;
+    let senders = image.clients(alloc)?;
+    let names = image.names();
+    let version = image.version();
+    Ok(ImageText {
+        actors: tell_actors(alloc, names, version, &parts)?,
+        edits: edit_texts(alloc, names, version)?,
+        names: name_texts(alloc, names)?,
+        senders: Seq::from_vec(senders),
+    })
+}
+
+/// The JSON value that describes an image: its names, its class table, its actors with what is pending and where their turns stand,
+/// and its clients. Only want of memory is an error. The keys of each object are in byte order.
+pub fn image_value<M: Mailbox>(alloc: Global, image: &Image<M>) -> Result<Value, AllocError>
+    ensures describes { IfOk result (λ v. DescribesImage (view v) image.now) }
+    ensures shallow { IfOk result (λ v. depth (view v) ≤ 9) }
+    ensures whole { IfOk result (λ v. has_float (view v) ≡ false) }
+    ensures ordered { IfOk result (λ v. keys_rise (view v) ≡ true) }
+{
+    can_be_base(image);
+    image.all_compiled();
+    image.known();
+    image.names().known();
+    image.version().known();
+    reloads();
+    let text = image_text(alloc, image)?;
+    image_data(alloc, text)
+}
+
+/// Writes the text of an image file, which ends in a newline, and hands it on.
+///
+/// The refusal is `NoMemory`, and then nothing was written; or `WriteFault` where the output failed, and then a front of the text was
+/// written, which is all of it where it could not be handed on.
+pub fn save<M: Mailbox, O: Output>(
+    alloc: Global,
+    image: &Image<M>,
+    output: &mut O,
+) -> Result<(), Refusal>
+    ensures saved { (written : List ℕ) × Appends (O.contents output.old) (O.contents output.new) written × Saves image.now written result }
+    ensures failures { O.failures output.new ≡ failures_after result (O.failures output.old) }
+    ensures flushed { OnOk result (O.flushes output.new ≡ one_more (O.flushes output.old)) }
+{
+    let Ok(value) = image_value(alloc, image) else {
+        return Err(Refusal::NoMemory);
+    };
+    write_value(alloc, output, &value)
+}

@@ -1,0 +1,59 @@
+//! How a file's value is written.
+ghost use Rattle.std.specs.Prelude.{◌≡◌, ℕ, List, false, IfOk, MatchResult, OnOk, OnErr, string_bytes};
+ghost use Rattle.std.specs.Io.KnownBytes.{Appends};
+ghost use Rattle.serde_json.specs.View.{view};
+ghost use Rattle.serde_json.specs.Written.{has_float};
+ghost use Rattle.st_wire.specs.Streams.{one_more};
+ghost use Rattle.st_file.specs.Saving.{BreaksOff, IsFront, failures_after, value_line};
+
+use serde_json::Value;
+use st_classes::refusals::Refusal;
+use st_wire::streams::{Output, WriteFailed, write_all};
+use std::alloc::{AllocError, Global};
+
+/// The line of a value.
+fn line_of(alloc: Global, value: &Value) -> Result<String, AllocError>
+    requires { has_float (view value.now) ≡ false }
+    ensures { IfOk result (λ s. string_bytes s ≡ value_line (view value.now)) }
+{
+    let mut text = value.to_string(alloc)?;
+    text.push('\n')?;
+    Ok(text)
+}
+
+/// Writes a line, and hands on what has been written.
+fn write_line<O: Output>(output: &mut O, line: &[u8]) -> Result<(), WriteFailed>
+    ensures written { (part : List ℕ) × Appends (O.contents output.old) (O.contents output.new) part
+        × MatchResult result (λ _. part ≡ line.now) (λ _. IsFront part line.now) }
+    ensures unfailed { OnOk result (O.failures output.new ≡ O.failures output.old) }
+    ensures failed { OnErr result (O.failures output.new ≡ one_more (O.failures output.old)) }
+    ensures flushed { OnOk result (O.flushes output.new ≡ one_more (O.flushes output.old)) }
+{
+    match write_all(output, line) {
+        Ok(()) => output.flush(),
+        Err(failed) => Err(failed),
+    }
+}
+
+/// Writes the line of a value, and hands on what has been written. The refusal is `NoMemory`, and then nothing was written; or
+/// `WriteFault` where the output failed, and then the first bytes were written, which are all bytes where the line could not be
+/// handed on.
+pub(crate) fn write_value<O: Output>(
+    alloc: Global,
+    output: &mut O,
+    value: &Value,
+) -> Result<(), Refusal>
+    requires { has_float (view value.now) ≡ false }
+    ensures written { (part : List ℕ) × Appends (O.contents output.old) (O.contents output.new) part
+        × MatchResult result (λ _. part ≡ value_line (view value.now)) (λ e. BreaksOff (value_line (view value.now)) part e) }
+    ensures failures { O.failures output.new ≡ failures_after result (O.failures output.old) }
+    ensures flushed { OnOk result (O.flushes output.new ≡ one_more (O.flushes output.old)) }
+{
+    let Ok(line) = line_of(alloc, value) else {
+        return Err(Refusal::NoMemory);
+    };
+    match write_line(output, line.as_bytes()) {
+        Ok(()) => Ok(()),
+        Err(_) => Err(Refusal::WriteFault),
+    }
+}

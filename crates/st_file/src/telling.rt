@@ -1,0 +1,414 @@
+//! From what an image file says to a JSON value.
+ghost use Rattle.std.specs.Prelude.{◌≡◌, ◌≤◌, ℕ, suc, true, false, IfOk, All, Option, Some, codes};
+ghost use Rattle.serde_json.specs.Data.{Data, boolean, object, no_members, member, depth};
+ghost use Rattle.serde_json.specs.View.{view};
+ghost use Rattle.serde_json.specs.Written.{has_float};
+ghost use Rattle.st_wire.specs.Fields as spec;
+ghost use Rattle.st_wire.specs.Replies.{keys_rise, whole};
+ghost use Rattle.st_file.specs.declared.texts.PhaseText.TheVariants as phase;
+ghost use Rattle.st_image.specs.declared.edit_text.EditText.TheVariants as edit;
+ghost use Rattle.st_file.specs.Says.{Says};
+ghost use Rattle.st_file.specs.Shapes as shapes;
+ghost use Rattle.st_file.specs.Tellable.{IsText, ValueIsText, MessageIsText, ObjectIsText, FrameIsText, PhaseIsText, BodyIsText, ActorIsText, EditIsText, HasSent, ImageIsText};
+
+use crate::texts::{
+    ActorText, BodyText, FrameText, ImageText, MessageText, ObjectText, PhaseText, ValueText,
+};
+use serde_json::{Value, json};
+use st_classes::seq::Seq;
+use st_image::edit_text::EditText;
+use st_mailbox::messages::Sender;
+use st_wire::names::fault_name;
+use std::alloc::{AllocError, Global};
+
+/// The JSON value that says this: what is read of it is this again. Only want of memory is an error.
+pub fn image_data(alloc: Global, text: ImageText) -> Result<Value, AllocError>
+    requires { ImageIsText text }
+    ensures read { IfOk result (λ v. shapes.image_in (view v) ≡ Some text) }
+    ensures shallow { IfOk result (λ v. depth (view v) ≤ 9) }
+    ensures whole { IfOk result (λ v. has_float (view v) ≡ false) }
+    ensures ordered { IfOk result (λ v. keys_rise (view v) ≡ true) }
+{
+    text.tell(alloc)
+}
+
+/// What a JSON value can say.
+trait Telling: Drop {
+    ghost use Rattle.std.specs.Prelude.{ℕ, Option, IfOk};
+    ghost use Rattle.serde_json.specs.Data.{Data};
+
+    /// How it is read again.
+    ghost form: { Data → Option Self };
+
+    /// How deep its values nest at most.
+    ghost deep: { ℕ };
+
+    /// Its texts can be told.
+    ghost is_text: { Self → Type 0 };
+
+    /// The JSON value that says this.
+    fn tell(self, alloc: Global) -> Result<Value, AllocError>
+        requires { is_text self }
+        ensures { IfOk result (λ v. Says form deep self (view v)) };
+}
+
+impl Telling for Seq<u8> {
+    ghost form = { spec.text };
+
+    ghost deep = { 0 };
+
+    ghost is_text = { IsText };
+
+    fn tell(self, _alloc: Global) -> Result<Value, AllocError> {
+        Ok(Value::String(String::from_utf8(self.into_vec()).unwrap()))
+    }
+}
+
+/// A list of such.
+fn list<T: Telling>(alloc: Global, parts: Seq<T>) -> Result<Value, AllocError>
+    requires { All T.is_text parts }
+    ensures { IfOk result (λ v. Says (shapes.list_in T.form) (suc T.deep) parts (view v)) }
+{
+    let mut values = Vec::new(alloc);
+    for part in parts.into_vec() {
+        let value = part.tell(alloc)?;
+        values.push(value)?;
+    }
+    Ok(Value::Array(values))
+}
+
+impl Telling for ValueText {
+    ghost form = { shapes.value_in };
+
+    ghost deep = { 1 };
+
+    ghost is_text = { ValueIsText };
+
+    fn tell(self, alloc: Global) -> Result<Value, AllocError> {
+        match self {
+            ValueText::Int(integer) => Ok(Value::from(integer)),
+            ValueText::Bool(truth) => Ok(Value::Bool(truth)),
+            ValueText::Nil => Ok(Value::Null),
+            ValueText::Symbol(name) => {
+                let name = name.tell(alloc)?;
+                json!(in alloc; {"sym": name})
+            }
+            ValueText::Class(name) => {
+                let name = name.tell(alloc)?;
+                json!(in alloc; {"class": name})
+            }
+            ValueText::Actor(actor) => json!(in alloc; {"ref": actor.0}),
+            ValueText::Local(place) => json!(in alloc; {"local": place}),
+        }
+    }
+}
+
+impl Telling for Sender {
+    ghost form = { shapes.sender_in };
+
+    ghost deep = { 1 };
+
+    ghost is_text = { λ s. Unit {0} };
+
+    fn tell(self, alloc: Global) -> Result<Value, AllocError> {
+        match self {
+            Sender::Client(client) => Ok(Value::from(client)),
+            Sender::Actor(actor) => json!(in alloc; {"ref": actor.0}),
+        }
+    }
+}
+
+impl Telling for MessageText {
+    ghost form = { shapes.message_in };
+
+    ghost deep = { 3 };
+
+    ghost is_text = { MessageIsText };
+
+    fn tell(self, alloc: Global) -> Result<Value, AllocError> {
+        let MessageText {
+            args,
+            selector,
+            sender,
+            seq,
+        } = self;
+        let args = list(alloc, args)?;
+        let selector = selector.tell(alloc)?;
+        let sender = sender.tell(alloc)?;
+        json!(in alloc; {"args": args, "selector": selector, "sender": sender, "seq": seq})
+    }
+}
+
+impl Telling for ObjectText {
+    ghost form = { shapes.object_in };
+
+    ghost deep = { 3 };
+
+    ghost is_text = { ObjectIsText };
+
+    fn tell(self, alloc: Global) -> Result<Value, AllocError> {
+        let ObjectText { class, slots } = self;
+        let class = class.tell(alloc)?;
+        let slots = list(alloc, slots)?;
+        json!(in alloc; {"class": class, "slots": slots})
+    }
+}
+
+impl Telling for FrameText {
+    ghost form = { shapes.frame_in };
+
+    ghost deep = { 3 };
+
+    ghost is_text = { FrameIsText };
+
+    fn tell(self, alloc: Global) -> Result<Value, AllocError> {
+        let FrameText {
+            method,
+            operands,
+            pc,
+            receiver,
+            temps,
+        } = self;
+        let operands = list(alloc, operands)?;
+        let receiver = receiver.tell(alloc)?;
+        let temps = list(alloc, temps)?;
+        json!(in alloc; {
+            "method": method,
+            "operands": operands,
+            "pc": pc,
+            "receiver": receiver,
+            "temps": temps
+        })
+    }
+}
+
+/// The arguments and the selector of a turn that starts.
+fn start(alloc: Global, args: Seq<ValueText>, selector: Seq<u8>) -> Result<Value, AllocError>
+    requires args { All ValueIsText args }
+    requires selector { IsText selector }
+    ensures { IfOk result (λ v. Says shapes.start_in 3 (phase.Start args selector) (view v)) }
+{
+    let args = list(alloc, args)?;
+    let selector = selector.tell(alloc)?;
+    json!(in alloc; {"args": args, "selector": selector})
+}
+
+impl Telling for PhaseText {
+    ghost form = { shapes.phase_in };
+
+    ghost deep = { 5 };
+
+    ghost is_text = { PhaseIsText };
+
+    fn tell(self, alloc: Global) -> Result<Value, AllocError> {
+        match self {
+            PhaseText::Fresh => json!(in alloc; "fresh"),
+            PhaseText::Start { args, selector } => {
+                let start = start(alloc, args, selector)?;
+                json!(in alloc; {"start": start})
+            }
+            PhaseText::Frames(frames) => {
+                let frames = list(alloc, frames)?;
+                json!(in alloc; {"frames": frames})
+            }
+            PhaseText::Answer(answer) => {
+                let answer = answer.tell(alloc)?;
+                json!(in alloc; {"answer": answer})
+            }
+            PhaseText::Fault(fault) => json!(in alloc; {"fault": fault_name(fault)}),
+        }
+    }
+}
+
+impl Telling for BodyText {
+    ghost form = { shapes.body_in };
+
+    ghost deep = { 6 };
+
+    ghost is_text = { BodyIsText };
+
+    fn tell(self, alloc: Global) -> Result<Value, AllocError> {
+        let BodyText { objects, phase } = self;
+        let objects = list(alloc, objects)?;
+        let phase = phase.tell(alloc)?;
+        json!(in alloc; {"objects": objects, "phase": phase})
+    }
+}
+
+impl Telling for ActorText {
+    ghost form = { shapes.actor_in };
+
+    ghost deep = { 7 };
+
+    ghost is_text = { ActorIsText };
+
+    fn tell(self, alloc: Global) -> Result<Value, AllocError> {
+        let ActorText {
+            body,
+            capacity,
+            class,
+            last,
+            is_open,
+            pending,
+        } = self;
+        let body = body.tell(alloc)?;
+        let class = class.tell(alloc)?;
+        let pending = list(alloc, pending)?;
+        actor(alloc, body, capacity, class, last, is_open, pending)
+    }
+}
+
+/// The object of an actor.
+fn actor(
+    alloc: Global,
+    body: Value,
+    capacity: u64,
+    class: Value,
+    last: u64,
+    is_open: bool,
+    pending: Value,
+) -> Result<Value, AllocError>
+    ensures { IfOk result (λ v. view v ≡ object
+        (member (codes "body") (view body)
+        (member (codes "capacity") (whole capacity)
+        (member (codes "class") (view class)
+        (member (codes "last") (whole last)
+        (member (codes "open") (boolean is_open)
+        (member (codes "pending") (view pending)
+        no_members))))))) }
+{
+    json!(in alloc; {
+        "body": body,
+        "capacity": capacity,
+        "class": class,
+        "last": last,
+        "open": is_open,
+        "pending": pending
+    })
+}
+
+fn define(
+    alloc: Global,
+    name: Seq<u8>,
+    parent: Seq<u8>,
+    slots: Seq<Seq<u8>>,
+) -> Result<Value, AllocError>
+    requires name { IsText name }
+    requires parent { IsText parent }
+    requires slots { All IsText slots }
+    ensures { IfOk result (λ v. Says shapes.define_in 2 (edit.Define name parent slots) (view v)) }
+{
+    let name = name.tell(alloc)?;
+    let slots = list(alloc, slots)?;
+    let parent = parent.tell(alloc)?;
+    json!(in alloc; {"name": name, "slots": slots, "super": parent})
+}
+
+fn install(alloc: Global, class: Seq<u8>, source: Seq<u8>) -> Result<Value, AllocError>
+    requires class { IsText class }
+    requires source { IsText source }
+    ensures { IfOk result (λ v. Says shapes.install_in 1 (edit.Install class source) (view v)) }
+{
+    let class = class.tell(alloc)?;
+    let source = source.tell(alloc)?;
+    json!(in alloc; {"class": class, "source": source})
+}
+
+fn remove(alloc: Global, class: Seq<u8>, selector: Seq<u8>) -> Result<Value, AllocError>
+    requires class { IsText class }
+    requires selector { IsText selector }
+    ensures { IfOk result (λ v. Says shapes.remove_in 1 (edit.Remove class selector) (view v)) }
+{
+    let class = class.tell(alloc)?;
+    let selector = selector.tell(alloc)?;
+    json!(in alloc; {"class": class, "selector": selector})
+}
+
+impl Telling for EditText {
+    ghost form = { shapes.edit_in };
+
+    ghost deep = { 3 };
+
+    ghost is_text = { EditIsText };
+
+    fn tell(self, alloc: Global) -> Result<Value, AllocError> {
+        match self {
+            EditText::Define {
+                name,
+                parent,
+                slots,
+            } => {
+                let define = define(alloc, name, parent, slots)?;
+                json!(in alloc; {"define": define})
+            }
+            EditText::Install { class, source } => {
+                let install = install(alloc, class, source)?;
+                json!(in alloc; {"install": install})
+            }
+            EditText::Remove { class, selector } => {
+                let remove = remove(alloc, class, selector)?;
+                json!(in alloc; {"remove": remove})
+            }
+        }
+    }
+}
+
+impl Telling for (u16, u64) {
+    ghost form = { shapes.client_in };
+
+    ghost deep = { 1 };
+
+    ghost is_text = { HasSent };
+
+    fn tell(self, alloc: Global) -> Result<Value, AllocError> {
+        let (client, last) = self;
+        json!(in alloc; [client, last])
+    }
+}
+
+impl Telling for ImageText {
+    ghost form = { shapes.image_in };
+
+    ghost deep = { 9 };
+
+    ghost is_text = { ImageIsText };
+
+    fn tell(self, alloc: Global) -> Result<Value, AllocError> {
+        let ImageText {
+            actors,
+            edits,
+            names,
+            senders,
+        } = self;
+        let actors = list(alloc, actors)?;
+        let edits = list(alloc, edits)?;
+        let names = list(alloc, names)?;
+        let senders = list(alloc, senders)?;
+        image(alloc, actors, edits, names, senders)
+    }
+}
+
+/// The object of an image.
+fn image(
+    alloc: Global,
+    actors: Value,
+    edits: Value,
+    names: Value,
+    senders: Value,
+) -> Result<Value, AllocError>
+    ensures { IfOk result (λ v. view v ≡ object
+        (member (codes "actors") (view actors)
+        (member (codes "edits") (view edits)
+        (member (codes "format") (whole 1)
+        (member (codes "names") (view names)
+        (member (codes "senders") (view senders)
+        no_members)))))) }
+{
+    json!(in alloc; {
+        "actors": actors,
+        "edits": edits,
+        "format": 1u64,
+        "names": names,
+        "senders": senders
+    })
+}

@@ -1,0 +1,97 @@
+//! Texts of image files, and what becomes of them.
+use crate::places::changed;
+use st_classes::refusals::Refusal;
+use st_file::files::image_of_bytes;
+use st_file::saving::save;
+use st_server::checking::check_on;
+use st_server::images::Image;
+use st_wire::streams::{MemoryInput, MemoryOutput};
+use std::alloc::{AllocError, Global};
+use std::test::*;
+
+/// An actor with a message pending.
+pub(crate) const PENDING: &str =
+    r#"{"actors":[{"body":{"objects":[{"class":"M","slots":[]}],"phase":"fresh"},"capacity":64,"class":"M","last":0,"open":true,"pending":[{"args":[],"selector":"a","sender":1,"seq":1}]}],"edits":[{"define":{"name":"M","slots":[],"super":"Object"}},{"install":{"class":"M","source":"a ^3 + 4 * 2"}}],"format":1,"names":["a"],"senders":[[1,1]]}"#;
+
+/// An actor in the middle of a turn, whose method and a method that it sends were replaced meanwhile.
+pub(crate) const LOOPING: &str =
+    r#"{"actors":[{"body":{"objects":[{"class":"L","slots":[]}],"phase":{"frames":[{"method":2,"operands":[],"pc":6,"receiver":{"local":0},"temps":[1,1]}]}},"capacity":64,"class":"L","last":0,"open":true,"pending":[]}],"edits":[{"define":{"name":"L","slots":[],"super":"Object"}},{"install":{"class":"SmallInteger","source":"tag ^1"}},{"install":{"class":"L","source":"go | i s | i := 0. s := 0. [i < 3] whileTrue: [s := s * 10 + 3 tag. i := i + 1]. ^s"}},{"install":{"class":"L","source":"go ^0"}},{"install":{"class":"SmallInteger","source":"tag ^2"}}],"format":1,"names":["tag","go"],"senders":[[1,1]]}"#;
+
+/// All kinds of values and of phases, an actor that is closed, and one that has sent.
+pub(crate) const VARIED: &str =
+    r#"{"actors":[{"body":{"objects":[{"class":"P","slots":[-9223372036854775808,{"local":1}]},{"class":"Object","slots":[]}],"phase":{"answer":{"sym":"at:put:"}}},"capacity":1,"class":"P","last":18446744073709551615,"open":false,"pending":[{"args":[true,{"class":"P"}],"selector":"at:put:","sender":{"ref":0},"seq":7}]},{"body":{"objects":[{"class":"Object","slots":[]}],"phase":{"start":{"args":[null],"selector":"x:"}}},"capacity":1024,"class":"Object","last":0,"open":true,"pending":[]},{"body":{"objects":[{"class":"P","slots":[false,{"ref":1}]}],"phase":{"fault":"zeroDivide"}},"capacity":64,"class":"P","last":0,"open":true,"pending":[]}],"edits":[{"define":{"name":"P","slots":["a","b"],"super":"Object"}},{"install":{"class":"P","source":"x: y a := y"}},{"remove":{"class":"P","selector":"x:"}}],"format":1,"names":["at:put:","x:"],"senders":[[0,5],[65535,18446744073709551615]]}"#;
+
+/// The image of a text, on the heap.
+pub(crate) fn loaded(alloc: Global, text: &[u8]) -> Result<Box<Image>, Refusal> {
+    let image = image_of_bytes(alloc, text)?;
+    match Box::new(alloc, image) {
+        Ok(image) => Ok(image),
+        Err(_) => Err(Refusal::NoMemory),
+    }
+}
+
+/// Why a text is refused, if it is.
+pub(crate) fn refused(alloc: Global, text: &[u8]) -> Option<Refusal> {
+    loaded(alloc, text).err()
+}
+
+/// Whether the image of a text is saved as this text, with a newline.
+fn is_saved_as(alloc: Global, text: &[u8], wanted: &str) -> Result<bool, Refusal> {
+    let image = loaded(alloc, text)?;
+    let mut output = MemoryOutput::new(alloc);
+    save(alloc, &image, &mut output)?;
+    Ok(output.as_slice().strip_suffix(b"\n") == Some(wanted.as_bytes()))
+}
+
+/// Whether a check of a text tells this line, with this status.
+fn is_told(alloc: Global, text: &str, line: &str, status: u8) -> Result<bool, AllocError> {
+    let mut input = MemoryInput::new(Vec::from_slice(alloc, text.as_bytes())?);
+    let mut output = MemoryOutput::new(alloc);
+    let answer = check_on(alloc, &mut input, &mut output);
+    let is_line = output.as_slice().strip_suffix(b"\n") == Some(line.as_bytes());
+    Ok(is_line && answer == Ok(status))
+}
+
+#[test]
+fn saved_as_loaded(rt: HostRuntime) -> Result<(), Fail> {
+    let alloc = rt.alloc();
+    for text in [PENDING, LOOPING, VARIED] {
+        assert!(rt; is_saved_as(alloc, text.as_bytes(), text) == Ok(true));
+    }
+    // A name that only a method has may be left out, and white space is.
+    let by_hand = changed(alloc, PENDING, "[\"a\"]", " [ ]\n")?;
+    assert!(rt; is_saved_as(alloc, &by_hand, PENDING) == Ok(true));
+    Ok(())
+}
+
+#[test]
+fn checks_tell(rt: HostRuntime) -> Result<(), Fail> {
+    let alloc = rt.alloc();
+    assert!(rt;
+        is_told(
+            alloc,
+            PENDING,
+            r#"{"ok":{"actors":1,"classes":9,"edits":2}}"#,
+            0
+        )?
+    );
+    assert!(rt;
+        is_told(
+            alloc,
+            LOOPING,
+            r#"{"ok":{"actors":1,"classes":9,"edits":5}}"#,
+            0
+        )?
+    );
+    assert!(rt;
+        is_told(
+            alloc,
+            VARIED,
+            r#"{"ok":{"actors":3,"classes":9,"edits":3}}"#,
+            0
+        )?
+    );
+    assert!(rt; is_told(alloc, "{}", r#"{"error":"BadImage","place":"shape"}"#, 1)?);
+    assert!(rt; is_told(alloc, "", r#"{"error":"BadImage","place":"json"}"#, 1)?);
+    Ok(())
+}

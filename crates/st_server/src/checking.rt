@@ -1,0 +1,66 @@
+//! What `check` tells of an image file.
+ghost use Rattle.std.specs.Prelude.{◌≡◌, ℕ, List, Result, Ok, Err};
+ghost use Rattle.std.specs.Io.KnownBytes.{Appends};
+ghost use Rattle.st_classes.specs.declared.refusals.Refusal.{Refusal as RefusalOf};
+ghost use Rattle.st_image.specs.Images.{ImageView};
+ghost use Rattle.st_wire.specs.Streams.{input_view};
+ghost use Rattle.st_session.specs.Sessions.{end_of, failures_after};
+ghost use Rattle.st_file.specs.Files.{LoadsFile};
+ghost use Rattle.st_server.specs.Checks as spec;
+ghost use Rattle.st_server.specs.Checks.{Told, checked};
+
+use crate::images::{Image, Mailbox};
+use st_classes::refusals::Refusal;
+use st_file::files::load;
+use st_session::writing::write_reply;
+use st_wire::replies::Reply;
+use st_wire::streams::{Input, Output};
+use std::alloc::Global;
+
+/// The reply that tells of the image of a file, or why the file has none.
+fn reply_of(loaded: &Result<Image, Refusal>) -> Reply
+    ensures { result ≡ checked loaded.now }
+{
+    match loaded {
+        Ok(image) => Reply::Checked {
+            actors: image.actors(),
+            classes: image.version().classes(),
+            edits: image.version().edits(),
+        },
+        Err(refusal) => Reply::Refused(*refusal),
+    }
+}
+
+/// The status that tells whether there is an image.
+fn status_of(loaded: &Result<Image, Refusal>) -> u8
+    ensures { result ≡ spec.status_of loaded.now }
+{
+    match loaded {
+        Ok(_) => 0,
+        Err(_) => 1,
+    }
+}
+
+/// Loads an image and writes to an output how many actors, classes and edits it has, the kernel's classes counted, or why it was
+/// refused. The answer is the status: 0, or 1 where the image was refused.
+///
+/// Refusals: `NoMemory`, where nothing is written; `WriteFault`, where the line is not written whole.
+pub fn check_on<I: Input, O: Output>(
+    alloc: Global,
+    input: &mut I,
+    output: &mut O,
+) -> Result<u8, Refusal>
+    ensures told { let before = input_view I.remaining I.failures I.reads input.old in
+        let after = input_view I.remaining I.failures I.reads input.new in
+        (loaded : Result ImageView RefusalOf) × LoadsFile before after loaded
+        × ((written : List ℕ) × Appends (O.contents output.old) (O.contents output.new) written
+        × Told loaded written result) }
+    ensures failures { O.failures output.new ≡ failures_after (end_of result) (O.failures output.old) }
+{
+    let loaded: Result<Image, Refusal> = load::<Mailbox, I>(alloc, input);
+    let status = status_of(&loaded);
+    match write_reply(alloc, output, &reply_of(&loaded)) {
+        Ok(()) => Ok(status),
+        Err(refusal) => Err(refusal),
+    }
+}

@@ -1,0 +1,182 @@
+"""Trials of images that are kept in a file: what a workspace knows of one, and how the file stands at each end."""
+
+import glob
+import json
+import os
+import shutil
+import signal
+import subprocess
+import sys
+import tempfile
+import time
+
+from .breaks import Breaks
+from .images import OwnImage
+from .pretend import Terminal
+from .session import Session
+from .try_common import COUNTER, TOP, WORKSPACE, piped, same
+
+NAME = "job.image"
+OPTIONS = ("--image", NAME)
+NEW = f"{NAME} is new, and is written when the workspace ends"
+KID = ["Maker : Object", "Maker >> kid  ^Maker newActor", "Maker >> again  ^thisActor post: #again", "m := Maker actor", "m kid"]
+EDITS = [*COUNTER, "Counter >> bump  count := count + 2. ^count", "Stepper : Counter | by |", "Stepper >> by: n\n  by := n"]
+ALL = [*EDITS, "True >> yes  ^7", "Stepper >> old  ^1", "Stepper removeSelector: #old", "c := Stepper actor", "c start. c by: 4"]
+
+
+def typed(program, folder, lines, *options):
+    """The lines that a workspace on the image prints, without what was typed, what it says otherwise, and its status."""
+    ended = piped(program, lines, *OPTIONS, *options, cwd=folder)
+    printed = [line for line in ended.stdout.decode().splitlines() if not line.startswith("> ")]
+    return printed, ended.stderr.decode(), ended.returncode
+
+
+def content(folder, name=NAME):
+    with open(os.path.join(folder, name), "rb") as file:
+        return file.read()
+
+
+def goes_on(program):
+    """A second workspace goes on where the first one ended, and knows what is there."""
+    with tempfile.TemporaryDirectory() as folder:
+        lines = [*COUNTER, "c := Counter actor", "c start. c bump. c bump", ":post c bump", ":close c"]
+        same(typed(program, folder, lines)[0], [NEW, "class Counter, version 1", "actor 0", "2", "turn 4 of actor 0 waits"])
+        lines = [":classes", ":methods", ":actors", "c := actor 0", ":turn 0 of c", ":turn 1 of c", ":run", "c bump", ":names"]
+        wanted = f"""{NAME}: 1 class, 2 methods, 1 actor, 1 turn to run
+Counter : Object | count |
+Counter >> start  count := 0
+Counter >> bump  count := count + 1. ^count
+actor  name  class
+    0        Counter  closed
+actor 0
+turn 0 of actor 0 answers 2
+Pending: turn 1 of actor 0 has not ended, or not begun; :run goes on with it
+1 quantum, 8 steps
+turn 1 of actor 0 answers 3
+Closed: the mailbox of actor 0 is closed for ever; make a new actor
+c = actor 0"""
+        same(typed(program, folder, lines), (wanted.split("\n"), "", 0))
+        checked = subprocess.run([program, "check", NAME], cwd=folder, capture_output=True, timeout=60).stdout
+        same(json.loads(checked), {"ok": {"actors": 1, "classes": 9, "edits": 3}})
+
+
+def as_typed(program):
+    """What is known of a file is what is known where all is typed in; actors that methods made have their class besides."""
+    with tempfile.TemporaryDirectory() as folder:
+        sessions = [Session(OwnImage(program, (), os.path.join(folder, NAME)), Breaks(), lambda line: None)]
+        for line in [*ALL, *KID, "m again", ":close actor 2", ":post c bump", ":post m again"]:
+            sessions[0].do(line)
+        sessions[0].close()
+        sessions.append(Session(OwnImage(program, (), os.path.join(folder, NAME)), Breaks(), lambda line: None))
+        one, two = sessions
+        same(two.known.classes, one.known.classes)
+        same(one.known.actors.pop(2).class_name, None)
+        same(two.known.actors.pop(2).class_name, "Maker")
+        same(two.known.actors, one.known.actors)
+        same((two.turns.last, len(two.turns.waiting)), (one.turns.last, 2))
+        same(list(two.turns.selectors.values()), ["bump", "again"])
+        two.do("c := actor 0")
+        same(two.turns.post(0, "bump", []).number, 2)
+        two.end()
+
+
+def middle_of_turn(program):
+    """A turn that goes on is turn 0, and its end is told as that of a message that waits."""
+    with tempfile.TemporaryDirectory() as folder:
+        shutil.copy(os.path.join(TOP, "examples", "job.image.json"), os.path.join(folder, NAME))
+        lines = ["j := actor 0", ":turn 0 of j", ":step", ":run", "j work: 2", "j work: #a", ":why", ":turn 0 of j"]
+        wanted = f"""{NAME}: 1 class, 2 methods, 1 actor, 2 turns to run
+actor 0
+Pending: turn 0 of actor 0 has not ended, or not begun; :run goes on with it
+1 quantum, 67 steps
+turn 0 of actor 0 answers 3002
+1 quantum, 69 steps
+turn 1 of actor 0 answers 3000
+2000
+fault badArgument in turn 3 of actor 0
+badArgument: a kernel method got an argument or a receiver that it cannot take; look at what is added, compared or posted there
+to find the place:  :stats Job work:
+turn 0 of actor 0 answers 3002"""
+        same(typed(program, folder, lines), (wanted.split("\n"), "", 0))
+
+
+def refused(program):
+    """A file that breaks a rule of the format is told of with its place, and stays."""
+    for path in glob.glob(os.path.join(TOP, "tests", "inspect", "*.refusal")):
+        with tempfile.TemporaryDirectory() as folder, open(path, encoding="utf-8") as told:
+            shutil.copy(path.removesuffix(".refusal"), os.path.join(folder, NAME))
+            before = content(folder)
+            wanted = f"tools/workspace: {NAME} is refused, and stays as it is; place {told.read()}"
+            same(typed(program, folder, ["C : Object"]), ([], wanted, 1))
+            same((content(folder), os.listdir(folder)), (before, [NAME]))
+
+
+def no_place(program):
+    """Where no file can be is told before anything is typed."""
+    with tempfile.TemporaryDirectory() as folder:
+        os.mkdir(os.path.join(folder, NAME))
+        same(typed(program, folder, []), ([], f"tools/workspace: {NAME} cannot be read (Is a directory)\n", 1))
+        ended = piped(program, [], "--image", "nofolder/" + NAME, cwd=folder)
+        wanted = f"tools/workspace: nofolder/{NAME} cannot be written (No such file or directory)\n"
+        same((ended.stdout, ended.stderr.decode(), ended.returncode), (b"", wanted, 1))
+
+
+def linked(program):
+    """Behind a link the image is kept where the link leads."""
+    with tempfile.TemporaryDirectory() as folder:
+        os.mkdir(os.path.join(folder, "kept"))
+        for name in (NAME, "two.image"):
+            os.symlink("kept/" + name, os.path.join(folder, name))
+        typed(program, folder, ["C : Object", ":save two.image"])
+        same(sorted(os.listdir(os.path.join(folder, "kept"))), [NAME, "two.image"])
+        for name in (NAME, "two.image"):
+            same(os.readlink(os.path.join(folder, name)), "kept/" + name)
+        same(typed(program, folder, [":classes"])[0][1:], ["C : Object"])
+
+
+def at_signals(program):
+    """A signal that ends the workspace does not end its image: the program's session ends well."""
+    for number, status in ((signal.SIGTERM, 143), (signal.SIGHUP, 129), (signal.SIGKILL, -9)):
+        with tempfile.TemporaryDirectory() as folder:
+            terminal = Terminal([WORKSPACE, "--program", program, *OPTIONS], folder, folder)
+            terminal.see("\n> ")
+            same(terminal.ask("C : Object"), "class C, version 1\n")
+            terminal.signal(number)
+            same(terminal.process.wait(20), status)
+            wait_for(os.path.join(folder, NAME))
+            same(typed(program, folder, [":classes"])[0][1:], ["C : Object"])
+
+
+def wait_for(path):
+    ends = time.monotonic() + 20
+    while not os.path.exists(path) and time.monotonic() < ends:
+        time.sleep(0.01)
+
+
+def program_is_killed(program):
+    """A program that is killed leaves the file as it was."""
+    with tempfile.TemporaryDirectory() as folder:
+        typed(program, folder, ["C : Object"])
+        before = content(folder)
+        session = Session(OwnImage(program, (), os.path.join(folder, NAME)), Breaks(), lambda line: None)
+        session.do("D : Object")
+        session.log.connection.process.kill()
+        same((session.close(), content(folder)), (False, before))
+
+
+def broken_off(program):
+    """Ctrl-C ends a workspace that reads a pipe, and its image is kept."""
+    with tempfile.TemporaryDirectory() as folder:
+        pipes = {"stdin": subprocess.PIPE, "stdout": subprocess.PIPE, "stderr": subprocess.PIPE}
+        command = [sys.executable, WORKSPACE, "--program", program, *OPTIONS]
+        with subprocess.Popen(command, cwd=folder, text=True, **pipes) as process:
+            process.stdin.write("C : Object\nC >> m  [true] whileTrue: [nil]\nc := C actor\nc m\n:quit\n")
+            process.stdin.flush()
+            while process.stdout.readline() != "> c m\n":
+                pass
+            process.send_signal(signal.SIGINT)
+            same((process.communicate(timeout=60)[1], process.returncode), ("", 130))
+        same(typed(program, folder, [":actors"])[0][0].partition(", 1 turn")[0], f"{NAME}: 1 class, 1 method, 1 actor")
+
+
+TRIALS = (goes_on, as_typed, middle_of_turn, refused, no_place, linked, at_signals, program_is_killed, broken_off)

@@ -1,6 +1,8 @@
 //! The program `actorimage`.
 #![tactic(auto)]
 
+ghost use Rattle.std.specs.Prelude.{◌≡◌, [], IfOk};
+
 mod image_files;
 mod options;
 
@@ -28,11 +30,15 @@ use std::sync::Wait;
 use std::thread::Threads;
 
 /// The image of a file, where one is given and is there; else a new image.
-fn first_image<R: Files + AllocGlobal>(rt: &R, path: Option<&str>) -> Result<Image, Refusal> {
+fn first_image<R: Files + AllocGlobal>(rt: &R, path: Option<&str>) -> Result<Image, Refusal>
+    ensures { IfOk result (λ i. i.history ≡ []) }
+{
     let alloc = rt.alloc();
     if let Some(path) = path {
-        if let Some(image) = load_file(rt, alloc, path)? {
-            return Ok(image);
+        match load_file(rt, alloc, path) {
+            Ok(Some(image)) => return Ok(image),
+            Ok(None) => {}
+            Err(refusal) => return Err(refusal),
         }
     }
     Image::new(alloc, Settings::DEFAULT)
@@ -43,7 +49,9 @@ fn run_script<R: Input + Print + AllocGlobal>(
     rt: &R,
     options: ScriptOptions<'_>,
     image: Image,
-) -> (Image, Result<u64, Refusal>) {
+) -> (Image, Result<u64, Refusal>)
+    requires { image.history ≡ [] }
+{
     let alloc = rt.alloc();
     let Ok(buffered) = BufWriter::new(alloc, io::writer(rt)) else {
         return (image, Err(Refusal::NoMemory));

@@ -24,7 +24,7 @@ impl<'a> ScriptOptions<'a> {
 
     /// The settings of the script. What the command line does not give is as by default, and the history always is.
     pub fn settings(self) -> ScriptSettings
-        ensures { result ≡ record { quantum = unwrap_or self.quantum 256; capacity = unwrap_or self.capacity 64; history = 1000000 } }
+        ensures { result ≡ record { quantum = unwrap_or self.entry.quantum 256; capacity = unwrap_or self.entry.capacity 64; history = 1000000 } }
     {
         let default = ScriptSettings::DEFAULT;
         ScriptSettings {

@@ -1,0 +1,65 @@
+"""Tries how a built program reads, checks and writes image files.
+
+    tools/image-files PROGRAM
+    tools/image-files --mutate N [--seed N] PROGRAM
+
+PROGRAM is `crates/actorimage/out/actorimage`. What it is to say of a file, and what it is to write, is what tools/inspect_parts
+and the second implementation say and write. A line for each kind of trial tells how many there were; at the first difference
+the status is 1.
+
+--mutate changes good files in N ways, each at one place, and tries no more than that. A changed file is refused by the place
+that tools/inspect says, or it is taken, and what is written of it then is right. It prints every kind of difference once, and
+keeps the files that show them.
+"""
+
+import argparse
+import os
+import sys
+import tempfile
+import time
+import traceback
+
+from inspect_parts.main import deeply
+
+from . import try_cuts, try_files, try_full, try_limits, try_mutated, try_paths, try_picked, try_random, try_scripts, try_served
+from .program import Different, Program
+
+PARTS = (try_files, try_limits, try_full, try_cuts, try_paths, try_served, try_scripts, try_picked, try_random)
+SEED = 20241107
+
+
+def arguments():
+    plain = argparse.RawDescriptionHelpFormatter
+    parser = argparse.ArgumentParser(prog="tools/image-files", description=__doc__, formatter_class=plain)
+    parser.add_argument("program", metavar="PROGRAM")
+    parser.add_argument("--mutate", type=int, metavar="N", help="change good files in N ways, and nothing else")
+    parser.add_argument("--seed", type=int, default=SEED, metavar="N")
+    given = parser.parse_args()
+    if not os.access(given.program, os.X_OK):
+        sys.exit(f"tools/image-files: {given.program} is no program; build it first")
+    return given
+
+
+def try_all(path):
+    """The status. Each trial answers what it tried."""
+    for trial in (trial for part in PARTS for trial in part.TRIALS):
+        began = time.monotonic()
+        with tempfile.TemporaryDirectory() as folder:
+            try:
+                tried = trial(Program(path, folder))
+            except Different as difference:
+                print(f"tools/image-files: {trial.__name__}: {difference}")
+                return 1
+            except Exception:
+                print(f"tools/image-files: {trial.__name__} broke off:\n{traceback.format_exc()}")
+                return 1
+        print(f"tools/image-files: {trial.__name__}: {tried}, {time.monotonic() - began:.1f} seconds", flush=True)
+    return 0
+
+
+def main():
+    given = arguments()
+    path = os.path.realpath(given.program)
+    if given.mutate is None:
+        sys.exit(deeply(lambda: try_all(path)))
+    sys.exit(deeply(lambda: try_mutated.try_all(path, given.mutate, given.seed)))

@@ -21,10 +21,12 @@ import traceback
 
 from inspect_parts.main import deeply
 
-from . import try_cuts, try_files, try_full, try_limits, try_mutated, try_paths, try_picked, try_random, try_scripts, try_served
+from . import try_cuts, try_files, try_full, try_limits, try_mutated, try_paths, try_picked, try_random, try_refused
+from . import try_scripts, try_served, try_whole
 from .program import Different, Program
 
-PARTS = (try_files, try_limits, try_full, try_cuts, try_paths, try_served, try_scripts, try_picked, try_random)
+OF_FILES = (try_files, try_limits, try_full, try_cuts, try_paths, try_whole)
+OF_SESSIONS = (try_served, try_refused, try_scripts, try_picked, try_random)
 SEED = 20241107
 
 
@@ -42,7 +44,7 @@ def arguments():
 
 def try_all(path):
     """The status. Each trial answers what it tried."""
-    for trial in (trial for part in PARTS for trial in part.TRIALS):
+    for trial in (trial for part in OF_FILES + OF_SESSIONS for trial in part.TRIALS):
         began = time.monotonic()
         with tempfile.TemporaryDirectory() as folder:
             try:

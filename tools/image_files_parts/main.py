@@ -13,11 +13,14 @@ keeps the files that show them.
 """
 
 import argparse
+import concurrent.futures
+import multiprocessing
 import os
 import sys
 import tempfile
 import time
 import traceback
+from itertools import repeat
 
 from inspect_parts.main import deeply
 
@@ -28,6 +31,8 @@ from .program import Different, Program
 OF_FILES = (try_files, try_limits, try_full, try_cuts, try_paths, try_whole)
 OF_SESSIONS = (try_served, try_refused, try_scripts, try_picked, try_random)
 SEED = 20241107
+# How many trials go on at once.
+WORKERS = 2
 
 
 def arguments():
@@ -42,20 +47,28 @@ def arguments():
     return given
 
 
+def try_one(path, trial):
+    """What is printed of a trial, and whether all was as it should be. A trial answers what it tried."""
+    began = time.monotonic()
+    with tempfile.TemporaryDirectory() as folder:
+        try:
+            tried = trial(Program(path, folder))
+        except Different as difference:
+            return f"{trial.__name__}: {difference}", False
+        except Exception:
+            return f"{trial.__name__} broke off:\n{traceback.format_exc()}", False
+    return f"{trial.__name__}: {tried}, {time.monotonic() - began:.1f} seconds", True
+
+
 def try_all(path):
-    """The status. Each trial answers what it tried."""
-    for trial in (trial for part in OF_FILES + OF_SESSIONS for trial in part.TRIALS):
-        began = time.monotonic()
-        with tempfile.TemporaryDirectory() as folder:
-            try:
-                tried = trial(Program(path, folder))
-            except Different as difference:
-                print(f"tools/image-files: {trial.__name__}: {difference}")
+    """The status. Two trials go on at once; what they say is printed in their order, up to the first difference."""
+    trials = [trial for part in OF_FILES + OF_SESSIONS for trial in part.TRIALS]
+    with concurrent.futures.ProcessPoolExecutor(WORKERS, multiprocessing.get_context("fork")) as pool:
+        for text, is_well in pool.map(try_one, repeat(path), trials):
+            print(f"tools/image-files: {text}", flush=True)
+            if not is_well:
+                pool.shutdown(cancel_futures=True)
                 return 1
-            except Exception:
-                print(f"tools/image-files: {trial.__name__} broke off:\n{traceback.format_exc()}")
-                return 1
-        print(f"tools/image-files: {trial.__name__}: {tried}, {time.monotonic() - began:.1f} seconds", flush=True)
     return 0
 
 

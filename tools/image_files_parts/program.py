@@ -5,7 +5,8 @@ import subprocess
 from typing import NamedTuple
 
 SECONDS = 120
-LONGEST = 600
+# Of a longer text a part is shown, which begins so many letters before the first that differs.
+LONGEST, BEFORE = 300, 60
 
 
 class Different(Exception):
@@ -14,12 +15,16 @@ class Different(Exception):
 
 def same(about, found, wanted):
     if found != wanted:
-        raise Different(f"{about}: there is {shortened(found)} and not {shortened(wanted)}")
+        texts = repr(found), repr(wanted)
+        start = max(0, len(os.path.commonprefix(texts)) - BEFORE)
+        raise Different(f"{about}: there is {shortened(texts[0], start)} and not {shortened(texts[1], start)}")
 
 
-def shortened(value):
-    text = repr(value)
-    return text if len(text) <= LONGEST else f"{text[: LONGEST // 2]} .. {text[-LONGEST // 2 :]}"
+def shortened(text, start):
+    """A part of a long text, from a place on."""
+    if len(text) <= LONGEST:
+        return text
+    return (".. " if start else "") + text[start : start + LONGEST] + (" .." if start + LONGEST < len(text) else "")
 
 
 class Ended(NamedTuple):

@@ -1,11 +1,10 @@
-"""Trials on what becomes of a file: after sessions that are refused, as a link, with its rights, in folders that take none."""
+"""Trials on what becomes of a file: after sessions that are refused, as a link, with its rights."""
 
 import os
 import stat
 
 from inspect_parts.try_common import good_files, read
 
-from .in_folders import TRIALS as IN_FOLDERS
 from .program import Ended, refusal, same
 
 DEFINE = b'{"cmd":"define","name":"Further","slots":[],"super":"Object"}'
@@ -118,4 +117,4 @@ def settings_of_a_session(program):
     return "2 sessions"
 
 
-TRIALS = (refused_sessions, not_there, links, rights, settings_of_a_session, *IN_FOLDERS)
+TRIALS = (refused_sessions, not_there, links, rights, settings_of_a_session)

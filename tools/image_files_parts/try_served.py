@@ -17,11 +17,15 @@ POST = {"actor": 0, "args": [], "cmd": "post", "selector": "a", "sender": 1, "se
 SESSIONS = (b"", b"\xff\n")
 
 
+def words(program, file, sessions=1):
+    return "serve", "--image", file, "--sessions", str(sessions), "--socket", program.at("socket")
+
+
 def serve(program, file, talk, sessions=1):
     """The end of a server for so many sessions, each of which is talked over its socket."""
     path = program.at("socket")
-    words = [program.path, "serve", "--image", file, "--sessions", str(sessions), "--socket", path]
-    server = subprocess.Popen(words, stdout=subprocess.PIPE, stderr=subprocess.PIPE)
+    command = [program.path, *words(program, file, sessions)]
+    server = subprocess.Popen(command, stdout=subprocess.PIPE, stderr=subprocess.PIPE)
     try:
         for number in range(sessions):
             with connected(server, path) as end, end.makefile("rb") as lines:
@@ -107,11 +111,9 @@ def not_served(program):
     for path in bad_files():
         data = read(path)
         file = program.put("file", data)
-        words = ("serve", "--image", file, "--sessions", "1", "--socket", program.at("socket"))
-        same(f"{path}: server", program.run(*words), refusal("BadImage"))
+        same(f"{path}: server", program.run(*words(program, file)), refusal("BadImage"))
         same(f"{path}: the file", read(file), data)
-    words = ("serve", "--image", program.folder, "--sessions", "1", "--socket", program.at("socket"))
-    same("a folder as the file: server", program.run(*words), refusal("ReadFault"))
+    same("a folder as the file: server", program.run(*words(program, program.folder)), refusal("ReadFault"))
     same("files in the folder", os.listdir(program.folder), ["file"])
     return f"{len(bad_files()) + 1} files"
 

@@ -6,8 +6,8 @@ import shutil
 from inspect_parts.try_common import good_files, read
 
 from .program import Ended, Program, same
+from .try_paths import DEFINE
 
-DEFINE = b'{"cmd":"define","name":"Further","slots":[],"super":"Object"}'
 NOBODY = 65534
 UNWRITTEN = (1, b"actorimage: WriteFault\n")
 

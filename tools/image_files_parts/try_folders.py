@@ -21,10 +21,9 @@ def by_nobody(program):
     os.chmod(copied.path, 0o755)
     somebody = {"user": NOBODY, "group": NOBODY, "extra_groups": []}
     try:
-        copied.run("--help", **somebody)
+        return (copied, somebody) if copied.run("--help", **somebody).status == 0 else None
     except OSError:
         return None
-    return copied, somebody
 
 
 def cannot_write(program, about, path, **more):

@@ -18,7 +18,7 @@ SESSIONS = (b"", b"\xff\n")
 
 
 def words(program, file, sessions=1):
-    return "serve", "--image", file, "--sessions", str(sessions), "--socket", program.at("socket")
+    return "serve", "--workers", "2", "--image", file, "--sessions", str(sessions), "--socket", program.at("socket")
 
 
 def serve(program, file, talk, sessions=1):

@@ -50,6 +50,14 @@ WHOLE = (
     (b'{"format":1}', "shape: the file"),
     (b'{"format":{}}', "shape: format"),
 )
+# Each stands in place of the capacity with its key.
+KEYS_TWICE = (
+    (b'"capacity":0,"capacity":64', "good"),
+    (b'"capacity":64,"capacity":0', "actors: actors[0].capacity"),
+    (b'"capacity":{"a":"\\u00e9"},"capacity":64', "good"),
+    (b'"capacity":{"a":"\\ud800"},"capacity":64', "json: the file"),
+    (b'"capacity":1e999,"capacity":64', "json: the file"),
+)
 
 
 def values():
@@ -68,15 +76,9 @@ def whole():
 def twice():
     """A key that comes twice has its last value."""
     text = read(good_files()["message-waits"])
-    for keys, wanted in (
-        (b'"capacity":0,"capacity":64', "good"),
-        (b'"capacity":64,"capacity":0', "actors: actors[0].capacity"),
-        (b'"capacity":{"a":"\\u00e9"},"capacity":64', "good"),
-        (b'"capacity":{"a":"\\ud800"},"capacity":64', "json: the file"),
-        (b'"capacity":1e999,"capacity":64', "json: the file"),
-    ):
+    for keys, wanted in KEYS_TWICE:
         same((keys, refusal(text.replace(b'"capacity":64', keys))), (keys, wanted))
-    return 5
+    return len(KEYS_TWICE)
 
 
 def cut():

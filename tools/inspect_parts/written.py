@@ -59,13 +59,19 @@ class Written(Image):
         return number
 
     def post(self, command):
-        symbols = [it["sym"] for it in command["args"] if isinstance(it, dict) and "sym" in it]
-        for text in [command["selector"], *symbols]:
-            if not is_selector(text):
-                break
-            self.intern([text])
+        self.intern(self.names_in(command))
         self.sending = command["sender"], command["seq"]
         return super().post(command)
+
+    def names_in(self, command):
+        """The names that a post brings, accepted or not: up to the first text that says nothing."""
+        for it in ({"sym": command["selector"]}, *command["args"]):
+            if isinstance(it, dict) and "sym" in it:
+                if not is_selector(it["sym"]):
+                    return
+                yield it["sym"]
+            elif isinstance(it, dict) and it.get("class", "Object") not in self.classes.numbers:
+                return
 
     def take_quantum(self, actor):
         self.sending = actor.number

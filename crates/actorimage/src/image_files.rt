@@ -1,9 +1,11 @@
 //! Image files on disk.
+ghost use Rattle.std.specs.Prelude.{◌≡◌, [], IfOk, IfSome};
+
 use st_classes::refusals::Refusal;
 use st_file::files::load;
 use st_file::saving::save;
 use st_server::images::Image;
-use st_wire::streams::{Reader, Writer};
+use st_wire::streams::{Input, Reader, Writer};
 use std::alloc::Global;
 use std::fs::{self, File, Files, OpenFile};
 use std::io::{self, ErrorKind, Read};
@@ -18,15 +20,27 @@ impl Read for Unreadable {
     }
 }
 
+/// The image that an input gives. Nothing has happened in it yet.
+fn loaded<I: Input>(alloc: Global, input: &mut I) -> Result<Image, Refusal>
+    ensures { IfOk result (λ i. i.history ≡ []) }
+{
+    load(alloc, input)
+}
+
 /// The image of a file, or none where there is no file. `ReadFault` says that the file cannot be read, and `BadImage` that it
 /// holds no image.
-pub fn load_file<R: Files>(rt: &R, alloc: Global, path: &str) -> Result<Option<Image>, Refusal> {
+pub fn load_file<R: Files>(rt: &R, alloc: Global, path: &str) -> Result<Option<Image>, Refusal>
+    ensures { IfOk result (λ found. IfSome found (λ i. i.history ≡ [])) }
+{
     let file = match File::open(rt, path) {
         Ok(file) => file,
         Err(error) if error.kind() == ErrorKind::NotFound => return Ok(None),
         Err(_) => return Err(Refusal::ReadFault),
     };
-    Ok(Some(load(alloc, &mut Reader::new(file))?))
+    match loaded(alloc, &mut Reader::new(file)) {
+        Ok(image) => Ok(Some(image)),
+        Err(refusal) => Err(refusal),
+    }
 }
 
 /// Writes the file of an image that is not there yet, and waits until it is on the disk.

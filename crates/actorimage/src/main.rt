@@ -1,6 +1,8 @@
 //! The program `actorimage`.
 #![tactic(auto)]
 
+ghost use Rattle.std.specs.Prelude.{◌≡◌, [], IfOk};
+
 mod image_files;
 mod options;
 
@@ -10,6 +12,7 @@ use boxcar::Vec as Faults;
 use clap::Error;
 use st_classes::refusals::Refusal;
 use st_image::settings::Settings;
+use st_pool::totals::Totals;
 use st_server::checking::check_on;
 use st_server::images::Image;
 use st_server::scripts::script_on;
@@ -28,11 +31,15 @@ use std::sync::Wait;
 use std::thread::Threads;
 
 /// The image of a file, where one is given and is there; else a new image.
-fn first_image<R: Files + AllocGlobal>(rt: &R, path: Option<&str>) -> Result<Image, Refusal> {
+fn first_image<R: Files + AllocGlobal>(rt: &R, path: Option<&str>) -> Result<Image, Refusal>
+    ensures { IfOk result (λ i. i.history ≡ []) }
+{
     let alloc = rt.alloc();
     if let Some(path) = path {
-        if let Some(image) = load_file(rt, alloc, path)? {
-            return Ok(image);
+        match load_file(rt, alloc, path) {
+            Ok(Some(image)) => return Ok(image),
+            Ok(None) => {}
+            Err(refusal) => return Err(refusal),
         }
     }
     Image::new(alloc, Settings::DEFAULT)
@@ -43,7 +50,9 @@ fn run_script<R: Input + Print + AllocGlobal>(
     rt: &R,
     options: ScriptOptions<'_>,
     image: Image,
-) -> (Image, Result<u64, Refusal>) {
+) -> (Image, Result<u64, Refusal>)
+    requires { image.history ≡ [] }
+{
     let alloc = rt.alloc();
     let Ok(buffered) = BufWriter::new(alloc, io::writer(rt)) else {
         return (image, Err(Refusal::NoMemory));
@@ -71,14 +80,15 @@ fn script<R: Input + Print + Files + AllocGlobal>(
     }
 }
 
-/// Tells on standard output what an image file holds. The answer is the status.
-fn check<R: Print + Files + AllocGlobal>(rt: &R, path: &str) -> Result<u8, Refusal> {
+/// Tells on standard output what an image file holds. The answer is the status, which is 1 also where that could not be told.
+fn check<R: Print + Files + AllocGlobal>(rt: &R, path: &str) -> u8 {
     let alloc = rt.alloc();
     let mut output = Writer::new(io::writer(rt));
-    match File::open(rt, path) {
+    let told = match File::open(rt, path) {
         Ok(file) => check_on(alloc, &mut Reader::new(file), &mut output),
         Err(_) => check_on(alloc, &mut Reader::new(Unreadable), &mut output),
-    }
+    };
+    told.unwrap_or(1)
 }
 
 /// The rights of a socket's file: its owner reads and writes.
@@ -97,57 +107,66 @@ fn sorted_names(alloc: Global, faults: &Faults<Refusal>) -> Result<Vec<&'static 
     Ok(names)
 }
 
-/// Serves sessions over a socket that is there, and tells in the end what all have done together, and how sessions ended that were
-/// refused. The answer is the image.
-fn serve_over<R: Threads + Wait + Print + Eprint + AllocGlobal + Sync>(
+/// Tells on standard error how sessions ended that were refused, and on standard output what all have done together.
+fn tell_end<R: Print + Eprint + AllocGlobal>(
     rt: &R,
-    listener: &UnixListener,
-    options: ServeOptions<'_>,
-    image: Image,
-) -> Result<Image, Refusal> {
-    let alloc = rt.alloc();
-    let Ok(faults) = Faults::new(alloc) else {
-        return Err(Refusal::NoMemory);
-    };
-    let (image, totals) = serve_image(
-        rt,
-        alloc,
-        listener,
-        &faults,
-        options.workers,
-        options.sessions,
-        image,
-    )?;
-    let names = sorted_names(alloc, &faults)?;
+    faults: &Faults<Refusal>,
+    totals: Totals,
+) -> Result<(), Refusal> {
+    let names = sorted_names(rt.alloc(), faults)?;
     for name in &names {
         let _ = eprintln!(rt; "session: {name}");
     }
     let posts = totals.posts;
     let steps = totals.steps;
     match println!(rt; "{{\"ok\":{{\"posts\":{posts},\"steps\":{steps}}}}}") {
-        Ok(()) => Ok(image),
+        Ok(()) => Ok(()),
         Err(_) => Err(Refusal::WriteFault),
     }
 }
 
-/// Serves sessions over a socket whose file it makes, for its owner alone, and takes away in the end: a new image or that of a file,
-/// to which the image is then saved.
-fn serve<R: Threads + Wait + Net + Files + Print + Eprint + AllocGlobal + Sync>(
+/// Serves sessions over a socket whose file it makes, for its owner alone, and takes away in the end.
+fn serve_over<R: Threads + Wait + Net + Files + Sync>(
     rt: &R,
+    alloc: Global,
     options: ServeOptions<'_>,
-) -> Result<(), Refusal> {
-    let image = first_image(rt, options.image)?;
+    faults: &Faults<Refusal>,
+    image: Image,
+) -> Result<(Image, Totals), Refusal> {
     let Ok(listener) = UnixListener::bind(rt, options.socket) else {
         return Err(Refusal::ReadFault);
     };
     let _ = fs::set_permissions(rt, options.socket, Permissions::from_mode(OWNER_ALONE));
-    let result = serve_over(rt, &listener, options, image);
+    let result = serve_image(
+        rt,
+        alloc,
+        &listener,
+        faults,
+        options.workers,
+        options.sessions,
+        image,
+    );
     let _ = fs::remove_file(rt, options.socket);
-    let image = result?;
-    match options.image {
-        Some(path) => save_file(rt, rt.alloc(), path, &image),
+    result
+}
+
+/// Serves a new image or that of a file, to which the image is saved when all sessions have ended, and tells the end.
+fn serve<R: Threads + Wait + Net + Files + Print + Eprint + AllocGlobal + Sync>(
+    rt: &R,
+    options: ServeOptions<'_>,
+) -> Result<(), Refusal> {
+    let alloc = rt.alloc();
+    let image = first_image(rt, options.image)?;
+    let Ok(faults) = Faults::new(alloc) else {
+        return Err(Refusal::NoMemory);
+    };
+    let (image, totals) = serve_over(rt, alloc, options, &faults, image)?;
+    let saved = match options.image {
+        Some(path) => save_file(rt, alloc, path, &image),
         None => Ok(()),
-    }
+    };
+    tell_end(rt, &faults, totals)?;
+    saved
 }
 
 /// The words of the command line.
@@ -188,7 +207,7 @@ fn main(rt: HostRuntime) -> io::Result<ExitCode> {
     let result = match request {
         Request::Script(options) => script(&rt, options).map(|_| 0),
         Request::Serve(options) => serve(&rt, options).map(|_| 0),
-        Request::Check(path) => check(&rt, path),
+        Request::Check(path) => Ok(check(&rt, path)),
     };
     match result {
         Ok(status) => Ok(ExitCode::from(status)),

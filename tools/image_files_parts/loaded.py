@@ -1,0 +1,97 @@
+"""Image files that the second implementation goes on from."""
+
+from inspect_parts.written import Written
+from second_opinion.machine import Frame
+from second_opinion.values import Value
+
+LARGEST = 2**64 - 1
+
+
+class Loaded(Written):
+    """The image that is made of a file, which is good. Turns are numbered from the file on; `stands` are the actors that have a
+    turn 0."""
+
+    def __init__(self, file, quantum=256, capacity=64):
+        super().__init__(quantum, capacity)
+        self.methods, self.capacities = {}, {}
+        for place, edit in enumerate(file["edits"]):
+            self.edit(place, edit)
+        self.names = file["names"] + [name for name in self.names if name not in set(file["names"])]
+        self.stands = {number for number, actor in enumerate(file["actors"]) if actor["body"]["phase"] != "fresh"}
+        for part in file["actors"]:
+            self.add(part)
+        self.numbers = {client: last for client, last in file["senders"]}
+
+    def edit(self, place, edit):
+        [(kind, parts)] = edit.items()
+        {"define": self.define, "install": self.method, "remove": self.remove}[kind](parts)
+        if kind == "install":
+            self.methods[place] = self.installed, self.classes.numbers[parts["class"]]
+
+    def add(self, part):
+        """The actor of a part of the file."""
+        number = self.new_actor(self.classes.numbers[part["class"]])
+        actor = self.actors[number]
+        actor.objects = []
+        for one in part["body"]["objects"]:
+            actor.new_object(self.classes.numbers[one["class"]])
+            actor.objects[-1].slots = self.values(one["slots"])
+        self.capacities[number], self.lasts[number], actor.is_open = part["capacity"], part["last"], part["open"]
+        for message in part["pending"]:
+            actor.pending.append(self.message_of(message))
+            self.accepted[number].append((message["sender"], message["seq"]))
+        actor.accepted = len(actor.pending)
+        self.stand(actor, part["body"]["phase"])
+        if actor.is_ready():
+            self.ready.add(number)
+
+    def stand(self, actor, phase):
+        """Puts the turn where it stands."""
+        if phase == "fresh":
+            return
+        [(kind, what)] = phase.items()
+        if kind == "start":
+            actor.message = self.message_of(what)
+        elif kind == "frames":
+            actor.frames = [self.frame_of(frame) for frame in what]
+        else:
+            actor.results.append(self.value(what) if kind == "answer" else what)
+
+    def values(self, given):
+        return [self.value(it) for it in given]
+
+    def value(self, json):
+        return Value("local", json["local"]) if isinstance(json, dict) and "local" in json else super().value(json)
+
+    def message_of(self, part):
+        return part["selector"], self.values(part["args"])
+
+    def frame_of(self, part):
+        method, holder = self.methods[part["method"]]
+        receiver, temps, operands = self.value(part["receiver"]), self.values(part["temps"]), self.values(part["operands"])
+        return Frame(method, holder, receiver, temps, operands, part["pc"])
+
+    def room_of(self, number):
+        """How many messages its mailbox holds: what the file says, or what a new one does."""
+        return self.capacities.get(number, self.capacity)
+
+    def deliver(self, number, selector, arguments):
+        """An actor whose numbers are used up posts nothing more."""
+        used_up = isinstance(self.sending, int) and self.lasts[self.sending] == LARGEST
+        return False if used_up else super().deliver(number, selector, arguments)
+
+    def refusal(self, number):
+        actor = self.actors[number]
+        if not actor.is_open:
+            return "Closed"
+        return "Full" if len(actor.pending) >= self.room_of(number) else None
+
+    def actor_part(self, actor):
+        return {**super().actor_part(actor), "capacity": self.room_of(actor.number)}
+
+    def outcome(self, command):
+        """Turn 0 is the first that has ended, where there is one."""
+        number, turn = command["actor"], command["turn"]
+        if number not in self.stands:
+            return super().outcome(command)
+        return super().outcome({**command, "turn": turn + 1})

@@ -1,0 +1,80 @@
+"""Tries how a built program reads, checks and writes image files.
+
+    tools/image-files PROGRAM
+    tools/image-files --mutate N [--seed N] PROGRAM
+
+PROGRAM is `crates/actorimage/out/actorimage`. What it is to say of a file, and what it is to write, is what tools/inspect_parts
+and the second implementation say and write. A line for each kind of trial tells how many there were; at the first difference
+the status is 1.
+
+--mutate changes good files in N ways, each at one place, and tries no more than that. A changed file is refused by the place
+that tools/inspect says, or it is taken, and what is written of it then is right. It prints every kind of difference once, and
+keeps the files that show them.
+"""
+
+import argparse
+import concurrent.futures
+import multiprocessing
+import os
+import sys
+import tempfile
+import time
+import traceback
+from itertools import repeat
+
+from inspect_parts.main import deeply
+
+from . import try_cuts, try_files, try_folders, try_full, try_limits, try_mutated, try_paths, try_picked, try_random
+from . import try_refused, try_scripts, try_served, try_whole
+from .program import Different, Program
+
+OF_FILES = (try_files, try_limits, try_full, try_cuts, try_paths, try_folders, try_whole)
+OF_SESSIONS = (try_served, try_refused, try_scripts, try_picked, try_random)
+SEED = 20241107
+# How many trials go on at once.
+WORKERS = 2
+
+
+def arguments():
+    plain = argparse.RawDescriptionHelpFormatter
+    parser = argparse.ArgumentParser(prog="tools/image-files", description=__doc__, formatter_class=plain)
+    parser.add_argument("program", metavar="PROGRAM")
+    parser.add_argument("--mutate", type=int, metavar="N", help="change good files in N ways, and nothing else")
+    parser.add_argument("--seed", type=int, default=SEED, metavar="N")
+    given = parser.parse_args()
+    if not os.access(given.program, os.X_OK):
+        sys.exit(f"tools/image-files: {given.program} is no program; build it first")
+    return given
+
+
+def try_one(path, trial):
+    """What is printed of a trial, and whether all was as it should be. A trial answers what it tried."""
+    began = time.monotonic()
+    with tempfile.TemporaryDirectory() as folder:
+        try:
+            tried = trial(Program(path, folder))
+        except Different as difference:
+            return f"{trial.__name__}: {difference}", False
+        except Exception:
+            return f"{trial.__name__} broke off:\n{traceback.format_exc()}", False
+    return f"{trial.__name__}: {tried}, {time.monotonic() - began:.1f} seconds", True
+
+
+def try_all(path):
+    """The status. Two trials go on at once; what they say is printed in their order, up to the first difference."""
+    trials = [trial for part in OF_FILES + OF_SESSIONS for trial in part.TRIALS]
+    with concurrent.futures.ProcessPoolExecutor(WORKERS, multiprocessing.get_context("fork")) as pool:
+        for text, is_well in pool.map(try_one, repeat(path), trials):
+            print(f"tools/image-files: {text}", flush=True)
+            if not is_well:
+                pool.shutdown(cancel_futures=True)
+                return 1
+    return 0
+
+
+def main():
+    given = arguments()
+    path = os.path.realpath(given.program)
+    if given.mutate is None:
+        sys.exit(deeply(lambda: try_all(path)))
+    sys.exit(deeply(lambda: try_mutated.try_all(path, given.mutate, given.seed)))

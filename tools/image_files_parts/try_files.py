@@ -1,0 +1,69 @@
+"""Trials on the files of tests/inspect and the examples."""
+
+import json
+import os
+
+from inspect_parts.changing import Change
+from inspect_parts.try_common import FILES, bad_files, good_files, read
+
+from .going_on import go_on
+from .program import Ended, same
+from .said import Said, try_file
+
+
+def scripts():
+    """The names of the scripts that wrote a file beside them."""
+    return [name[: -len(".jsonl")] for name in sorted(os.listdir(FILES)) if name.endswith(".jsonl")]
+
+
+def good(program):
+    """Each good file is counted right and saved as it is to be: if a script wrote it, as it was. Its turns go on."""
+    files = good_files()
+    for name, path in files.items():
+        said = try_file(program, name, read(path))
+        same(f"{name}: is it good", said.place, None)
+        if name in scripts():
+            same(f"{name}: the text of a script", said.text, read(path))
+        go_on(program, name, read(path))
+    return f"{len(files)} files"
+
+
+def malformed(program):
+    """Each malformed file is refused by the place that stands beside it."""
+    for path in bad_files():
+        said = try_file(program, os.path.basename(path), read(path))
+        same(f"{path}: place", said.place, read(path + ".refusal").decode().split(":")[0])
+    return f"{len(bad_files())} files"
+
+
+def changed(program):
+    """Each change of a good file is refused by the place that tests/inspect/changes.txt says."""
+    texts = {name: read(path) for name, path in good_files().items()}
+    lines = read(os.path.join(FILES, "changes.txt")).decode().splitlines()
+    changes = [Change(line) for line in lines if line and not line.startswith("#")]
+    for change in changes:
+        file = json.loads(texts[change.file])
+        change.apply(file)
+        data = json.dumps(file).encode()
+        said = Said(data)
+        same(f"{change.line}: place", said.place or "good", change.wanted.split(":")[0])
+        try_file(program, change.line, data, said)
+        if said.place is None:
+            go_on(program, change.line, data)
+    return f"{len(changes)} changes"
+
+
+def written(program):
+    """Each script of tests/inspect writes the file beside it, by quanta of one step."""
+    for name in scripts():
+        path = program.at(name)
+        ended = program.script(path, *read(os.path.join(FILES, name + ".jsonl")).splitlines(), options=("--quantum", 1))
+        same(f"{name}: script", (ended.status, ended.err), (0, b""))
+        same(f"{name}: what is saved", read(path), read(good_files()[name]))
+        same(f"{name}: beside it", os.path.exists(path + ".new"), False)
+    same("a session without lines", program.script(program.at("empty")), Ended(0, b"", b""))
+    same("a session without lines: what is saved", read(program.at("empty")), read(good_files()["empty"]))
+    return f"{len(scripts()) + 1} files"
+
+
+TRIALS = (good, malformed, changed, written)

@@ -1,0 +1,121 @@
+"""Trials on the image file of a server."""
+
+import json
+import os
+import socket
+import subprocess
+import time
+
+from inspect_parts.try_common import FILES, bad_files, good_files, read
+from inspect_parts.written import compact
+
+from .loaded import Loaded
+from .program import SECONDS, Ended, refusal, same
+
+POST = {"actor": 0, "args": [], "cmd": "post", "selector": "a", "sender": 1, "seq": 2}
+# How sessions end: the second one is refused, which is not the end of the server.
+SESSIONS = (b"", b"\xff\n")
+
+
+def words(program, file, sessions=1):
+    return "serve", "--workers", "2", "--image", file, "--sessions", str(sessions), "--socket", program.at("socket")
+
+
+def serve(program, file, talk, sessions=1):
+    """The end of a server for so many sessions, each of which is talked over its socket."""
+    path = program.at("socket")
+    command = [program.path, *words(program, file, sessions)]
+    server = subprocess.Popen(command, stdout=subprocess.PIPE, stderr=subprocess.PIPE)
+    try:
+        for number in range(sessions):
+            with connected(server, path) as end, end.makefile("rb") as lines:
+                talk(number, end, lines)
+                end.shutdown(socket.SHUT_WR)
+                lines.read()
+        out, err = server.communicate(timeout=SECONDS)
+    finally:
+        server.kill()
+        server.wait()
+    return Ended(server.returncode, out, err)
+
+
+def connected(server, path):
+    """A socket's end, once the server listens."""
+    ends = time.monotonic() + SECONDS
+    while True:
+        end = socket.socket(socket.AF_UNIX)
+        end.settimeout(SECONDS)
+        try:
+            end.connect(path)
+            return end
+        except OSError:
+            end.close()
+            if server.poll() is not None or time.monotonic() > ends:
+                raise
+            time.sleep(0.01)
+
+
+def ask(end, lines, command):
+    end.sendall(json.dumps(command).encode() + b"\n")
+    return json.loads(lines.readline())
+
+
+def wait(end, lines, turn):
+    """How a turn of actor 0 ends."""
+    while True:
+        told = ask(end, lines, {"actor": 0, "cmd": "outcome", "turn": turn})
+        if told != {"error": "Pending"}:
+            return told
+
+
+def served(program):
+    """A server goes on from the file, does what is pending, and saves what came of it when its sessions have ended."""
+    path = program.put("file", read(good_files()["message-waits"]))
+    model = Loaded(json.loads(read(path)))
+
+    def talk(number, end, lines):
+        if number == 0:
+            same("a post", ask(end, lines, POST), {"ok": {"turn": 2}})
+            for turn in (1, 2):
+                same("a turn", wait(end, lines, turn), {"ok": {"answer": 14}})
+        end.sendall(SESSIONS[number])
+
+    ended = serve(program, path, talk, len(SESSIONS))
+    same("server", ended, Ended(0, b'{"ok":{"posts":1,"steps":14}}\n', b"session: BadCommand\n"))
+    model.reply(POST)
+    model.reply({"cmd": "run"})
+    same("what is saved", read(path), compact(model.file()).encode())
+    same("files in the folder", os.listdir(program.folder), ["file"])
+    return f"{len(SESSIONS)} sessions"
+
+
+def new_one(program):
+    """Without a file the image is new; its file is that of the same lines in a script."""
+    commands = [json.loads(line) for line in read(os.path.join(FILES, "message-waits.jsonl")).splitlines()]
+
+    def talk(number, end, lines):
+        for command in commands:
+            same(f"{command}", "ok" in ask(end, lines, command), True)
+        wait(end, lines, 1)
+
+    path = program.at("file")
+    same("server", serve(program, path, talk), Ended(0, b'{"ok":{"posts":1,"steps":7}}\n', b""))
+    scripted = program.at("script")
+    program.replies("script", scripted, [json.dumps(it).encode() for it in [*commands, {"cmd": "run"}]])
+    same("what is saved", read(path), read(scripted))
+    return "1 session"
+
+
+def not_served(program):
+    """A malformed file and a folder end the server before it makes its socket, and stay."""
+    for path in bad_files():
+        data = read(path)
+        file = program.put("file", data)
+        same(f"{path}: server", program.run(*words(program, file)), refusal("BadImage"))
+        same(f"{path}: the file", read(file), data)
+    same("a folder as the file: server", program.run(*words(program, program.folder)), refusal("ReadFault"))
+    same("files in the folder", os.listdir(program.folder), ["file"])
+    return f"{len(bad_files()) + 1} files"
+
+
+TRIALS = (served, new_one, not_served)

@@ -71,6 +71,7 @@ fn edit_text(
 }
 
 fn load_names(alloc: Global, loader: &mut Loader, names: &Names) -> Result<(), Refusal> {
+    names.known();
     for number in KERNEL_NAMES..names.len() as u16 {
         loader.name(alloc, name_of(names, Selector(number)))?;
     }

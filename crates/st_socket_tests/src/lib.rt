@@ -4,4 +4,6 @@
 #[cfg(test)]
 mod clients;
 #[cfg(test)]
+mod crowd;
+#[cfg(test)]
 mod sockets;

@@ -3,7 +3,7 @@
 import json
 import os
 
-from inspect_parts.changing import Change
+from inspect_parts.changing import changes_in
 from inspect_parts.try_common import FILES, bad_files, good_files, read
 
 from .going_on import go_on
@@ -39,12 +39,9 @@ def malformed(program):
 def changed(program):
     """Each change of a good file is refused by the place that tests/inspect/changes.txt says."""
     texts = {name: read(path) for name, path in good_files().items()}
-    lines = read(os.path.join(FILES, "changes.txt")).decode().splitlines()
-    changes = [Change(line) for line in lines if line and not line.startswith("#")]
+    changes = changes_in(read(os.path.join(FILES, "changes.txt")).decode())
     for change in changes:
-        file = json.loads(texts[change.file])
-        change.apply(file)
-        data = json.dumps(file).encode()
+        data = json.dumps(change.changed(texts[change.file])).encode()
         said = Said(data)
         same(f"{change.line}: place", said.place or "good", change.wanted.split(":")[0])
         try_file(program, change.line, data, said)

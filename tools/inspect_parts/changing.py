@@ -16,6 +16,12 @@ class Change:
         self.file, changes = before.split(" ", 1)
         self.changes = changes.strip().split(" & ")
 
+    def changed(self, text):
+        """The file of a text, changed."""
+        file = json.loads(text)
+        self.apply(file)
+        return file
+
     def apply(self, file):
         for change in self.changes:
             if change.endswith(" gone"):
@@ -36,6 +42,11 @@ class Change:
             inside.append(value)
         else:
             inside[last] = value
+
+
+def changes_in(text):
+    """The changes that the lines of a text tell."""
+    return [Change(line) for line in text.splitlines() if line and not line.startswith("#")]
 
 
 def steps_of(path):

@@ -4,7 +4,7 @@ import json
 import os
 import re
 
-from .changing import Change
+from .changing import changes_in
 from .checked import check_page, has
 from .forms import FAULTS
 from .names import KERNEL
@@ -37,11 +37,9 @@ def malformed():
 def changed():
     """Each change of a good file is refused where tests/inspect/changes.txt says, in one line."""
     texts = {name: read(path) for name, path in good_files().items()}
-    lines = read(os.path.join(FILES, "changes.txt")).decode().splitlines()
-    changes = [Change(line) for line in lines if line and not line.startswith("#")]
+    changes = changes_in(read(os.path.join(FILES, "changes.txt")).decode())
     for change in changes:
-        file = json.loads(texts[change.file])
-        change.apply(file)
+        file = change.changed(texts[change.file])
         same((change.line, refusal(file)), (change.line, change.wanted))
     return len(changes)
 

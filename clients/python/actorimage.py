@@ -2,21 +2,20 @@
 
     import actorimage
 
-    with actorimage.script("./actorimage") as image:
+    with actorimage.connect("image.socket") as image:
         image.define("Counter", slots=["count"])
         image.install("Counter", "bump count isNil ifTrue: [count := 0]. count := count + 1. ^count")
         counter = image.new_actor("Counter")
         turn = image.sender(1).post(counter, "bump")
-        image.run()
-        print(image.answer(turn))
+        print(image.wait(turn))
 
-`script` starts the program as a child and talks to it over pipes; `connect` talks to a server over its Unix socket. Either gives an
-`Image`, whose methods are the commands of docs/PROTOCOL.md. Each waits for its reply; `Sender.post_all` sends many posts before it
-reads the first reply.
+`connect` talks to a server over its Unix socket; `script` starts the program as a child, whose turns go on at `Image.run`. Either
+gives an `Image`, whose methods are the commands of docs/PROTOCOL.md.
 
 A refused command raises the refusal's exception, a subclass of `Refused` with its name (`Full`, `Old`, `BadSource`, ..), its fields
 as attributes, and `stands`: what is true afterwards. A turn that ended with a fault raises `Fault` where its answer is asked for.
-Where the other side ends, `Ended` is raised. All of them are `ActorImageError`.
+Where the other side ends or is not there, `Ended` is raised. Then `Image.reconnect` connects again, and each sender goes on behind
+its last message that the image has. `Sender.post_once` posts a message once, whatever breaks meanwhile.
 
 Values: integers of 64 bits, `True`, `False`, `None`, `Symbol("at:put:")`, `ClassName("Counter")` and `Actor(0)` are themselves in
 arguments and in answers; in answers `Local(n)` is an object of the actor's own, which only the actor can use.
@@ -24,47 +23,45 @@ arguments and in answers; in answers `Local(n)` is an object of the actor's own,
 
 from __future__ import annotations
 
+import contextlib
 import json
 import socket
 import subprocess
 import threading
 import time
 from dataclasses import dataclass
-from typing import Any, Iterable, Iterator, Optional, Sequence, Union
+from typing import Any, Callable, Iterable, Iterator, Mapping, Optional, Sequence, TextIO, Union
+
+GREETING = 30.0  # Seconds that a server may take to say that it takes a session.
 
 
 @dataclass(frozen=True)
 class Symbol:
     """A symbol, as `#at:put:` is in a source."""
-
     name: str
 
 
 @dataclass(frozen=True)
 class ClassName:
     """A class, by its name."""
-
     name: str
 
 
 @dataclass(frozen=True)
 class Actor:
     """An actor, by its number."""
-
     number: int
 
 
 @dataclass(frozen=True)
 class Local:
     """An object of the actor that answered."""
-
     number: int
 
 
 @dataclass(frozen=True)
 class Turn:
     """The turn of a message: its actor, and its position among the messages that the actor's mailbox accepted."""
-
     actor: Actor
     number: int
 
@@ -72,7 +69,6 @@ class Turn:
 @dataclass(frozen=True)
 class Site:
     """A call site in the statistics of a method: how many sends were committed there, and how they were found."""
-
     selector: str
     is_super: bool
     sends: int
@@ -83,6 +79,7 @@ class Site:
 
 
 Value = Union[int, bool, None, Symbol, ClassName, Actor, Local]
+Reply = dict[str, Any]
 
 
 class ActorImageError(Exception):
@@ -90,61 +87,78 @@ class ActorImageError(Exception):
 
 
 class Ended(ActorImageError):
-    """The other side ended, or sent what is no reply. Whether the last command was done is not known."""
+    """The other side ended or is not there, or sent what is no reply. Whether the last command was done is not known."""
 
 
 class Fault(ActorImageError):
     """A turn ended with a fault. What it changed before stays, and the actor goes on with its next message."""
 
     def __init__(self, name: str, turn: Turn):
-        super().__init__(f"fault {name} in turn {turn.number} of actor {turn.actor.number}")
+        super().__init__(name, turn)
         self.name, self.turn = name, turn
+
+    def __str__(self) -> str:
+        return f"fault {self.name} in turn {self.turn.number} of actor {self.turn.actor.number}"
 
 
 class Refused(ActorImageError):
-    """A refused command. `fields` has the further keys of the reply, which are attributes too."""
+    """A refused command. `stands` says what is true afterwards, and what to do. `fields` has the further keys of the reply, which
+    are attributes too. Nothing has changed, but that names which the command interned stay."""
 
-    stands = "Nothing changed, but that names which the command interned stay."
+    stands = "Nothing has changed."
 
-    def __init__(self, fields: dict[str, Any]):
-        said = ", ".join(f"{key} {value}" for key, value in fields.items())
-        super().__init__(f"{said}. {self.stands}" if said else self.stands)
-        self.fields = fields
+    def __init_subclass__(cls, stands: str):
+        cls.stands = stands
 
-    def __getattr__(self, key: str) -> Any:
-        try:
-            return self.__dict__["fields"][key]
-        except KeyError:
-            raise AttributeError(key) from None
+    def __init__(self, name: str, fields: Mapping[str, Any]):
+        super().__init__(name, fields)
+        self.name, self.fields = name, dict(fields)
+        vars(self).update(self.fields)
 
-
-def _refusals() -> dict[str, type[Refused]]:
-    """A class for each refusal, with what stands afterwards where it is not what stands after most."""
-    others = {
-        "Old": "The message was not accepted now. With `last` its own number, and the sender's number used by nobody else, it was before.",
-        "Full": "The message was not accepted, and its number is not used: post it again later.",
-        "Closed": "The mailbox accepts nothing more. What it held may still be begun.",
-        "Expired": "The turn has ended, and the image no longer tells how.",
-        "Pending": "The turn has not ended, or there is no such turn yet: ask again.",
-        "HistoryFull": "The history has no room. Of a `run`, the quanta before have run.",
-        "NoMemory": "The program found no memory. Of a `run`, the steps that were committed stay; try again.",
-        "TooLong": "The line was over 8,192 bytes, and the session has ended.",
-    }
-    plain = (
-        "UnknownClass ClassExists KernelClass KernelMethod BadName SlotClash TooDeep BadSource NoSuchMethod UnknownActor BadArguments "
-        "NothingToDo Stale Changed TooMany BadCommand ReadFault WriteFault BadImage"
-    ).split()
-    return {name: type(name, (Refused,), {"stands": others.get(name, Refused.stands), "__doc__": others.get(name)}) for name in [*others, *plain]}
+    def __str__(self) -> str:
+        said = ", ".join(f"{key} {value}" for key, value in self.fields.items())
+        return f"{self.name} ({said}): {self.stands}" if said else f"{self.name}: {self.stands}"
 
 
-REFUSALS = _refusals()
-globals().update(REFUSALS)
+class UnknownClass(Refused, stands="No class has this name: define it first."): ...
+class ClassExists(Refused, stands="The class stays as it was defined: install methods, or take another name."): ...
+class KernelClass(Refused, stands="A class of the kernel, Object aside, has no subclasses and no actors: take another."): ...
+class KernelMethod(Refused, stands="The kernel's method stays in its class: take another selector, or a class of your own."): ...
+class BadName(Refused, stands="A text is no name, or no selector: docs/PROTOCOL.md says what one is."): ...
+class SlotClash(Refused, stands="An instance variable is named twice, here or in a class above: take another name."): ...
+class TooDeep(Refused, stands="The chain of superclasses would be over 64 long: take one nearer to Object."): ...
+class NoSuchMethod(Refused, stands="The class has no such method of its own."): ...
+class UnknownActor(Refused, stands="No actor has this number."): ...
+class BadArguments(Refused, stands="The selector takes other arguments, or one of them names nothing. Not accepted."): ...
+class Closed(Refused, stands="The mailbox accepts nothing more. What it held may still be begun."): ...
+class Full(Refused, stands="The message was not accepted, and its number is not used: post it again later."): ...
+class Pending(Refused, stands="The turn has not ended, or there is no such turn yet: ask again."): ...
+class Expired(Refused, stands="The turn has ended, and the image no longer tells how: ask within the actor's next 64 turns."): ...
+class HistoryFull(Refused, stands="The history is full: only questions are answered. Of a `run`, the quanta before ran."): ...
+class BadCommand(Refused, stands="No command, or none for a server: its keys or numbers are not as docs/PROTOCOL.md says."): ...
+class TooLong(Refused, stands="A line was over 8,192 bytes, and the session has ended: reconnect, and send shorter ones."): ...
+class NoMemory(Refused, stands="The program found no memory. Of a `run`, the steps that were committed stay: try again."): ...
+class ReadFault(Refused, stands="The program could not read, and the session has ended."): ...
+class WriteFault(Refused, stands="The program could not write, and the session has ended."): ...
+class BadSource(Refused, stands="The method that was there stays: `kind` and `offset` say what is wrong, and at which byte."):
+    kind: str
+    offset: int
+class Old(Refused, stands="Not accepted now, but before if `last` is its number and the sender nobody else's. Go on above `last`."):
+    last: int
+class TooMany(Refused, stands="There are as many as there may be; `what` says of what. A session too many has not begun."):
+    what: str
+class BadImage(Refused, stands="The image file is malformed at `place`, and stays as it is."):
+    place: str
+class Stale(Refused, stands="The classes were edited meanwhile; `version` is the number of edits: try again."):
+    version: int
 
 
-def _refusal(reply: dict[str, Any]) -> Refused:
-    fields = {key: value for key, value in reply.items() if key != "error"}
-    name = reply["error"]
-    return REFUSALS[name](fields) if name in REFUSALS else Refused({"refusal": name, **fields})
+REFUSALS: dict[str, type[Refused]] = {kind.__name__: kind for kind in Refused.__subclasses__()}
+
+
+def _refusal(reply: Reply) -> Refused:
+    fields = dict(reply)
+    return REFUSALS.get(name := fields.pop("error"), Refused)(name, fields)
 
 
 def _sent(value: Value) -> Any:
@@ -168,39 +182,24 @@ def _received(value: Any) -> Value:
     return {"sym": Symbol, "class": ClassName, "ref": Actor, "local": Local}[kind](of)
 
 
-class Image:
-    """An image at the other end. Use `script` or `connect`. Commands of several threads are sent one after the other."""
+@dataclass
+class _Line:
+    """The way to the other side: replies in, commands out, and what ends it."""
+    replies: TextIO
+    commands: TextIO
+    end: Callable[[], None]
 
-    def __init__(self, lines_in, lines_out, end):
-        self._in, self._out, self._end, self._lock = lines_in, lines_out, end, threading.Lock()
+    def write(self, command: Reply) -> None:
+        """A side that has ended may have said why, so its reply is read even if it does not take the command."""
+        text = json.dumps(command, separators=(",", ":"), sort_keys=True)
+        with contextlib.suppress(OSError):
+            self.commands.write(text + "\n")
 
-    def __enter__(self) -> Image:
-        return self
-
-    def __exit__(self, *_) -> None:
-        self.end()
-
-    def end(self) -> None:
-        """Ends the session."""
-        self._end()
-
-    # ---- lines
-
-    def _write(self, command: dict[str, Any]) -> None:
+    def read(self) -> Reply:
+        with contextlib.suppress(OSError):
+            self.commands.flush()
         try:
-            self._out.write(json.dumps(command, separators=(",", ":"), sort_keys=True) + "\n")
-        except (OSError, ValueError) as error:
-            raise Ended(str(error)) from None
-
-    def _flush(self) -> None:
-        try:
-            self._out.flush()
-        except (OSError, ValueError) as error:
-            raise Ended(str(error)) from None
-
-    def _read(self) -> dict[str, Any]:
-        try:
-            line = self._in.readline()
+            line = self.replies.readline()
             reply = json.loads(line) if line.endswith("\n") else None
         except (OSError, ValueError) as error:
             raise Ended(str(error)) from None
@@ -208,36 +207,95 @@ class Image:
             raise Ended("no whole reply came")
         return reply
 
-    def ask(self, command: dict[str, Any]) -> dict[str, Any]:
+
+class Image:
+    """An image at the other end. Use `script` or `connect`. Threads may share it: their commands are sent one after the other.
+    `connections` counts those that were made. `_waiting` is how many replies are to come."""
+    def __init__(self, open_line: Callable[[], _Line], seconds: float = 0.0):
+        self._open, self._lock = open_line, threading.RLock()
+        self._line: Optional[_Line] = None
+        self._waiting = self.connections = 0
+        self.reconnect(seconds)
+
+    def __enter__(self) -> Image:
+        return self
+
+    def __exit__(self, kind: Optional[type[BaseException]], *_: object) -> None:
+        with contextlib.suppress(*[Ended] if kind else []):
+            self.end()
+
+    def end(self) -> None:
+        """Ends the session. Where a script does not end well, as one that cannot save its image, `Ended` is raised."""
+        with self._lock:
+            line, self._line = self._line, None
+        if line:
+            line.end()
+
+    def reconnect(self, seconds: float = 60.0) -> None:
+        """Connects again, and tries for so many seconds where no server takes a session. A script is started again: one with
+        `--image` saves its image, and goes on with it. Senders go on behind their last messages that the image has. Beyond that the
+        image may be another one; turns of one from a file are numbered anew."""
+        with self._lock:
+            self.end()
+            until = time.monotonic() + seconds
+            while self._line is None:
+                try:
+                    self._line = self._open()
+                except (Ended, TooMany):
+                    if time.monotonic() >= until:
+                        raise
+                    time.sleep(0.05)
+            self._waiting = 0
+            self.connections += 1
+
+    # ---- lines
+
+    def _ready(self) -> _Line:
+        if self._line is None:
+            raise Ended("the session has ended: reconnect")
+        if self._waiting:
+            raise ActorImageError("not all that `post_all` gives was read, or a command was broken off: read it, or reconnect")
+        return self._line
+
+    def _read(self, line: _Line) -> Union[Reply, Refused]:
+        try:
+            reply = line.read()
+        except Ended:
+            self._line = None
+            with contextlib.suppress(Ended):
+                line.end()
+            raise
+        self._waiting -= 1
+        return _refusal(reply) if "error" in reply else reply["ok"]
+
+    def ask(self, command: Reply) -> Reply:
         """Sends any command, and gives what its reply has for `ok`; a refusal is raised."""
         with self._lock:
-            self._write(command)
-            self._flush()
-            reply = self._read()
-        if "error" in reply:
-            raise _refusal(reply)
-        return reply["ok"]
+            line = self._ready()
+            line.write(command)
+            self._waiting += 1
+            told = self._read(line)
+        if isinstance(told, Refused):
+            raise told
+        return told
 
-    def ask_all(self, commands: Iterable[dict[str, Any]], window: int = 100) -> Iterator[Union[dict[str, Any], Refused]]:
-        """Sends many commands, at most `window` of them before the first reply that is not read yet, and gives each reply's `ok`, or
-        its refusal, which is not raised, in order."""
+    def ask_all(self, commands: Iterable[Reply], window: int = 100) -> Iterator[Union[Reply, Refused]]:
+        """Sends many commands, at most `window` of them before a reply that is not read yet, and gives each reply's `ok`, or its
+        refusal, which is not raised. Other threads wait until all was given."""
         with self._lock:
-            waiting = 0
-            for command in commands:
-                if waiting == window:
-                    self._flush()
-                    yield self._answer()
-                    waiting -= 1
-                self._write(command)
-                waiting += 1
-            self._flush()
-            while waiting:
-                yield self._answer()
-                waiting -= 1
-
-    def _answer(self) -> Union[dict[str, Any], Refused]:
-        reply = self._read()
-        return _refusal(reply) if "error" in reply else reply["ok"]
+            line = self._ready()
+            try:
+                for command in commands:
+                    if self._waiting == window:
+                        yield self._read(line)
+                    line.write(command)
+                    self._waiting += 1
+                while self._waiting:
+                    yield self._read(line)
+            finally:
+                # After a break in a loop the rest is passed over, so that the next command gets its own reply.
+                while self._waiting and line is self._line:
+                    self._read(line)
 
     # ---- classes
 
@@ -271,16 +329,17 @@ class Image:
         self.ask({"cmd": "close", "actor": actor.number})
 
     def sender(self, number: int, last: Optional[int] = None) -> Sender:
-        """A sender of messages, 0 to 65,535. Where `last` is not given, the image is asked for the last number that it has of the
-        sender, so that the numbers go on where they were, also behind a new connection."""
-        return Sender(self, number, self.last_of(number) if last is None else last)
+        """A sender of messages, 0 to 65,535. The image is asked for the last number that it has of it, unless `last` is given."""
+        return Sender(self, number, last)
 
     def last_of(self, sender: int) -> int:
-        """The last number that was accepted of a sender, 0 if none was. There has to be an actor."""
+        """The last number that was accepted of a sender, 0 if none was: a message with the number 0 is refused as `Old`."""
         try:
             self.ask({"cmd": "post", "actor": 0, "selector": "isNil", "args": [], "sender": sender, "seq": 0})
-        except REFUSALS["Old"] as old:
-            return old.fields["last"]
+        except Old as old:
+            return old.last
+        except UnknownActor:
+            return 0
         raise Ended("a message of the number 0 was accepted")
 
     # ---- turns
@@ -304,7 +363,7 @@ class Image:
         while True:
             try:
                 return self.answer(turn)
-            except REFUSALS["Pending"]:
+            except Pending:
                 if time.monotonic() >= until:
                     raise
                 time.sleep(pause)
@@ -315,64 +374,126 @@ class Sender:
     """A sender of messages. It numbers them: each has the next number, and the number of a refused one is used again, so a message
     that was refused as Full is not lost where it is posted again."""
 
-    def __init__(self, image: Image, number: int, last: int):
-        self.image, self.number, self.last = image, number, last
+    def __init__(self, image: Image, number: int, last: Optional[int] = None):
+        self.image, self.number = image, number
+        self._learn(image.last_of(number) if last is None else last)
 
-    def _post(self, actor: Actor, selector: str, args: Sequence[Value], seq: int) -> dict[str, Any]:
-        return {"cmd": "post", "actor": actor.number, "selector": selector, "args": [_sent(it) for it in args], "sender": self.number, "seq": seq}
+    def _learn(self, last: int) -> None:
+        self._last, self._connection = last, self.image.connections
+
+    @property
+    def last(self) -> int:
+        """The number of the last message that was accepted. Behind a new connection the image is asked for it."""
+        if self._connection != self.image.connections:
+            self._learn(self.image.last_of(self.number))
+        return self._last
+
+    def _post(self, actor: Actor, selector: str, args: Sequence[Value], seq: int) -> Reply:
+        given = [_sent(it) for it in args]
+        return {"cmd": "post", "actor": actor.number, "selector": selector, "args": given, "sender": self.number, "seq": seq}
 
     def post(self, actor: Actor, selector: str, *args: Value) -> Turn:
         """Posts a message. Gives its turn."""
-        turn = self.image.ask(self._post(actor, selector, args, self.last + 1))["turn"]
-        self.last += 1
+        seq = self.last + 1
+        try:
+            turn = self.image.ask(self._post(actor, selector, args, seq))["turn"]
+        except Old as old:
+            self._learn(old.last)
+            raise
+        self._learn(seq)
         return Turn(actor, turn)
+
+    def post_once(self, actor: Actor, selector: str, *args: Value, seconds: float = 60.0) -> Optional[Turn]:
+        """Posts a message, and reconnects for so many seconds where the connection breaks meanwhile, but has it accepted once, if
+        nobody else is this sender. Gives its turn; `None` where it was accepted and the reply was lost."""
+        is_again, number = False, 0
+        while True:
+            try:
+                if 0 < number <= self.last:
+                    return None
+                is_again, number = 0 < number, self.last + 1
+                return self.post(actor, selector, *args)
+            except Old:
+                if not is_again:
+                    raise
+                return None
+            except Ended:
+                self.image.reconnect(seconds)
 
     def post_all(self, messages: Iterable[tuple], window: int = 100) -> Iterator[Union[Turn, Refused]]:
         """Posts many messages, each an actor, a selector and arguments, at most `window` of them ahead of the replies that are read.
-        Gives for each its turn, or its refusal. The numbers rise, also over a refused one, which stays unused."""
+        Gives for each its turn, or its refusal. The number of a refused one stays unused."""
         actors: list[Actor] = []
-        first = self.last + 1
 
-        def commands() -> Iterator[dict[str, Any]]:
-            for place, (actor, selector, *args) in enumerate(messages):
+        def commands() -> Iterator[Reply]:
+            for actor, selector, *args in messages:
+                command = self._post(actor, selector, args, self._last + 1)
                 actors.append(actor)
-                self.last = first + place
-                yield self._post(actor, selector, args, self.last)
+                self._last += 1
+                yield command
 
+        self._learn(self.last)
         for place, told in enumerate(self.image.ask_all(commands(), window)):
+            if isinstance(told, Old):
+                self._last = max(self._last, told.last)
             yield told if isinstance(told, Refused) else Turn(actors[place], told["turn"])
 
 
 def script(program: str, *options: str) -> Image:
-    """Starts the program as a child, with options such as `"--quantum", "1024"`, and gives its image."""
-    child = subprocess.Popen([program, "script", *options], stdin=subprocess.PIPE, stdout=subprocess.PIPE, text=True, encoding="utf-8")
+    """Starts the program as a child, with options such as `"--quantum", "1024"`, and gives its image. A Ctrl-C does not reach it, so
+    that an image of `--image` is saved in the end."""
 
-    def end() -> None:
+    def opened() -> _Line:
+        pipes: dict[str, Any] = {"stdin": subprocess.PIPE, "stdout": subprocess.PIPE, "encoding": "utf-8"}
+        child = subprocess.Popen([program, "script", *options], **pipes, start_new_session=True)
+        assert child.stdin and child.stdout
+
+        def end() -> None:
+            for it in (child.stdin, child.stdout):
+                with contextlib.suppress(OSError):
+                    it.close()
+            if child.wait():
+                raise Ended(f"the program ended with status {child.returncode}")
+
+        return _Line(child.stdout, child.stdin, end)
+
+    return Image(opened)
+
+
+def connect(path: str, seconds: float = 0.0, timeout: Optional[float] = None) -> Image:
+    """Connects to a server by the path of its Unix socket, and gives its image. Where no server takes a session, it is tried again
+    for so many seconds; then `Ended` is raised, or `TooMany` for one that has as many sessions as it may. A reply that does not come
+    for `timeout` seconds ends the session."""
+
+    def opened() -> _Line:
+        stream = socket.socket(socket.AF_UNIX)
+        replies, commands = (stream.makefile(mode, encoding="utf-8", newline="\n") for mode in "rw")
+
+        def end() -> None:
+            for it in (commands, replies, stream):
+                with contextlib.suppress(OSError):
+                    it.close()
+
+        line = _Line(replies, commands, end)
         try:
-            child.stdin.close()
-        except OSError:
-            pass
-        child.stdout.close()
-        child.wait()
+            stream.settimeout(GREETING)
+            stream.connect(path)
+            _greet(line)
+            stream.settimeout(timeout)
+        except OSError as error:
+            end()
+            raise Ended(f"no server listens at {path} ({error.strerror or error})") from None
+        except BaseException:
+            end()
+            raise
+        return line
 
-    return Image(child.stdout, child.stdin, end)
+    return Image(opened, seconds)
 
 
-def connect(path: str) -> Image:
-    """Connects to a server by the path of its Unix socket, and gives its image."""
-    line = socket.socket(socket.AF_UNIX, socket.SOCK_STREAM)
-    try:
-        line.connect(path)
-    except OSError:
-        line.close()
-        raise
-    read, write = line.makefile("r", encoding="utf-8", newline="\n"), line.makefile("w", encoding="utf-8", newline="\n")
-
-    def end() -> None:
-        for it in (write, read, line):
-            try:
-                it.close()
-            except OSError:
-                pass
-
-    return Image(read, write, end)
+def _greet(line: _Line) -> None:
+    """Learns whether a session was taken, by a question about an actor that is never there."""
+    line.write({"cmd": "outcome", "actor": 2**32 - 1, "turn": 0})
+    reply = line.read()
+    if reply.get("error") != "UnknownActor":
+        raise _refusal(reply) if "error" in reply else Ended("what replies is no server of actorimage")

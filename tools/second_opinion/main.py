@@ -1,13 +1,14 @@
 """Compares the second reader with a built program, on sources and turns that are the same in every run.
 
-    tools/second-opinion PROGRAM [--sources N] [--seed N] [--briefly]
+    tools/second-opinion PROGRAM [--sources N] [--minutes N] [--seed N] [--briefly]
     tools/second-opinion PROGRAM --sharp
 
 PROGRAM is `crates/actorimage/out/actorimage`. Compared are the replies to each command of scripts: which sources are refused,
 with which kind and at which byte; which methods are removed; which messages mailboxes take; and how turns end, in how many
 quanta and steps. Some scripts are picked by hand; the replies that are said in these are asked of the second reader first,
 and where it gives others, the status is 3. Where it and the program differ, the status is 1, and the shortest source and
-script that show it are printed; with --briefly only that they do. --sharp puts wrong rules into the second reader, one at a
+script that show it are printed; with --briefly only that they do. With --minutes it ends with the first script that is compared after
+so many minutes. --sharp puts wrong rules into the second reader, one at a
 time, and says which of them no source tells apart from the right ones.
 """
 
@@ -15,6 +16,7 @@ import argparse
 import os
 import sys
 import threading
+import time
 
 from .compare import Difference, differences, program_replies
 from .scripts import all_scripts
@@ -33,15 +35,17 @@ def arguments():
     parser = argparse.ArgumentParser(prog="second-opinion", description=__doc__, formatter_class=plain)
     parser.add_argument("program", metavar="PROGRAM")
     parser.add_argument("--sources", type=int, default=SOURCES, metavar="N", help="how many random sources (%(default)s)")
+    parser.add_argument("--minutes", type=float, metavar="N", help="end after so many minutes")
     parser.add_argument("--seed", type=int, default=SEED, metavar="N")
     parser.add_argument("--briefly", action="store_true", help="print nothing of a difference but that there is one")
     parser.add_argument("--sharp", action="store_true", help="try wrong rules in the second reader")
     return parser.parse_args()
 
 
-def compare(program, seed, sources, briefly):
+def compare(program, seed, sources, briefly, minutes=None):
     """The status: 0 where there is no difference."""
     read = turns = scripts = 0
+    ends = None if minutes is None else time.monotonic() + 60 * minutes
     for script in all_scripts(seed, sources):
         if script.wrong and not briefly:
             print("\n".join(["tools/second-opinion: the second reader itself breaks a rule"] + script.wrong))
@@ -55,6 +59,8 @@ def compare(program, seed, sources, briefly):
                 print(Difference(program, script, got).report())
             print(f"tools/second-opinion: a difference within {scripts:,} scripts, {read:,} sources and {turns:,} turns")
             return 1
+        if ends is not None and time.monotonic() > ends:
+            break
     print(f"tools/second-opinion: {scripts:,} scripts, {read:,} sources and {turns:,} turns, no difference")
     return 0
 
@@ -70,7 +76,7 @@ def main():
         if given.sharp:
             status.append(try_wrong_rules(program))
         else:
-            status.append(compare(program, given.seed, given.sources, given.briefly))
+            status.append(compare(program, given.seed, given.sources, given.briefly, given.minutes))
 
     sys.setrecursionlimit(DEEPEST_CALLS)
     threading.stack_size(STACK)

@@ -27,6 +27,8 @@ class Described:
 
 
 def do(session, command):
+    if command.name in session.image.not_there:
+        raise Wrong(session.image.not_there[command.name])
     if command.name not in COMMANDS:
         raise Wrong(f"there is no command :{command.name}{near(command.name, COMMANDS)}; :help lists them")
     known = COMMANDS[command.name]

@@ -22,11 +22,12 @@ actor's last one is kept, as that of turn 0. What was named stays.
 
 class OwnImage:
     """A script of the workspace's own: nobody else edits it. `advice`, `in_general` and `commands` have sentences in place of those
-    for a script, and `help` has lines that `:help` says besides. `kept` is the name of the file in which the image is kept, if one
-    was given, and `path` is that of the file with which the program works. `loaded` is what was there when the program began."""
+    for a script, `not_there` says why there is no such command, and `help` has lines that `:help` says besides. `kept` is the name of
+    the file in which the image is kept, if one was given, and `path` is that of the file with which the program works. `loaded` is
+    what was there when the program began."""
 
     is_served = False
-    advice, in_general, commands, help = {}, {}, {}, HELP
+    advice, in_general, commands, not_there, help = {}, {}, {}, {}, HELP
 
     def __init__(self, program, options, kept=None):
         self.program, self.options, self.kept = program, options, kept
@@ -58,7 +59,7 @@ class ServedImage:
     is_served = True
     kept = loaded = None
     advice, in_general = served_advice.REFUSALS, served_advice.IN_GENERAL
-    commands, help = served_advice.COMMANDS, served_advice.HELP
+    commands, not_there, help = served_advice.COMMANDS, served_advice.NOT_THERE, served_advice.HELP
 
     def __init__(self, path, sender):
         self.path, self.sender = path, sender
@@ -74,4 +75,4 @@ class WatchedImage(ServedImage):
     """A served image with a person at a terminal, who is told when the connection breaks and when it is there again."""
 
     def connect(self, session):
-        return Reconnecting(self.path, session.say, session.forget_turns)
+        return Reconnecting(self.path, session.say, session.begin_again)

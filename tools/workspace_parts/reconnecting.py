@@ -3,16 +3,16 @@
 from .socket_connection import SocketConnection
 from .wrong import Ended, Lost
 
-AGAIN = "connected again; if the server is a new one, so is the image, and names of actors from before may mean nothing"
 PERHAPS = "the number {seq} of sender {sender} was used before: perhaps this message was accepted when the connection broke"
 
 
 class Reconnecting:
-    """`tell` takes a sentence on what broke, and `is_back` is called when there is a connection again. The first command of an
-    entry is sent once more on the new connection. Later ones are not: they rest on what was done on the old one."""
+    """`tell` takes a sentence on what broke. `begin_again` is called when there is a connection again, asks the image what it has to,
+    and gives a sentence on that. The first command of an entry is sent once more on the new connection. Later ones are not: they rest
+    on what was done on the old one."""
 
-    def __init__(self, path, tell, is_back):
-        self.path, self.tell, self.is_back = path, tell, is_back
+    def __init__(self, path, tell, begin_again):
+        self.path, self.tell, self.begin_again = path, tell, begin_again
         self.connection = SocketConnection(path)
         self.is_first = True
 
@@ -45,7 +45,7 @@ class Reconnecting:
     def ask_once_more(self, command):
         """The command may have been done before, so that only its reply was lost."""
         reply = self.ask_connected(command)
-        if command["cmd"] == "post" and reply == {"error": "Old", "last": command["seq"]}:
+        if command["cmd"] == "post" and reply.get("error") == "Old":
             raise Lost(PERHAPS.format_map(command) + "; type it again if it was not")
         return reply
 
@@ -54,8 +54,7 @@ class Reconnecting:
             self.connection = SocketConnection(self.path)
         except Ended as ended:
             raise Lost(f"{ended.sentence}; the next entry tries again") from None
-        self.is_back()
-        self.tell(AGAIN)
+        self.tell(self.begin_again())
 
     def lose(self):
         self.connection.end()

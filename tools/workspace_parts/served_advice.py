@@ -36,10 +36,19 @@ IN_GENERAL = {
 HELP = """\
 This image is served to many, and the server's workers run the actors: a message that is typed waits until its turn has ended.
 :post does not wait; its turn is told of with a later answer, and :turn asks for it. Ctrl-C stops the waiting, and the turn goes on.
-c := actor 0 names an actor by its number, also one that others made. Edits of others take effect at the next send, and are not told:
-no command lists their classes or methods. :classes, :methods, :names, :sources and Tab have what this session typed. :stats, :turn
-and, for how many there are, :actors ask the image. The server saves its image at its end, if it was started with --image FILE.
+A session can see what it typed itself (:classes, :methods, :names, :sources, Tab), and can ask the image how a turn of any actor
+ended (:turn 3 of actor 0), how many actors there are (:actors), and how often a method's sends were done (:stats Counter bump).
+It cannot see who else is connected, what classes, methods and names others typed, which messages wait, or when a turn ends that it
+does not ask for. Edits of others take effect here at the next send, and are not told. c := actor 0 names any actor by its number.
+Where the connection breaks, the next entry at a terminal connects again, asks for the last message of this sender that the image
+has, and goes on behind it. The server saves its image at its end, if it was started with --image FILE --sessions K.
 """.splitlines()
+
+# Commands that one might look for, and why they are not there.
+NOT_THERE = {
+    "who": "no command tells who else is connected; :help lists what a session can see and what not",
+    "browse": "no command lists what others typed; :methods lists what this session did",
+}
 
 FOR_SCRIPT = "is for a script; here the server's workers run the actors"
 # What commands do where it is not what they do with a script.

@@ -8,11 +8,11 @@ SECONDS_TO_START = 60
 
 
 class Server:
-    """The program, which serves an image at `socket` in a folder until the trial is over."""
+    """The program, which serves an image at a socket in a folder until the trial is over."""
 
-    def __init__(self, program, folder, *options):
-        self.path = os.path.join(folder, "socket")
-        self.command = [program, "serve", "--socket", "socket", *options]
+    def __init__(self, program, folder, *options, socket="socket"):
+        self.path = os.path.join(folder, socket)
+        self.command = [program, "serve", "--socket", socket, *options]
         self.folder = folder
 
     def __enter__(self):

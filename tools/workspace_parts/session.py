@@ -60,10 +60,10 @@ class Session:
         self.image.forget()
         self.start()
 
-    def forget_turns(self):
-        """The image may be a new one, in which the numbers of actors and turns mean others."""
-        self.turns.waiting, self.turns.ends, self.turns.selectors = [], {}, {}
+    def begin_again(self):
+        """Says with what it goes on behind a new connection. In a new image the numbers of actors mean others."""
         self.known.actors = {}
+        return self.turns.begin_again()
 
     def close(self):
         """Ends the session, and says whether what was to be kept is kept."""

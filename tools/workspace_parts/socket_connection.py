@@ -46,7 +46,7 @@ class SocketConnection:
         if reply == {"error": "TooMany", "what": "sessions"}:
             raise Ended(f"the server at {self.path} has as many sessions as it may; try again later")
         if reply != ITS_REPLY:
-            raise Ended(f"no server of actorimage replies at {self.path}; write the path of its socket")
+            raise Ended(f"no server of actorimage replies at {self.path}; write the path of its socket, or wait if it is about to end")
         self.socket.settimeout(None)
 
     def begin(self):

@@ -7,8 +7,12 @@ import socket
 import tempfile
 import threading
 
-from .reconnecting import AGAIN, Reconnecting
+from .breaks import Breaks
+from .images import WatchedImage
+from .reconnecting import Reconnecting
+from .served_turns import AGAIN
 from .serving import Server
+from .session import Session
 from .socket_connection import SocketConnection
 from .try_common import same
 from .wrong import Ended, Lost
@@ -57,7 +61,7 @@ def no_server_replies(program):
     """What listens is something else."""
     for replies in ([], ["hello"], ['{"ok":{"quanta":0,"steps":0}}'], ["[3]"]):
         with pretended(replies) as path:
-            wanted = f"no server of actorimage replies at {path}; write the path of its socket"
+            wanted = f"no server of actorimage replies at {path}; write the path of its socket, or wait if it is about to end"
             same(sentence(Ended, SocketConnection, path), wanted)
 
 
@@ -75,25 +79,51 @@ def once_more(program):
     """The first command of an entry is sent once more where the connection broke, and a later one is not."""
     answer = '{"ok":{"answer":1}}'
     with pretended([GREETED], [GREETED, answer], [GREETED, answer]) as path:
-        told, back = [], []
-        connection = Reconnecting(path, told.append, lambda: back.append(len(told)))
+        told = []
+        connection = Reconnecting(path, told.append, lambda: "again")
         same(connection.ask(OUTCOME), json.loads(answer))
-        same((told, back), ([BROKE.format(path), AGAIN], [1]))
+        same(told, [BROKE.format(path), "again"])
         same(sentence(Lost, connection.ask, OUTCOME), f"{BROKE.format(path)}; the next entry connects again")
         connection.begin()
         same(connection.ask(OUTCOME), json.loads(answer))
-        same((told, back), ([BROKE.format(path), AGAIN, AGAIN], [1, 2]))
+        same(told, [BROKE.format(path), "again", "again"])
         connection.end()
 
 
 def perhaps_accepted(program):
-    """A message whose reply was lost is not posted twice on the same server."""
-    with pretended([GREETED], [GREETED, '{"error":"Old","last":3}']) as path:
-        connection = Reconnecting(path, lambda line: None, lambda: None)
-        said = sentence(Lost, connection.ask, POST)
-        wanted = "the number 3 of sender 7 was used before: perhaps this message was accepted when the connection broke"
-        same(said, f"{wanted}; type it again if it was not")
-        connection.end()
+    """A message whose reply was lost is not posted twice on the same server, also if others post under the number."""
+    for last in (3, 5):
+        with pretended([GREETED], [GREETED, f'{{"error":"Old","last":{last}}}']) as path:
+            connection = Reconnecting(path, lambda line: None, lambda: "")
+            said = sentence(Lost, connection.ask, POST)
+            wanted = "the number 3 of sender 7 was used before: perhaps this message was accepted when the connection broke"
+            same(said, f"{wanted}; type it again if it was not")
+            connection.end()
 
 
-TRIALS = (no_server_replies, too_many, once_more, perhaps_accepted)
+def begins_again(program):
+    """Behind a new connection the image is asked for the sender's last message, and what it says is told."""
+    new = "connected again; the image has no message of sender 7: it is a new one, and names of actors from before may mean nothing"
+    for here, reply, wanted in (
+        (0, '{"error":"Old","last":0}', AGAIN),
+        (3, '{"error":"Old","last":0}', new),
+        (3, '{"error":"UnknownActor"}', new),
+        (3, '{"error":"Old","last":3}', "connected again; the image has the messages of sender 7 up to number 3"),
+        (3, '{"error":"Old","last":4}', "connected again; the image has the messages of sender 7 up to number 4"),
+        (
+            3,
+            '{"error":"Old","last":2}',
+            "connected again; the image was saved before: it has the messages of sender 7 up to number 2, and not those up to 3",
+        ),
+    ):
+        with pretended([GREETED], [GREETED, reply, '{"ok":{"sites":[]}}']) as path:
+            told = []
+            session = Session(WatchedImage(path, 7), Breaks(), told.append)
+            session.turns.last = here
+            session.do(":stats A b")
+            same(told, [BROKE.format(path), wanted, "A >> b sends nothing"])
+            same(session.turns.last, int(reply[-2]) if "last" in reply else 0)
+            session.end()
+
+
+TRIALS = (begins_again, no_server_replies, too_many, once_more, perhaps_accepted)

@@ -10,6 +10,7 @@ import time
 from .breaks import Breaks
 from .images import ServedImage
 from .pretend import Terminal
+from .served_turns import AGAIN, HAS_NOT, NEW
 from .serving import Server
 from .session import Session
 from .socket_connection import SocketConnection
@@ -18,7 +19,6 @@ from .try_common import COUNTER, SPIN, WORKSPACE, piped, same
 WORKERS = ("--workers", "2")
 COUNT = ["Counter : Object | count |", "Counter >> bump  count isNil ifTrue: [count := 0]. count := count + 1. ^count"]
 BROKE = "the connection to socket broke, perhaps since the server has ended"
-AGAIN = "connected again; if the server is a new one, so is the image, and names of actors from before may mean nothing\n"
 NOTHING = "nothing listens at socket; start a server with  ./actorimage serve --socket socket --workers 4"
 
 
@@ -175,11 +175,11 @@ def lost_at_terminal(program):
         same(terminal.ask("c bump"), f"{BROKE}\n{NOTHING}; the next entry tries again\n")
         same(terminal.ask("c bump"), f"{NOTHING}; the next entry tries again\n")
         with Server(program, folder, *WORKERS) as server:
-            same(terminal.ask("c bump"), AGAIN + "UnknownActor: there is no actor 0; :actors tells how many there are\n")
+            same(terminal.ask("c bump"), AGAIN + "\nUnknownActor: there is no actor 0; :actors tells how many there are\n")
             same(terminal.ask(COUNT[0]), "class Counter, version 1\n")
             server.end()
         with Server(program, folder, *WORKERS) as server:
-            same(terminal.ask(COUNT[0]), f"{BROKE}\n{AGAIN}class Counter, version 1\n")
+            same(terminal.ask(COUNT[0]), f"{BROKE}\n{AGAIN}\nclass Counter, version 1\n")
             terminal.ask(COUNT[1])
             terminal.ask("c := Counter actor")
             same(terminal.ask("c bump. c bump"), "2\n")
@@ -189,7 +189,26 @@ def lost_at_terminal(program):
             server.end()
             terminal.see(f"{BROKE}; the next entry connects again\n")
             same(terminal.see("> "), "not sent: c bump\n> ")
-        same(terminal.end(), 0)
+        with Server(program, folder, *WORKERS):
+            same(terminal.ask(COUNT[0]), f"{NEW.format(7)}\nclass Counter, version 1\n")
+            same(terminal.end(), 0)
 
 
-TRIALS = (two_workspaces, stopped_waiting, next_number, same_sender, no_server, lost_server, lost_at_terminal)
+def older_image(program):
+    """A server is started again on the image that was saved last: messages from after it are lost, and that is told."""
+    with tempfile.TemporaryDirectory() as folder:
+        kept = (*WORKERS, "--image", "image")
+        with Server(program, folder, *kept, "--sessions", "1") as server:
+            same(typed(folder, [*COUNT, "c := Counter actor", "c bump. c bump"], "--sender", "7").returncode, 0)
+            same(server.process.wait(60), 0)
+        with Server(program, folder, *kept) as server, Watching(folder) as terminal:
+            same(terminal.ask("c := actor 0"), "actor 0\n")
+            same(terminal.ask("c bump. c bump"), "4\n")
+            server.end()
+            with Server(program, folder, *kept):
+                same(terminal.ask("c bump"), f"{BROKE}\n{HAS_NOT.format(7, 2, 4)}\n3\n")
+                same(terminal.ask("c bump"), "4\n")
+                same(terminal.end(), 0)
+
+
+TRIALS = (two_workspaces, stopped_waiting, next_number, same_sender, no_server, lost_server, lost_at_terminal, older_image)

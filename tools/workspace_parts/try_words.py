@@ -37,6 +37,8 @@ def all_refusals(program):
     for cell in cells(text, "## Refusals", 1) + cells(text, "Fields of refusals", 0):
         refusals |= names_in(cell)
     same(sorted(advice.REFUSALS), sorted(refusals))
+    told = set.union(*(names_in(cell) for cell in cells(document("OPERATING.md"), "## At a refusal", 0)))
+    same(sorted(advice.REFUSALS), sorted(told))
     values = cells(text, "Fields of refusals", 2)
     same(sorted(advice.KINDS), sorted(re.findall("`([A-Za-z]+)`", values[0])))
     same(sorted(advice.MOST), sorted(re.findall("`([a-z]+)`", values[2])))
@@ -53,6 +55,7 @@ def served(program):
     same(set(served_advice.REFUSALS) - {*advice.REFUSALS, *advice.MOST}, set())
     same(set(served_advice.IN_GENERAL) - set(advice.REFUSALS), set())
     same(set(served_advice.COMMANDS) - set(COMMANDS), set())
+    same(set(served_advice.NOT_THERE) & set(COMMANDS), set())
     in_general = {**advice.REFUSALS, **IN_GENERAL, **served_advice.IN_GENERAL}
     for name, sentence in [*served_advice.REFUSALS.items(), *in_general.items()]:
         if ";" not in sentence or "{" in in_general.get(name, ""):

@@ -71,17 +71,23 @@ class Turns:
     def post(self, actor, selector, arguments):
         command = {"cmd": "post", "actor": actor, "selector": selector, "args": arguments, "sender": self.sender}
         try:
-            turn = self.ask({**command, "seq": self.last + 1})["turn"]
+            turn = self.post_next(command)
         except Refused as refused:
             if refused.reply["error"] != "Old":
                 raise
             # Somebody else posts under this number, or has before.
             self.last = refused.reply["last"]
-            turn = self.ask({**command, "seq": self.last + 1})["turn"]
-        self.last += 1
+            turn = self.post_next(command)
         self.waiting.append(Turn(actor, turn))
         self.selectors[self.waiting[-1]] = selector
         return self.waiting[-1]
+
+    def post_next(self, command):
+        """Posts a message under the next number. Meanwhile the last one may become another, behind a new connection."""
+        seq = self.last + 1
+        turn = self.ask({**command, "seq": seq})["turn"]
+        self.last = seq
+        return turn
 
     def outcome(self, turn):
         return self.ask({"cmd": "outcome", "actor": turn.actor, "turn": turn.number})

@@ -1,6 +1,12 @@
 //! Image files on disk.
-ghost use Rattle.std.specs.Prelude.{◌≡◌, [], IfOk, IfSome};
+ghost use Rattle.std.specs.Prelude.{◌≡◌, [], Result, IfOk, IfSome};
+ghost use Rattle.st_classes.specs.declared.refusals.Refusal.{Refusal as RefusalOf};
+ghost use Rattle.st_image.specs.Images.{ImageView};
+ghost use Rattle.st_wire.specs.Streams.{input_view};
+ghost use Rattle.st_file.specs.Files.{LoadsFile};
+ghost use Rattle.actorimage.specs.Runs as spec;
 
+use crate::runs::found_as;
 use st_classes::refusals::Refusal;
 use st_file::files::load;
 use st_file::saving::save;
@@ -20,27 +26,35 @@ impl Read for Unreadable {
     }
 }
 
-/// The image that an input gives. Nothing has happened in it yet.
-fn loaded<I: Input>(alloc: Global, input: &mut I) -> Result<Image, Refusal>
-    ensures { IfOk result (λ i. i.history ≡ []) }
+/// What the input of a file has for a run: the image that is loaded, in which nothing has happened yet, or the refusal of the file.
+fn found_in<I: Input>(alloc: Global, input: &mut I) -> Result<Option<Image>, Refusal>
+    ensures loaded { let before = input_view I.remaining I.failures I.reads input.old in
+        let after = input_view I.remaining I.failures I.reads input.new in
+        (loaded : Result ImageView RefusalOf) × LoadsFile before after loaded × (result ≡ spec.found_as loaded) }
+    ensures anew { IfOk result (λ found. IfSome found (λ i. i.history ≡ [])) }
 {
-    load(alloc, input)
+    let loaded: Result<Image, Refusal> = load(alloc, input);
+    found_as(loaded)
 }
 
-/// The image of a file, or none where there is no file. `ReadFault` says that the file cannot be read, and `BadImage` that it
-/// holds no image.
-pub fn load_file<R: Files>(rt: &R, alloc: Global, path: &str) -> Result<Option<Image>, Refusal>
+/// The image of a file, or none where no file is asked for or none is there. `ReadFault` says that the file cannot be read, and
+/// `BadImage` that it holds no image.
+pub fn load_file<R: Files>(
+    rt: &R,
+    alloc: Global,
+    path: Option<&str>,
+) -> Result<Option<Image>, Refusal>
     ensures { IfOk result (λ found. IfSome found (λ i. i.history ≡ [])) }
 {
+    let Some(path) = path else {
+        return Ok(None);
+    };
     let file = match File::open(rt, path) {
         Ok(file) => file,
         Err(error) if error.kind() == ErrorKind::NotFound => return Ok(None),
         Err(_) => return Err(Refusal::ReadFault),
     };
-    match loaded(alloc, &mut Reader::new(file)) {
-        Ok(image) => Ok(Some(image)),
-        Err(refusal) => Err(refusal),
-    }
+    found_in(alloc, &mut Reader::new(file))
 }
 
 /// Writes the file of an image that is not there yet, and waits until it is on the disk.

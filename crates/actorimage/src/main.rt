@@ -5,27 +5,28 @@ ghost use Rattle.std.specs.Prelude.{◌≡◌, [], IfOk};
 
 mod image_files;
 mod options;
+mod runs;
+mod socket_files;
 
 use crate::image_files::{Unreadable, load_file, save_file};
 use crate::options::{Request, ScriptOptions, ServeOptions, invalid_utf8_error, parsed_request};
+use crate::runs::{begin_with, saved_at};
+use crate::socket_files::bind;
 use boxcar::Vec as Faults;
 use clap::Error;
 use st_classes::refusals::Refusal;
-use st_image::settings::Settings;
 use st_pool::totals::Totals;
 use st_server::checking::check_on;
 use st_server::images::Image;
 use st_server::scripts::script_on;
-use st_server::sockets::serve_image;
+use st_server::sockets::{Served, serve_image};
 use st_wire::names::refusal_name;
 use st_wire::streams::{Reader, Writer};
 use std::alloc::Global;
 use std::env;
-use std::fs::{self, File, Files, Permissions};
+use std::fs::{File, Files};
 use std::io::{self, BufWriter, ErrorKind};
 use std::net::Net;
-use std::os::unix::fs::PermissionsExt;
-use std::os::unix::net::UnixListener;
 use std::process::ExitCode;
 use std::sync::Wait;
 use std::thread::Threads;
@@ -35,14 +36,8 @@ fn first_image<R: Files + AllocGlobal>(rt: &R, path: Option<&str>) -> Result<Ima
     ensures { IfOk result (λ i. i.history ≡ []) }
 {
     let alloc = rt.alloc();
-    if let Some(path) = path {
-        match load_file(rt, alloc, path) {
-            Ok(Some(image)) => return Ok(image),
-            Ok(None) => {}
-            Err(refusal) => return Err(refusal),
-        }
-    }
-    Image::new(alloc, Settings::DEFAULT)
+    let found = load_file(rt, alloc, path);
+    begin_with(alloc, found)
 }
 
 /// Runs the commands of standard input on an image, with the replies on standard output.
@@ -72,11 +67,13 @@ fn script<R: Input + Print + Files + AllocGlobal>(
     options: ScriptOptions<'_>,
 ) -> Result<(), Refusal> {
     let image = first_image(rt, options.image)?;
-    let (image, result) = run_script(rt, options, image);
-    result?;
-    match options.image {
-        Some(path) => save_file(rt, rt.alloc(), path, &image),
-        None => Ok(()),
+    let (image, ended) = run_script(rt, options, image);
+    if let Some(path) = saved_at(options.image, &ended) {
+        save_file(rt, rt.alloc(), path, &image)?;
+    }
+    match ended {
+        Ok(_) => Ok(()),
+        Err(refusal) => Err(refusal),
     }
 }
 
@@ -90,9 +87,6 @@ fn check<R: Print + Files + AllocGlobal>(rt: &R, path: &str) -> u8 {
     };
     told.unwrap_or(1)
 }
-
-/// The rights of a socket's file: its owner reads and writes.
-const OWNER_ALONE: u32 = 0o600;
 
 /// The names of refusals, sorted.
 fn sorted_names(alloc: Global, faults: &Faults<Refusal>) -> Result<Vec<&'static str>, Refusal> {
@@ -132,11 +126,8 @@ fn serve_over<R: Threads + Wait + Net + Files + Sync>(
     options: ServeOptions<'_>,
     faults: &Faults<Refusal>,
     image: Image,
-) -> Result<(Image, Totals), Refusal> {
-    let Ok(listener) = UnixListener::bind(rt, options.socket) else {
-        return Err(Refusal::ReadFault);
-    };
-    let _ = fs::set_permissions(rt, options.socket, Permissions::from_mode(OWNER_ALONE));
+) -> Result<Served, Refusal> {
+    let (listener, file) = bind(rt, options.socket)?;
     let result = serve_image(
         rt,
         alloc,
@@ -146,11 +137,12 @@ fn serve_over<R: Threads + Wait + Net + Files + Sync>(
         options.sessions,
         image,
     );
-    let _ = fs::remove_file(rt, options.socket);
+    file.remove(rt);
     result
 }
 
-/// Serves a new image or that of a file, to which the image is saved when all sessions have ended, and tells the end.
+/// Serves a new image or that of a file, to which the image is saved when all sessions have ended, and tells the end. All this is done
+/// also where accepting failed, and the refusal is answered then.
 fn serve<R: Threads + Wait + Net + Files + Print + Eprint + AllocGlobal + Sync>(
     rt: &R,
     options: ServeOptions<'_>,
@@ -160,13 +152,23 @@ fn serve<R: Threads + Wait + Net + Files + Print + Eprint + AllocGlobal + Sync>(
     let Ok(faults) = Faults::new(alloc) else {
         return Err(Refusal::NoMemory);
     };
-    let (image, totals) = serve_over(rt, alloc, options, &faults, image)?;
-    let saved = match options.image {
+    let ended = serve_over(rt, alloc, options, &faults, image);
+    let path = saved_at(options.image, &ended);
+    let Served {
+        image,
+        totals,
+        fault,
+    } = ended?;
+    let saved = match path {
         Some(path) => save_file(rt, alloc, path, &image),
         None => Ok(()),
     };
     tell_end(rt, &faults, totals)?;
-    saved
+    saved?;
+    match fault {
+        Some(refusal) => Err(refusal),
+        None => Ok(()),
+    }
 }
 
 /// The words of the command line.

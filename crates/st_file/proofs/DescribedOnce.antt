@@ -11,7 +11,7 @@ use Rattle.st_image.specs.Loading.{LoaderView, LeadsToOne, LoadsAll, LoadsEdit, 
 use Rattle.st_image.specs.Parts.{world_of_parts}
 use Rattle.st_image.specs.Worlds.{World}
 use Rattle.st_file.specs.declared.texts.ImageText.{ImageText}
-use Rattle.st_file.specs.Describes.{kernel_table, Describes, DescribesOne, HasActors, HasEdits, HasNames, HasSenders, HasShape, IsWrongAt, LoadsImage, WrongDescribesNone}
+use Rattle.st_file.specs.Describes.{kernel_table, Describes, DescribesOne, HasActors, HasEdits, HasNames, HasSenderNumbers, HasShape, IsWrongAt, LoadsImage, WrongDescribesNone}
 use Rattle.st_file.specs.Meanings.{actors_meant}
 
 -- ---- what a value has at each place is one
@@ -71,7 +71,7 @@ wrong_none one_names one_edits place.Senders v names w (t, m, l, ps, shape, name
     let named = same_names one_names d.text t d.named m text d.names_load names_load in
     let loaded = same_edits one_edits d.text t d.named m d.loaded l text named d.edits_load edits_load in
     let parts = same_actors d.text t d.loaded l d.parts ps text loaded d.actors actors in
-    none (subst (λ (x : List ActorPart). HasSenders t l x) parts (subst (λ (x : LoaderView). HasSenders t x d.parts) loaded (subst (λ (x : ImageText). HasSenders x d.loaded d.parts) text d.senders)))
+    none (subst (λ (x : List ActorPart). HasSenderNumbers t l x) parts (subst (λ (x : LoaderView). HasSenderNumbers t x d.parts) loaded (subst (λ (x : ImageText). HasSenderNumbers x d.loaded d.parts) text d.senders)))
 
 -- what is refused for another cause than memory describes no world
 pub refused_none : (v : Data) (r : Result ImageView Refusal) → WrongDescribesNone → LoadsImage v r

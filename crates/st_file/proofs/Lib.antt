@@ -5,6 +5,7 @@ pub mod Described
 pub mod DescribedOnce
 pub mod FaultNames
 pub mod FoundAgain
+pub mod LoadedAgain
 pub mod NamedParts
 pub mod OneMore
 pub mod ReadSoFar

@@ -40,8 +40,8 @@ pub record HasActors (t : ImageText) (loaded : LoaderView) (parts : List ActorPa
   pub fit : AreBaseActors loaded.names loaded.edits parts
 
 -- the numbers of its senders hold together
-abbrev pub HasSenders : ImageText → LoaderView → List ActorPart → Type 0
-HasSenders t loaded parts = AreBaseSenders loaded.edits parts t.senders
+abbrev pub HasSenderNumbers : ImageText → LoaderView → List ActorPart → Type 0
+HasSenderNumbers t loaded parts = AreBaseSenders loaded.edits parts t.senders
 
 -- ---- what a document describes
 
@@ -55,7 +55,7 @@ pub record Describes (v : Data) (names : List (List ℕ)) (w : World) : Type 0 w
   pub names_load : HasNames text named
   pub edits_load : HasEdits text named loaded
   pub actors : HasActors text loaded parts
-  pub senders : HasSenders text loaded parts
+  pub senders : HasSenderNumbers text loaded parts
   pub names_are : names ≡ loaded.names
   pub world_is : w ≡ world_of_parts loaded.edits parts text.senders
 
@@ -71,7 +71,7 @@ IsWrongAt place.Actors v = (t : ImageText) × (named : LoaderView) × (loaded : 
     × ((parts : List ActorPart) → HasActors t loaded parts → ⊥)
 IsWrongAt place.Senders v = (t : ImageText) × (named : LoaderView) × (loaded : LoaderView) × (parts : List ActorPart)
     × HasShape v t × HasNames t named × HasEdits t named loaded × HasActors t loaded parts
-    × (HasSenders t loaded parts → ⊥)
+    × (HasSenderNumbers t loaded parts → ⊥)
 
 -- ---- answers
 

@@ -1,5 +1,5 @@
--- Image files: the document of a text, and what a load answers.
-use Rattle.std.specs.Prelude.{◌≡◌, ◌⊎◌, ℕ, List, Some, None, Result, Err}
+-- Image files: the JSON value of a text, and what a load answers.
+use Rattle.std.specs.Prelude.{◌≡◌, ◌⊎◌, ℕ, ◌==◌, List, [], ◌∷◌, if◌then◌else◌, Option, Some, None, Result, Err}
 use Rattle.serde_json.specs.Data.{Data}
 use Rattle.st_classes.specs.declared.refusals.Refusal.{Refusal}
 use Rattle.st_classes.specs.declared.refusals.Refusal.TheVariants.{BadImage, NoMemory}
@@ -10,10 +10,20 @@ use Rattle.st_wire.specs.Streams.{InputView}
 use Rattle.st_file.specs.Describes.{LoadsImage}
 use Rattle.st_file.specs.Inputs.{GivesAll, StopsShort}
 
+-- a text without the newline at its end, where it has one
+abbrev pub without_newline : List ℕ → List ℕ
+without_newline [] = []
+without_newline (b ∷ []) = if b == 10 then [] else b ∷ []
+without_newline (b ∷ c ∷ bs) = b ∷ without_newline (c ∷ bs)
+
+-- the JSON value of a file's text
+abbrev pub document_of : List ℕ → Option Data
+document_of text = value_of (without_newline text)
+
 -- the text is JSON, and its value is loaded; or it is none; or memory ran out
 abbrev pub LoadsText : List ℕ → Result ImageView Refusal → Type 0
-LoadsText text result = ((v : Data) × (value_of text ≡ Some v) × LoadsImage v result)
-    ⊎ ((value_of text ≡ None) × (result ≡ Err (BadImage place.Json)))
+LoadsText text result = ((v : Data) × (document_of text ≡ Some v) × LoadsImage v result)
+    ⊎ ((document_of text ≡ None) × (result ≡ Err (BadImage place.Json)))
     ⊎ (result ≡ Err NoMemory)
 
 -- an input was read to its end, and its text is loaded; or it was not read to its end, and the refusal says why

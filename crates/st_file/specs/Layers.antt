@@ -9,7 +9,7 @@ use Rattle.st_image.specs.Images.{ImageView}
 use Rattle.st_image.specs.Loaded.{loaded_image}
 use Rattle.st_image.specs.Loading.{LoaderView, Nowhere}
 use Rattle.st_file.specs.declared.texts.ImageText.{ImageText}
-use Rattle.st_file.specs.Describes.{HasActors, HasEdits, HasNames, HasSenders}
+use Rattle.st_file.specs.Describes.{HasActors, HasEdits, HasNames, HasSenderNumbers}
 
 -- all of it is done; or nothing does it, and the refusal is that of its place; or memory ran out
 abbrev pub AnswersAll : ImagePlace → (LoaderView → Type 0) → LoaderView → Result (Unit {0}) Refusal → Type 0
@@ -26,9 +26,9 @@ LoadsTable t (Err e) = (e ≡ NoMemory)
 -- a text's actors and senders make an image; or its actors are none, or the numbers of its senders do not hold together; or memory
 -- ran out
 abbrev pub LoadsWorld : ImageText → LoaderView → Result ImageView Refusal → Type 0
-LoadsWorld t loaded (Ok i) = (parts : List ActorPart) × HasActors t loaded parts × HasSenders t loaded parts
+LoadsWorld t loaded (Ok i) = (parts : List ActorPart) × HasActors t loaded parts × HasSenderNumbers t loaded parts
     × (i ≡ loaded_image loaded.names loaded.edits parts t.senders)
 LoadsWorld t loaded (Err e) = (e ≡ NoMemory)
     ⊎ ((e ≡ BadImage place.Actors) × ((parts : List ActorPart) → HasActors t loaded parts → ⊥))
     ⊎ ((e ≡ BadImage place.Senders)
-    × ((parts : List ActorPart) × HasActors t loaded parts × (HasSenders t loaded parts → ⊥)))
+    × ((parts : List ActorPart) × HasActors t loaded parts × (HasSenderNumbers t loaded parts → ⊥)))

@@ -55,35 +55,35 @@ value_meant names edits (Class text) = option_map value.Class (class_named edits
 value_meant names edits (Actor a) = Some (value.Actor a)
 value_meant names edits (Local n) = option_map value.Local (below (2 ^ 32) n)
 
-abbrev pub message_from : MessageText → Option (List Value) → Option Selector → Option Message
-message_from m (Some args) (Some s) = Some (record { sender = m.sender; seq = m.seq; selector = s; args = args })
-message_from m _ _ = None
+abbrev pub message_with : MessageText → Option (List Value) → Option Selector → Option Message
+message_with m (Some args) (Some s) = Some (record { sender = m.sender; seq = m.seq; selector = s; args = args })
+message_with m _ _ = None
 
 abbrev pub message_meant : List (List ℕ) → List Edit → MessageText → Option Message
-message_meant names edits m = message_from m (all_of (value_meant names edits) m.args) (selector_of names m.selector)
+message_meant names edits m = message_with m (all_of (value_meant names edits) m.args) (selector_of names m.selector)
 
 -- ---- bodies
 
-abbrev pub object_from : Option ClassId → Option (List Value) → Option Object
-object_from (Some c) (Some slots) = Some (record { class = c; slots = slots })
-object_from _ _ = None
+abbrev pub object_with : Option ClassId → Option (List Value) → Option Object
+object_with (Some c) (Some slots) = Some (record { class = c; slots = slots })
+object_with _ _ = None
 
 abbrev pub object_meant : List (List ℕ) → List Edit → ObjectText → Option Object
-object_meant names edits o = object_from (class_named edits o.class) (all_of (value_meant names edits) o.slots)
+object_meant names edits o = object_with (class_named edits o.class) (all_of (value_meant names edits) o.slots)
 
 -- a method by its place among the edits
 abbrev pub method_id : ℕ → MethodId
 method_id n = record { 0 = n }
 
-abbrev pub frame_from : Option MethodId → Option ℕ → Option Value → Option (List Value) → Option (List Value)
+abbrev pub frame_with : Option MethodId → Option ℕ → Option Value → Option (List Value) → Option (List Value)
     → Option FrameView
-frame_from (Some method) (Some pc) (Some receiver) (Some temps) (Some operands) =
+frame_with (Some method) (Some pc) (Some receiver) (Some temps) (Some operands) =
     Some (record { method = method; pc = pc; receiver = receiver; temps = temps; operands = operands })
-frame_from _ _ _ _ _ = None
+frame_with _ _ _ _ _ = None
 
 abbrev pub frame_meant : List (List ℕ) → List Edit → FrameText → Option FrameView
 frame_meant names edits f =
-    frame_from
+    frame_with
     (option_map method_id (below (2 ^ 32) f.method))
     (below (2 ^ 16) f.pc)
     (value_meant names edits f.receiver)
@@ -91,9 +91,9 @@ frame_meant names edits f =
     (all_of (value_meant names edits) f.operands)
 
 -- a message that is not yet dispatched
-abbrev pub start_from : Option (List Value) → Option Selector → Option Phase
-start_from (Some args) (Some s) = Some (standing.Start s args)
-start_from _ _ = None
+abbrev pub start_with : Option (List Value) → Option Selector → Option Phase
+start_with (Some args) (Some s) = Some (standing.Start s args)
+start_with _ _ = None
 
 -- one frame that waits before the others
 abbrev pub with_caller : FrameView → FramesView → FramesView
@@ -115,23 +115,23 @@ answered v = standing.Done (outcome.Answer v)
 
 abbrev pub phase_meant : List (List ℕ) → List Edit → PhaseText → Option Phase
 phase_meant names edits phase.Fresh = Some standing.Fresh
-phase_meant names edits (phase.Start args s) = start_from (all_of (value_meant names edits) args) (selector_of names s)
+phase_meant names edits (phase.Start args s) = start_with (all_of (value_meant names edits) args) (selector_of names s)
 phase_meant names edits (phase.Frames fs) =
     option_map standing.Frames (option_and_then frames_of (all_of (frame_meant names edits) fs))
 phase_meant names edits (phase.Answer v) = option_map answered (value_meant names edits v)
 phase_meant names edits (phase.Fault e) = Some (standing.Done (outcome.Fault e))
 
-abbrev pub body_from : Option (List Object) → Option Phase → Option Body
-body_from (Some objects) (Some p) = Some (record { objects = objects; phase = p })
-body_from _ _ = None
+abbrev pub body_with : Option (List Object) → Option Phase → Option Body
+body_with (Some objects) (Some p) = Some (record { objects = objects; phase = p })
+body_with _ _ = None
 
 abbrev pub body_meant : List (List ℕ) → List Edit → BodyText → Option Body
-body_meant names edits b = body_from (all_of (object_meant names edits) b.objects) (phase_meant names edits b.phase)
+body_meant names edits b = body_with (all_of (object_meant names edits) b.objects) (phase_meant names edits b.phase)
 
 -- ---- actors
 
-abbrev pub actor_from : ActorText → Option ClassId → Option ℕ → Option Body → Option (List Message) → Option ActorPart
-actor_from a (Some c) (Some capacity) (Some body) (Some pending) = Some (record {
+abbrev pub actor_with : ActorText → Option ClassId → Option ℕ → Option Body → Option (List Message) → Option ActorPart
+actor_with a (Some c) (Some capacity) (Some body) (Some pending) = Some (record {
   class = c;
   capacity = capacity;
   is_open = a.is_open;
@@ -139,11 +139,11 @@ actor_from a (Some c) (Some capacity) (Some body) (Some pending) = Some (record 
   last = a.last;
   pending = pending;
 })
-actor_from a _ _ _ _ = None
+actor_with a _ _ _ _ = None
 
 abbrev pub actor_meant : List (List ℕ) → List Edit → ActorText → Option ActorPart
 actor_meant names edits a =
-    actor_from a
+    actor_with a
     (class_named edits a.class)
     (below (2 ^ 32) a.capacity)
     (body_meant names edits a.body)

@@ -1,4 +1,5 @@
--- Parts of an image whose numbers name something that is there.
+-- Parts of an image whose selectors and classes are there, so that each has a text.
+-- Nothing is asked of the numbers of actors and objects, which a file has as they are.
 use Rattle.std.specs.Prelude.{◌≡◌, ◌<◌, ℕ, List, length, true, All}
 use Rattle.st_classes.specs.declared.values.Selector.{Selector}
 use Rattle.st_classes.specs.declared.values.Value.{Value}

@@ -1,15 +1,19 @@
 -- How an image is told as texts, and how a file is written.
-use Rattle.std.specs.Prelude.{◌≡◌, ◌⊎◌, ℕ, List, [], ◌∷◌, ◌++◌, Some, Result, Ok, Err, drop, map}
+use Rattle.std.specs.Prelude.{◌≡◌, ◌⊎◌, ℕ, List, [], ◌∷◌, ◌++◌, codes, true, Some, Result, Ok, Err, drop, map}
+use mathlib.Core.List.{IsPrefix}
 use Rattle.serde_json.specs.Data.{Data}
 use Rattle.serde_json.specs.Written.{compact_text}
 use Rattle.st_classes.specs.declared.refusals.Refusal.{Refusal}
 use Rattle.st_classes.specs.declared.refusals.Refusal.TheVariants.{NoMemory, WriteFault}
+use Rattle.st_wire.specs.Fields.{texts_at}
+use Rattle.st_wire.specs.Replies.{keys_rise}
 use Rattle.st_wire.specs.Streams.{one_more}
 use Rattle.st_image.specs.Images.{ImageView, world}
 use Rattle.st_image.specs.Loading.{edit_texts}
 use Rattle.st_image.specs.Parts.{part_of, rebase}
 use Rattle.st_file.specs.declared.texts.ImageText.{ImageText}
 use Rattle.st_file.specs.Describes.{Describes}
+use Rattle.st_file.specs.Files.{document_of}
 use Rattle.st_file.specs.Meanings.{actors_meant}
 
 -- ---- an image told as texts
@@ -21,32 +25,42 @@ pub record TellsImage (i : ImageView) (t : ImageText) : Type 0 where
   pub actors : actors_meant i.names (world i).edits t.actors ≡ Some (map part_of (world i).actors)
   pub senders : t.senders ≡ (world i).clients
 
+-- ---- documents
+
+-- a value is the document of an image: it describes the image, its world as one that another image can begin with; its list of names
+-- has all names behind the kernel's, by their numbers; and its keys are in byte order at every level
+pub record IsDocument (v : Data) (i : ImageView) : Type 0 where
+  pub describes : Describes v i.names (rebase (world i))
+  pub names : texts_at (codes "names") v ≡ Some (drop 22 i.names)
+  pub ordered : keys_rise v ≡ true
+
 -- ---- writing
 
 -- the compact text of a value, and a newline
 abbrev pub value_line : Data → List ℕ
 value_line v = compact_text v ++ 10 ∷ []
 
--- the first bytes of a text, and maybe all
-abbrev pub IsFront : List ℕ → List ℕ → Type 0
-IsFront part text = (rest : List ℕ) × (text ≡ part ++ rest)
+-- a text is the line of a value, and is read as that value again
+pub record IsLineOf (v : Data) (text : List ℕ) : Type 0 where
+  pub line : text ≡ value_line v
+  pub again : document_of text ≡ Some v
 
--- a text that did not go out: it found no memory, and nothing was written; or the device failed, be it behind the last byte
-abbrev pub BreaksOff : List ℕ → List ℕ → Refusal → Type 0
-BreaksOff text written e = ((written ≡ []) × (e ≡ NoMemory)) ⊎ (IsFront written text × (e ≡ WriteFault))
+-- a text is what the file of an image has: the line of the image's document
+abbrev pub IsFileOf : ImageView → List ℕ → Type 0
+IsFileOf i text = (v : Data) × IsDocument v i × IsLineOf v text
+
+-- such a text is written whole; or it found no memory, and nothing is written; or the device failed, be it behind the last byte, and
+-- what is written is a prefix of such a text
+abbrev pub Writes : (List ℕ → Type 0) → List ℕ → Result (Unit {0}) Refusal → Type 0
+Writes IsWhole written (Ok _) = IsWhole written
+Writes IsWhole written (Err e) = ((written ≡ []) × (e ≡ NoMemory))
+    ⊎ (((text : List ℕ) × IsWhole text × IsPrefix written text) × (e ≡ WriteFault))
+
+-- the text of the image's file is written
+abbrev pub Saves : ImageView → List ℕ → Result (Unit {0}) Refusal → Type 0
+Saves i written result = Writes (IsFileOf i) written result
 
 -- a device's count of failures: one more where it failed
 abbrev pub failures_after : {T : Type 0} → Result T Refusal → ℕ → ℕ
 failures_after (Err WriteFault) failures = one_more failures
 failures_after _ failures = failures
-
--- a value describes the image: its names, and its world as one that another image can begin with
-abbrev pub DescribesImage : Data → ImageView → Type 0
-DescribesImage v i = Describes v i.names (rebase (world i))
-
--- the text of a value that describes the image was written whole; or only a front of it, since the device failed; or nothing, for
--- want of memory
-abbrev pub Saves : ImageView → List ℕ → Result (Unit {0}) Refusal → Type 0
-Saves i written (Ok _) = (v : Data) × DescribesImage v i × (written ≡ value_line v)
-Saves i written (Err e) = ((written ≡ []) × (e ≡ NoMemory))
-    ⊎ (((v : Data) × DescribesImage v i × IsFront written (value_line v)) × (e ≡ WriteFault))

@@ -3,7 +3,8 @@ ghost use Rattle.std.specs.Prelude.{◌≡◌, ◌≤◌, IfOk, map};
 ghost use Rattle.serde_json.specs.View.{view, items_view};
 ghost use Rattle.st_wire.specs.Fields as spec;
 ghost use Rattle.st_wire.specs.Commands.{has_just as has_just_keys, has_all as has_all_keys};
-ghost use Rattle.st_file.specs.Answers.{Reads};
+ghost use Rattle.st_classes.specs.declared.refusals.ImagePlace.TheVariants.{Shape};
+ghost use Rattle.st_file.specs.Answers.{Finds};
 ghost use Rattle.st_file.specs.Shapes as shapes;
 
 use serde_json::Value;
@@ -27,7 +28,7 @@ pub(crate) trait Readable: Drop {
 
     /// Reads a value.
     fn read(alloc: Global, value: &Value) -> Result<Self, Refusal>
-        ensures { Reads (form (view value.now)) result };
+        ensures { Finds Shape (form (view value.now)) result };
 }
 
 impl Readable for Seq<u8> {
@@ -45,7 +46,7 @@ impl Readable for Seq<u8> {
 }
 
 fn each<T: Readable>(alloc: Global, values: &Vec<Value>) -> Result<Seq<T>, Refusal>
-    ensures { Reads (spec.each_of T.form (items_view values.now.items)) result }
+    ensures { Finds Shape (spec.each_of T.form (items_view values.now.items)) result }
 {
     let mut found = Vec::new(alloc);
     for value in values {
@@ -63,7 +64,7 @@ pub(crate) fn list_at<T: Readable>(
     object: &Value,
     key: &str,
 ) -> Result<Seq<T>, Refusal>
-    ensures { Reads (shapes.list_at T.form key.now (view object.now)) result }
+    ensures { Finds Shape (shapes.list_at T.form key.now (view object.now)) result }
 {
     match object.get(key).and_then(Value::as_array) {
         Some(values) => each(alloc, values),
@@ -73,7 +74,7 @@ pub(crate) fn list_at<T: Readable>(
 
 /// What the value of a key is.
 pub(crate) fn one_at<T: Readable>(alloc: Global, object: &Value, key: &str) -> Result<T, Refusal>
-    ensures { Reads (shapes.one_at T.form key.now (view object.now)) result }
+    ensures { Finds Shape (shapes.one_at T.form key.now (view object.now)) result }
 {
     match object.get(key) {
         Some(value) => T::read(alloc, value),
@@ -83,7 +84,7 @@ pub(crate) fn one_at<T: Readable>(alloc: Global, object: &Value, key: &str) -> R
 
 /// The text of a key.
 pub(crate) fn text_at(alloc: Global, object: &Value, key: &str) -> Result<Seq<u8>, Refusal>
-    ensures { Reads (spec.text_at key.now (view object.now)) result }
+    ensures { Finds Shape (spec.text_at key.now (view object.now)) result }
 {
     one_at(alloc, object, key)
 }
@@ -129,7 +130,7 @@ fn has_all(object: &Value, keys: &[&str]) -> bool
 
 /// A whole number in a range, with both ends in it.
 fn within(number: Option<u64>, least: u64, most: u64) -> Result<u64, Refusal>
-    ensures read { Reads (spec.within least most number) result }
+    ensures read { Finds Shape (spec.within least most number) result }
     ensures within { IfOk result (λ n. n ≤ most) }
 {
     match number {
@@ -140,7 +141,7 @@ fn within(number: Option<u64>, least: u64, most: u64) -> Result<u64, Refusal>
 
 /// A whole number of a key in a range, with both ends in it.
 pub(crate) fn whole_at(object: &Value, key: &str, least: u64, most: u64) -> Result<u64, Refusal>
-    ensures read { Reads (spec.whole_at key.now least most (view object.now)) result }
+    ensures read { Finds Shape (spec.whole_at key.now least most (view object.now)) result }
     ensures within { IfOk result (λ n. n ≤ most) }
 {
     match object.get(key).and_then(Value::as_u64) {
@@ -151,14 +152,14 @@ pub(crate) fn whole_at(object: &Value, key: &str, least: u64, most: u64) -> Resu
 
 /// A number of 64 bits.
 pub(crate) fn number_at(object: &Value, key: &str) -> Result<u64, Refusal>
-    ensures { Reads (spec.number_at key.now (view object.now)) result }
+    ensures { Finds Shape (spec.number_at key.now (view object.now)) result }
 {
     whole_at(object, key, 0, u64::MAX)
 }
 
 /// An actor's number.
 pub(crate) fn actor_at(object: &Value, key: &str) -> Result<ActorId, Refusal>
-    ensures { Reads (spec.actor_at key.now (view object.now)) result }
+    ensures { Finds Shape (spec.actor_at key.now (view object.now)) result }
 {
     let number = whole_at(object, key, 0, 4_294_967_295)?;
     Ok(ActorId(number as u32))
@@ -166,7 +167,7 @@ pub(crate) fn actor_at(object: &Value, key: &str) -> Result<ActorId, Refusal>
 
 /// A client's number.
 pub(crate) fn client_number(number: Option<u64>) -> Result<u16, Refusal>
-    ensures { Reads (spec.within 0 65535 number) result }
+    ensures { Finds Shape (spec.within 0 65535 number) result }
 {
     let number = within(number, 0, 65_535)?;
     Ok(number as u16)
@@ -174,7 +175,7 @@ pub(crate) fn client_number(number: Option<u64>) -> Result<u16, Refusal>
 
 /// The last number of a client that sent something.
 pub(crate) fn last_number(number: Option<u64>) -> Result<u64, Refusal>
-    ensures { Reads (spec.within 1 18446744073709551615 number) result }
+    ensures { Finds Shape (spec.within 1 18446744073709551615 number) result }
 {
     within(number, 1, u64::MAX)
 }

@@ -5,6 +5,7 @@ ghost use Rattle.st_classes.specs.declared.refusals.Refusal.TheVariants.{BadImag
 ghost use Rattle.st_classes.specs.declared.refusals.ImagePlace.TheVariants as place;
 ghost use Rattle.st_wire.specs.Commands.{value_of};
 ghost use Rattle.st_wire.specs.Streams.{input_view};
+ghost use Rattle.st_file.specs.Files as spec;
 ghost use Rattle.st_file.specs.Files.{LoadsFile, LoadsText};
 
 use crate::images::image_of;
@@ -30,15 +31,25 @@ pub fn load<M: Mailbox, I: Input>(alloc: Global, input: &mut I) -> Result<Image<
     }
 }
 
-/// The image of a text. It is `BadImage` of the place `Json` where the text is none of JSON, and else the image that its value
-/// describes, or the refusal of the value.
+/// The image of a text, whose last byte may be a newline. It is `BadImage` of the place `Json` where the text is none of JSON, and else
+/// the image that its value describes, or the refusal of the value.
 pub fn image_of_bytes<M: Mailbox>(alloc: Global, text: &[u8]) -> Result<Image<M>, Refusal>
     ensures { LoadsText text.now result }
 {
-    match value_of_bytes(alloc, text) {
+    match value_of_bytes(alloc, without_newline(text)) {
         Ok(value) => image_of(alloc, &value),
         Err(refusal) => Err(refusal),
     }
+}
+
+/// A text without the newline at its end, where it has one.
+fn without_newline(text: &[u8]) -> &[u8]
+    ensures { result.now ≡ spec.without_newline text.now }
+{
+    let Some((last, front)) = text.split_last() else {
+        return text;
+    };
+    if *last == b'\n' { front } else { text }
 }
 
 /// The JSON value of a text.

@@ -5,9 +5,10 @@
 //! [`images::image_of`], and [`files::load`], which does so with the bytes of an input.
 //!
 //! On the way back [`part_texts`] tells actors in texts that mean them again, [`telling`] gives the JSON value that says some texts,
-//! and [`saving`] does so with an image, and writes its text to an output.
+//! and [`saving`] does so with an image, and writes its text to an output. What is saved is loaded [`again`].
 #![tactic(auto)]
 
+pub mod again;
 mod copies;
 mod faults;
 mod fields;

@@ -4,7 +4,8 @@ ghost use Rattle.serde_json.specs.Find.{as_bool};
 ghost use Rattle.st_wire.specs.Fields as spec;
 ghost use Rattle.st_file.specs.declared.texts.PhaseText.TheVariants as phase;
 ghost use Rattle.serde_json.specs.View.{view};
-ghost use Rattle.st_file.specs.Answers.{Reads};
+ghost use Rattle.st_classes.specs.declared.refusals.ImagePlace.TheVariants.{Shape};
+ghost use Rattle.st_file.specs.Answers.{Finds};
 ghost use Rattle.st_file.specs.Shapes as shapes;
 
 use crate::faults::fault_of;
@@ -24,7 +25,7 @@ use std::alloc::Global;
 
 /// What a file says. The refusal of a value that has no such form is `BadImage` with the place `Shape`.
 pub fn read_image(alloc: Global, value: &Value) -> Result<ImageText, Refusal>
-    ensures { Reads (shapes.image_in (view value.now)) result }
+    ensures { Finds Shape (shapes.image_in (view value.now)) result }
 {
     if !has_just(value, &["actors", "edits", "format", "names", "senders"]) {
         return Err(SHAPE);
@@ -57,7 +58,7 @@ impl Readable for ValueText {
 
 /// An actor, a symbol, a class or an object, as an object of one key.
 fn named(alloc: Global, object: &Value) -> Result<ValueText, Refusal>
-    ensures { Reads (shapes.named_in (view object.now)) result }
+    ensures { Finds Shape (shapes.named_in (view object.now)) result }
 {
     if size(object) != 1 {
         return Err(SHAPE);
@@ -75,7 +76,7 @@ fn named(alloc: Global, object: &Value) -> Result<ValueText, Refusal>
 }
 
 fn values_at(alloc: Global, object: &Value, key: &str) -> Result<ValueTexts, Refusal>
-    ensures { Reads (shapes.values_at key.now (view object.now)) result }
+    ensures { Finds Shape (shapes.values_at key.now (view object.now)) result }
 {
     list_at(alloc, object, key)
 }
@@ -145,7 +146,7 @@ impl Readable for FrameText {
 }
 
 fn start(alloc: Global, value: &Value) -> Result<PhaseText, Refusal>
-    ensures { Reads (shapes.start_in (view value.now)) result }
+    ensures { Finds Shape (shapes.start_in (view value.now)) result }
 {
     if !has_just(value, &["args", "selector"]) {
         return Err(SHAPE);
@@ -157,7 +158,7 @@ fn start(alloc: Global, value: &Value) -> Result<PhaseText, Refusal>
 }
 
 fn fault(value: &Value) -> Result<PhaseText, Refusal>
-    ensures { Reads (option_map phase.Fault (option_and_then shapes.fault_of (spec.text_at (codes "fault") (view value.now)))) result }
+    ensures { Finds Shape (option_map phase.Fault (option_and_then shapes.fault_of (spec.text_at (codes "fault") (view value.now)))) result }
 {
     let Some(name) = value.get("fault").and_then(Value::as_str) else {
         return Err(SHAPE);
@@ -169,7 +170,7 @@ fn fault(value: &Value) -> Result<PhaseText, Refusal>
 }
 
 fn turn(alloc: Global, value: &Value) -> Result<PhaseText, Refusal>
-    ensures { Reads (shapes.turn_in (view value.now)) result }
+    ensures { Finds Shape (shapes.turn_in (view value.now)) result }
 {
     if size(value) != 1 {
         return Err(SHAPE);
@@ -251,7 +252,7 @@ impl Readable for ActorText {
 }
 
 fn define(alloc: Global, value: &Value) -> Result<EditText, Refusal>
-    ensures { Reads (shapes.define_in (view value.now)) result }
+    ensures { Finds Shape (shapes.define_in (view value.now)) result }
 {
     if !has_just(value, &["name", "slots", "super"]) {
         return Err(SHAPE);
@@ -264,7 +265,7 @@ fn define(alloc: Global, value: &Value) -> Result<EditText, Refusal>
 }
 
 fn install(alloc: Global, value: &Value) -> Result<EditText, Refusal>
-    ensures { Reads (shapes.install_in (view value.now)) result }
+    ensures { Finds Shape (shapes.install_in (view value.now)) result }
 {
     if !has_just(value, &["class", "source"]) {
         return Err(SHAPE);
@@ -276,7 +277,7 @@ fn install(alloc: Global, value: &Value) -> Result<EditText, Refusal>
 }
 
 fn remove(alloc: Global, value: &Value) -> Result<EditText, Refusal>
-    ensures { Reads (shapes.remove_in (view value.now)) result }
+    ensures { Finds Shape (shapes.remove_in (view value.now)) result }
 {
     if !has_just(value, &["class", "selector"]) {
         return Err(SHAPE);

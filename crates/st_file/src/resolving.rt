@@ -1,6 +1,7 @@
 //! What the texts of a file mean, for names and a class table.
 ghost use Rattle.std.specs.Prelude.{◌^◌};
 ghost use Rattle.st_classes.specs.Classes.{class_named};
+ghost use Rattle.st_classes.specs.declared.refusals.ImagePlace.TheVariants.{Actors};
 ghost use Rattle.st_file.specs.Answers.{Finds};
 ghost use Rattle.st_file.specs.Meanings as spec;
 
@@ -32,7 +33,7 @@ pub(crate) trait Means<P: Drop> {
 
     /// The part that it means.
     fn resolve(&self, alloc: Global, names: &Names, version: &Version) -> Result<P, Refusal>
-        ensures { Finds (meaning names.now version.now self.now) result };
+        ensures { Finds Actors (meaning names.now version.now self.now) result };
 }
 
 /// The parts that some texts mean.
@@ -42,7 +43,7 @@ fn resolve_all<P: Drop, T: Means<P>>(
     version: &Version,
     texts: &[T],
 ) -> Result<Seq<P>, Refusal>
-    ensures { Finds (spec.all_of (T.meaning names.now version.now) texts.now) result }
+    ensures { Finds Actors (spec.all_of (T.meaning names.now version.now) texts.now) result }
 {
     let mut found = Vec::new(alloc);
     for text in texts {
@@ -59,7 +60,7 @@ fn resolve_all<P: Drop, T: Means<P>>(
 
 /// The class of a name.
 fn class_of(version: &Version, text: &[u8]) -> Result<ClassId, Refusal>
-    ensures { Finds (class_named version.now text.now) result }
+    ensures { Finds Actors (class_named version.now text.now) result }
 {
     match version.class_named(text) {
         Some(class) => Ok(class),
@@ -69,7 +70,7 @@ fn class_of(version: &Version, text: &[u8]) -> Result<ClassId, Refusal>
 
 /// The selector of a text.
 fn selector_of(names: &Names, text: &[u8]) -> Result<Selector, Refusal>
-    ensures { Finds (spec.selector_of names.now text.now) result }
+    ensures { Finds Actors (spec.selector_of names.now text.now) result }
 {
     match names.find(text) {
         Some(selector) => Ok(selector),
@@ -79,7 +80,7 @@ fn selector_of(names: &Names, text: &[u8]) -> Result<Selector, Refusal>
 
 /// A number of 32 bits.
 fn word(number: u64) -> Result<u32, Refusal>
-    ensures { Finds (spec.below (2 ^ 32) number) result }
+    ensures { Finds Actors (spec.below (2 ^ 32) number) result }
 {
     if number < 4_294_967_296 {
         Ok(number as u32)
@@ -95,7 +96,7 @@ pub fn actors_of(
     version: &Version,
     actors: &Seq<ActorText>,
 ) -> Result<Seq<ActorPart>, Refusal>
-    ensures { Finds (spec.actors_meant names.now version.now actors.now) result }
+    ensures { Finds Actors (spec.actors_meant names.now version.now actors.now) result }
 {
     resolve_all(alloc, names, version, actors.as_slice())
 }

@@ -1,12 +1,11 @@
 //! From an image to the text of a file.
-ghost use Rattle.std.specs.Prelude.{◌≡◌, ◌≤◌, ℕ, List, true, false, IfOk, OnOk};
+ghost use Rattle.std.specs.Prelude.{◌≡◌, ◌≤◌, ℕ, List, false, IfOk, OnOk};
 ghost use Rattle.std.specs.Io.KnownBytes.{Appends};
 ghost use Rattle.serde_json.specs.Data.{depth};
 ghost use Rattle.serde_json.specs.View.{view};
 ghost use Rattle.serde_json.specs.Written.{has_float};
-ghost use Rattle.st_wire.specs.Replies.{keys_rise};
 ghost use Rattle.st_wire.specs.Streams.{one_more};
-ghost use Rattle.st_file.specs.Saving.{DescribesImage, Saves, TellsImage, failures_after};
+ghost use Rattle.st_file.specs.Saving.{IsDocument, Saves, TellsImage, failures_after};
 ghost use Rattle.st_file.specs.Tellable.{ImageIsText};
 
 mod parts;
@@ -48,13 +47,12 @@ fn image_text<M: Mailbox>(alloc: Global, image: &Image<M>) -> Result<ImageText, 
     })
 }
 
-/// The JSON value that describes an image: its names, its class table, its actors with what is pending and where their turns stand,
-/// and its clients. Only want of memory is an error. The keys of each object are in byte order.
+/// The document of an image: the JSON value that describes it, with all its names behind the kernel's, its class table, its actors
+/// with what is pending and where their turns stand, and its clients. Only want of memory is an error.
 pub fn image_value<M: Mailbox>(alloc: Global, image: &Image<M>) -> Result<Value, AllocError>
-    ensures describes { IfOk result (λ v. DescribesImage (view v) image.now) }
+    ensures document { IfOk result (λ v. IsDocument (view v) image.now) }
     ensures shallow { IfOk result (λ v. depth (view v) ≤ 9) }
     ensures whole { IfOk result (λ v. has_float (view v) ≡ false) }
-    ensures ordered { IfOk result (λ v. keys_rise (view v) ≡ true) }
 {
     can_be_base(image);
     image.all_compiled();
@@ -66,9 +64,9 @@ pub fn image_value<M: Mailbox>(alloc: Global, image: &Image<M>) -> Result<Value,
     image_data(alloc, text)
 }
 
-/// Writes the text of an image file, which ends in a newline, and hands it on.
+/// Writes the text of an image file, which is the line of the image's document and is read as that document again, and hands it on.
 ///
-/// The refusal is `NoMemory`, and then nothing was written; or `WriteFault` where the output failed, and then a front of the text was
+/// The refusal is `NoMemory`, and then nothing was written; or `WriteFault` where the output failed, and then a prefix of the text was
 /// written, which is all of it where it could not be handed on.
 pub fn save<M: Mailbox, O: Output>(
     alloc: Global,

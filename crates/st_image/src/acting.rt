@@ -306,7 +306,7 @@ pub(crate) fn take_outer<M: Mailbox>(
 }
 
 /// Steps of an actor's own have led to a body, and the image's step is taken where it comes next. The answer is whether it was. For
-/// want of memory nothing changes, and the body is given back.
+/// want of memory nothing changes, and the body is given back. Else the body before is left.
 pub(crate) fn put_steps<M: Mailbox>(
     alloc: Global,
     names: &Names,
@@ -315,6 +315,7 @@ pub(crate) fn put_steps<M: Mailbox>(
     actors: &mut Actors<M>,
     actor: ActorId,
     after: Body,
+    left: &mut Option<Body>,
 ) -> Result<bool, Body>
     requires there { actor.0 < length actors.old.kept }
     requires few { FewAccepted actors.old.kept }
@@ -331,7 +332,10 @@ pub(crate) fn put_steps<M: Mailbox>(
         Err(after) => return Err(after),
     };
     match take_outer(alloc, names, version, capacity, actors, actor) {
-        Ok(outer) => Ok(outer),
+        Ok(outer) => {
+            *left = Some(was);
+            Ok(outer)
+        }
         Err(_) => Err(actors.put_back(actor, was)),
     }
 }

@@ -17,6 +17,7 @@ pub mod edit_text;
 mod fitting;
 pub mod image;
 pub mod items;
+pub mod leavings;
 pub mod loader;
 mod results;
 mod senders;

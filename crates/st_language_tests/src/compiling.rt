@@ -1,5 +1,5 @@
 //! Compiling: the code of methods, written down by hand from the equations.
-mod codes;
+pub(crate) mod codes;
 
 use crate::classes::{define, kernel_version};
 use crate::compiling::codes::codes;
@@ -16,17 +16,17 @@ use std::alloc::{AllocError, Global};
 use std::test::*;
 
 /// The kernel's classes and Counter, which is number 8.
-fn version(alloc: Global) -> Result<Box<Version>, Refusal> {
+pub(crate) fn version(alloc: Global) -> Result<Box<Version>, Refusal> {
     let kernel = kernel_version(alloc)?;
     define(alloc, &kernel, b"Counter", ClassId(0), &[b"count"])
 }
 
-fn kernel_names(alloc: Global) -> Result<Names, AllocError> {
+pub(crate) fn kernel_names(alloc: Global) -> Result<Names, AllocError> {
     Names::kernel(alloc)
 }
 
 /// The tree of a source, on the heap as class tables are.
-fn read(alloc: Global, source: &str) -> Result<Box<MethodTree>, Refusal> {
+pub(crate) fn read(alloc: Global, source: &str) -> Result<Box<MethodTree>, Refusal> {
     match Box::new(alloc, read_method(alloc, source.as_bytes())?) {
         Ok(tree) => Ok(tree),
         Err(_) => Err(Refusal::NoMemory),
@@ -34,7 +34,7 @@ fn read(alloc: Global, source: &str) -> Result<Box<MethodTree>, Refusal> {
 }
 
 /// What a tree in Counter is compiled to.
-fn compiled_tree(
+pub(crate) fn compiled_tree(
     alloc: Global,
     tree: &MethodTree,
     version: &Version,
@@ -63,7 +63,7 @@ fn compiled_first(alloc: Global, source: &str) -> Result<Box<Method>, Fail> {
 }
 
 /// The depth and the instruction of each place of a method's code, a line each.
-fn listing(alloc: Global, method: &Method) -> Result<String, AllocError> {
+pub(crate) fn listing(alloc: Global, method: &Method) -> Result<String, AllocError> {
     let mut text = String::new(alloc);
     for (instruction, depth) in method.code().iter().zip(method.depths()) {
         let line = format!(in alloc; "{depth} {instruction:?}\n")?;

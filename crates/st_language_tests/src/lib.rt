@@ -11,6 +11,8 @@ mod lookups;
 #[cfg(test)]
 mod names;
 #[cfg(test)]
+mod refused;
+#[cfg(test)]
 mod sites;
 #[cfg(test)]
 mod syntax;

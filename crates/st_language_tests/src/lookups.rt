@@ -32,9 +32,9 @@ const B: ClassId = ClassId(9);
 
 const C: ClassId = ClassId(10);
 
-const WHO: Selector = Selector(22);
+pub(crate) const WHO: Selector = Selector(22);
 
-const MISSING: Selector = Selector(23);
+pub(crate) const MISSING: Selector = Selector(23);
 
 /// A method that sends a message without arguments to itself.
 fn asking(
@@ -97,7 +97,7 @@ fn install(
 }
 
 /// Classes A, B under A and C under B, each with a method `who` that sends `missing`.
-fn three_classes(alloc: Global) -> Result<Box<Version>, Refusal> {
+pub(crate) fn three_classes(alloc: Global) -> Result<Box<Version>, Refusal> {
     let mut version = kernel_version(alloc)?;
     for (name, parent) in [("A", OBJECT), ("B", A), ("C", B)] {
         version = define(alloc, &version, name.as_bytes(), parent, &[])?;
@@ -109,7 +109,7 @@ fn three_classes(alloc: Global) -> Result<Box<Version>, Refusal> {
 }
 
 /// The site of `missing` in the method `who` of C.
-const SITE: SiteId = SiteId {
+pub(crate) const SITE: SiteId = SiteId {
     method: MethodId(5),
     place: 1,
 };
@@ -127,7 +127,7 @@ fn asked_at(version: &Version, site: SiteId) -> Option<(Option<ClassId>, Selecto
 }
 
 /// Whether there is the holder of a super send.
-fn has_holder(version: &Version, key: Key) -> bool
+pub(crate) fn has_holder(version: &Version, key: Key) -> bool
     ensures { result ≡ true → IfSome key.holder (λ h. is_class version.now h ≡ true) }
 {
     match key.holder {
@@ -137,7 +137,7 @@ fn has_holder(version: &Version, key: Key) -> bool
 }
 
 /// Whether a site looks up this, where there is a site.
-fn has_site(version: &Version, site: Option<SiteId>, key: Key) -> bool
+pub(crate) fn has_site(version: &Version, site: Option<SiteId>, key: Key) -> bool
     ensures { result ≡ true → IfSome site (λ id. asks version.now id ≡ Some (key.holder, key.selector)) }
 {
     let Some(id) = site else {
@@ -170,7 +170,7 @@ fn look<G: Guard>(
 }
 
 /// A send to an instance of C, or a super send in a method of a holder.
-fn key(holder: Option<ClassId>, selector: Selector) -> Key {
+pub(crate) fn key(holder: Option<ClassId>, selector: Selector) -> Key {
     Key {
         holder,
         class: C,
@@ -356,7 +356,11 @@ fn each_site_is_kept(rt: HostRuntime) -> Result<(), Fail> {
 }
 
 /// An edit of each kind: a definition, an install, a removal, and an install of a method for the last name that a table can have.
-fn next_edit(alloc: Global, version: &Version, kind: u32) -> Result<Box<Version>, Refusal> {
+pub(crate) fn next_edit(
+    alloc: Global,
+    version: &Version,
+    kind: u32,
+) -> Result<Box<Version>, Refusal> {
     match kind {
         0 => define(alloc, version, b"D", C, &[]),
         1 => install(alloc, version, B, MISSING, WHO),

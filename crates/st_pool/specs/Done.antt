@@ -1,13 +1,18 @@
 -- What a caller has done, and how it stands in an image.
-use Rattle.std.specs.Prelude.{◌≡◌, ℕ, ◌≤◌, List, [], ◌∷◌, All, Option, None, Some, Result, Ok, Err, length, slice_get}
+use Rattle.std.specs.Prelude.{◌≡◌, ◌⊎◌, ℕ, ◌≤◌, List, [], ◌∷◌, ◌++◌, All, false, Option, None, Some, Result, Ok, Err, MatchResult, length, slice_get}
 use Rattle.st_classes.specs.declared.values.ActorId.{ActorId}
 use Rattle.st_classes.specs.declared.refusals.Refusal.{Refusal}
+use Rattle.st_classes.specs.declared.refusals.Refusal.TheVariants.{NoMemory}
 use Rattle.st_mailbox.specs.declared.messages.Message.{Message}
 use Rattle.st_turn.specs.Claims.{ClaimView}
 use Rattle.st_image.specs.declared.items.Item.TheVariants.{Posted}
 use Rattle.st_image.specs.Images.{ImageView}
-use Rattle.st_image.specs.Commits.{Commits, IsReleased}
+use Rattle.st_image.specs.Calls.{Posts}
+use Rattle.st_image.specs.Commits.{ChecksOut, Commits, IsReleased}
+use Rattle.st_image.specs.Scheduling.{IsNextReady, is_free_at}
 use Rattle.st_image.specs.WorldInvariant.{IsLawful}
+use Rattle.st_pool.specs.declared.office.Work.{Work}
+use Rattle.st_pool.specs.declared.office.Work.TheVariants.{Stop, Wait, Turn}
 use Rattle.st_pool.specs.declared.receipts.Receipt.{Receipt}
 use Rattle.st_pool.specs.Books.{BooksView}
 use Rattle.st_image.specs.Counts.{posts_of, edits_of}
@@ -38,6 +43,21 @@ Stands i r = slice_get i.history r.place ≡ Some (Posted r.actor r.message)
 
 abbrev pub receipt : ℕ → ActorId → Message → Receipt
 receipt place actor message = record { place = place; actor = actor; message = message }
+
+-- a message is posted in one hold, and where it is accepted its receipt goes last: its place is where the history ended in that hold.
+-- Memory may run out before
+abbrev pub PostsOnce : ℕ → Done → ActorId → Message → Result ℕ Refusal → Done → Type 0
+PostsOnce start d a m result e = ((result ≡ Err NoMemory) × (e ≡ d))
+    ⊎ ((i : ImageView) × (j : ImageView) × HasAtLeast start d i × Posts i a m result j × MatchResult result
+    (λ turn. e ≡ record d { receipts = d.receipts ++ receipt (length i.history) a m ∷ [] })
+    (λ f. e ≡ d))
+
+-- what a worker finds. Where it is to end, nothing has changed; nor where it is to wait, and then no actor is ready, or the next one
+-- cannot be checked out; else it has a claim of the next ready actor
+abbrev pub Takes : ImageView → Work ClaimView → ImageView → Type 0
+Takes i Stop j = j ≡ i
+Takes i (Wait moves) j = (j ≡ i) × (((a : ℕ) → is_free_at i a ≡ false) ⊎ ((a : ActorId) × (e : Refusal) × IsNextReady i a.0 × ChecksOut i a (Err e) j))
+Takes i (Turn c) j = (a : ActorId) × IsNextReady i a.0 × ChecksOut i a (Ok c) j
 
 -- a claim that was handed back is released
 abbrev pub ReleasesBack : ImageView → Option ClaimView → ImageView → Type 0

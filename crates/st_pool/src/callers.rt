@@ -1,16 +1,15 @@
 //! Callers: who posts and edits, by one hold of the lock a call.
-ghost use Rattle.std.specs.Prelude.{◌≡◌, ◌⊎◌, ◌+◌, ◌++◌, [], ◌∷◌, ℕ, Err, IfOk, OnOk, OnErr, is_ok};
+ghost use Rattle.std.specs.Prelude.{◌≡◌, ◌+◌, IfOk, is_ok};
 ghost use Rattle.std.specs.Borrow.{Bor};
 ghost use Rattle.std.specs.Fn.{FnOnceReturnsAt};
-ghost use Rattle.st_classes.specs.declared.refusals.Refusal.TheVariants.{NoMemory};
 ghost use Rattle.st_classes.specs.Refusals.{first_of};
-ghost use Rattle.st_image.specs.Calls.{AnswersExactly, Closes, Creates, Defines, InstallsIn, Posts, Removes};
+ghost use Rattle.st_image.specs.Calls.{AnswersExactly, Closes, Creates, Defines, InstallsIn, Removes};
 ghost use Rattle.st_image.specs.Images.{ImageView, world};
 ghost use Rattle.st_image.specs.Outcomes.{image_outcome};
 ghost use Rattle.st_image.specs.PostRules.{from_client};
 ghost use Rattle.st_image.specs.Stats.{installed_own, method_stats, stats_rules};
 ghost use Rattle.st_pool.specs.Books.{counted};
-ghost use Rattle.st_pool.specs.Done.{HasAtLeast, receipt};
+ghost use Rattle.st_pool.specs.Done.{HasAtLeast, PostsOnce};
 ghost use Rattle.st_pool.specs.Going.{Interns};
 
 use crate::naming::Naming;
@@ -96,9 +95,7 @@ impl<'a, K: Naming, M: Mailbox> Caller<'a, K, M> {
         selector: Selector,
         args: Values,
     ) -> Result<u64, Refusal>
-        ensures ok { OnOk result ((place : ℕ) × (self.new ≡ record self.old { receipts = self.old.receipts ++ receipt place actor (from_client sender seq selector args) ∷ [] })) }
-        ensures err { OnErr result (self.new ≡ self.old) }
-        ensures answers { (result ≡ Err NoMemory) ⊎ ((i : ImageView) × (j : ImageView) × HasAtLeast K.start self.old i × Posts i actor (from_client sender seq selector args) result j) }
+        ensures { PostsOnce K.start self.old actor (from_client sender seq selector args) result self.new }
     {
         let Caller { shared, share } = self;
         let CallerShare {

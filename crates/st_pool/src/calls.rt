@@ -14,6 +14,7 @@ use st_classes::refusals::Refusal;
 use st_classes::seq::Seq;
 use st_classes::values::{ActorId, ClassId, Selector, Values};
 use st_image::image::Image;
+use st_image::leavings::Leavings;
 use st_mailbox::mailboxes::Mailbox;
 use st_turn::claim::Claim;
 use std::alloc::Global;
@@ -152,12 +153,13 @@ fn commit<M: Mailbox>(
     image: &mut Image<M>,
     claim: Claim,
     is_known: bool,
+    leavings: &mut Leavings,
 ) -> Result<u32, (Refusal, Option<Claim>)>
     requires { is_known ≡ true → FitsClaim image.old claim }
     ensures { Commits image.old claim result image.new }
 {
     if is_known {
-        return image.commit_known(alloc, claim);
+        return image.commit_leaving(alloc, claim, leavings);
     }
     image.commit(alloc, claim)
 }
@@ -168,11 +170,12 @@ fn commit_or_release<M: Mailbox>(
     image: &mut Image<M>,
     claim: Claim,
     is_known: bool,
+    leavings: &mut Leavings,
 ) -> Result<u32, Refusal>
     requires { is_known ≡ true → FitsClaim image.old claim }
     ensures { Settles image.old claim result image.new }
 {
-    match commit(alloc, image, claim, is_known) {
+    match commit(alloc, image, claim, is_known, leavings) {
         Ok(steps) => Ok(steps),
         Err((refusal, Some(claim))) => {
             image.release(claim);
@@ -188,6 +191,7 @@ pub(crate) fn settle<M: Mailbox>(
     image: &mut Image<M>,
     claim: Claim,
     is_known: bool,
+    leavings: &mut Leavings,
 ) -> Result<u32, Refusal>
     requires { is_known ≡ true → FitsClaim image.old claim }
     ensures settles { Settles image.old claim result image.new }
@@ -196,7 +200,7 @@ pub(crate) fn settle<M: Mailbox>(
 {
     image.known();
     claim.known();
-    let answer = commit_or_release(alloc, image, claim, is_known);
+    let answer = commit_or_release(alloc, image, claim, is_known, leavings);
     image.known();
     answer
 }

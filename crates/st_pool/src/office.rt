@@ -15,6 +15,7 @@ use st_classes::refusals::{Limited, Refusal};
 use st_classes::seq::Seq;
 use st_classes::values::{ActorId, ClassId, Selector, Values};
 use st_image::image::Image;
+use st_image::leavings::Leavings;
 use st_mailbox::mailboxes::Mailbox;
 use std::alloc::Global;
 use std::marker::Model;
@@ -22,13 +23,13 @@ use std::sync::ledger::Share;
 
 /// What a worker finds under the lock.
 #[derive(Drop)]
-pub(crate) enum Work<K: Naming> {
+pub(crate) enum Work<T> {
     /// It is to end.
     Stop,
     /// It is to sleep until there have been more moves than these.
     Wait(u64),
     /// A claim of the next ready actor.
-    Turn(Held<K>),
+    Turn(T),
 }
 
 /// What lies under the lock: an image, and what has happened to it since. Contracts see the image and the books.
@@ -41,6 +42,8 @@ pub struct Office<K: Naming, M: Mailbox> {
     front: Option<Front<K>>,
     /// How often something happened for which a worker that sleeps is to look again.
     moves: u64,
+    /// How many workers sleep, or have been woken and not taken the lock since.
+    sleepers: u32,
     is_stopped: bool,
 }
 
@@ -89,7 +92,7 @@ impl<K: Naming, M: Mailbox> Office<K, M> {
     ghost use Rattle.st_pool.specs.Books.{counted, no_books};
     ghost use Rattle.st_image.specs.Counts.{posts_of, edits_of, ran_of};
     ghost use Rattle.st_pool.specs.Counts.{since};
-    ghost use Rattle.st_pool.specs.Done.{HasAtLeast, Settles, committed, nothing_done};
+    ghost use Rattle.st_pool.specs.Done.{HasAtLeast, Settles, Takes, committed, nothing_done};
 
     /// The image with empty books.
     pub(crate) fn new(image: Image<M>, blanks: Blanks, opened: Opened) -> Office<K, M>
@@ -108,6 +111,7 @@ impl<K: Naming, M: Mailbox> Office<K, M> {
             head,
             front: Some(front),
             moves: 0,
+            sleepers: 0,
             is_stopped: false,
         }
     }
@@ -303,7 +307,8 @@ impl<K: Naming, M: Mailbox> Office<K, M> {
     }
 
     /// What a worker does next.
-    pub(crate) fn work(&mut self, alloc: Global, mine: &mut WorkerShare<K>) -> Work<K>
+    pub(crate) fn work(&mut self, alloc: Global, mine: &mut WorkerShare<K>) -> Work<Held<K>>
+        ensures takes { Takes self.old.image result self.new.image }
         ensures share { mine.new ≡ mine.old }
         ensures books { self.new.books ≡ self.old.books }
         ensures within { mine.old ≤ since ran_of K.start self.old.image }
@@ -327,6 +332,7 @@ impl<K: Naming, M: Mailbox> Office<K, M> {
         alloc: Global,
         mine: &mut WorkerShare<K>,
         held: Held<K>,
+        leavings: &mut Leavings,
     ) -> Result<u32, Refusal>
         ensures settles { Settles self.old.image held result self.new.image }
         ensures books { self.new.books ≡ record self.old.books { steps = self.old.books.steps + committed result } }
@@ -336,7 +342,7 @@ impl<K: Naming, M: Mailbox> Office<K, M> {
         self.image.known();
         let is_known = precedes(&held.seen, &self.front);
         let Held { claim, seen: _ } = held;
-        let answer = calls::settle(alloc, &mut self.image, claim, is_known);
+        let answer = calls::settle(alloc, &mut self.image, claim, is_known, leavings);
         self.books.run(mine, &answer);
         self.moves = self.moves.wrapping_add(has_steps(&answer) as u64);
         answer
@@ -345,6 +351,25 @@ impl<K: Naming, M: Mailbox> Office<K, M> {
     /// Whether nothing has moved since, and the workers are to go on.
     pub(crate) fn rests(&self, seen: u64) -> bool {
         self.moves == seen && !self.is_stopped
+    }
+
+    /// A worker is about to sleep, and holds the lock until it does.
+    pub(crate) fn lie_down(&mut self)
+        ensures { self.new ≡ self.old }
+    {
+        self.sleepers = self.sleepers.wrapping_add(1);
+    }
+
+    /// A worker that was about to sleep, or slept, has the lock again.
+    pub(crate) fn get_up(&mut self)
+        ensures { self.new ≡ self.old }
+    {
+        self.sleepers = self.sleepers.wrapping_sub(1);
+    }
+
+    /// Whether a worker may be asleep.
+    pub(crate) fn has_sleepers(&self) -> bool {
+        self.sleepers != 0
     }
 
     /// How often something has moved.

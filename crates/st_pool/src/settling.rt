@@ -4,6 +4,7 @@ ghost use Rattle.std.specs.List.{sum_by};
 ghost use Rattle.st_classes.specs.declared.refusals.Refusal.TheVariants as refusals;
 ghost use Rattle.st_image.specs.declared.items.Item.TheVariants.{Posted as PostedItem};
 ghost use Rattle.st_image.specs.Images.{ImageView};
+ghost use Rattle.st_image.specs.WorldInvariant.{IsLawful};
 ghost use Rattle.st_pool.specs.Done.{Done};
 ghost use Rattle.st_pool.specs.Settled.{AreAll, AllStand, AreSums, AreCounts};
 
@@ -126,9 +127,10 @@ pub fn settle<K: Naming, M: Mailbox>(
     shares: Shares<K>,
 ) -> Result<Totals, Refusal>
     ensures sums { IfOk result (λ t. AreSums t shares.callers.items shares.workers.items) }
-    ensures history { IfOk result (λ t. (i : ImageView) × AreCounts K.start i t × AllStand i shares.callers.items) }
+    ensures history { IfOk result (λ t. (i : ImageView) × IsLawful i × AreCounts K.start i t × AllStand i shares.callers.items) }
     ensures refused { IfErr result (λ e. (e ≡ refusals.BadArguments) ⊎ (e ≡ refusals.Changed)) }
 {
-    let (_, totals) = settle_image(shared, shares)?;
+    let (image, totals) = settle_image(shared, shares)?;
+    image.known();
     Ok(totals)
 }

@@ -2,7 +2,7 @@
 //!
 //! A worker holds the lock twice for a quantum: to find the next ready actor and check it out, and to commit. Between them it takes
 //! the steps on its own claim, with its own caches, and holds no lock.
-ghost use Rattle.std.specs.Prelude.{◌≡◌, IfErr};
+ghost use Rattle.std.specs.Prelude.{◌≡◌, ◌≤◌, IfErr};
 ghost use Rattle.st_classes.specs.declared.refusals.Refusal.TheVariants as refusals;
 ghost use Rattle.st_classes.specs.declared.refusals.Limited.TheVariants as limits;
 
@@ -14,6 +14,7 @@ use crate::shared::Shared;
 use crate::shares::WorkerShare;
 use st_classes::refusals::Refusal;
 use st_guard::guard::Guard;
+use st_image::leavings::Leavings;
 use st_mailbox::mailboxes::Mailbox;
 use st_turn::claim::Claim;
 use st_turn::worker::Worker;
@@ -41,9 +42,12 @@ impl Gate for OpenGate {
 
 /// Waits until something has moved, or the workers are to end.
 fn wait_past<K: Naming, M: Mailbox, R: Wait>(rt: &R, shared: &Shared<K, M>, seen: u64) {
-    let _guard = shared
+    let mut before = shared.enter(rt);
+    before.lie_down();
+    let mut behind = shared
         .moved
-        .wait_while(rt, shared.enter(rt), |office| office.rests(seen));
+        .wait_while(rt, before, |office| office.rests(seen));
+    behind.get_up();
 }
 
 /// What a worker does next.
@@ -52,12 +56,12 @@ fn next_work<K: Naming, M: Mailbox, R: Wait>(
     alloc: Global,
     shared: &Shared<K, M>,
     share: &mut WorkerShare<K>,
-) -> Work<K> {
+) -> Work<Held<K>> {
     shared.enter(rt).work(alloc, share)
 }
 
 /// Commits the steps of a quantum, and answers after how many moves the worker is to wait: `None` where it goes on at once. A commit
-/// readies at most one actor more than this worker can take next, so one other worker is woken.
+/// readies at most one actor more than this worker can take next, so one other worker is woken, if one sleeps.
 fn commit<K: Naming, M: Mailbox, R: Wait>(
     rt: &R,
     alloc: Global,
@@ -66,13 +70,18 @@ fn commit<K: Naming, M: Mailbox, R: Wait>(
     held: Held<K>,
     is_starved: bool,
 ) -> Option<u64> {
+    // What is left of the commit is let go behind the hold.
+    let mut leavings = Leavings::none();
     let mut office = shared.enter(rt);
-    let answer = office.commit(alloc, share, held);
+    let answer = office.commit(alloc, share, held, &mut leavings);
     let moves = office.moves();
+    let has_sleepers = office.has_sleepers();
     drop(office);
     match answer {
         Ok(_) => {
-            shared.moved.notify_one();
+            if has_sleepers {
+                shared.moved.notify_one();
+            }
             is_starved.then_some(moves)
         }
         Err(Refusal::HistoryFull) | Err(Refusal::NoMemory) => Some(moves),
@@ -106,7 +115,7 @@ fn take_quantum<G: Guard, K: Naming, M: Mailbox, T: Gate, R: Wait>(
 ///
 /// A claim that is refused by `Stale` or `Changed` is dropped, and the worker goes on. Where nothing is ready, where memory ran out
 /// or where the history is full, it sleeps until another call may have changed that: an accepted post, an edit, a new actor or a close
-/// (refused ones too), a commit, or the stop. A refused post, `intern`, `outcome`, `stats` and `look` wake nobody.
+/// (refused ones too), a commit of steps, or the stop. A refused post, `intern`, `outcome`, `stats` and `look` wake nobody.
 pub fn worker_loop<G: Guard, K: Naming, M: Mailbox, T: Gate, R: Wait>(
     rt: &R,
     alloc: Global,
@@ -116,6 +125,7 @@ pub fn worker_loop<G: Guard, K: Naming, M: Mailbox, T: Gate, R: Wait>(
     gate: &mut T,
     quantum: u32,
 ) -> Result<WorkerShare<K>, Refusal>
+    requires quantum { (1 ≤ quantum) × (quantum ≤ 1024) }
     ensures refused { IfErr result (λ e. e ≡ refusals.TooMany limits.Sessions) }
 {
     let mut share = shared.enter(rt).employ()?;

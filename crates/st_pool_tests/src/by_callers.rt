@@ -86,7 +86,8 @@ pub fn not_understood<K: Naming, R: Wait + Clock>(
         && remove(rt, alloc, caller, OBJECT, "missing") == Err(Refusal::NoSuchMethod)
 }
 
-/// While the worker holds a claim of the first actor, the second gets two messages, and its mailbox is closed. Both turns end.
+/// While the worker holds a claim of the first actor, the second gets two messages, and its mailbox is closed. Both turns end, and the
+/// first actor's mailbox is open still.
 pub fn closing<K: Naming, R: Wait + Clock>(
     rt: &R,
     alloc: Global,
@@ -101,12 +102,14 @@ pub fn closing<K: Naming, R: Wait + Clock>(
         && post(rt, alloc, caller, 3, SECOND, "a") == Ok(2)
         && close(rt, caller, SECOND) == Ok(())
         && post(rt, alloc, caller, 4, SECOND, "a") == Err(Refusal::Closed)
-        && close(rt, caller, SECOND) == Err(Refusal::Closed);
+        && close(rt, caller, SECOND) == Err(Refusal::Closed)
+        && post(rt, alloc, caller, 5, FIRST, "a") == Ok(2);
     marks.tell();
     is_closed
         && answers(rt, caller, SECOND, 1, 14)
         && answers(rt, caller, SECOND, 2, 14)
         && answers(rt, caller, FIRST, 1, 14)
+        && answers(rt, caller, FIRST, 2, 14)
         && outcome(rt, caller, SECOND, 3) == Err(Refusal::Pending)
 }
 
@@ -139,9 +142,9 @@ const SCRIPTS: &[(Scene, Totals)] = &[
     (
         Scene::Closing,
         Totals {
-            posts: 3,
+            posts: 4,
             edits: 2,
-            steps: 21,
+            steps: 28,
         },
     ),
     (

@@ -63,7 +63,10 @@ fn post_on_thread<K: Naming, R: Wait>(rt: &R, alloc: Global, stage: &Stage<K>, s
 
 /// Hands back the share of a caller.
 pub fn hand_back<K: Naming, R: Wait>(rt: &R, stage: &Stage<K>, share: CallerShare<K>) {
-    if stage.shares.lock(rt).callers.push(share).is_err() {
+    let mut shares = stage.shares.lock(rt);
+    // where memory is refused once, it is asked for again
+    let has_room = shares.callers.reserve(1).is_ok() || shares.callers.reserve(1).is_ok();
+    if !has_room || shares.callers.push(share).is_err() {
         stage.marks.note_wrong();
     }
 }

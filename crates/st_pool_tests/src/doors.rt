@@ -145,9 +145,10 @@ impl<'a, R: Clock> Gate for Door<'a, R> {
         }
     }
 
-    fn after(&mut self, _worker: u32) {
+    fn after(&mut self, worker: u32) {
         self.marks.ended.fetch_add(1, Ordering::SeqCst);
-        if self.way == Way::Held && !reaches(self.rt, &self.marks.told, 1) {
+        let is_let_go = self.way != Way::Held || reaches(self.rt, &self.marks.told, 1);
+        if worker != self.number || !is_let_go {
             self.marks.note_wrong();
         }
     }

@@ -15,11 +15,15 @@ mod edits;
 #[cfg(test)]
 mod full;
 #[cfg(test)]
+mod many;
+#[cfg(test)]
 mod overlap;
 #[cfg(test)]
 mod plays;
 #[cfg(test)]
 mod pools;
+#[cfg(test)]
+mod refused;
 #[cfg(test)]
 mod scenes;
 #[cfg(test)]

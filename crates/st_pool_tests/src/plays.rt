@@ -7,10 +7,12 @@ use crate::crowd::{crowd, hand_back};
 use crate::doors::{Door, Marks, TURNS, pause};
 use crate::edits::{unused_selector, used_selector};
 use crate::full::{at_checkout, at_commit, late_wait};
+use crate::many::many_callers;
 use crate::overlap::overlap;
 use crate::pools::{Caller, Image, Shared, Stage, new_image, new_worker, no_shares};
+use crate::refused::calls_alone;
 use crate::scenes::Scene;
-use crate::waking::{rest, stopping, waking, waking_by_commit};
+use crate::waking::{endless, long_turn, rest, stopping, waking, waking_by_commit};
 use st_classes::refusals::Refusal;
 use st_pool::books::Blanks;
 use st_pool::front::Opened;
@@ -98,9 +100,25 @@ fn act<K: Naming + Send + Sync, R: Threads + Wait + Clock + Sync>(
         Scene::LateWait => late_wait(rt, alloc, caller, marks),
         Scene::Rest => rest(rt),
         Scene::Stopping => stopping(rt, alloc, caller, marks),
+        Scene::Endless => endless(rt, alloc, caller, marks),
+        Scene::LongTurn => long_turn(rt, alloc, caller, marks),
+        Scene::ManyCallers => many_callers(rt, alloc, stage),
         Scene::Waking => waking(rt, alloc, caller),
         Scene::WakingByCommit => waking_by_commit(rt, alloc, caller, marks),
         Scene::Crowd => crowd(rt, alloc, stage, caller),
+        Scene::Refused => calls_alone(rt, alloc, caller),
+    }
+}
+
+/// A caller, asked for again where memory was refused.
+fn caller_again<'a, K: Naming, R: Wait>(
+    rt: &R,
+    alloc: Global,
+    shared: &'a Shared<K>,
+) -> Result<Caller<'a, K>, Refusal> {
+    match shared.caller(rt, alloc) {
+        Err(Refusal::NoMemory) => shared.caller(rt, alloc),
+        answer => answer,
     }
 }
 
@@ -110,7 +128,7 @@ fn act_and_end<K: Naming + Send + Sync, R: Threads + Wait + Clock + Sync>(
     alloc: Global,
     stage: &Stage<K>,
 ) {
-    let Ok(mut caller) = stage.shared.caller(rt, alloc) else {
+    let Ok(mut caller) = caller_again(rt, alloc, &stage.shared) else {
         stage.marks.note_wrong();
         return;
     };

@@ -31,9 +31,17 @@ fn boxed(alloc: Global, image: Image) -> Result<Box<Image>, AllocError> {
     Ok(Box::new(alloc, image)?)
 }
 
-/// A new image for a scene. It is on the heap, as workers are: of one on the stack each proof pays for all its parts.
-pub fn new_image(alloc: Global, scene: Scene) -> Result<Box<Image>, Refusal> {
+/// An image for a scene. It is on the heap, as workers are: of one on the stack each proof pays for all its parts.
+fn image_for(alloc: Global, scene: Scene) -> Result<Box<Image>, Refusal> {
     Ok(boxed(alloc, Image::new(alloc, scene.settings())?)?)
+}
+
+/// The same, made anew where memory was refused.
+pub fn new_image(alloc: Global, scene: Scene) -> Result<Box<Image>, Refusal> {
+    match image_for(alloc, scene) {
+        Err(Refusal::NoMemory) => image_for(alloc, scene),
+        answer => answer,
+    }
 }
 
 /// A worker with empty caches.

@@ -1,4 +1,6 @@
 //! The scenes, and what each is played with.
+ghost use Rattle.std.specs.Prelude.{◌≤◌};
+
 use st_image::settings::Settings;
 
 /// What callers do while workers run.
@@ -26,12 +28,20 @@ pub enum Scene {
     Rest,
     /// The workers are told to stop while one has a claim.
     Stopping,
+    /// The same, and its turn has no end.
+    Endless,
+    /// A turn of more steps than the longest quantum has.
+    LongTurn,
+    /// Callers are given out, and never hand their shares back.
+    ManyCallers,
     /// A worker that waits is asked.
     Waking,
     /// A commit makes two actors ready, and both workers are needed.
     WakingByCommit,
     /// Four callers post to one actor.
     Crowd,
+    /// Calls of a caller alone, each of which may find no memory.
+    Refused,
 }
 
 /// When a worker may take the steps of its claim.
@@ -53,6 +63,7 @@ impl Scene {
     pub fn workers(self) -> u32 {
         match self {
             Scene::Overlap | Scene::Rest | Scene::WakingByCommit => 2,
+            Scene::Refused => 0,
             _ => 1,
         }
     }
@@ -60,9 +71,11 @@ impl Scene {
     pub fn way(self) -> Way {
         match self {
             Scene::Overlap => Way::Met,
-            Scene::Closing | Scene::UsedSelector | Scene::UnusedSelector | Scene::Stopping => {
-                Way::Told
-            }
+            Scene::Closing
+            | Scene::UsedSelector
+            | Scene::UnusedSelector
+            | Scene::Stopping
+            | Scene::Endless => Way::Told,
             Scene::LateWait => Way::Held,
             Scene::WakingByCommit => Way::Third,
             _ => Way::Free,
@@ -70,9 +83,12 @@ impl Scene {
     }
 
     /// The most steps of a quantum.
-    pub fn quantum(self) -> u32 {
+    pub fn quantum(self) -> u32
+        ensures { (1 ≤ result) × (result ≤ 1024) }
+    {
         match self {
             Scene::Numbers => 3,
+            Scene::LongTurn => 1024,
             _ => 256,
         }
     }

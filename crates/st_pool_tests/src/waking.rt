@@ -30,6 +30,32 @@ pub fn stopping<K: Naming, R: Wait + Clock>(
         && marks.await_claims(rt, 1)
 }
 
+/// The same with a turn that has no end: of it one quantum is committed.
+pub fn endless<K: Naming, R: Wait + Clock>(
+    rt: &R,
+    alloc: Global,
+    caller: &mut Caller<'_, K>,
+    marks: &Marks,
+) -> bool {
+    make_actor(rt, alloc, caller, "spin [true] whileTrue: [nil]")
+        && post(rt, alloc, caller, 1, FIRST, "spin") == Ok(1)
+        && marks.await_claims(rt, 1)
+}
+
+/// A turn of 3,012 steps has three quanta of at most 1,024.
+pub fn long_turn<K: Naming, R: Wait + Clock>(
+    rt: &R,
+    alloc: Global,
+    caller: &mut Caller<'_, K>,
+    marks: &Marks,
+) -> bool {
+    let source = "a | i | i := 0. [i < 300] whileTrue: [i := i + 1]. ^i";
+    make_actor(rt, alloc, caller, source)
+        && post(rt, alloc, caller, 1, FIRST, "a") == Ok(1)
+        && answers(rt, caller, FIRST, 1, 300)
+        && marks.claims() == 3
+}
+
 /// The worker waits each time that a message is posted.
 pub fn waking<K: Naming, R: Wait + Clock>(
     rt: &R,
@@ -84,6 +110,22 @@ const SCENES: &[(Scene, Totals)] = &[
             posts: 1,
             edits: 2,
             steps: 7,
+        },
+    ),
+    (
+        Scene::Endless,
+        Totals {
+            posts: 1,
+            edits: 2,
+            steps: 256,
+        },
+    ),
+    (
+        Scene::LongTurn,
+        Totals {
+            posts: 1,
+            edits: 2,
+            steps: 3012,
         },
     ),
     (

@@ -13,11 +13,7 @@ mod images;
 #[cfg(test)]
 mod limits;
 #[cfg(test)]
-mod loaded;
-#[cfg(test)]
 mod mailboxes;
-#[cfg(test)]
-mod reloading;
 #[cfg(test)]
 mod scripts;
 #[cfg(test)]

@@ -6,3 +6,4 @@ pub mod CommandReplies
 pub mod PoolReplies
 pub mod Totals
 pub mod Scripts
+pub mod Serving

@@ -9,12 +9,11 @@ use Rattle.st_classes.specs.declared.values.Value.TheVariants as value
 use Rattle.st_classes.specs.declared.refusals.Refusal.{Refusal}
 use Rattle.st_classes.specs.declared.refusals.Refusal.TheVariants.{NoMemory, UnknownClass, BadCommand}
 use Rattle.st_classes.specs.Classes.{class_named}
-use Rattle.st_mailbox.specs.declared.messages.Message.{Message}
-use Rattle.st_image.specs.Calls.{Closes, Creates, Defines, InstallsIn, Posts, Removes}
+use Rattle.st_image.specs.Calls.{Closes, Creates, Defines, InstallsIn, Removes}
 use Rattle.st_image.specs.Images.{ImageView, world}
 use Rattle.st_image.specs.Outcomes.{image_outcome}
 use Rattle.st_image.specs.PostRules.{from_client}
-use Rattle.st_pool.specs.Done.{Done, HasAtLeast, receipt}
+use Rattle.st_pool.specs.Done.{Done, HasAtLeast, PostsOnce}
 use Rattle.st_pool.specs.Going.{Interns}
 use Rattle.st_wire.specs.declared.commands.Argument.{Argument}
 use Rattle.st_wire.specs.declared.commands.Argument.TheVariants as argument
@@ -82,13 +81,6 @@ HaveValues start d [] r = r ≡ Ok []
 HaveValues start d (a ∷ args) r = (first : Result Value Refusal) × HasValue start d a first × MatchResult first
     (λ v. (rest : Result (List Value) Refusal) × HaveValues start d args rest × (r ≡ with_first v rest))
     (λ e. r ≡ Err e)
-
--- a message is posted, and its receipt goes last
-abbrev pub PostsOnce : ℕ → Done → ActorId → Message → Result ℕ Refusal → Done → Type 0
-PostsOnce start d a m result e = ((result ≡ Err NoMemory) ⊎ CallsOnce start d (λ i. Posts i a m) result)
-    × MatchResult result
-    (λ turn. (place : ℕ) × (e ≡ record d { receipts = d.receipts ++ receipt place a m ∷ [] }))
-    (λ f. e ≡ d)
 
 -- memory may run out before the first argument
 abbrev pub PostsWith : ℕ → Done → ActorId → List Argument → Selector → ℕ → ℕ → Result ℕ Refusal → Done → Type 0

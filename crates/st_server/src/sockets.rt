@@ -1,5 +1,12 @@
 //! Sessions over a Unix socket, a thread each, on one image whose actors worker threads run.
-ghost use Rattle.std.specs.Prelude.{◌≡◌, length};
+ghost use Rattle.std.specs.Prelude.{◌≡◌, ◌⊎◌, ◌+◌, ◌≤◌, ◌↔◌, Err, IfOk, IfErr, IsTrue, length, vec_len, vec_capacity};
+ghost use Rattle.std.specs.Option.{IfSome};
+ghost use Rattle.std.specs.declared.io.ErrorKind.TheVariants.{ConnectionAborted, Interrupted};
+ghost use Rattle.st_classes.specs.declared.refusals.Refusal.TheVariants as refusals;
+ghost use Rattle.st_image.specs.Images.{ImageView};
+ghost use Rattle.st_image.specs.WorldInvariant.{IsLawful};
+ghost use Rattle.st_pool.specs.Settled.{AreCounts};
+ghost use Rattle.st_server.specs.Serving.{AreInRange, AreSumsOver};
 
 use crate::attending::attend;
 use crate::images::{Image, Mailbox, Worker};
@@ -36,8 +43,16 @@ const MOST_SESSIONS: u64 = 64;
 /// What is written to a client beyond the sessions that may be at once.
 const TOO_MANY: &[u8] = b"{\"error\":\"TooMany\",\"what\":\"sessions\"}\n";
 
-/// What is written to a client for whose session there is no memory, or no thread.
+/// What is written to a client for whose share there is no memory. One for whose session there is no thread gets its end alone.
 const NO_MEMORY: &[u8] = b"{\"error\":\"NoMemory\"}\n";
+
+/// How serving ended: the image, what all have done together, and why no more sessions were accepted, where accepting failed.
+#[derive(Drop)]
+pub struct Served {
+    pub image: Image,
+    pub totals: Totals,
+    pub fault: Option<Refusal>,
+}
 
 /// What the sessions share: the image, the shares of those that have ended, how many are going on, and where their refusals go.
 #[derive(Drop)]
@@ -118,19 +133,22 @@ fn make_room<K: Naming, R: Wait>(rt: &R, room: &Room<'_, K>) -> bool {
 }
 
 /// Whether it is the connection that failed and not the socket.
-fn is_passing(kind: ErrorKind) -> bool {
+fn is_passing(kind: ErrorKind) -> bool
+    ensures { IsTrue result ↔ ((kind ≡ Interrupted) ⊎ (kind ≡ ConnectionAborted)) }
+{
     kind == ErrorKind::Interrupted || kind == ErrorKind::ConnectionAborted
 }
 
-/// Accepts sessions, each in a thread of its own, until there were so many, and waits for their ends.
+/// Accepts sessions, each in a thread of its own, until there were so many, and waits for their ends. The answer is whether there were:
+/// where accepting fails no more are accepted.
 fn accept_all<K: Naming + Send + Sync, R: Threads + Wait + Sync>(
     rt: &R,
     alloc: Global,
     listener: &UnixListener,
     room: &Room<'_, K>,
     sessions: Option<u32>,
-) -> Result<(), Refusal> {
-    thread::scope(thread::scope_env(), rt, |scope| -> Result<(), Refusal> {
+) -> bool {
+    thread::scope(thread::scope_env(), rt, |scope| -> bool {
         let mut left = sessions;
         for stream in listener.incoming() {
             let stream = match stream {
@@ -139,7 +157,7 @@ fn accept_all<K: Naming + Send + Sync, R: Threads + Wait + Sync>(
                     if is_passing(error.kind()) {
                         continue;
                     }
-                    return Err(Refusal::ReadFault);
+                    return false;
                 }
             };
             if room.active.load(Ordering::SeqCst) >= MOST_SESSIONS {
@@ -157,17 +175,19 @@ fn accept_all<K: Naming + Send + Sync, R: Threads + Wait + Sync>(
                 continue;
             }
             match left {
-                Some(count) if count <= 1 => return Ok(()),
+                Some(count) if count <= 1 => return true,
                 Some(count) => left = Some(count - 1),
                 None => {}
             }
         }
-        Err(Refusal::ReadFault)
+        false
     })
 }
 
-/// Workers with new caches.
-fn new_workers(alloc: Global, count: u32) -> Result<Vec<Worker>, AllocError> {
+/// So many workers with new caches.
+fn new_workers(alloc: Global, count: u32) -> Result<Vec<Worker>, AllocError>
+    ensures { IfOk result (λ workers. vec_len workers ≡ count) }
+{
     let mut workers = Vec::with_capacity(alloc, count as usize)?;
     for _ in 0..count {
         let worker = new_worker(alloc)?;
@@ -179,52 +199,75 @@ fn new_workers(alloc: Global, count: u32) -> Result<Vec<Worker>, AllocError> {
 /// What a worker's thread answers.
 type Ended<K> = JoinHandle<Result<WorkerShare<K>, Refusal>>;
 
-/// Starts workers, and says whether each has a thread.
+/// Starts workers, each in a thread of its own, up to the first for which there is none.
 fn start<'s, E, K: Naming + Send + Sync, R: Threads + Wait + Sync>(
     scope: &Scope<'s, E>,
     rt: &'s R,
     alloc: Global,
     shared: &'s Shared<K, Mailbox>,
-    workers: Vec<Worker>,
+    mut workers: Vec<Worker>,
     quantum: Quantum,
-    handles: &mut Vec<Ended<K>>,
-) -> bool {
+) -> Vec<Ended<K>> {
+    let Ok(mut handles) = Vec::with_capacity(alloc, workers.len()) else {
+        return Vec::new(alloc);
+    };
     let mut number: u32 = 0;
-    for worker in workers {
+    while let Some(worker) = workers.pop() {
         let steps = quantum.steps();
         let started = scope.spawn(move || {
             worker_loop(rt, alloc, shared, number, worker, &mut OpenGate, steps)
         });
         let Ok(handle) = started else {
-            return false;
+            return handles;
         };
-        if handles.push(handle).is_err() {
-            return false;
-        }
+        handles.push_reserved(handle);
         number = number.wrapping_add(1);
     }
-    true
+    handles
 }
 
-/// The shares of workers that were told to end.
+/// The shares of workers that were told to end. There is room for them. One that has none is missing, as settling would say.
 fn ended<K: Naming, R: Threads>(
     rt: &R,
-    alloc: Global,
-    handles: Vec<Ended<K>>,
-) -> Result<Vec<WorkerShare<K>>, Refusal> {
-    let Ok(mut shares) = Vec::with_capacity(alloc, handles.len()) else {
-        return Err(Refusal::NoMemory);
-    };
-    for handle in handles {
-        let share = handle.join(rt)?;
-        let Ok(()) = shares.push(share) else {
-            return Err(Refusal::NoMemory);
+    mut handles: Vec<Ended<K>>,
+    mut shares: Vec<WorkerShare<K>>,
+) -> Result<Vec<WorkerShare<K>>, Refusal>
+    requires room { vec_len shares + vec_len handles ≤ vec_capacity shares }
+    ensures all { IfOk result (λ all. vec_len all ≡ vec_len shares + vec_len handles) }
+    ensures refused { IfErr result (λ e. e ≡ refusals.BadArguments) }
+{
+    while let Some(handle) = handles.pop() {
+        let Ok(share) = handle.join(rt) else {
+            return Err(Refusal::BadArguments);
         };
+        shares.push_reserved(share);
     }
     Ok(shares)
 }
 
-/// Lets workers run the image's actors while sessions are accepted, and answers the shares of all.
+/// Lets workers run the image's actors while sessions are accepted, until so many were and have ended. The answer is the threads of the
+/// workers, and whether so many were accepted. Where a worker has no thread nothing is accepted.
+fn run_workers<K: Naming + Send + Sync, R: Threads + Wait + Sync>(
+    rt: &R,
+    alloc: Global,
+    listener: &UnixListener,
+    room: &Room<'_, K>,
+    workers: Vec<Worker>,
+    quantum: Quantum,
+    sessions: Option<u32>,
+) -> (Vec<Ended<K>>, bool) {
+    let shared = room.shared;
+    let count = workers.len();
+    thread::scope(thread::scope_env(), rt, |scope| -> (Vec<Ended<K>>, bool) {
+        let handles = start(scope, rt, alloc, shared, workers, quantum);
+        let is_started = handles.len() == count;
+        let are_accepted = is_started && accept_all(rt, alloc, listener, room, sessions);
+        shared.stop(rt);
+        (handles, are_accepted)
+    })
+}
+
+/// The same, with the shares of all workers.
 fn work<K: Naming + Send + Sync, R: Threads + Wait + Sync>(
     rt: &R,
     alloc: Global,
@@ -233,26 +276,22 @@ fn work<K: Naming + Send + Sync, R: Threads + Wait + Sync>(
     workers: Vec<Worker>,
     quantum: Quantum,
     sessions: Option<u32>,
-) -> Result<Vec<WorkerShare<K>>, Refusal> {
-    let shared = room.shared;
-    let Ok(mut handles) = Vec::with_capacity(alloc, workers.len()) else {
+) -> Result<(Vec<WorkerShare<K>>, bool), Refusal>
+    ensures all { IfOk result (λ r. vec_len r.0 ≡ vec_len workers) }
+    ensures refused { IfErr result (λ e. (e ≡ refusals.NoMemory) ⊎ (e ≡ refusals.BadArguments)) }
+{
+    let count = workers.len();
+    let Ok(shares) = Vec::with_capacity(alloc, count) else {
         return Err(Refusal::NoMemory);
     };
-    thread::scope(
-        thread::scope_env(),
-        rt,
-        |scope| -> Result<Vec<WorkerShare<K>>, Refusal> {
-            let accepted = if start(scope, rt, alloc, shared, workers, quantum, &mut handles) {
-                accept_all(rt, alloc, listener, room, sessions)
-            } else {
-                Err(Refusal::NoMemory)
-            };
-            shared.stop(rt);
-            let shares = ended(rt, alloc, handles)?;
-            accepted?;
-            Ok(shares)
-        },
-    )
+    let (handles, are_accepted) = run_workers(
+        rt, alloc, listener, room, workers, quantum, sessions,
+    );
+    if handles.len() != count {
+        return Err(Refusal::NoMemory);
+    }
+    let shares = ended(rt, handles, shares)?;
+    Ok((shares, are_accepted))
 }
 
 /// Serves an image, and settles at the end.
@@ -267,12 +306,16 @@ fn serve<K: Naming + Send + Sync, R: Threads + Wait + Sync>(
     workers: Vec<Worker>,
     quantum: Quantum,
     sessions: Option<u32>,
-) -> Result<(Image, Totals), Refusal>
+) -> Result<Served, Refusal>
     requires posts { blanks.posts.name ≡ K.posts }
     requires edits { blanks.edits.name ≡ K.edits }
     requires steps { blanks.steps.name ≡ K.steps }
     requires book { opened.seen.book ≡ K.book }
     requires start { K.start ≡ length image.history }
+    ensures counts { IfOk result (λ r. AreCounts (length image.history) r.image r.totals) }
+    ensures sums { IfOk result (λ r. AreSumsOver (vec_len workers) r.totals) }
+    ensures fault { IfOk result (λ r. IfSome r.fault (λ e. e ≡ refusals.ReadFault)) }
+    ensures refused { IfErr result (λ e. (e ≡ refusals.BadArguments) ⊎ (e ≡ refusals.NoMemory) ⊎ (e ≡ refusals.Changed)) }
 {
     let shared = Shared::<K, Mailbox>::new(image, blanks, opened);
     let shares = Mutex::new(Vec::new(alloc));
@@ -283,13 +326,21 @@ fn serve<K: Naming + Send + Sync, R: Threads + Wait + Sync>(
         active: &active,
         faults: sessions.is_some().then_some(faults),
     };
-    let workers = work(rt, alloc, listener, &room, workers, quantum, sessions)?;
+    let (workers, are_accepted) = work(rt, alloc, listener, &room, workers, quantum, sessions)?;
     let callers = shares.into_inner();
-    settle_image(shared, Shares { callers, workers })
+    let (image, totals) = settle_image(shared, Shares { callers, workers })?;
+    let fault = (!are_accepted).then_some(Refusal::ReadFault);
+    Ok(Served {
+        image,
+        totals,
+        fault,
+    })
 }
 
 /// Whether sessions are served by so many workers until so many of them have ended.
-fn is_served(workers: u32, sessions: Option<u32>) -> bool {
+fn is_served(workers: u32, sessions: Option<u32>) -> bool
+    ensures { IsTrue result ↔ AreInRange workers sessions }
+{
     let is_counted = match sessions {
         Some(count) => 1 <= count && count <= 1_000_000,
         None => true,
@@ -301,11 +352,14 @@ fn is_served(workers: u32, sessions: Option<u32>) -> bool {
 /// A client beyond 64 is told so and is let go.
 ///
 /// After so many sessions, from 1 to 1,000,000, it waits for their ends, stops the workers, and answers the image and what all have
-/// done together; the refusal of each session that ended by one goes to `faults`, where there is memory. Without a number it goes
-/// on.
+/// done together: what its history has beyond that of the image that was handed in. The refusal of each session that ended by one
+/// goes to `faults`, where there is memory. Without a number it goes on.
 ///
-/// It is refused by `BadArguments` where a number is out of its range, `NoMemory` where there was none to begin, `ReadFault`
-/// where accepting failed, and `Changed` where what the callers have done is not in the history.
+/// Where accepting fails it accepts nobody any more, and ends in the same way once the sessions that are open have ended; the fault
+/// is then `ReadFault`.
+///
+/// It is refused by `BadArguments` exactly where a number is out of its range, or where not all shares are here at the end,
+/// `NoMemory` where there was none to begin, and `Changed` where what the callers have done is not in the history.
 pub fn serve_image<R: Threads + Wait + Sync>(
     rt: &R,
     alloc: Global,
@@ -314,7 +368,13 @@ pub fn serve_image<R: Threads + Wait + Sync>(
     workers: u32,
     sessions: Option<u32>,
     image: Image,
-) -> Result<(Image, Totals), Refusal> {
+) -> Result<Served, Refusal>
+    ensures range { ¬ (AreInRange workers sessions) → result ≡ Err refusals.BadArguments }
+    ensures counts { IfOk result (λ r. AreCounts (length image.history) r.image r.totals) }
+    ensures sums { IfOk result (λ r. AreSumsOver workers r.totals) }
+    ensures fault { IfOk result (λ r. IfSome r.fault (λ e. e ≡ refusals.ReadFault)) }
+    ensures refused { IfErr result (λ e. (e ≡ refusals.BadArguments) ⊎ (e ≡ refusals.NoMemory) ⊎ (e ≡ refusals.Changed)) }
+{
     if !is_served(workers, sessions) {
         return Err(Refusal::BadArguments);
     }
@@ -338,7 +398,8 @@ pub fn serve_image<R: Threads + Wait + Sync>(
     )
 }
 
-/// Serves a new image, set as by default, in the same way.
+/// Serves a new image, set as by default, in the same way, and answers what all have done together. Where accepting failed it is refused
+/// by `ReadFault`.
 pub fn serve_on<R: Threads + Wait + Sync>(
     rt: &R,
     alloc: Global,
@@ -346,8 +407,20 @@ pub fn serve_on<R: Threads + Wait + Sync>(
     faults: &Faults<Refusal>,
     workers: u32,
     sessions: Option<u32>,
-) -> Result<Totals, Refusal> {
+) -> Result<Totals, Refusal>
+    ensures range { ¬ (AreInRange workers sessions) → (result ≡ Err refusals.BadArguments) ⊎ (result ≡ Err refusals.NoMemory) }
+    ensures counts { IfOk result (λ t. (i : ImageView) × IsLawful i × AreCounts 0 i t) }
+    ensures refused { IfErr result (λ e. (e ≡ refusals.BadArguments) ⊎ (e ≡ refusals.NoMemory) ⊎ (e ≡ refusals.ReadFault) ⊎ (e ≡ refusals.Changed)) }
+{
     let image = Image::new(alloc, Settings::DEFAULT)?;
-    let (_, totals) = serve_image(rt, alloc, listener, faults, workers, sessions, image)?;
-    Ok(totals)
+    let Served {
+        image,
+        totals,
+        fault,
+    } = serve_image(rt, alloc, listener, faults, workers, sessions, image)?;
+    image.known();
+    match fault {
+        Some(refusal) => Err(refusal),
+        None => Ok(totals),
+    }
 }

@@ -48,6 +48,8 @@ enum Part {
     LongLine,
     /// 64 clients each get a reply, one more is turned away, and another one comes when they have left.
     TooMany,
+    /// 70 clients one after another send a line that is no text, and then one gets a reply.
+    BadEnds,
 }
 
 /// Whether the answer to a post comes in the end, and is 14.
@@ -116,11 +118,35 @@ fn are_too_many<R: Net + Clock>(rt: &R, alloc: Global, listener: &UnixListener) 
     is_admitted(rt, listener)
 }
 
+/// A client whose line is no text, which ends its session. What it has sent behind that line does not spoil the end.
+fn ends_badly<R: Net>(rt: &R, listener: &UnixListener) -> bool {
+    let Ok(mut stream) = connect(rt, listener) else {
+        return false;
+    };
+    let mut bytes = [b' '; 20_000];
+    bytes[0] = 255;
+    bytes[1] = b'\n';
+    stream.write_all(&bytes).is_ok()
+        && comes(&stream, "{\"error\":\"BadCommand\"}\n")
+        && comes(&stream, "")
+}
+
+/// As many clients as there may not be at once end badly one after another, and there is place for another still.
+fn end_badly<R: Net + Clock>(rt: &R, listener: &UnixListener) -> bool {
+    for _ in 0..70 {
+        if !ends_badly(rt, listener) {
+            return false;
+        }
+    }
+    is_admitted(rt, listener)
+}
+
 fn plays<R: Net + Clock>(rt: &R, alloc: Global, listener: &UnixListener, part: Part) -> bool {
     match part {
         Part::Post => posts(rt, listener),
         Part::LongLine => sends_a_long_line(rt, listener),
         Part::TooMany => are_too_many(rt, alloc, listener),
+        Part::BadEnds => end_badly(rt, listener),
     }
 }
 
@@ -174,6 +200,13 @@ fn a_long_line_ends_its_session(rt: HostRuntime) -> Result<(), Fail> {
 fn one_of_65_sessions_is_turned_away(rt: HostRuntime) -> Result<(), Fail> {
     let told = told(&rt, rt.alloc(), 1, 65, Part::TooMany);
     assert_eq!(rt; told, Some((totals(0, 0, 0), 0, false)));
+    Ok(())
+}
+
+#[test]
+fn sessions_that_end_badly_leave_their_places(rt: HostRuntime) -> Result<(), Fail> {
+    let told = told(&rt, rt.alloc(), 1, 71, Part::BadEnds);
+    assert_eq!(rt; told, Some((totals(0, 0, 0), 70, false)));
     Ok(())
 }
 

@@ -1,5 +1,6 @@
 //! Steps of an actor that are taken apart from the image.
-ghost use Rattle.std.specs.Prelude.{◌≡◌, [], IfOk};
+ghost use Rattle.std.specs.Prelude.{◌≡◌, [], Some, IfOk, IfErr, OnOk};
+ghost use Rattle.std.specs.Option.{unwrap_or};
 ghost use Rattle.st_turn.specs.BodyFits.{FitsSome};
 ghost use Rattle.st_turn.specs.Claims.{IsSound};
 ghost use Rattle.st_turn.specs.Steps.{is_outer, step};
@@ -30,6 +31,21 @@ pub struct Sent {
     pub state: SiteState,
 }
 
+/// Makes the body on which steps work, where it is not there yet. It is the body before until a step was taken.
+pub(crate) fn make_after(
+    alloc: Global,
+    before: &Body,
+    after: &mut Option<Body>,
+) -> Result<(), AllocError>
+    ensures ok { OnOk result (after.new ≡ Some (unwrap_or after.old before.now)) }
+    ensures same { unwrap_or after.new before.now ≡ unwrap_or after.old before.now }
+{
+    if after.is_none() {
+        *after = Some(before.copy(alloc)?);
+    }
+    Ok(())
+}
+
 /// A claim without the body to which its steps lead.
 #[derive(Drop)]
 pub struct ClaimParts {
@@ -50,7 +66,8 @@ pub struct Claim {
     actor: ActorId,
     token: Token,
     before: Body,
-    after: Body,
+    /// None until the first steps: it is then made as a copy of the body before.
+    after: Option<Body>,
     steps: u32,
     sends: Vec<Sent>,
     /// Stands for the body before, as whoever made the claim says.
@@ -58,37 +75,32 @@ pub struct Claim {
 }
 
 impl Model for Claim {
+    ghost use Rattle.std.specs.Option.{unwrap_or};
     ghost use Rattle.st_turn.specs.Claims.{ClaimView, IsSound};
 
     ghost Value = { ClaimView };
 
-    ghost view = { λ c. record { actor = c.actor; edits = c.token; before = c.before; after = c.after; steps = c.steps; sends = c.sends.items; stamp = c.stamp } };
+    ghost view = { λ c. record { actor = c.actor; edits = c.token; before = c.before; after = unwrap_or c.after c.before; steps = c.steps; sends = c.sends.items; stamp = c.stamp } };
 
-    ghost invariant = { λ c. IsSound c.actor c.token c.before c.after c.steps c.sends.items };
+    ghost invariant = { λ c. IsSound c.actor c.token c.before (unwrap_or c.after c.before) c.steps c.sends.items };
 }
 
 impl Claim {
-    /// No steps, from a body that fits the version, with a number that stands for the body.
-    pub fn new(
-        alloc: Global,
-        actor: ActorId,
-        token: Token,
-        body: Body,
-        stamp: u64,
-    ) -> Result<Claim, AllocError>
+    /// No steps, from a body that fits the version, with a number that stands for the body. No memory is taken: the copy on which
+    /// the steps work is made with the first of them.
+    pub fn new(alloc: Global, actor: ActorId, token: Token, body: Body, stamp: u64) -> Claim
         requires { FitsSome token actor body }
-        ensures { IfOk result (λ c. c ≡ record { actor = actor; edits = token; before = body; after = body; steps = 0; sends = []; stamp = stamp }) }
+        ensures { result ≡ record { actor = actor; edits = token; before = body; after = body; steps = 0; sends = []; stamp = stamp } }
     {
-        let after = body.copy(alloc)?;
-        Ok(Claim {
+        Claim {
             actor,
             token,
             before: body,
-            after,
+            after: None,
             steps: 0,
             sends: Vec::new(alloc),
             stamp,
-        })
+        }
     }
 
     /// Shows that the claim is sound.
@@ -126,7 +138,10 @@ impl Claim {
     pub fn after(&self) -> &Body
         ensures { result.now ≡ self.now.after }
     {
-        &self.after
+        match &self.after {
+            Some(after) => after,
+            None => &self.before,
+        }
     }
 
     /// The number of steps.
@@ -157,18 +172,20 @@ impl Claim {
     pub fn is_act_next(&self) -> bool
         ensures { result ≡ is_outer (step self.now.edits self.now.actor self.now.after) }
     {
-        is_act_next(&self.after, self.actor, self.token.shown())
+        is_act_next(self.after(), self.actor, self.token.shown())
     }
 
-    /// Gives the body to which the steps lead, and the other parts. No memory is taken.
-    pub fn into_parts(self) -> (ClaimParts, Body)
-        ensures actor { result.0.actor ≡ self.actor }
-        ensures edits { result.0.token ≡ self.edits }
-        ensures before { result.0.before ≡ self.before }
-        ensures steps { result.0.steps ≡ self.steps }
-        ensures sends { result.0.sends.items ≡ self.sends }
-        ensures stamp { result.0.stamp ≡ self.stamp }
-        ensures after { result.1 ≡ self.after }
+    /// Gives the body to which the steps lead, and the other parts. It takes no memory where steps were taken, and else that for the
+    /// body: where there is none, the claim is handed back.
+    pub fn into_parts(self, alloc: Global) -> Result<(ClaimParts, Body), Claim>
+        ensures actor { IfOk result (λ r. r.0.actor ≡ self.actor) }
+        ensures edits { IfOk result (λ r. r.0.token ≡ self.edits) }
+        ensures before { IfOk result (λ r. r.0.before ≡ self.before) }
+        ensures steps { IfOk result (λ r. r.0.steps ≡ self.steps) }
+        ensures sends { IfOk result (λ r. r.0.sends.items ≡ self.sends) }
+        ensures stamp { IfOk result (λ r. r.0.stamp ≡ self.stamp) }
+        ensures after { IfOk result (λ r. r.1 ≡ self.after) }
+        ensures back { IfErr result (λ c. c ≡ self) }
     {
         let Claim {
             actor,
@@ -179,6 +196,23 @@ impl Claim {
             sends,
             stamp,
         } = self;
+        let after = match after {
+            Some(after) => after,
+            None => match before.copy(alloc) {
+                Ok(after) => after,
+                Err(_) => {
+                    return Err(Claim {
+                        actor,
+                        token,
+                        before,
+                        after: None,
+                        steps,
+                        sends,
+                        stamp,
+                    });
+                }
+            },
+        };
         let parts = ClaimParts {
             actor,
             token,
@@ -187,7 +221,7 @@ impl Claim {
             sends,
             stamp,
         };
-        (parts, after)
+        Ok((parts, after))
     }
 
     /// Puts the parts of a claim together again. No memory is taken.
@@ -207,7 +241,7 @@ impl Claim {
             actor,
             token,
             before,
-            after,
+            after: Some(after),
             steps,
             sends,
             stamp,

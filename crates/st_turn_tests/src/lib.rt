@@ -17,6 +17,8 @@ mod plain;
 #[cfg(test)]
 mod programs;
 #[cfg(test)]
+mod refused;
+#[cfg(test)]
 mod rows;
 #[cfg(test)]
 mod sends;

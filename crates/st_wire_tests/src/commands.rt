@@ -7,7 +7,7 @@ use std::alloc::Global;
 use std::test::*;
 
 /// What a command is to be. Of lists it says how long they are.
-enum Wanted {
+pub(crate) enum Wanted {
     Define(&'static str, &'static str, usize),
     Method(&'static str, &'static str),
     Remove(&'static str, &'static str),
@@ -88,15 +88,15 @@ const NO_COMMANDS: &[&str] = &[
 ];
 
 // The tables stand behind functions without contracts, so that the proofs of tests carry nothing of them.
-fn commands() -> &'static [(&'static str, Wanted)] {
+pub(crate) fn commands() -> &'static [(&'static str, Wanted)] {
     COMMANDS
 }
 
-fn no_commands() -> &'static [&'static str] {
+pub(crate) fn no_commands() -> &'static [&'static str] {
     NO_COMMANDS
 }
 
-fn read(alloc: Global, line: &str) -> Result<Command, Refusal> {
+pub(crate) fn read(alloc: Global, line: &str) -> Result<Command, Refusal> {
     read_command(alloc, line.as_bytes())
 }
 
@@ -104,7 +104,7 @@ fn is(text: &Seq<u8>, wanted: &str) -> bool {
     text.as_slice() == wanted.as_bytes()
 }
 
-fn is_wanted(command: &Command, wanted: &Wanted) -> bool {
+pub(crate) fn is_wanted(command: &Command, wanted: &Wanted) -> bool {
     match (command, wanted) {
         (
             Command::Define {

@@ -64,7 +64,7 @@ pub(crate) fn report(
 }
 
 /// A reply of two sites.
-fn two_sites(alloc: Global) -> Result<Reply, AllocError> {
+pub(crate) fn two_sites(alloc: Global) -> Result<Reply, AllocError> {
     let mut reports = Vec::new(alloc);
     reports.push(report(alloc, "+", 2, 1, SiteState::Mono, false, 1)?)?;
     reports.push(report(alloc, "a", 0, 0, SiteState::Empty, true, 1)?)?;

@@ -1,5 +1,6 @@
 //! What objects, frames and bodies mean.
 ghost use Rattle.std.specs.Prelude.{◌^◌, option_map, option_and_then};
+ghost use Rattle.st_classes.specs.declared.refusals.ImagePlace.TheVariants.{Actors};
 ghost use Rattle.st_file.specs.Answers.{Finds};
 ghost use Rattle.st_file.specs.Meanings as spec;
 
@@ -29,14 +30,14 @@ impl Means<Object> for ObjectText {
 
 /// A method by its place among the edits.
 fn method_of(place: u64) -> Result<MethodId, Refusal>
-    ensures { Finds (option_map spec.method_id (spec.below (2 ^ 32) place)) result }
+    ensures { Finds Actors (option_map spec.method_id (spec.below (2 ^ 32) place)) result }
 {
     Ok(MethodId(word(place)?))
 }
 
 /// The place of an instruction.
 fn pc_of(place: u64) -> Result<u16, Refusal>
-    ensures { Finds (spec.below (2 ^ 16) place) result }
+    ensures { Finds Actors (spec.below (2 ^ 16) place) result }
 {
     if place < 65_536 {
         Ok(place as u16)
@@ -67,7 +68,7 @@ fn start_of(
     args: &Seq<ValueText>,
     selector: &Seq<u8>,
 ) -> Result<Phase, Refusal>
-    ensures { Finds (spec.start_from (spec.all_of (spec.value_meant names.now version.now) args.now) (spec.selector_of names.now selector.now)) result }
+    ensures { Finds Actors (spec.start_with (spec.all_of (spec.value_meant names.now version.now) args.now) (spec.selector_of names.now selector.now)) result }
 {
     Ok(Phase::Start {
         args: values_of(alloc, names, version, args)?,
@@ -77,7 +78,7 @@ fn start_of(
 
 /// Frames of which the last runs.
 fn stacked(alloc: Global, frames: Seq<Frame>) -> Result<Stack, Refusal>
-    ensures { Finds (spec.frames_of frames) result }
+    ensures { Finds Actors (spec.frames_of frames) result }
 {
     let mut callers = frames.into_vec();
     let Some(running) = callers.pop() else {
@@ -96,7 +97,7 @@ fn frames_of(
     version: &Version,
     frames: &Seq<FrameText>,
 ) -> Result<Stack, Refusal>
-    ensures { Finds (option_and_then spec.frames_of (spec.all_of (spec.frame_meant names.now version.now) frames.now)) result }
+    ensures { Finds Actors (option_and_then spec.frames_of (spec.all_of (spec.frame_meant names.now version.now) frames.now)) result }
 {
     let frames = resolve_all(alloc, names, version, frames.as_slice())?;
     stacked(alloc, frames)
@@ -129,7 +130,7 @@ fn objects_of(
     version: &Version,
     objects: &Seq<ObjectText>,
 ) -> Result<Objects, Refusal>
-    ensures { Finds (spec.all_of (spec.object_meant names.now version.now) objects.now) result }
+    ensures { Finds Actors (spec.all_of (spec.object_meant names.now version.now) objects.now) result }
 {
     let objects = resolve_all(alloc, names, version, objects.as_slice())?;
     Ok(Objects::from_vec(objects.into_vec()))

@@ -1,4 +1,5 @@
 //! What values and messages mean.
+ghost use Rattle.st_classes.specs.declared.refusals.ImagePlace.TheVariants.{Actors};
 ghost use Rattle.st_file.specs.Answers.{Finds};
 ghost use Rattle.st_file.specs.Meanings as spec;
 
@@ -35,7 +36,7 @@ pub(super) fn values_of(
     version: &Version,
     texts: &Seq<ValueText>,
 ) -> Result<Values, Refusal>
-    ensures { Finds (spec.all_of (spec.value_meant names.now version.now) texts.now) result }
+    ensures { Finds Actors (spec.all_of (spec.value_meant names.now version.now) texts.now) result }
 {
     resolve_all(alloc, names, version, texts.as_slice())
 }

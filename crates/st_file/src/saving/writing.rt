@@ -1,30 +1,34 @@
 //! How a file's value is written.
-ghost use Rattle.std.specs.Prelude.{◌≡◌, ℕ, List, false, IfOk, MatchResult, OnOk, OnErr, string_bytes};
+ghost use Rattle.std.specs.Prelude.{◌≡◌, ◌≤◌, ℕ, List, false, IfOk, MatchResult, OnOk, OnErr};
 ghost use Rattle.std.specs.Io.KnownBytes.{Appends};
+ghost use mathlib.Core.List.{IsPrefix};
+ghost use Rattle.serde_json.specs.Data.{depth};
+ghost use Rattle.serde_json.specs.Read.{max_depth};
 ghost use Rattle.serde_json.specs.View.{view};
 ghost use Rattle.serde_json.specs.Written.{has_float};
 ghost use Rattle.st_wire.specs.Streams.{one_more};
-ghost use Rattle.st_file.specs.Saving.{BreaksOff, IsFront, failures_after, value_line};
+ghost use Rattle.st_file.specs.Saving.{IsLineOf, Writes, failures_after};
 
 use serde_json::Value;
 use st_classes::refusals::Refusal;
 use st_wire::streams::{Output, WriteFailed, write_all};
 use std::alloc::{AllocError, Global};
 
-/// The line of a value.
-fn line_of(alloc: Global, value: &Value) -> Result<String, AllocError>
-    requires { has_float (view value.now) ≡ false }
-    ensures { IfOk result (λ s. string_bytes s ≡ value_line (view value.now)) }
+/// The line of a value, which is read as the value again.
+fn line_of(alloc: Global, value: &Value) -> Result<Vec<u8>, AllocError>
+    requires whole { has_float (view value.now) ≡ false }
+    requires shallow { depth (view value.now) ≤ max_depth }
+    ensures { IfOk result (λ line. IsLineOf (view value.now) line.items) }
 {
-    let mut text = value.to_string(alloc)?;
-    text.push('\n')?;
-    Ok(text)
+    let mut line = value.to_vec(alloc)?;
+    line.push(b'\n')?;
+    Ok(line)
 }
 
 /// Writes a line, and hands on what has been written.
 fn write_line<O: Output>(output: &mut O, line: &[u8]) -> Result<(), WriteFailed>
     ensures written { (part : List ℕ) × Appends (O.contents output.old) (O.contents output.new) part
-        × MatchResult result (λ _. part ≡ line.now) (λ _. IsFront part line.now) }
+        × MatchResult result (λ _. part ≡ line.now) (λ _. IsPrefix part line.now) }
     ensures unfailed { OnOk result (O.failures output.new ≡ O.failures output.old) }
     ensures failed { OnErr result (O.failures output.new ≡ one_more (O.failures output.old)) }
     ensures flushed { OnOk result (O.flushes output.new ≡ one_more (O.flushes output.old)) }
@@ -43,16 +47,17 @@ pub(crate) fn write_value<O: Output>(
     output: &mut O,
     value: &Value,
 ) -> Result<(), Refusal>
-    requires { has_float (view value.now) ≡ false }
+    requires whole { has_float (view value.now) ≡ false }
+    requires shallow { depth (view value.now) ≤ max_depth }
     ensures written { (part : List ℕ) × Appends (O.contents output.old) (O.contents output.new) part
-        × MatchResult result (λ _. part ≡ value_line (view value.now)) (λ e. BreaksOff (value_line (view value.now)) part e) }
+        × Writes (IsLineOf (view value.now)) part result }
     ensures failures { O.failures output.new ≡ failures_after result (O.failures output.old) }
     ensures flushed { OnOk result (O.flushes output.new ≡ one_more (O.flushes output.old)) }
 {
     let Ok(line) = line_of(alloc, value) else {
         return Err(Refusal::NoMemory);
     };
-    match write_line(output, line.as_bytes()) {
+    match write_line(output, &line) {
         Ok(()) => Ok(()),
         Err(_) => Err(Refusal::WriteFault),
     }

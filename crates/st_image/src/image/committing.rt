@@ -2,6 +2,7 @@
 use crate::acting::put_steps;
 use crate::image::Image;
 use crate::items::Item;
+use crate::leavings::Leavings;
 use st_classes::keys::SiteId;
 use st_classes::refusals::Refusal;
 use st_mailbox::mailboxes::Mailbox;
@@ -81,7 +82,13 @@ impl<M: Mailbox> Image<M> {
     }
 
     /// Takes the steps of a claim, at least one. For want of memory the claim is handed back.
-    fn take_steps(&mut self, alloc: Global, claim: Claim, steps: u32) -> Result<(), Claim>
+    fn take_steps(
+        &mut self,
+        alloc: Global,
+        claim: Claim,
+        steps: u32,
+        leavings: &mut Leavings,
+    ) -> Result<(), Claim>
         requires allowed { CommitAllowed self.old claim }
         requires steps { steps ≡ steps_of claim }
         requires some { 0 < steps }
@@ -102,7 +109,10 @@ impl<M: Mailbox> Image<M> {
         let Ok(()) = self.tallies.cover(version, &mut self.covered) else {
             return Err(claim);
         };
-        let (parts, after) = claim.into_parts();
+        let (parts, after) = match claim.into_parts(alloc) {
+            Ok(both) => both,
+            Err(claim) => return Err(claim),
+        };
         match put_steps(
             alloc,
             &self.names,
@@ -111,6 +121,7 @@ impl<M: Mailbox> Image<M> {
             &mut self.actors,
             actor,
             after,
+            &mut leavings.body,
         ) {
             Ok(_) => {
                 self.tallies.count(parts.sends.as_slice(), site);
@@ -118,6 +129,7 @@ impl<M: Mailbox> Image<M> {
                 self.changes.raise(actor);
                 self.history.push(Item::Ran { actor, steps }).unwrap();
                 self.counts.steps += u64::from(steps);
+                leavings.claim = Some(parts);
                 Ok(())
             }
             Err(after) => Err(Claim::from_parts(parts, after)),
@@ -141,6 +153,7 @@ impl<M: Mailbox> Image<M> {
         &mut self,
         alloc: Global,
         claim: Claim,
+        leavings: &mut Leavings,
     ) -> Result<u32, (Refusal, Option<Claim>)>
         requires survives { Survives self.old claim }
         requires unchanged { IsUnchanged self.old claim }
@@ -155,7 +168,7 @@ impl<M: Mailbox> Image<M> {
             self.actors.release(claim.actor());
             return Ok(0);
         }
-        match self.take_steps(alloc, claim, steps) {
+        match self.take_steps(alloc, claim, steps, leavings) {
             Ok(()) => Ok(steps),
             Err(claim) => Err((Refusal::NoMemory, Some(claim))),
         }
@@ -172,13 +185,27 @@ impl<M: Mailbox> Image<M> {
         requires body { KnowsBody self.old claim }
         ensures { Commits self.old claim result self.new }
     {
+        self.commit_leaving(alloc, claim, &mut Leavings::none())
+    }
+
+    /// The same, and what the commit has no more use for is left to the caller, who lets it go when he likes.
+    pub fn commit_leaving(
+        &mut self,
+        alloc: Global,
+        claim: Claim,
+        leavings: &mut Leavings,
+    ) -> Result<u32, (Refusal, Option<Claim>)>
+        requires begins { Begins claim.edits (world self.old).edits }
+        requires body { KnowsBody self.old claim }
+        ensures { Commits self.old claim result self.new }
+    {
         if let Some(refusal) = self.stale_refusal(&claim) {
             return Err(self.refuse(claim, refusal));
         }
         if !self.is_stamped(&claim) && !self.has_body(&claim) {
             return Err(self.refuse(claim, Refusal::Changed));
         }
-        self.commit_unchanged(alloc, claim)
+        self.commit_unchanged(alloc, claim, leavings)
     }
 
     /// The steps of a claim become the actor's, and enter the history as one item; no item is added for no steps. Where the claim
@@ -201,6 +228,6 @@ impl<M: Mailbox> Image<M> {
         if !self.has_body(&claim) {
             return Err(self.refuse(claim, Refusal::Changed));
         }
-        self.commit_unchanged(alloc, claim)
+        self.commit_unchanged(alloc, claim, &mut Leavings::none())
     }
 }

@@ -1,9 +1,7 @@
-use Rattle.std.proofs.Common.{◌≡◌, List, map, ◌∙◌}
+use Rattle.std.proofs.Common.{◌≡◌, map, ◌∙◌}
 use Rattle.std.specs.Prelude.{All}
-use Rattle.st_image.specs.declared.actor_part.ActorPart.{ActorPart}
 use Rattle.st_image.specs.Images.{world}
 use Rattle.st_image.specs.Parts.{part_of}
-use Rattle.st_file.specs.Named.{ActorIsNamed}
 use Rattle.st_file.specs.Tellable.{HasSent}
 use Rattle.st_file.proofs.Described.{clients_have_sent}
 use Rattle.st_file.proofs.NamedParts.{world_actors_are_named}

@@ -49,7 +49,7 @@ put_steps-requires-clause-shown g c =
     let beside : Standing = standing_of i.earlier i.next_from i.actors.out i.tallies in
     let allowed : CommitAllowed (seen i.base i.names i.history.items i.settings beside) d = subst (λ (v : ImageView). CommitAllowed v d) (sym c.self.view_is) c.requires.allowed in
     let may : MayCommit i.base i.names i.token i.actors.kept i.history.items i.settings d = may_commit i.base i.names i.token i.actors.kept i.history.items i.edits_made i.settings beside d c.self.invariant.image allowed c.known.ensures (subst (λ (n : ℕ). 0 < n) c.requires.steps c.requires.some) in
-    (change (with_body d.after) d.actor (world_of (constants_of i.names i.settings.capacity) i.base i.history.items), rw (c.shown-version.ensures, c.actor-actor.ensures, c.into_parts-parts.ensures.after) may.went.shown)
+    (change (with_body d.after) d.actor (world_of (constants_of i.names i.settings.capacity) i.base i.history.items), rw (c.shown-version.ensures, c.actor-actor.ensures, c.in-Ok-into_parts.ensures.after) may.went.shown)
 
 pub count-requires-clause-places : goal.count-requires-clause-places
 count-requires-clause-places g c =
@@ -61,7 +61,7 @@ count-requires-clause-places g c =
     let same : SameSteps w.edits d = claims_survive w.edits d c.self.invariant.image.world.lawful c.self.invariant.image.world.sound c.known.ensures allowed.survives in
     let edits : c.shown-version.result.now ≡ w.edits = c.shown-version.ensures ∙ c.self.invariant.image.shows.edits_are in
     let all : Covers c.cover.new.self (length w.edits) w.edits = subst (λ (es : List Edit). Covers c.cover.new.self (length es) es) edits (subst (λ (n : ℕ). Covers c.cover.new.self n c.shown-version.result.now) c.in-Ok-cover.ensures.ok c.cover.ensures.covers) in
-    let sent : c.as_slice.result.now ≡ d.sends = c.as_slice.ensures.value ∙ c.into_parts-parts.ensures.sends in
+    let sent : c.as_slice.result.now ≡ d.sends = c.as_slice.ensures.value ∙ c.in-Ok-into_parts.ensures.sends in
     rw (c.site_to_commit-site.ensures, sent) (has_places c.cover.new.self w.edits d c.known.ensures same all)
 
 pub invariant_of-self-in-Ok-put_steps : goal.invariant_of-self-in-Ok-put_steps
@@ -72,9 +72,9 @@ invariant_of-self-in-Ok-put_steps g c =
     let allowed : CommitAllowed (seen i.base i.names i.history.items i.settings beside) d = subst (λ (v : ImageView). CommitAllowed v d) (sym c.self.view_is) c.requires.allowed in
     let may : MayCommit i.base i.names i.token i.actors.kept i.history.items i.settings d = may_commit i.base i.names i.token i.actors.kept i.history.items i.edits_made i.settings beside d c.self.invariant.image allowed c.known.ensures (subst (λ (n : ℕ). 0 < n) c.requires.steps c.requires.some) in
     let w : World = world_of (constants_of i.names i.settings.capacity) i.base i.history.items in
-    let raw = c.in-Ok-put_steps.ensures.ok (change (with_body d.after) d.actor w) (rw (c.shown-version.ensures, c.actor-actor.ensures, c.into_parts-parts.ensures.after) may.went.shown) in
-    let takes : TakesOuter (constants_of i.names i.settings.capacity) i.token (change_at (view_after_steps d.after) d.actor.0 i.actors.kept) c.put_steps.new.actors.kept d.actor (change (with_body d.after) d.actor w) c.in-Ok-put_steps.field-0 = rw (c.shown-version.ensures, c.actor-actor.ensures, c.into_parts-parts.ensures.after) at raw in
-    let sent : c.as_slice.result.now ≡ d.sends = c.as_slice.ensures.value ∙ c.into_parts-parts.ensures.sends in
+    let raw = c.in-Ok-put_steps.ensures.ok (change (with_body d.after) d.actor w) (rw (c.shown-version.ensures, c.actor-actor.ensures, c.in-Ok-into_parts.ensures.after) may.went.shown) in
+    let takes : TakesOuter (constants_of i.names i.settings.capacity) i.token (change_at (view_after_steps d.after) d.actor.0 i.actors.kept) c.put_steps.new.actors.kept d.actor (change (with_body d.after) d.actor w) c.in-Ok-put_steps.field-0 = rw (c.shown-version.ensures, c.actor-actor.ensures, c.in-Ok-into_parts.ensures.after) at raw in
+    let sent : c.as_slice.result.now ≡ d.sends = c.as_slice.ensures.value ∙ c.in-Ok-into_parts.ensures.sends in
     let tallied : Tallied i.tallies d.sends (act_site d) c.count.new.self = λ id.
     c.count.ensures.tallied id
     ∙ ap (λ (o : Option SiteId). after_act_at id o (after_sends id c.as_slice.result.now (tally_at c.cover.new.self id))) c.site_to_commit-site.ensures
@@ -93,9 +93,9 @@ returns-in-Ok-put_steps-clause-ok g c =
     let allowed : CommitAllowed (seen i.base i.names i.history.items i.settings beside) d = subst (λ (v : ImageView). CommitAllowed v d) (sym c.self.view_is) c.requires.allowed in
     let may : MayCommit i.base i.names i.token i.actors.kept i.history.items i.settings d = may_commit i.base i.names i.token i.actors.kept i.history.items i.edits_made i.settings beside d c.self.invariant.image allowed c.known.ensures (subst (λ (n : ℕ). 0 < n) c.requires.steps c.requires.some) in
     let w : World = world_of (constants_of i.names i.settings.capacity) i.base i.history.items in
-    let raw = c.in-Ok-put_steps.ensures.ok (change (with_body d.after) d.actor w) (rw (c.shown-version.ensures, c.actor-actor.ensures, c.into_parts-parts.ensures.after) may.went.shown) in
-    let takes : TakesOuter (constants_of i.names i.settings.capacity) i.token (change_at (view_after_steps d.after) d.actor.0 i.actors.kept) c.put_steps.new.actors.kept d.actor (change (with_body d.after) d.actor w) c.in-Ok-put_steps.field-0 = rw (c.shown-version.ensures, c.actor-actor.ensures, c.into_parts-parts.ensures.after) at raw in
-    let sent : c.as_slice.result.now ≡ d.sends = c.as_slice.ensures.value ∙ c.into_parts-parts.ensures.sends in
+    let raw = c.in-Ok-put_steps.ensures.ok (change (with_body d.after) d.actor w) (rw (c.shown-version.ensures, c.actor-actor.ensures, c.in-Ok-into_parts.ensures.after) may.went.shown) in
+    let takes : TakesOuter (constants_of i.names i.settings.capacity) i.token (change_at (view_after_steps d.after) d.actor.0 i.actors.kept) c.put_steps.new.actors.kept d.actor (change (with_body d.after) d.actor w) c.in-Ok-put_steps.field-0 = rw (c.shown-version.ensures, c.actor-actor.ensures, c.in-Ok-into_parts.ensures.after) at raw in
+    let sent : c.as_slice.result.now ≡ d.sends = c.as_slice.ensures.value ∙ c.in-Ok-into_parts.ensures.sends in
     let tallied : Tallied i.tallies d.sends (act_site d) c.count.new.self = λ id.
     c.count.ensures.tallied id
     ∙ ap (λ (o : Option SiteId). after_act_at id o (after_sends id c.as_slice.result.now (tally_at c.cover.new.self id))) c.site_to_commit-site.ensures

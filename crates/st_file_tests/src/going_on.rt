@@ -1,0 +1,90 @@
+//! Images that go on where the texts of their files stood.
+use crate::texts::{LOOPING, PENDING, VARIED};
+use st_classes::refusals::Refusal;
+use st_file::files::image_of_bytes;
+use st_file::saving::save;
+use st_image::counts::Counts;
+use st_server::images::Image;
+use st_server::scripts::script_on;
+use st_server::settings::ScriptSettings;
+use st_wire::streams::{MemoryInput, MemoryOutput};
+use std::alloc::Global;
+use std::test::*;
+
+/// A session that is over: the replies, what the image has counted, and the text of its file then.
+#[derive(Drop)]
+struct Ended {
+    replies: MemoryOutput,
+    counts: Counts,
+    file: MemoryOutput,
+}
+
+/// A session of the image of a text.
+fn session_of(alloc: Global, text: &[u8], script: &str) -> Result<Ended, Refusal> {
+    let image: Image = image_of_bytes(alloc, text)?;
+    let mut input = MemoryInput::new(Vec::from_slice(alloc, script.as_bytes())?);
+    let mut replies = MemoryOutput::new(alloc);
+    let settings = ScriptSettings::DEFAULT;
+    let (image, end) = script_on(alloc, &mut input, &mut replies, settings, image);
+    end?;
+    let mut file = MemoryOutput::new(alloc);
+    save(alloc, &image, &mut file)?;
+    Ok(Ended {
+        replies,
+        counts: image.counted(),
+        file,
+    })
+}
+
+/// What is pending stays pending, the numbers of senders go on, and counts begin anew.
+#[test]
+fn a_pending_message_goes_on(rt: HostRuntime) -> Result<(), Fail> {
+    let script = r#"{"actor":0,"args":[],"cmd":"post","selector":"a","sender":1,"seq":1}
+{"actor":0,"args":[],"cmd":"post","selector":"a","sender":1,"seq":2}
+{"cmd":"run"}
+{"actor":0,"cmd":"outcome","turn":0}
+{"actor":0,"cmd":"outcome","turn":1}
+{"actor":0,"cmd":"outcome","turn":2}
+"#;
+    let replies = r#"{"error":"Old","last":1}
+{"ok":{"turn":2}}
+{"ok":{"quanta":2,"steps":14}}
+{"error":"Expired"}
+{"ok":{"answer":14}}
+{"ok":{"answer":14}}
+"#;
+    let ended = session_of(rt.alloc(), PENDING.as_bytes(), script)?;
+    assert!(rt; ended.replies.as_slice() == replies.as_bytes());
+    assert!(rt;
+        ended.counts
+            == Counts {
+                posts: 1,
+                steps: 14
+            }
+    );
+    Ok(())
+}
+
+/// A turn goes on in the middle of a method, as turn 0, and sends what was installed since. Its outcome is kept over one more file.
+#[test]
+fn a_turn_goes_on(rt: HostRuntime) -> Result<(), Fail> {
+    let alloc = rt.alloc();
+    let ask = r#"{"actor":0,"cmd":"outcome","turn":0}
+"#;
+    let before = session_of(alloc, LOOPING.as_bytes(), ask)?;
+    assert!(rt; before.replies.as_slice() == b"{\"error\":\"Pending\"}\n".as_slice());
+    let run = session_of(alloc, before.file.as_slice(), "{\"cmd\":\"run\"}\n")?;
+    let after = session_of(alloc, run.file.as_slice(), ask)?;
+    assert!(rt; after.replies.as_slice() == b"{\"ok\":{\"answer\":122}}\n".as_slice());
+    Ok(())
+}
+
+/// A mailbox that is closed stays closed.
+#[test]
+fn a_closed_mailbox_stays_closed(rt: HostRuntime) -> Result<(), Fail> {
+    let post = r#"{"actor":0,"args":[1],"cmd":"post","selector":"x:","sender":1,"seq":1}
+"#;
+    let ended = session_of(rt.alloc(), VARIED.as_bytes(), post)?;
+    assert!(rt; ended.replies.as_slice() == b"{\"error\":\"Closed\"}\n".as_slice());
+    Ok(())
+}

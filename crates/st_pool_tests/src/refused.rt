@@ -1,0 +1,187 @@
+//! Calls of a caller for which memory is refused: each that finds none leaves what all see, and answers when it is asked again as it does
+//! with ample memory; and the shares are those of what was answered. No worker runs. Memory is refused where this runs with an
+//! allocation that fails, as `tools/refused-growth` has it for each in turn.
+use crate::calls::*;
+use crate::plays::totals;
+use crate::pools::{Caller, Image};
+use crate::scenes::Scene;
+use st_classes::kernel::SMALL_INTEGER;
+use st_classes::refusals::Refusal;
+use st_pool::naming::Naming;
+use st_pool::totals::Totals;
+use std::alloc::{AllocError, Global};
+use std::sync::Wait;
+use std::test::*;
+
+/// The calls behind a function without a contract. In each line what the call answers comes first.
+fn lines() -> &'static str {
+    LINES
+}
+
+const LINES: &str = r"Ok(1) = define A
+Err(ClassExists) = define A
+Ok(2) = install go ^3 tag + 1
+Err(BadSource { kind: BadToken, offset: 4 }) = install a ^(
+Ok(3) = tag tag ^1
+Ok(0) = create
+Ok(1) = post 1 go
+Err(Old { last: 1 }) = post 1 go
+Ok(2) = post 2 tag
+Ok(24) = intern fresh:
+Ok(2) = sites go
+Ok(4) = remove go
+Err(NoSuchMethod) = remove go
+Ok(0) = close
+Err(Closed) = post 3 tag
+Err(Closed) = close
+Err(Pending) = outcome";
+
+/// How many items, edits and actors an image has.
+fn counts(image: &Image) -> (usize, u32, u32) {
+    (
+        image.history().len(),
+        image.version().edits(),
+        image.actors(),
+    )
+}
+
+/// What the caller sees.
+fn seen<K: Naming, R: Wait>(rt: &R, caller: &mut Caller<'_, K>) -> (usize, u32, u32) {
+    caller.look(rt, |image| counts(image))
+}
+
+/// How many sites a method of class A has.
+fn sites<K: Naming, R: Wait>(
+    rt: &R,
+    alloc: Global,
+    caller: &mut Caller<'_, K>,
+    method: &str,
+) -> Result<u64, Refusal> {
+    let selector = caller.intern(rt, alloc, method.as_bytes())?;
+    Ok(caller.stats(rt, alloc, A, selector)?.len() as u64)
+}
+
+/// An edit answers the new number of edits.
+fn edit<K: Naming, R: Wait>(
+    rt: &R,
+    alloc: Global,
+    caller: &mut Caller<'_, K>,
+    word: &str,
+    rest: &str,
+) -> Result<u32, Refusal> {
+    match word {
+        "define" => define(rt, alloc, caller, rest),
+        "install" => install(rt, alloc, caller, A, rest),
+        "tag" => install(rt, alloc, caller, SMALL_INTEGER, rest),
+        _ => remove(rt, alloc, caller, A, rest),
+    }
+}
+
+/// A message of this number for the first actor.
+fn post_line<K: Naming, R: Wait>(
+    rt: &R,
+    alloc: Global,
+    caller: &mut Caller<'_, K>,
+    line: &str,
+) -> Result<u64, Refusal> {
+    let (number, name) = line.split_once(' ').ok_or(Refusal::BadCommand)?;
+    let seq = match number.parse() {
+        Ok(seq) => seq,
+        Err(_) => 0u64,
+    };
+    post(rt, alloc, caller, seq, FIRST, name)
+}
+
+/// What is answered to a call that is no edit.
+fn act<K: Naming, R: Wait>(
+    rt: &R,
+    alloc: Global,
+    caller: &mut Caller<'_, K>,
+    word: &str,
+    rest: &str,
+) -> Result<u64, Refusal> {
+    match word {
+        "create" => Ok(u64::from(create(rt, alloc, caller, A)?.0)),
+        "post" => post_line(rt, alloc, caller, rest),
+        "intern" => Ok(u64::from(caller.intern(rt, alloc, rest.as_bytes())?.0)),
+        "sites" => sites(rt, alloc, caller, rest),
+        "close" => {
+            close(rt, caller, FIRST)?;
+            Ok(0)
+        }
+        _ => {
+            outcome(rt, caller, FIRST, 1)?;
+            Ok(0)
+        }
+    }
+}
+
+/// What a call answers.
+fn ask<K: Naming, R: Wait>(
+    rt: &R,
+    alloc: Global,
+    caller: &mut Caller<'_, K>,
+    call: &str,
+) -> Result<u64, Refusal> {
+    let (word, rest) = call.split_once(' ').unwrap_or((call, ""));
+    match word {
+        "define" | "install" | "tag" | "remove" => {
+            Ok(u64::from(edit(rt, alloc, caller, word, rest)?))
+        }
+        _ => act(rt, alloc, caller, word, rest),
+    }
+}
+
+/// The same, asked again where there was no memory; and `Changed` where something was changed then.
+fn ask_again<K: Naming, R: Wait>(
+    rt: &R,
+    alloc: Global,
+    caller: &mut Caller<'_, K>,
+    call: &str,
+) -> Result<u64, Refusal> {
+    let before = seen(rt, caller);
+    let first = ask(rt, alloc, caller, call);
+    if first != Err(Refusal::NoMemory) {
+        return first;
+    }
+    if seen(rt, caller) != before {
+        return Err(Refusal::Changed);
+    }
+    ask(rt, alloc, caller, call)
+}
+
+/// Whether an answer is written so. The text is made anew where memory is refused for it.
+fn is_written(alloc: Global, answer: Result<u64, Refusal>, wanted: &str) -> bool {
+    for _ in 0..2 {
+        let text: Result<String, AllocError> = format!(in alloc; "{answer:?}");
+        if let Ok(text) = text {
+            return text.as_str() == wanted;
+        }
+    }
+    false
+}
+
+/// Whether all calls are answered as they must be.
+pub fn calls_alone<K: Naming, R: Wait>(rt: &R, alloc: Global, caller: &mut Caller<'_, K>) -> bool {
+    for line in lines().lines() {
+        let Some((wanted, call)) = line.split_once(" = ") else {
+            return false;
+        };
+        let answer = ask_again(rt, alloc, caller, call);
+        if !is_written(alloc, answer, wanted) {
+            return false;
+        }
+    }
+    true
+}
+
+#[test]
+fn calls_of_a_caller(rt: HostRuntime) -> Result<(), Fail> {
+    let wanted = Totals {
+        posts: 2,
+        edits: 4,
+        steps: 0,
+    };
+    assert!(rt; totals(&rt, rt.alloc(), Scene::Refused) == Some(Ok(wanted)));
+    Ok(())
+}

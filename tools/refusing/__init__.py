@@ -1,0 +1,1 @@
+"""What refuses memory to a program."""

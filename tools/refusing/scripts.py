@@ -1,0 +1,120 @@
+"""Scripts of which one allocation fails: the line that found no memory is asked again."""
+
+import json
+import os
+import subprocess
+
+from .shim import Failing
+
+NO_MEMORY = '{"error":"NoMemory"}'
+
+
+def run(program, lines, failing=None, options=()):
+    """The status, the replies and standard error of a script."""
+    text = "".join(line + "\n" for line in lines).encode()
+    env = failing.env if failing else None
+    ended = subprocess.run([program, "script", *options], input=text, capture_output=True, env=env, timeout=120)
+    return ended.returncode, [told(it) for it in ended.stdout.decode().splitlines()], ended.stderr.decode()
+
+
+def told(reply):
+    """A reply; one to `stats` without how its sends were found and what state that left, since a lookup that finds no memory for what it
+    is to keep is not refused and finds it anew."""
+    ok = json.loads(reply).get("ok") if reply.startswith("{") and reply.endswith("}") else None
+    if isinstance(ok, dict) and "sites" in ok:
+        return json.dumps({"ok": {"sent": [[it["selector"], it["super"], it["sends"]] for it in ok["sites"]]}})
+    return reply
+
+
+def first_difference(got, usual):
+    place = 0
+    while place < min(len(got), len(usual)) and got[place] == usual[place]:
+        place += 1
+    return place
+
+
+class Again:
+    """How the line that found no memory was answered when it was asked again."""
+
+    def __init__(self, is_fine, is_part=False):
+        self.is_fine, self.is_part = is_fine, is_part
+
+
+def command_of(line):
+    return json.loads(line).get("cmd")
+
+
+def ended_run(reply):
+    """The quanta and steps of a `run` that was not refused."""
+    ok = json.loads(reply).get("ok")
+    return (ok["quanta"], ok["steps"]) if isinstance(ok, dict) and "steps" in ok else None
+
+
+def by_steps(replies):
+    """Replies, with those of `run` by their steps alone."""
+    return [ended_run(it)[1] if ended_run(it) else it for it in replies]
+
+
+def cut_run(program, lines, place, taken):
+    """With ample memory and quanta of one step, a `run` of the given number of steps and then the rest: the replies, or None where a
+    quantum has more than one step."""
+    first = json.dumps({"cmd": "run", "quanta": taken})
+    every = json.dumps({"cmd": "run", "quanta": 1000000})
+    rest = [every if command_of(it) == "run" else it for it in lines]
+    _, got, _ = run(program, rest[:place] + [first] + rest[place:], options=("--quantum", "1"))
+    if any(ended_run(it) and ended_run(it)[0] != ended_run(it)[1] for it in got):
+        return None
+    return got
+
+
+def run_again(program, lines, usual, got, place):
+    whole, rest = ended_run(usual[place]), ended_run(got[place + 1])
+    if not whole or not rest or rest[0] > whole[0] or rest[1] > whole[1]:
+        return Again(False)
+    if got[: place + 1] + got[place + 2 :] != usual[:place] + [NO_MEMORY] + usual[place + 1 :]:
+        return Again(False)
+    taken = whole[1] - rest[1]
+    if taken:
+        cut = cut_run(program, lines, place, taken)
+        want = by_steps(usual[:place]) + [taken, rest[1]] + by_steps(usual[place + 1 :])
+        if cut is not None and by_steps(cut) != want:
+            return Again(False)
+    return Again(True, 0 < taken < whole[1])
+
+
+def asked_again(program, lines, usual, place, failing):
+    again = lines[: place + 1] + lines[place:]
+    _, got, _ = run(program, again, failing)
+    if command_of(lines[place]) == "run" and len(got) == len(usual) + 1:
+        return run_again(program, lines, usual, got, place)
+    return Again(got == usual[:place] + [NO_MEMORY] + usual[place:])
+
+
+
+def check(program, shim, script):
+    """Whether no run was wrong, and in how many a `run` had taken some steps and not all."""
+    with open(script) as file:
+        lines = file.read().splitlines()
+    status, usual, _ = run(program, lines)
+    short, parts, wrong = 0, 0, []
+    for failing in Failing.each(shim):
+        got_status, got, said = run(program, lines, failing)
+        if (got_status, got) == (status, usual):
+            continue
+        short += 1
+        place = first_difference(got, usual)
+        if place == len(got):
+            if got_status not in (1, 2) or "emory" not in said:
+                wrong.append(f"allocation {failing.at}: ended with status {got_status} and said {said!r}")
+        elif got[place] != NO_MEMORY:
+            wrong.append(f"allocation {failing.at}: {got[place]} for {usual[place]}")
+        else:
+            again = asked_again(program, lines, usual, place, failing)
+            parts += again.is_part
+            if not again.is_fine:
+                wrong.append(f"allocation {failing.at}: line {place + 1}, asked again, is not answered as usual")
+    name = os.path.basename(script)
+    print(f"{name}: {failing.at - 1} allocations, {short} runs found no memory, {parts} of them in the middle of a 'run'; {len(wrong)} were wrong")
+    for it in wrong[:10]:
+        print(f"  {it}")
+    return not wrong, parts

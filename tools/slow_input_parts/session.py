@@ -1,0 +1,56 @@
+"""A session whose lines are timed."""
+
+import json
+import subprocess
+
+
+class Session:
+    """A session of the built program, and the processor time of each of its lines, in milliseconds, as Linux counts it."""
+
+    def __init__(self, program, options=()):
+        self.process = subprocess.Popen([program, "script", *options], stdin=subprocess.PIPE, stdout=subprocess.PIPE)
+        self.count = f"/proc/{self.process.pid}/schedstat"
+
+    def __enter__(self):
+        return self
+
+    def __exit__(self, *_):
+        self.process.stdin.close()
+        self.process.wait(timeout=60)
+        self.process.stdout.close()
+
+    def spent(self):
+        with open(self.count) as file:
+            return int(file.read().split()[0]) / 1e6
+
+    def ask(self, line):
+        """The reply to a line, and what it took."""
+        before = self.spent()
+        self.process.stdin.write(line + b"\n")
+        self.process.stdin.flush()
+        reply = self.process.stdout.readline()
+        return reply, self.spent() - before
+
+
+def line_of(**keys):
+    """The line of a command."""
+    return json.dumps(keys, separators=(",", ":")).encode()
+
+
+def define(name, slots=(), above="Object"):
+    return line_of(cmd="define", name=name, slots=list(slots), super=above)
+
+
+def method(name, source):
+    return json.dumps({"class": name, "cmd": "method", "source": source}, separators=(",", ":"), ensure_ascii=False).encode()
+
+
+def actor(name):
+    return line_of(**{"class": name}, cmd="actor")
+
+
+def post(selector, seq, to=0, args=(), sender=1):
+    return line_of(actor=to, args=list(args), cmd="post", selector=selector, sender=sender, seq=seq)
+
+
+RUN = line_of(cmd="run", quanta=1)

@@ -1,0 +1,1 @@
+"""Trials of a built program's server, beside those of tools/sockets."""

@@ -1,0 +1,196 @@
+"""Trials of what a server takes: its threads, the processor while nothing is to be done, descriptors, and its places for sessions."""
+
+import contextlib
+import json
+import os
+import resource
+import subprocess
+import tempfile
+import time
+
+MAKING = "a ^3 + 4 * 2"
+ENDLESS = "spin [true] whileTrue: [nil]"
+LONG = "count: n | i | i := 0. [i < n] whileTrue: [i := i + 1]. ^i"
+
+
+def threads(server):
+    return os.listdir(f"/proc/{server.process.pid}/task")
+
+
+def ticks(server):
+    """How many ticks of a clock the server has run."""
+    with open(f"/proc/{server.process.pid}/stat", encoding="ascii") as it:
+        fields = it.read().rpartition(") ")[2].split()
+    return int(fields[11]) + int(fields[12])
+
+
+def switches(server):
+    """How often a thread of the server went to sleep."""
+    count = 0
+    for thread in threads(server):
+        with open(f"/proc/{server.process.pid}/task/{thread}/status", encoding="ascii") as it:
+            count += sum(int(line.split()[1]) for line in it if line.startswith("voluntary_ctxt_switches"))
+    return count
+
+
+def soon(holds, what, seconds=20):
+    ends = time.monotonic() + seconds
+    while not holds():
+        assert time.monotonic() < ends, what
+        time.sleep(0.01)
+
+
+def each_worker_has_a_thread(program, Server, _post):
+    for workers in (1, 4, 16):
+        with Server(program, 1, workers) as server:
+            soon(lambda: len(threads(server)) == workers + 1, f"{workers} workers have {len(threads(server)) - 1} threads")
+            with server.client():
+                pass
+            assert server.ended() == ({"posts": 0, "steps": 0}, [])
+
+
+def idle_workers_sleep(program, Server, _post):
+    with Server(program, 1, 16) as server:
+        soon(lambda: len(threads(server)) == 17, "16 workers have no thread each")
+        time.sleep(0.2)
+        before = ticks(server)
+        time.sleep(1)
+        assert ticks(server) <= before + 5, f"workers with nothing to do run for {ticks(server) - before} ticks in a second"
+
+
+def a_post_wakes_one(program, Server, post):
+    """16 workers of which all wake at each post go to sleep some 15 times as often as posts are made."""
+    with Server(program, 1, 16) as server, server.client() as client:
+        client.make("M", [], MAKING)
+        actor = client.actor("M")
+        time.sleep(0.2)
+        before = switches(server)
+        for seq in range(1, 501):
+            client.send(post(actor, "a", [], 1, seq))
+            assert client.reply() == {"ok": {"turn": seq}}
+            assert client.wait(actor, seq) == {"ok": {"answer": 14}}
+        woken = switches(server) - before
+        assert woken < 6000, f"threads went to sleep {woken} times for 500 posts"
+
+
+def a_turn_without_end_ends_with_the_server(program, Server, post):
+    with Server(program, 1, 2) as server:
+        with server.client() as client:
+            client.make("M", [], ENDLESS)
+            client.send(post(client.actor("M"), "spin", [], 1, 1))
+            assert client.reply() == {"ok": {"turn": 1}}
+        begun = time.monotonic()
+        totals, names = server.ended()
+        assert totals["posts"] == 1 and names == [], (totals, names)
+        assert time.monotonic() - begun < 10, "a turn without end holds up the end of the server"
+
+
+def quanta_are_long(program, Server, post):
+    """A turn of more steps than the history has items."""
+    with Server(program, 1, 2) as server, server.client() as client:
+        client.make("M", [], LONG)
+        actor = client.actor("M")
+        client.send(post(actor, "count:", [400_000], 1, 1))
+        assert client.reply() == {"ok": {"turn": 1}}
+        assert client.wait(actor, 1) == {"ok": {"answer": 400_000}}
+
+
+def sessions_leave_nothing(program, Server, _post):
+    """300 sessions one after another, of which every third ends by a refusal."""
+    with Server(program, 300, 2) as server:
+        for number in range(300):
+            with server.client() as client:
+                if number == 1:
+                    soon(lambda: len(threads(server)) == 4, "a session has no thread of its own, or one that has ended has one")
+                if number % 3 == 0:
+                    client.socket.sendall(b"\xff\n")
+                    assert client.lines.readline() == b'{"error":"BadCommand"}\n' and client.lines.readline() == b""
+                else:
+                    assert client.ask(cmd="close", actor=0) == {"error": "UnknownActor"}
+        assert server.ended() == ({"posts": 0, "steps": 0}, ["BadCommand"] * 100)
+
+
+def what_comes_behind_a_bad_line_is_drained(program, Server, _post):
+    with Server(program, 1, 1) as server:
+        with server.client() as client:
+            client.socket.sendall(b"\xff\n" + b"x" * 20_000)
+            assert client.lines.readline() == b'{"error":"BadCommand"}\n'
+            assert client.lines.readline() == b"", "no clean end comes behind a bad line"
+        assert server.ended()[1] == ["BadCommand"]
+
+
+def limited():
+    """The process may have 12 descriptors."""
+    resource.setrlimit(resource.RLIMIT_NOFILE, (12, 12))
+
+
+def few_descriptors(program, Server, _post):
+    """Where accepting fails the image is saved once the sessions have ended, and the server is refused."""
+    with tempfile.TemporaryDirectory() as folder:
+        image = os.path.join(folder, "image")
+        with Server(program, 1000, 2) as server, contextlib.ExitStack() as all_of_them:
+            # the server that was begun here makes the folder; another one is tried in its place
+            path = server.path + "2"
+            words = [program, "serve", "--workers", "2", "--sessions", "1000", "--image", image, "--socket", path]
+            process = subprocess.Popen(words, preexec_fn=limited, stdout=subprocess.PIPE, stderr=subprocess.PIPE, text=True)
+            all_of_them.callback(process.kill)
+            soon(lambda: os.path.exists(path) and os.stat(path).st_mode & 0o777 == 0o600, "no socket is made")
+            server.path = path
+            clients = [all_of_them.enter_context(server.client()) for _ in range(16)]
+            for number in range(8):
+                clients[0].make(f"M{number}", [])
+            for client in clients:
+                client.leave()
+            out, err = process.communicate(timeout=60)
+            assert (process.returncode, err) == (1, "actorimage: ReadFault\n"), (process.returncode, out, err)
+            assert json.loads(out)["ok"] == {"posts": 0, "steps": 0}, out
+            assert not os.path.exists(path), "the socket's file is still there"
+        check = subprocess.run([program, "check", image], capture_output=True, text=True, timeout=60)
+        assert json.loads(check.stdout)["ok"] == {"actors": 0, "classes": 16, "edits": 8}, check
+
+
+def another_servers_socket_stays(program, Server, _post):
+    """A server takes away the file that it made, and not one that another server has made at the same path since."""
+    with Server(program, 1, 1) as first:
+        client = first.client()
+        os.remove(first.path)
+        with Server(program, 1, 1) as second:
+            os.link(second.path, first.path)
+            client.leave()
+            first.process.communicate(timeout=60)
+            assert os.path.exists(first.path), "the end of a server takes away the socket of another"
+            os.remove(first.path)
+
+
+def full_output(program, Server, _post):
+    """An output that takes nothing is a refusal, and the socket's file is taken away all the same."""
+    if not os.path.exists("/dev/full"):
+        return
+    with Server(program, 1, 1) as other, open("/dev/full", "w", encoding="ascii") as full:
+        path = other.path + "2"
+        words = [program, "serve", "--workers", "1", "--sessions", "1", "--socket", path]
+        process = subprocess.Popen(words, stdout=full, stderr=subprocess.PIPE, text=True)
+        soon(lambda: os.path.exists(path) and os.stat(path).st_mode & 0o777 == 0o600, "no socket is made")
+        other.path = path
+        other.client().leave()
+        assert process.communicate(timeout=60)[1] == "actorimage: WriteFault\n" and process.returncode == 1
+        assert not os.path.exists(path), "the socket's file is still there"
+
+
+TRIALS = (
+    each_worker_has_a_thread,
+    idle_workers_sleep,
+    a_post_wakes_one,
+    a_turn_without_end_ends_with_the_server,
+    quanta_are_long,
+    sessions_leave_nothing,
+    what_comes_behind_a_bad_line_is_drained,
+    few_descriptors,
+    another_servers_socket_stays,
+    full_output,
+)
+
+
+def try_resources(program, Server, post):
+    for trial in TRIALS:
+        trial(program, Server, post)

@@ -1,0 +1,138 @@
+"""A frame: the lines that are shown of what was done between two samples."""
+
+from dataclasses import dataclass
+from typing import Iterable, Iterator, Optional, Sequence
+
+from .sites import STATES, Found, Row
+from .turns import Ends
+
+# The letter of each state and its colour, as the number that a terminal takes.
+LETTERS = dict(zip(STATES, ".mpM"))
+COLOURS = {"empty": 90, "mono": 32, "poly": 33, "mega": 31}
+FAULTY, HEAD, PLAIN = 31, 7, 0
+COLUMNS = ("SENDS/S", "SENDS", "SITE", "CACHE", "WALK")
+WIDTHS = (8, 8, 7, 7, 7)
+# Between the columns of numbers and that of the sites, and the least width of the names.
+GAP, LEAST_NAME = 2, 12
+LEGEND = "SITES, in the order of the code: "
+NO_METHODS = "no methods: write some as  Counter.bump, or a file that names them as  --from FILE"
+
+
+@dataclass(frozen=True)
+class Piece:
+    """A text in a colour."""
+
+    text: str
+    colour: int = PLAIN
+
+
+Line = list[Piece]
+
+
+@dataclass
+class Shown:
+    """What a frame tells: `seconds` are those between the samples, and `rows` those of the methods."""
+
+    path: str
+    clock: str
+    seconds: float
+    rows: Sequence[Row]
+    ends: Ends
+
+
+def frame(shown: Shown, width: int, height: Optional[int] = None) -> list[Line]:
+    """The lines, at most so wide; if there is no room for all rows, those that send least are left out."""
+    lines = [*head(shown), []]
+    if not shown.rows:
+        return [cut(line, width) for line in [*lines, [Piece(NO_METHODS)]]]
+    rows = list(shown.rows)
+    room = len(rows) if height is None else max(1, height - len(lines) - 3)
+    longest = max(LEAST_NAME, width - sum(WIDTHS) - GAP - 8)
+    name = 1 + min(max(LEAST_NAME, *(len(row.name) for row in rows)), longest)
+    lines.append([Piece((columns("METHOD", COLUMNS, name) + " " * GAP + "SITES").ljust(width), HEAD)])
+    lines += [line(row, shown.seconds, name, width) for row in rows[:room]]
+    if room < len(rows):
+        lines.append([Piece(f"and {len(rows) - room} more that send less")])
+    return [cut(it, width) for it in [*lines, legend()]]
+
+
+def head(shown: Shown) -> Iterator[Line]:
+    ends = shown.ends
+    yield [Piece(f"{shown.path}: {shown.seconds:.1f} seconds up to {shown.clock}")]
+    actors = ("the first " if ends.are_first else "") + count(ends.actors, "actor")
+    turns = f"turns: {short(ends.turns / shown.seconds)} a second, of {actors}"
+    told = "" if ends.told == ends.turns else f" in the {ends.told:,} of {ends.turns:,} turns that were asked for"
+    names = ", ".join(f"{name} {number:,}" for name, number in ends.faults.most_common())
+    faults = f"faults: {names}{told}" if ends.faults else f"faults: none{told}"
+    yield [Piece(turns + "; "), Piece(faults, FAULTY if ends.faults else PLAIN)]
+    if ends.last:
+        yield [Piece(f"last fault that was seen: {ends.last}")]
+
+
+def legend() -> Line:
+    pieces = [Piece(LEGEND)]
+    for state in STATES:
+        pieces += [Piece(LETTERS[state], COLOURS[state]), Piece(f" {state}  ")]
+    return pieces
+
+
+def line(row: Row, seconds: float, name: int, width: int) -> Line:
+    if row.why:
+        return [Piece(row.name[:name].ljust(name + 1)), Piece(row.why, FAULTY)]
+    if not row.states:
+        return [Piece(row.name[:name].ljust(name + 1) + "sends nothing")]
+    numbers = (short(row.now.sends / seconds), short(row.all.sends), *shares(row.now))
+    pieces = [Piece(columns(row.name[:name], numbers, name) + " " * GAP)]
+    return pieces + states(row.states, width - len(pieces[0].text))
+
+
+def columns(first: str, others: Iterable[str], name: int) -> str:
+    return first.ljust(name) + "".join(text.rjust(width) for text, width in zip(others, WIDTHS))
+
+
+def shares(found: Found) -> Iterator[str]:
+    """The parts that the sites answered, the lookup cache and the walk; nothing where nothing was sent."""
+    for part in (found.site, found.lookup_cache, found.walk):
+        yield f"{100 * part / found.sends:.1f}%" if found.sends else "-"
+
+
+def states(of_sites: Sequence[str], room: int) -> Line:
+    """A letter for each site, as far as there is room."""
+    more = f"+{len(of_sites) - room + 5}"
+    fits = of_sites if len(of_sites) <= room else of_sites[: max(0, room - 5)]
+    pieces = [Piece(LETTERS.get(it, "?"), COLOURS.get(it, PLAIN)) for it in fits]
+    return pieces if len(fits) == len(of_sites) else [*pieces, Piece(more)]
+
+
+def short(number: float) -> str:
+    """A number in at most six letters, as 999, 12.3k or 4.56M."""
+    if number < 1000:
+        return f"{number:.0f}" if number >= 10 or number == int(number) else f"{number:.1f}"
+    for unit in "kMGTP":
+        number /= 1000
+        if number < 999.5:
+            return f"{number:.{2 if number < 9.995 else 1 if number < 99.95 else 0}f}{unit}"
+    return f"{number:.0f}P"
+
+
+def count(number: int, thing: str) -> str:
+    return f"{number:,} {thing}" + ("" if number == 1 else "s")
+
+
+def cut(pieces: Line, width: int) -> Line:
+    """A line of at most so many letters."""
+    found: Line = []
+    for piece in pieces:
+        text = piece.text[: max(0, width)]
+        width -= len(text)
+        if text:
+            found.append(Piece(text, piece.colour))
+    return found
+
+
+def as_text(pieces: Line) -> str:
+    return "".join(piece.text for piece in pieces).rstrip()
+
+
+def as_coloured(pieces: Line) -> str:
+    return "".join(f"\x1b[{it.colour}m{it.text}\x1b[0m" if it.colour else it.text for it in pieces)

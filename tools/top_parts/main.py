@@ -1,0 +1,151 @@
+"""Shows again and again how the methods of a served image do, as top does of processes.
+
+    tools/top SOCKET [METHOD..] [--from FILE] [--actors A,B-C] [--seconds S] [--sites] [--once]
+    tools/top --try PROGRAM
+
+A METHOD is written as Counter.bump. --from takes further ones from a file: a workspace's log (:log FILE), definitions (:sources FILE)
+or an image file. No command lists the methods of a served image, so others are not shown.
+
+Of each method there are its sends a second, all its sends since it was installed, the share of the newest ones that the sites
+answered, the lookup cache and the walk, and a letter for each call site: . empty, m mono, p poly, M mega. --sites shows the sites
+below it. Above stand the turns that ended and their faults, of the first 1,024 actors or of those that --actors names. An image tells
+how an actor's newest 64 turns ended; where more end between two frames, the faults are those of a part.
+
+At a terminal q ends it and s shows the sites or hides them. If standard output is none, frames are printed one after the other;
+--once prints one. Each frame is of S seconds, 2 if none are given. What is asked is no item of the history, and changes nothing.
+"""
+
+import argparse
+import os
+import signal
+import sys
+import time
+
+import actorimage
+
+from .frame import Piece, Shown, frame
+from .named import NoMethods, given, of_file
+from .screen import opened
+from .sites import rows, sample
+from .turns import Turns
+
+WAITS = "there is no image: {}; it is tried again"
+# Seconds after which a session is ended and another one begun.
+LONGEST_SESSION = 60
+
+
+class Watch:
+    """Two samples: the one of the last frame, and the one of now."""
+
+    def __init__(self, image, path, methods, actors):
+        self.image, self.path, self.methods, self.actors = image, path, methods, actors
+        self.began = time.monotonic()
+        self.begin()
+
+    def begin(self):
+        self.turns = Turns(self.actors)
+        self.turns.sample(self.image)
+        self.at, self.sites = time.monotonic(), sample(self.image, self.methods)
+
+    def again(self):
+        """Connects again. The image may be another one, so nothing is known of before."""
+        self.image.reconnect(0)
+        self.began = time.monotonic()
+        self.begin()
+
+    def is_old(self):
+        """Whether the session has gone on for long: a server that is to end waits for it."""
+        return time.monotonic() - self.began > LONGEST_SESSION
+
+    def shown(self, with_sites):
+        """What was done since the last sample."""
+        now, sites = time.monotonic(), sample(self.image, self.methods)
+        ends = self.turns.sample(self.image)
+        found = list(rows(self.sites, sites, with_sites))
+        seconds, self.at, self.sites = now - self.at, now, sites
+        return Shown(self.path, time.strftime("%H:%M:%S"), seconds, found, ends)
+
+
+def arguments():
+    plain = argparse.RawDescriptionHelpFormatter
+    parser = argparse.ArgumentParser(prog="tools/top", description=__doc__, formatter_class=plain, usage=argparse.SUPPRESS)
+    parser.add_argument("socket", metavar="SOCKET", nargs="?", help="where the server listens")
+    parser.add_argument("methods", metavar="METHOD", nargs="*", help="a method, as Counter.bump")
+    parser.add_argument("--from", dest="files", metavar="FILE", action="append", default=[], help="a file that names methods")
+    parser.add_argument("--actors", metavar="A,B-C", help="the actors whose turns are watched")
+    parser.add_argument("--seconds", metavar="S", type=float, default=2, help="seconds of each frame")
+    parser.add_argument("--sites", action="store_true", help="show the call sites of each method")
+    parser.add_argument("--once", action="store_true", help="print one frame")
+    parser.add_argument("--try", dest="program", metavar="PROGRAM", help="run the tool's own trials")
+    found = parser.parse_args()
+    if (found.socket is None) == (found.program is None):
+        parser.error("give the path of a server's SOCKET, or --try alone")
+    if not 0.05 <= found.seconds <= 3600:
+        parser.error("--seconds takes 0.05 to 3600")
+    return found
+
+
+def numbers(text):
+    """The numbers of actors, as in 0,4-9; None if none are given."""
+    if text is None:
+        return None
+    found = []
+    for part in text.split(","):
+        first, _, last = part.partition("-")
+        if not first.isdecimal() or not (last or "0").isdecimal():
+            raise NoMethods(f"--actors takes numbers, as in  0,4-9, and not {text}")
+        found += range(int(first), int(last or first) + 1)
+    return list(dict.fromkeys(found))
+
+
+def watch(found):
+    methods = [given(it) for it in found.methods] + [method for path in found.files for method in of_file(path)]
+    actors = numbers(found.actors)
+    with actorimage.connect(found.socket) as image, opened(not found.once) as screen:
+        go_on(Watch(image, found.socket, list(dict.fromkeys(methods)), actors), screen, found)
+
+
+def go_on(watched, screen, found):
+    """Shows frames until it is enough."""
+    with_sites, is_lost, ends = found.sites, False, time.monotonic() + found.seconds
+    while True:
+        key = screen.wait(max(0, ends - time.monotonic()))
+        with_sites ^= key == "s"
+        if key == "q":
+            return
+        if time.monotonic() < ends:
+            continue
+        try:
+            if is_lost or watched.is_old() and not found.once:
+                watched.again()
+                is_lost = False
+            else:
+                screen.show(frame(watched.shown(with_sites), *screen.size()))
+        except (actorimage.Ended, actorimage.TooMany) as error:
+            if not screen.keys:
+                raise
+            is_lost = True
+            screen.show([[Piece(WAITS.format(error))]])
+        if found.once:
+            return
+        ends = time.monotonic() + found.seconds
+
+
+def main():
+    found = arguments()
+    # The terminal is as it was also where a signal ends the tool.
+    for number in (signal.SIGTERM, signal.SIGHUP):
+        signal.signal(number, lambda number, frame: sys.exit(128 + number))
+    try:
+        if found.program:
+            from . import trials
+
+            sys.exit(trials.try_all(os.path.abspath(found.program)))
+        watch(found)
+    except (actorimage.ActorImageError, NoMethods) as error:
+        print(f"tools/top: {error}", file=sys.stderr)
+        sys.exit(1)
+    except KeyboardInterrupt:
+        sys.exit(130)
+    except BrokenPipeError:
+        os.dup2(os.open(os.devnull, os.O_WRONLY), sys.stdout.fileno())

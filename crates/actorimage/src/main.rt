@@ -61,6 +61,19 @@ fn run_script<R: Input + Print + AllocGlobal>(
     }
 }
 
+/// Saves an image to the file at a path, if one is given.
+fn save_at<R: Files>(
+    rt: &R,
+    alloc: Global,
+    path: Option<&str>,
+    image: Image,
+) -> Result<(), Refusal> {
+    match path {
+        Some(path) => save_file(rt, alloc, path, &image),
+        None => Ok(()),
+    }
+}
+
 /// Runs a script on a new image or on that of a file, to which the image is saved unless the session is refused.
 fn script<R: Input + Print + Files + AllocGlobal>(
     rt: &R,
@@ -68,9 +81,7 @@ fn script<R: Input + Print + Files + AllocGlobal>(
 ) -> Result<(), Refusal> {
     let image = first_image(rt, options.image)?;
     let (image, ended) = run_script(rt, options, image);
-    if let Some(path) = saved_at(options.image, &ended) {
-        save_file(rt, rt.alloc(), path, &image)?;
-    }
+    save_at(rt, rt.alloc(), saved_at(options.image, &ended), image)?;
     match ended {
         Ok(_) => Ok(()),
         Err(refusal) => Err(refusal),
@@ -141,34 +152,41 @@ fn serve_over<R: Threads + Wait + Net + Files + Sync>(
     result
 }
 
-/// Serves a new image or that of a file, to which the image is saved when all sessions have ended, and tells the end. All this is done
-/// also where accepting failed, and the refusal is answered then.
-fn serve<R: Threads + Wait + Net + Files + Print + Eprint + AllocGlobal + Sync>(
+/// Saves the image of a server whose sessions have ended, and tells the end. All this is done also where accepting failed, and the
+/// refusal is answered then.
+fn end_serving<R: Files + Print + Eprint + AllocGlobal>(
     rt: &R,
-    options: ServeOptions<'_>,
+    path: Option<&str>,
+    faults: &Faults<Refusal>,
+    served: Served,
 ) -> Result<(), Refusal> {
-    let alloc = rt.alloc();
-    let image = first_image(rt, options.image)?;
-    let Ok(faults) = Faults::new(alloc) else {
-        return Err(Refusal::NoMemory);
-    };
-    let ended = serve_over(rt, alloc, options, &faults, image);
-    let path = saved_at(options.image, &ended);
     let Served {
         image,
         totals,
         fault,
-    } = ended?;
-    let saved = match path {
-        Some(path) => save_file(rt, alloc, path, &image),
-        None => Ok(()),
-    };
-    tell_end(rt, &faults, totals)?;
+    } = served;
+    let saved = save_at(rt, rt.alloc(), path, image);
+    tell_end(rt, faults, totals)?;
     saved?;
     match fault {
         Some(refusal) => Err(refusal),
         None => Ok(()),
     }
+}
+
+/// Serves a new image or that of a file, to which the image is saved when all sessions have ended.
+fn serve<R: Threads + Wait + Net + Files + Print + Eprint + AllocGlobal + Sync>(
+    rt: &R,
+    options: ServeOptions<'_>,
+) -> Result<(), Refusal> {
+    let alloc = rt.alloc();
+    let Ok(faults) = Faults::new(alloc) else {
+        return Err(Refusal::NoMemory);
+    };
+    let image = first_image(rt, options.image)?;
+    let ended = serve_over(rt, alloc, options, &faults, image);
+    let path = saved_at(options.image, &ended);
+    end_serving(rt, path, &faults, ended?)
 }
 
 /// The words of the command line.

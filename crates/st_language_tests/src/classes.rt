@@ -68,14 +68,18 @@ pub(crate) fn boxed(alloc: Global, version: Version) -> Result<Box<Version>, Ref
     }
 }
 
-/// The name of a class and those of its instance variables.
-fn named(
+/// The definition of a class.
+fn definition(
     alloc: Global,
     name: &[u8],
+    parent: ClassId,
     slots: &[&[u8]],
-) -> Result<(Seq<u8>, Seq<Seq<u8>>), AllocError> {
-    let slots = texts(alloc, slots)?;
-    Ok((Seq::from_vec(Vec::from_slice(alloc, name)?), slots))
+) -> Result<Edit, AllocError> {
+    Ok(Edit::Define {
+        name: Seq::from_vec(Vec::from_slice(alloc, name)?),
+        parent,
+        slots: texts(alloc, slots)?,
+    })
 }
 
 /// One class more.
@@ -86,14 +90,7 @@ pub(crate) fn define(
     parent: ClassId,
     slots: &[&[u8]],
 ) -> Result<Box<Version>, Refusal> {
-    let Ok((name, slots)) = named(alloc, name, slots) else {
-        return Err(Refusal::NoMemory);
-    };
-    let edit = Edit::Define {
-        name,
-        parent,
-        slots,
-    };
+    let edit = definition(alloc, name, parent, slots)?;
     boxed(alloc, version.with_edit(alloc, edit)?)
 }
 
@@ -217,16 +214,17 @@ fn finds_up_a_chain(rt: HostRuntime) -> Result<(), Fail> {
     Ok(())
 }
 
+/// Whether super sends in methods of the three classes find what lies above each.
+fn finds_above_each(version: &Version) -> bool {
+    finds_above(version, C, C, WHO, Target::Run(MethodId(3)))
+        && finds_above(version, B, C, WHO, Target::Run(MethodId(1)))
+        && finds_above(version, A, C, WHO, Target::Missing(None))
+}
+
 #[test]
 fn finds_above_a_holder(rt: HostRuntime) -> Result<(), Fail> {
     let version = three_classes(rt.alloc())?;
-    for (holder, target) in [
-        (C, Target::Run(MethodId(3))),
-        (B, Target::Run(MethodId(1))),
-        (A, Target::Missing(None)),
-    ] {
-        assert!(rt; finds_above(&version, holder, C, WHO, target), "{holder:?}");
-    }
+    assert!(rt; finds_above_each(&version));
     Ok(())
 }
 
@@ -246,20 +244,30 @@ fn reads_classes(rt: HostRuntime) -> Result<(), Fail> {
     Ok(())
 }
 
+/// Whether a class of this name under this one, with an instance variable `count`, is refused so.
+fn refuses(
+    alloc: Global,
+    version: &Version,
+    name: &[u8],
+    parent: ClassId,
+    refusal: Refusal,
+) -> bool {
+    define(alloc, version, name, parent, COUNT).err() == Some(refusal)
+}
+
+/// Whether the first refusal of each class is answered.
+fn refuses_each(alloc: Global, version: &Version) -> bool {
+    refuses(alloc, version, b"x", ClassId(11), Refusal::UnknownClass)
+        && refuses(alloc, version, b"x", SMALL_INTEGER, Refusal::BadName)
+        && refuses(alloc, version, b"B", SMALL_INTEGER, Refusal::KernelClass)
+        && refuses(alloc, version, b"B", A, Refusal::ClassExists)
+        && refuses(alloc, version, b"D", A, Refusal::SlotClash)
+}
+
 #[test]
 fn refuses_classes_in_order(rt: HostRuntime) -> Result<(), Fail> {
     let version = three_classes(rt.alloc())?;
-    let cases: [(&[u8], ClassId, Refusal); 5] = [
-        (b"x", ClassId(11), Refusal::UnknownClass),
-        (b"x", SMALL_INTEGER, Refusal::BadName),
-        (b"B", SMALL_INTEGER, Refusal::KernelClass),
-        (b"B", A, Refusal::ClassExists),
-        (b"D", A, Refusal::SlotClash),
-    ];
-    for (name, parent, refusal) in cases {
-        let refused = define(rt.alloc(), &version, name, parent, &[b"count"]).err();
-        assert!(rt; refused == Some(refusal), "{refusal:?}");
-    }
+    assert!(rt; refuses_each(rt.alloc(), &version));
     Ok(())
 }
 

@@ -68,18 +68,8 @@ pub(crate) fn boxed(alloc: Global, version: Version) -> Result<Box<Version>, Ref
     }
 }
 
-/// The definition of a class.
-fn definition(
-    alloc: Global,
-    name: &[u8],
-    parent: ClassId,
-    slots: &[&[u8]],
-) -> Result<Edit, AllocError> {
-    Ok(Edit::Define {
-        name: Seq::from_vec(Vec::from_slice(alloc, name)?),
-        parent,
-        slots: texts(alloc, slots)?,
-    })
+fn copied(alloc: Global, text: &[u8]) -> Result<Seq<u8>, AllocError> {
+    Ok(Seq::from_vec(Vec::from_slice(alloc, text)?))
 }
 
 /// One class more.
@@ -90,7 +80,13 @@ pub(crate) fn define(
     parent: ClassId,
     slots: &[&[u8]],
 ) -> Result<Box<Version>, Refusal> {
-    let edit = definition(alloc, name, parent, slots)?;
+    let name = copied(alloc, name)?;
+    let slots = texts(alloc, slots)?;
+    let edit = Edit::Define {
+        name,
+        parent,
+        slots,
+    };
     boxed(alloc, version.with_edit(alloc, edit)?)
 }
 

@@ -30,7 +30,7 @@ chain_longer cs f c p e = omega (arith, ap length (f.chains c p e))
 
 -- ---- one class more
 
-class_within : (cs : List ClassDef) (c : ClassId) (p : ClassId) → parent_in cs c ≡ Some p → c.0 < length cs
+pub class_within : (cs : List ClassDef) (c : ClassId) (p : ClassId) → parent_in cs c ≡ Some p → c.0 < length cs
 class_within cs c p e = option_and_then_some (λ (d : ClassDef). d.parent) (slice_get cs c.0) p e (λ d g h. slice_get_within cs c.0 d g)
 
 -- the superclass of a class of the longer list is an old class's, or the new class's

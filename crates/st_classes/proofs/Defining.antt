@@ -1,5 +1,5 @@
 -- One class more.
-use Rattle.std.proofs.Common.{arith, refl, ◌≡◌, ℕ, ◌+◌, ◌<◌, ◌≤◌, List, [], ◌∷◌, ◌++◌, Option, Some, None, false, nat_eq, nat_le, is_some, slice_get, suc, ap, sym, ◌∙◌, length, subst, length-append, option_map, option_and_then, inl, inr, reverse}
+use Rattle.std.proofs.Common.{arith, refl, ◌≡◌, ℕ, ◌+◌, ◌<◌, ◌≤◌, List, [], ◌∷◌, ◌++◌, Option, Some, None, false, nat_eq, nat_le, is_some, slice_get, ap, sym, ◌∙◌, length, subst, length-append, option_map, option_and_then, inl, inr, reverse}
 use Rattle.std.proofs.lemmas.Bool.Decides.{nat_tests}
 use Rattle.std.specs.List.{flat_map}
 use Rattle.std.proofs.lemmas.Bool.{ltb-true, not-false}
@@ -19,10 +19,10 @@ use Rattle.st_classes.specs.Walks.{or_else}
 use Rattle.st_classes.specs.ClassRows.{IsRow, IsUnder, row_method}
 use Rattle.st_classes.specs.Tables.{IsKept, AreRows}
 use Rattle.st_classes.proofs.LawLists.{slice_get_push, slice_get_old, slice_get_last}
-use Rattle.st_classes.proofs.LawChains.{forest}
-use Rattle.st_classes.proofs.LawGrowing.{lawful_with}
-use Rattle.st_classes.proofs.Chains.{chain_old, chain_new, slots_old, slots_new}
-use Rattle.st_classes.proofs.Growing.{classes_push, own_push, few_push, NoneApply, none_apply}
+use Rattle.st_classes.proofs.LawChains.{forest, classes_push}
+use Rattle.st_classes.proofs.LawGrowing.{kernel_counted, lawful_with}
+use Rattle.st_classes.proofs.Chains.{chain_old, slots_old, slots_new}
+use Rattle.st_classes.proofs.Growing.{own_push, few_push, NoneApply, none_apply}
 
 -- a superclass under which there is room for a class
 pub record HasRoom (es : List Edit) (p : ClassId) : Type 0 where
@@ -87,7 +87,6 @@ row_old es name p added k c row l r =
     record {
       named = subst (λ (xs : List ClassDef). option_map (λ (x : ClassDef). x.name) (slice_get xs c.0) ≡ Some row.name) more (ap (option_map (λ (x : ClassDef). x.name)) (slice_get_old cs ds c.0 l) ∙ r.named);
       above = subst (λ (xs : List ClassDef). parent_in xs c ≡ row.superclass) more (ap (option_and_then (λ (x : ClassDef). x.parent)) (slice_get_old cs ds c.0 l) ∙ r.above);
-      deep = subst (λ (xs : List ClassDef). length (chain_of xs 64 (Some c)) ≡ row.depth) more (ap (λ (ys : List ClassId). length ys) chained ∙ r.deep);
       variables = subst (λ (xs : List ClassDef). flat_map (own_slots xs) (reverse (chain_of xs 64 (Some c))) ≡ row.slots) more (ap (λ (ys : List ClassId). flat_map (own_slots (cs ++ ds)) (reverse ys)) chained ∙ slots_old cs ds (forest es k.lawful) 64 (Some c) (λ x e. same_place c x (length cs) l cc) ∙ r.variables);
       decides = λ s. own_push es (Define name p added) c s ∙ r.decides s;
     }
@@ -105,9 +104,8 @@ row_new es name p added k room above row r u c n =
     record {
       named = subst (λ (xs : List ClassDef). option_map (λ (x : ClassDef). x.name) (slice_get xs c.0) ≡ Some row.name) more (ap (option_map (λ (x : ClassDef). x.name)) at ∙ ap (λ (x : List ℕ). Some x) (sym u.name));
       above = subst (λ (xs : List ClassDef). parent_in xs c ≡ row.superclass) more (ap (option_and_then (λ (x : ClassDef). x.parent)) at ∙ sym u.superclass);
-      deep = subst (λ (xs : List ClassDef). length (chain_of xs 64 (Some c)) ≡ row.depth) more (ap (λ (ys : List ClassId). length ys) (chain_new cs d c p (forest es k.lawful) refl room.here room.shallow n) ∙ ap suc r.deep ∙ sym u.depth);
       variables = subst (λ (xs : List ClassDef). flat_map (own_slots xs) (reverse (chain_of xs 64 (Some c))) ≡ row.slots) more (slots_new cs d c p (forest es k.lawful) refl room.here room.shallow n ∙ ap (λ (ys : List (List ℕ)). ys ++ added) r.variables ∙ sym u.variables);
-      decides = λ s. own_push es (Define name p added) c s ∙ k.beyond c s (omega (arith, n)) ∙ own_none row c s (row_method row s) (kernel_method c s) (u.methods s) (kernel_none c s (omega (arith, n)));
+      decides = λ s. own_push es (Define name p added) c s ∙ k.beyond c s (omega (arith, n)) ∙ own_none row c s (row_method row s) (kernel_method c s) (u.methods s) (kernel_none c s (omega (arith, n, kernel_counted es)));
     }
 
 pub rows_define : (es : List Edit) (name : List ℕ) (p : ClassId) (added : List (List ℕ)) → IsKept es → first_of (define_rules es name p added) ≡ None → (rows : List ClassRow) → AreRows es rows → (above row : ClassRow) → IsRow es p above → IsUnder above row name p added → AreRows (es ++ Define name p added ∷ []) (rows ++ row ∷ [])

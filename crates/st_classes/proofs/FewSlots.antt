@@ -1,12 +1,11 @@
 -- A class has 64 instance variables at most.
-use Rattle.std.proofs.Common.{◌≡◌, ℕ, zero, suc, ◌<◌, ◌≤◌, Bool, true, false, nat_lt, ltb, List, [], ◌∷◌, ◌++◌, length, take, reverse, Some, None, refl, sym, ap, ◌∙◌, subst, append-nil, length-append, le_refl, arith}
-use Rattle.std.specs.List.{flat_map}
+use Rattle.std.proofs.Common.{◌≡◌, ℕ, zero, suc, ◌<◌, ◌≤◌, Bool, true, false, nat_lt, ltb, List, [], ◌∷◌, ◌++◌, length, take, Some, None, refl, sym, ap, subst, length-append, le_refl, arith}
 use Rattle.std.proofs.lemmas.Bool.{ltb-true, ltb-false}
 use Rattle.std.proofs.lemmas.List.{take_all}
 use Rattle.std.proofs.lemmas.Option.{slice_get-get_or, slice_get_past}
 use Rattle.st_classes.specs.declared.values.ClassId.{ClassId}
 use Rattle.st_classes.specs.declared.edits.Edit.{Edit}
-use Rattle.st_classes.specs.declared.edits.Edit.TheVariants.{Define, Install, Remove}
+use Rattle.st_classes.specs.declared.edits.Edit.TheVariants.{Define, Install, Remove, Reparent}
 use Rattle.st_classes.specs.declared.refusals.Refusal.TheVariants.{TooMany}
 use Rattle.st_classes.specs.declared.refusals.Limited.TheVariants.{Slots}
 use Rattle.st_classes.specs.EditRules.{edit_rules}
@@ -16,12 +15,9 @@ use Rattle.st_classes.specs.EditLists.{AreLawful}
 use Rattle.st_classes.specs.Refusals.{first_of}
 use Rattle.st_classes.proofs.Chains.{kernel_forest, slots_new}
 use Rattle.st_classes.proofs.LawLists.{take_at_place, no_rule}
-use Rattle.st_classes.proofs.LawChains.{accepted_parent, classes_append, forest_after}
+use Rattle.st_classes.proofs.LawChains.{accepted_parent, classes_push, forest_after, may_move, moved_same}
+use Rattle.st_classes.proofs.Reparenting.{forest_moved, slots_in, slots_moved}
 use Rattle.st_classes.proofs.LawGrowing.{slots_in_old}
-
--- the instance variables of a class, inherited ones first
-abbrev slots_in : List ClassDef → ClassId → List (List ℕ)
-slots_in cs c = flat_map (own_slots cs) (reverse (chain_of cs 64 (Some c)))
 
 -- each class has few
 abbrev Few : List ClassDef → Type 0
@@ -51,9 +47,12 @@ few_after : (es : List Edit) (e : Edit) → IsForest (classes es) → Few (class
 few_after es (Define name up added) g few h =
     let a = accepted_parent es name up added h in
     let fits = ltb-false 64 (length (slots es up ++ added)) (no_rule (edit_rules es (Define name up added)) 7 (nat_lt 64 (length (slots es up ++ added)), TooMany Slots) h refl) in
-    subst Few (sym (classes_append es (Define name up added ∷ []))) (few_more (classes es) (record { name = name; parent = Some up; slots = added }) up g refl a.0 a.1 fits few)
-few_after es (Install c m) g few h = subst Few (sym (classes_append es (Install c m ∷ []) ∙ append-nil (classes es))) few
-few_after es (Remove c s) g few h = subst Few (sym (classes_append es (Remove c s ∷ []) ∙ append-nil (classes es))) few
+    subst Few (sym (classes_push es (Define name up added))) (few_more (classes es) (record { name = name; parent = Some up; slots = added }) up g refl a.0 a.1 fits few)
+few_after es (Install c m) g few h = subst Few (sym (classes_push es (Install c m))) few
+few_after es (Remove c s) g few h = subst Few (sym (classes_push es (Remove c s))) few
+few_after es (Reparent c p) g few h =
+    let m = may_move es c p h in
+    subst Few (sym (classes_push es (Reparent c p))) (λ d. omega (arith, few d, ap length (slots_moved (classes es) c p g (forest_moved (classes es) c p g m.here m.there m.shallow) m.here (moved_same es c p m) d)))
 
 few_kernel : (n : ℕ) → length (slots_in kernel_classes (class n)) ≤ 64
 few_kernel zero = omega arith

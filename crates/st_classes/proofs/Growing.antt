@@ -1,5 +1,5 @@
 -- One edit more.
-use Rattle.std.proofs.Common.{arith, rules, tests, refl, ◌≡◌, ◌≢◌, ℕ, ◌+◌, ◌<◌, ◌≤◌, ◌⊎◌, List, [], ◌∷◌, ◌++◌, Option, Some, None, Bool, true, false, cond, nat_eq, nat_le, slice_get, zero, suc, ap, sym, ◌∙◌, length, subst, length-append, option_map, inl, inr, append-nil, reverse}
+use Rattle.std.proofs.Common.{arith, rules, tests, refl, ◌≡◌, ◌≢◌, ℕ, ◌+◌, ◌<◌, ◌≤◌, ◌⊎◌, List, [], ◌∷◌, ◌++◌, Option, Some, None, Bool, true, false, cond, nat_eq, nat_le, slice_get, zero, suc, ap, sym, ◌∙◌, length, subst, length-append, option_map, inl, inr, reverse}
 use Rattle.std.proofs.Math.ListN.{set, length-set}
 use Rattle.std.proofs.lemmas.Bool.Decides.{nat_tests}
 use Rattle.std.specs.List.{flat_map}
@@ -16,20 +16,17 @@ use Rattle.st_classes.specs.declared.class_rows.ClassRow.{ClassRow}
 use Rattle.st_classes.specs.Kernel.{class, kernel_method}
 use Rattle.st_classes.specs.Refusals.{Rule, first_of}
 use Rattle.st_classes.specs.EditRules.{edit_rules}
-use Rattle.st_classes.specs.Classes.{ClassDef, defined, classes, class_count, is_class, own_slots, parent_in, chain_of}
+use Rattle.st_classes.specs.Classes.{ClassDef, classes_after, classes, class_count, is_class, own_slots, parent_in, chain_of}
 use Rattle.st_classes.specs.Walks.{own, own_from, decided, is_at, or_else}
 use Rattle.st_classes.specs.ClassRows.{IsRow, Puts, row_method, row_own}
 use Rattle.st_classes.specs.Tables.{IsKept, AreRows, IsAt}
-use Rattle.st_classes.proofs.LawChains.{classes_append}
+use Rattle.st_classes.proofs.LawChains.{classes_push}
 use Rattle.st_classes.proofs.LawGrowing.{lawful_with}
 
 -- ---- the classes and the own methods of one edit more
 
-pub classes_push : (es : List Edit) (e : Edit) → classes (es ++ e ∷ []) ≡ classes es ++ defined (e ∷ [])
-classes_push es e = classes_append es (e ∷ [])
-
-pub classes_same : (es : List Edit) (e : Edit) → defined (e ∷ []) ≡ [] → classes (es ++ e ∷ []) ≡ classes es
-classes_same es e h = classes_push es e ∙ ap (λ (cs : List ClassDef). classes es ++ cs) h ∙ append-nil (classes es)
+pub classes_same : (es : List Edit) (e : Edit) → ((cs : List ClassDef) → classes_after cs e ≡ cs) → classes (es ++ e ∷ []) ≡ classes es
+classes_same es e h = classes_push es e ∙ h (classes es)
 
 own_from_push : (es : List Edit) (e : Edit) (place : ℕ) (o : Option Found) (c : ClassId) (s : Selector) → own_from place o (es ++ e ∷ []) c s ≡ decided e (place + length es) (own_from place o es c s) c s
 own_from_push [] e place o c s = ap (λ (n : ℕ). decided e n o c s) (omega arith)
@@ -53,7 +50,7 @@ none_apply ((false, r) ∷ rules) h = (refl, none_apply rules h)
 pub few_push : (es : List Edit) (e : Edit) → nat_le 4096 (length es) ≡ false → length (es ++ e ∷ []) ≤ 4096
 few_push es e h = let few : length es < 4096 = search (rules, tests) in omega (arith, few, length-append es (e ∷ []))
 
--- ---- an edit that defines no class
+-- ---- an edit that leaves the classes
 
 is_at_other : (d c : ClassId) (t s : Selector) → d.0 ≢ c.0 → is_at d t c s ≡ false
 is_at_other d c t s h = grind (arith, nat_tests)
@@ -63,7 +60,7 @@ own_at_other es e d t o a c s h = own_push es e c s ∙ a.decides (own es c s) c
 
 pub kept_at : (es : List Edit) (e : Edit) (d : ClassId) (t : Selector) (o : Option MethodId) → IsKept es → IsAt e (length es) d t o → first_of (edit_rules es e) ≡ None → is_class es d ≡ true → nat_le 4096 (length es) ≡ false → IsKept (es ++ e ∷ [])
 kept_at es e d t o k a h i few =
-    let same : classes (es ++ e ∷ []) ≡ classes es = classes_same es e a.no_class in
+    let same : classes (es ++ e ∷ []) ≡ classes es = classes_same es e a.same_classes in
     let in_table : d.0 < class_count es = ltb-true d.0 (class_count es) i in
     record {
       lawful = lawful_with es e k.lawful h;
@@ -75,11 +72,10 @@ kept_at es e d t o k a h i few =
 -- a row of another class stays
 row_other : (es : List Edit) (e : Edit) (d : ClassId) (t : Selector) (o : Option MethodId) → IsAt e (length es) d t o → (c : ClassId) (row : ClassRow) → d.0 ≢ c.0 → IsRow es c row → IsRow (es ++ e ∷ []) c row
 row_other es e d t o a c row h r =
-    let same : classes es ≡ classes (es ++ e ∷ []) = sym (classes_same es e a.no_class) in
+    let same : classes es ≡ classes (es ++ e ∷ []) = sym (classes_same es e a.same_classes) in
     record {
       named = subst (λ (cs : List ClassDef). option_map (λ (x : ClassDef). x.name) (slice_get cs c.0) ≡ Some row.name) same r.named;
       above = subst (λ (cs : List ClassDef). parent_in cs c ≡ row.superclass) same r.above;
-      deep = subst (λ (cs : List ClassDef). length (chain_of cs 64 (Some c)) ≡ row.depth) same r.deep;
       variables = subst (λ (cs : List ClassDef). flat_map (own_slots cs) (reverse (chain_of cs 64 (Some c))) ≡ row.slots) same r.variables;
       decides = λ s. own_at_other es e d t o a c s h ∙ r.decides s;
     }
@@ -100,17 +96,16 @@ decides_at d t s o row after was k w m =
 -- the row of the edit's class
 row_at : (es : List Edit) (e : Edit) (d : ClassId) (t : Selector) (o : Option MethodId) → IsAt e (length es) d t o → kernel_method d t ≡ None → (row after : ClassRow) → IsRow es d row → Puts row after t o → IsRow (es ++ e ∷ []) d after
 row_at es e d t o a k row after r p =
-    let same : classes es ≡ classes (es ++ e ∷ []) = sym (classes_same es e a.no_class) in
+    let same : classes es ≡ classes (es ++ e ∷ []) = sym (classes_same es e a.same_classes) in
     record {
       named = subst (λ (cs : List ClassDef). option_map (λ (x : ClassDef). x.name) (slice_get cs d.0) ≡ Some after.name) same (r.named ∙ ap (λ (x : List ℕ). Some x) (sym p.same.name));
       above = subst (λ (cs : List ClassDef). parent_in cs d ≡ after.superclass) same (r.above ∙ sym p.same.above);
-      deep = subst (λ (cs : List ClassDef). length (chain_of cs 64 (Some d)) ≡ after.depth) same (r.deep ∙ sym p.same.depth);
       variables = subst (λ (cs : List ClassDef). flat_map (own_slots cs) (reverse (chain_of cs 64 (Some d))) ≡ after.slots) same (r.variables ∙ sym p.same.variables);
       decides = λ s. own_push es e d s ∙ a.decides (own es d s) d s ∙ decides_at d t s o row after (own es d s) k (r.decides s) (p.methods s);
     }
 
 -- an item of a list in which one was replaced
-slice_get_set : {X : Type 0} (xs : List X) (k i : ℕ) (y x : X) → slice_get (set xs k y) i ≡ Some x → ((k ≢ i) × (slice_get xs i ≡ Some x)) ⊎ ((k ≡ i) × (y ≡ x))
+pub slice_get_set : {X : Type 0} (xs : List X) (k i : ℕ) (y x : X) → slice_get (set xs k y) i ≡ Some x → ((k ≢ i) × (slice_get xs i ≡ Some x)) ⊎ ((k ≡ i) × (y ≡ x))
 slice_get_set [] k i y x h = cc
 slice_get_set (z ∷ xs) zero zero y x h = inr (refl, cc)
 slice_get_set (z ∷ xs) zero (suc i) y x h = inl (λ e. omega (arith, e), h)
@@ -119,7 +114,7 @@ slice_get_set (z ∷ xs) (suc k) (suc i) y x h = elim (slice_get_set xs k i y x 
 
 pub rows_at : (es : List Edit) (e : Edit) (d : ClassId) (t : Selector) (o : Option MethodId) (rows : List ClassRow) (row after : ClassRow) → AreRows es rows → IsAt e (length es) d t o → kernel_method d t ≡ None → IsRow es d row → Puts row after t o → AreRows (es ++ e ∷ []) (set rows d.0 after)
 rows_at es e d t o rows row after h a k r p = record {
-  long = length-set rows d.0 after ∙ h.long ∙ sym (ap (λ (cs : List ClassDef). length cs) (classes_same es e a.no_class));
+  long = length-set rows d.0 after ∙ h.long ∙ sym (ap (λ (cs : List ClassDef). length cs) (classes_same es e a.same_classes));
   each = λ n x g. elim (slice_get_set rows d.0 n after x g) [
     | inl w ↦ row_other es e d t o a (class n) x w.0 (h.each n x w.1)
     | inr w ↦ subst (λ (y : ClassRow). IsRow (es ++ e ∷ []) (class n) y) w.1 (subst (λ (m : ℕ). IsRow (es ++ e ∷ []) (class m) after) w.0 (row_at es e d t o a k row after r p))

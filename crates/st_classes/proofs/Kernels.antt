@@ -1,5 +1,5 @@
 -- The table of no edits.
-use Rattle.std.proofs.Common.{arith, refl, ◌≡◌, ℕ, ◌+◌, Bor, false, cond, map, take, get_or, ◌<◌, zero, suc, List, [], ◌∷◌, ◌++◌, Option, Some, None, ap, sym, ◌∙◌, subst, length, slice_get, option_map, option_and_then, if◌then◌else◌, is_some}
+use Rattle.std.proofs.Common.{arith, refl, ◌≡◌, ℕ, ◌+◌, Bor, false, cond, map, take, get_or, ◌<◌, zero, suc, List, [], ◌∷◌, ◌++◌, Option, Some, None, ap, sym, ◌∙◌, subst, length, slice_get, option_map, option_and_then, is_some}
 use Rattle.std.specs.List.{AllZip, position}
 use Rattle.std.specs.Str.{bytes_eq}
 use Rattle.std.proofs.lemmas.List.{length-take-le, take_more, take-map}
@@ -11,14 +11,13 @@ use Rattle.st_classes.specs.declared.values.MethodId.{MethodId}
 use Rattle.st_classes.specs.Walks.{or_else}
 use Rattle.st_classes.specs.declared.class_rows.ClassRow.{ClassRow}
 use Rattle.st_classes.specs.Kernel.{class, kernel_method}
-use Rattle.st_classes.specs.Classes.{ClassDef, kernel_classes, slots, parent_in, chain_of}
+use Rattle.st_classes.specs.Classes.{ClassDef, kernel_classes, slots, parent_in}
 use Rattle.st_classes.specs.ClassRows.{IsRow, IsPlain, plain_class, row_method}
 use Rattle.st_classes.specs.EditLists.{AllSound}
 use Rattle.st_classes.specs.Tables.{IsKept, ArePlain, AreRows}
 use Rattle.st_classes.specs.ClassIndexes.{Naming, named_in}
 use Rattle.st_classes.specs.EditRules.{has_twice}
 use Rattle.st_classes.specs.Names.{is_name}
-use Rattle.st_classes.proofs.Chains.{kernel_parent}
 use Rattle.st_classes.proofs.Defining.{kernel_none}
 use Rattle.st_classes.proofs.Indexing.{class_in, naming_push, position_cons}
 use Rattle.st_classes.proofs.Naming.{absent-before, or-parts}
@@ -37,10 +36,6 @@ kernel_sound = λ place c m at. cc
 own_plain : (m : Option MethodId) (k : Option Kernel) → m ≡ None → option_map FoundKernel k ≡ or_else (option_map User m) (option_map FoundKernel k)
 own_plain m k e = rw e
 
-depth_plain : (n : ℕ) (o : Option ClassId) → parent_in kernel_classes (class n) ≡ o → length (chain_of kernel_classes 64 (Some (class n))) ≡ (if is_some o then 2 else 1)
-depth_plain n None e = ap (λ (x : Option ClassId). length (class n ∷ chain_of kernel_classes 63 x)) e
-depth_plain n (Some p) e = ap (λ (cs : List ClassId). length cs) (kernel_parent n p e).1
-
 slots_plain : (n : ℕ) → slots [] (class n) ≡ []
 slots_plain zero = refl
 slots_plain (suc zero) = refl
@@ -58,7 +53,6 @@ plain_row n d row e p =
     record {
       named = ap (option_map (λ (x : ClassDef). x.name)) e ∙ ap (λ (x : List ℕ). Some x) (sym p.name);
       above = above ∙ sym p.superclass;
-      deep = depth_plain n d.parent above ∙ sym p.depth;
       variables = slots_plain n ∙ sym p.variables;
       decides = λ s. own_plain (row_method row s) (kernel_method (class n) s) (p.methods s);
     }

@@ -7,7 +7,7 @@ use Rattle.st_classes.specs.declared.values.Selector.{Selector}
 use Rattle.st_classes.specs.declared.values.MethodId.{MethodId}
 use Rattle.st_classes.specs.declared.methods.MethodParts.{MethodParts}
 use Rattle.st_classes.specs.declared.edits.Edit.{Edit}
-use Rattle.st_classes.specs.declared.edits.Edit.TheVariants.{Define, Install, Remove}
+use Rattle.st_classes.specs.declared.edits.Edit.TheVariants.{Define, Install, Remove, Reparent}
 use Rattle.st_classes.specs.declared.kernel.Kernel.{Kernel}
 use Rattle.st_classes.specs.declared.kernel.Found.{Found}
 use Rattle.st_classes.specs.declared.kernel.Found.TheVariants.{User, Kernel as FoundKernel}
@@ -39,6 +39,7 @@ undecided : (e : Edit) (place : ℕ) (found : Option Found) (c : ClassId) (s : S
 undecided (Define name up added) place found c s h = refl
 undecided (Install d m) place found c s h = rw h
 undecided (Remove d t) place found c s h = rw h
+undecided (Reparent d p) place found c s h = refl
 
 install_decides : (place : ℕ) (found : Option Found) (c : ClassId) (m : MethodParts) → decided (Install c m) place found c m.selector ≡ Some (User (method_id place))
 install_decides place found c m = rw (is_at_itself c m.selector)
@@ -133,6 +134,7 @@ removal_is false found m e = (refl, e)
 
 decided_user : (e : Edit) (place : ℕ) (found : Option Found) (c : ClassId) (s : Selector) (m : MethodId) → decided e place found c s ≡ Some (User m) → (LeavesAlone c s e × (found ≡ Some (User m))) ⊎ IsInstall e place c s m
 decided_user (Define name up added) place found c s m e = inl (refl, e)
+decided_user (Reparent d p) place found c s m e = inl (refl, e)
 decided_user (Install d p) place found c s m e = install_is (is_at d p.selector c s) d c p s place found m refl e
 decided_user (Remove d t) place found c s m e = inl (removal_is (is_at d t c s) found m e)
 

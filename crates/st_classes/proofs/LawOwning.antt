@@ -8,7 +8,7 @@ use Rattle.st_classes.specs.declared.values.Selector.{Selector}
 use Rattle.st_classes.specs.declared.values.MethodId.{MethodId}
 use Rattle.st_classes.specs.declared.methods.MethodParts.{MethodParts}
 use Rattle.st_classes.specs.declared.edits.Edit.{Edit}
-use Rattle.st_classes.specs.declared.edits.Edit.TheVariants.{Define, Install, Remove}
+use Rattle.st_classes.specs.declared.edits.Edit.TheVariants.{Define, Install, Remove, Reparent}
 use Rattle.st_classes.specs.declared.kernel.Found.{Found}
 use Rattle.st_classes.specs.declared.kernel.Found.TheVariants.{User, Kernel as FoundKernel}
 use Rattle.st_classes.specs.declared.kernel.Target.{Target}
@@ -84,6 +84,7 @@ method_installed : (e : Edit) (p : MethodParts) → installed_method e ≡ Some 
 method_installed (Define name up added) p h = cc
 method_installed (Install c q) p h = let s : q ≡ p = cc in (c, ap (λ (x : MethodParts). Install c x) s)
 method_installed (Remove c s) p h = cc
+method_installed (Reparent c d) p h = cc
 
 pub installed_at : (edits : List Edit) (m : MethodId) (p : MethodParts) → method_at edits m ≡ Some p → (c : ClassId) × (slice_get edits m.0 ≡ Some (Install c p))
 installed_at edits m p h = option_and_then_some installed_method (slice_get edits m.0) p h (λ e at is. let w = method_installed e p is in (w.0, at ∙ ap (λ (x : Edit). Some x) w.1))

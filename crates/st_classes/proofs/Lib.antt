@@ -9,6 +9,9 @@ pub mod FewSlots
 pub mod LawLookup
 pub mod LawOwning
 pub mod Chains
+pub mod Reparenting
+pub mod WholeChains
+pub mod Deepening
 pub mod Walking
 pub mod Rows
 pub mod Growing

@@ -1,5 +1,5 @@
 -- The row that a class has in the table.
-use Rattle.std.specs.Prelude.{◌≡◌, ℕ, List, ◌++◌, length, suc, Option, Some, None, ◌==◌, if◌then◌else◌, option_map, is_some, []}
+use Rattle.std.specs.Prelude.{◌≡◌, ℕ, List, ◌++◌, Option, Some, None, ◌==◌, if◌then◌else◌, option_map, []}
 use Rattle.std.specs.Map.{lookup}
 use Rattle.st_classes.specs.declared.values.ClassId.{ClassId}
 use Rattle.st_classes.specs.declared.values.Selector.{Selector}
@@ -9,7 +9,7 @@ use Rattle.st_classes.specs.declared.kernel.Found.{Found}
 use Rattle.st_classes.specs.declared.kernel.Found.TheVariants.{User, Kernel as FoundKernel}
 use Rattle.st_classes.specs.declared.class_rows.ClassRow.{ClassRow}
 use Rattle.st_classes.specs.Kernel.{kernel_method}
-use Rattle.st_classes.specs.Classes.{ClassDef, class_name, parent, chain, slots}
+use Rattle.st_classes.specs.Classes.{ClassDef, class_name, parent, slots}
 use Rattle.st_classes.specs.Walks.{own, or_else}
 
 -- the method of a selector among pairs, the first that there is
@@ -28,7 +28,6 @@ row_own row c s = or_else (option_map User (row_method row s)) (option_map Found
 pub record IsRow (edits : List Edit) (c : ClassId) (row : ClassRow) : Type 0 where
   pub named : class_name edits c ≡ Some row.name
   pub above : parent edits c ≡ row.superclass
-  pub deep : length (chain edits c) ≡ row.depth
   pub variables : slots edits c ≡ row.slots
   pub decides : (s : Selector) → own edits c s ≡ row_own row c s
 
@@ -36,7 +35,6 @@ pub record IsRow (edits : List Edit) (c : ClassId) (row : ClassRow) : Type 0 whe
 pub record SameClass (row after : ClassRow) : Type 0 where
   pub name : after.name ≡ row.name
   pub above : after.superclass ≡ row.superclass
-  pub depth : after.depth ≡ row.depth
   pub variables : after.slots ≡ row.slots
 
 -- the second row has a method at the selector, or none there
@@ -48,9 +46,15 @@ pub record Puts (row after : ClassRow) (t : Selector) (o : Option MethodId) : Ty
 pub record IsUnder (above row : ClassRow) (text : List ℕ) (p : ClassId) (added : List (List ℕ)) : Type 0 where
   pub name : row.name ≡ text
   pub superclass : row.superclass ≡ Some p
-  pub depth : row.depth ≡ suc above.depth
   pub variables : row.slots ≡ above.slots ++ added
   pub methods : (s : Selector) → row_method row s ≡ None
+
+-- the second row differs in its superclass alone
+pub record IsMoved (row after : ClassRow) (p : ClassId) : Type 0 where
+  pub name : after.name ≡ row.name
+  pub superclass : after.superclass ≡ Some p
+  pub variables : after.slots ≡ row.slots
+  pub methods : after.methods ≡ row.methods
 
 -- a class that adds no instance variable
 abbrev pub plain_class : List ℕ → Option ClassId → ClassDef
@@ -60,6 +64,5 @@ plain_class name parent = record { name = name; parent = parent; slots = [] }
 pub record IsPlain (row : ClassRow) (d : ClassDef) : Type 0 where
   pub name : row.name ≡ d.name
   pub superclass : row.superclass ≡ d.parent
-  pub depth : row.depth ≡ (if is_some d.parent then 2 else 1)
   pub variables : row.slots ≡ []
   pub methods : (s : Selector) → row_method row s ≡ None

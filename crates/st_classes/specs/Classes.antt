@@ -4,7 +4,7 @@ use Rattle.std.specs.List.{flat_map}
 use Rattle.std.specs.Str.{bytes_eq}
 use Rattle.st_classes.specs.declared.values.ClassId.{ClassId}
 use Rattle.st_classes.specs.declared.edits.Edit.{Edit}
-use Rattle.st_classes.specs.declared.edits.Edit.TheVariants.{Define, Install, Remove}
+use Rattle.st_classes.specs.declared.edits.Edit.TheVariants.{Define, Install, Remove, Reparent}
 use Rattle.st_classes.specs.Kernel.{class}
 
 -- a class by its definition: its name, its superclass, and the instance variables that it adds
@@ -30,17 +30,31 @@ kernel_classes =
     ∷ under_object (codes "Class")
     ∷ []
 
--- the classes that the edits define, in order
-abbrev pub defined : List Edit → List ClassDef
-defined [] = []
-defined (Define name parent slots ∷ edits) =
-    record { name = name; parent = Some parent; slots = slots } ∷ defined edits
-defined (Install c m ∷ edits) = defined edits
-defined (Remove c s ∷ edits) = defined edits
+-- a class with another superclass
+abbrev pub under : ClassId → ClassDef → ClassDef
+under parent d = record { name = d.name; parent = Some parent; slots = d.slots }
 
--- all classes, by their numbers
+-- the classes, of which the one at a number has another superclass
+abbrev pub reparented : List ClassDef → ℕ → ClassId → List ClassDef
+reparented [] n parent = []
+reparented (d ∷ cs) zero parent = under parent d ∷ cs
+reparented (d ∷ cs) (suc n) parent = d ∷ reparented cs n parent
+
+-- what an edit makes of the classes
+abbrev pub classes_after : List ClassDef → Edit → List ClassDef
+classes_after cs (Define name parent slots) = cs ++ record { name = name; parent = Some parent; slots = slots } ∷ []
+classes_after cs (Install c m) = cs
+classes_after cs (Remove c s) = cs
+classes_after cs (Reparent c parent) = reparented cs c.0 parent
+
+-- what edits make of the classes, one after the other
+abbrev pub classes_from : List ClassDef → List Edit → List ClassDef
+classes_from cs [] = cs
+classes_from cs (e ∷ es) = classes_from (classes_after cs e) es
+
+-- all classes, by their numbers: the kernel's, and those that the edits define
 abbrev pub classes : List Edit → List ClassDef
-classes edits = kernel_classes ++ defined edits
+classes edits = classes_from kernel_classes edits
 
 -- the number of classes, the kernel's eight counted
 abbrev pub class_count : List Edit → ℕ
@@ -50,11 +64,11 @@ class_count edits = length (classes edits)
 abbrev pub is_class : List Edit → ClassId → Bool
 is_class edits c = nat_lt c.0 (class_count edits)
 
--- the superclass that a class names
+-- the superclass of a class among some
 abbrev pub parent_in : List ClassDef → ClassId → Option ClassId
 parent_in cs c = option_and_then (λ d. d.parent) (slice_get cs c.0)
 
--- the superclass of a class
+-- the superclass of a class: the one that its definition or its last reparent names
 abbrev pub parent : List Edit → ClassId → Option ClassId
 parent edits c = parent_in (classes edits) c
 
@@ -85,6 +99,14 @@ own_slots cs c = slots_in (slice_get cs c.0)
 -- the instance variables of a class, inherited ones first
 abbrev pub slots : List Edit → ClassId → List (List ℕ)
 slots edits c = flat_map (own_slots (classes edits)) (reverse (chain edits c))
+
+-- the instance variables that a class inherits: those of its superclass
+abbrev pub inherited : List Edit → ClassId → List (List ℕ)
+inherited edits c = slots_of (parent edits c)
+  where
+    slots_of : Option ClassId → List (List ℕ)
+    slots_of None = []
+    slots_of (Some p) = slots edits p
 
 -- the name of a class
 abbrev pub class_name : List Edit → ClassId → Option (List ℕ)

@@ -4,7 +4,7 @@ use Rattle.st_classes.specs.declared.values.ClassId.{ClassId}
 use Rattle.st_classes.specs.declared.values.MethodId.{MethodId}
 use Rattle.st_classes.specs.declared.methods.MethodParts.{MethodParts}
 use Rattle.st_classes.specs.declared.edits.Edit.{Edit}
-use Rattle.st_classes.specs.declared.edits.Edit.TheVariants.{Define, Install, Remove}
+use Rattle.st_classes.specs.declared.edits.Edit.TheVariants.{Define, Install, Remove, Reparent}
 use Rattle.st_classes.specs.Refusals.{first_of}
 use Rattle.st_classes.specs.EditRules.{edit_rules}
 use Rattle.st_classes.specs.Methods.{IsSound}
@@ -29,6 +29,7 @@ abbrev pub IsSoundEdit : Edit → Type 0
 IsSoundEdit (Define name parent slots) = Unit {0}
 IsSoundEdit (Install c m) = IsSound m
 IsSoundEdit (Remove c s) = Unit {0}
+IsSoundEdit (Reparent c p) = Unit {0}
 
 -- each installed method is sound
 abbrev pub AllSound : List Edit → Type 0
@@ -40,6 +41,7 @@ abbrev pub installed_method : Edit → Option MethodParts
 installed_method (Define name parent slots) = None
 installed_method (Install c m) = Some m
 installed_method (Remove c s) = None
+installed_method (Reparent c p) = None
 
 -- the method that was installed at a place of the list
 abbrev pub method_at : List Edit → MethodId → Option MethodParts

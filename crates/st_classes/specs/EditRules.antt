@@ -1,18 +1,23 @@
 -- When an edit is accepted.
-use Rattle.std.specs.Prelude.{ℕ, ◌&&◌, ◌||◌, List, [], ◌∷◌, ◌++◌, length, Bool, false, not, is_some, nat_le, nat_lt}
-use Rattle.std.specs.List.{list_any, list_all}
+use Rattle.std.specs.Prelude.{ℕ, ◌&&◌, ◌||◌, List, [], ◌∷◌, ◌++◌, length, Bool, Some, false, not, is_some, nat_le, nat_lt, ◌==◌}
+use Rattle.std.specs.List.{list_any, list_all, range_with_len}
+use Rattle.std.specs.Cmp.Lexicographic.{pointwise}
 use Rattle.std.specs.Str.{bytes_eq}
 use Rattle.st_classes.specs.declared.values.ClassId.{ClassId}
 use Rattle.st_classes.specs.declared.values.Selector.{Selector}
 use Rattle.st_classes.specs.declared.edits.Edit.{Edit}
-use Rattle.st_classes.specs.declared.edits.Edit.TheVariants.{Define, Install, Remove}
-use Rattle.st_classes.specs.declared.refusals.Refusal.TheVariants.{UnknownClass, ClassExists, KernelClass, KernelMethod, BadName, SlotClash, TooDeep, NoSuchMethod, TooMany}
+use Rattle.st_classes.specs.declared.edits.Edit.TheVariants.{Define, Install, Remove, Reparent}
+use Rattle.st_classes.specs.declared.refusals.Refusal.TheVariants.{UnknownClass, ClassExists, KernelClass, KernelMethod, BadName, SlotClash, TooDeep, NoSuchMethod, TooMany, Cycle, SlotsDiffer}
 use Rattle.st_classes.specs.declared.refusals.Limited.TheVariants.{Classes, Slots, Edits}
 use Rattle.st_classes.specs.Refusals.{Rule}
-use Rattle.st_classes.specs.Kernel.{kernel_method}
+use Rattle.st_classes.specs.Kernel.{class, kernel_method}
 use Rattle.st_classes.specs.Selectors.{is_class_name, is_slot_name}
-use Rattle.st_classes.specs.Classes.{is_class, class_named, class_count, chain, slots}
+use Rattle.st_classes.specs.Classes.{ClassDef, reparented, classes, is_class, class_named, class_count, chain_of, chain, slots, inherited}
 use Rattle.st_classes.specs.Walks.{own, user_method}
+
+-- one of classes 0 to 7
+abbrev pub is_kernel_class : ClassId → Bool
+is_kernel_class c = nat_lt c.0 8
 
 -- one of classes 1 to 7
 abbrev pub is_value_class : ClassId → Bool
@@ -62,8 +67,34 @@ remove_rules edits c s =
     ∷ too_many_edits edits
     ∷ []
 
+-- a class is among some
+abbrev pub is_among : List ClassId → ClassId → Bool
+is_among cs c = list_any (λ (d : ClassId). d.0 == c.0) cs
+
+-- a class has over 64 classes on its chain
+abbrev pub is_too_deep : List ClassDef → ClassId → Bool
+is_too_deep cs c = nat_lt 64 (length (chain_of cs 65 (Some c)))
+
+-- some class has
+abbrev pub has_too_deep : List ClassDef → Bool
+has_too_deep cs = list_any (λ (n : ℕ). is_too_deep cs (class n)) (range_with_len 0 (length cs))
+
+-- the refusals of a reparent, in their order: a class gets a superclass that has the instance variables of the old one,
+-- and no class comes to have itself on its chain, or over 64 classes
+abbrev pub reparent_rules : List Edit → ClassId → ClassId → List Rule
+reparent_rules edits c parent =
+    (not (is_class edits c), UnknownClass)
+    ∷ (not (is_class edits parent), UnknownClass)
+    ∷ (is_kernel_class c || is_value_class parent, KernelClass)
+    ∷ (is_among (chain edits parent) c, Cycle)
+    ∷ (not (pointwise bytes_eq (slots edits parent) (inherited edits c)), SlotsDiffer)
+    ∷ (has_too_deep (reparented (classes edits) c.0 parent), TooDeep)
+    ∷ too_many_edits edits
+    ∷ []
+
 -- the refusals of an edit, in their order
 abbrev pub edit_rules : List Edit → Edit → List Rule
 edit_rules edits (Define name parent added) = define_rules edits name parent added
 edit_rules edits (Install c m) = install_rules edits c m.selector
 edit_rules edits (Remove c s) = remove_rules edits c s
+edit_rules edits (Reparent c parent) = reparent_rules edits c parent

@@ -4,6 +4,7 @@ pub mod Selectors
 pub mod OperandFlow
 pub mod Methods
 pub mod Classes
+pub mod Depths
 pub mod Walks
 pub mod LookupLaws
 pub mod MethodSuits

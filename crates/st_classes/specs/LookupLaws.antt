@@ -6,7 +6,7 @@ use Rattle.st_classes.specs.declared.values.Selector.{Selector}
 use Rattle.st_classes.specs.declared.values.MethodId.{MethodId}
 use Rattle.st_classes.specs.declared.methods.MethodParts.{MethodParts}
 use Rattle.st_classes.specs.declared.edits.Edit.{Edit}
-use Rattle.st_classes.specs.declared.edits.Edit.TheVariants.{Define, Install, Remove}
+use Rattle.st_classes.specs.declared.edits.Edit.TheVariants.{Define, Install, Remove, Reparent}
 use Rattle.st_classes.specs.declared.kernel.Kernel.{Kernel}
 use Rattle.st_classes.specs.declared.kernel.Found.{Found}
 use Rattle.st_classes.specs.declared.kernel.Found.TheVariants.{User, Kernel as FoundKernel}
@@ -21,6 +21,7 @@ abbrev pub decides : Edit → ClassId → Selector → Bool
 decides (Define name parent slots) c s = false
 decides (Install d m) c s = is_at d m.selector c s
 decides (Remove d t) c s = is_at d t c s
+decides (Reparent d p) c s = false
 
 -- With no edit a class's own method is the kernel's. Where the last edit installs a method there, it is that method;
 -- where the last edit removes there, it is none; and any other edit leaves it.

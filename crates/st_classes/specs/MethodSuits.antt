@@ -9,7 +9,7 @@ use Rattle.st_classes.specs.declared.instructions.Instruction.{Instruction}
 use Rattle.st_classes.specs.declared.instructions.Instruction.TheVariants.{PushLit, PushSelf, PushActor, PushTemp, PushSlot, StoreTemp, StoreSlot, Pop, Dup, Send, SuperSend, Jump, JumpFalse, JumpTrue, Answer}
 use Rattle.st_classes.specs.declared.methods.MethodParts.{MethodParts}
 use Rattle.st_classes.specs.declared.edits.Edit.{Edit}
-use Rattle.st_classes.specs.declared.edits.Edit.TheVariants.{Define, Install, Remove}
+use Rattle.st_classes.specs.declared.edits.Edit.TheVariants.{Define, Install, Remove, Reparent}
 use Rattle.st_classes.specs.Classes.{class_count, slots}
 use Rattle.st_classes.specs.Selectors.{arity_of}
 
@@ -69,3 +69,4 @@ abbrev pub edit_suits : List (List ℕ) → List Edit → Edit → Bool
 edit_suits names edits (Define name parent slots) = true
 edit_suits names edits (Install c m) = suits names edits c m
 edit_suits names edits (Remove c s) = true
+edit_suits names edits (Reparent c p) = true

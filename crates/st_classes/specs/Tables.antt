@@ -1,5 +1,5 @@
 -- The rows that a list of edits gives.
-use Rattle.std.specs.Prelude.{◌≡◌, ℕ, ◌≤◌, List, ◌∷◌, [], length, Option, Some, None, slice_get, option_map, position, if◌then◌else◌}
+use Rattle.std.specs.Prelude.{◌≡◌, ℕ, ◌≤◌, List, length, Option, Some, None, map, slice_get, option_map, position, if◌then◌else◌}
 use Rattle.std.specs.List.{AllZip}
 use Rattle.std.specs.Str.{bytes_eq}
 use Rattle.st_classes.specs.declared.values.ClassId.{ClassId}
@@ -10,7 +10,8 @@ use Rattle.st_classes.specs.Kernel.{class}
 use Rattle.st_classes.specs.declared.values.MethodId.{MethodId}
 use Rattle.st_classes.specs.declared.kernel.Found.{Found}
 use Rattle.st_classes.specs.declared.kernel.Found.TheVariants.{User}
-use Rattle.st_classes.specs.Classes.{ClassDef, defined, class_count, class_named}
+use Rattle.st_classes.specs.Classes.{ClassDef, classes_after, class_count, class_named}
+use Rattle.st_classes.specs.Depths.{AreDepths}
 use Rattle.st_classes.specs.Walks.{own, decided, is_at}
 use Rattle.st_classes.specs.EditLists.{AreLawful, AllSound}
 use Rattle.st_classes.specs.ClassRows.{IsPlain, IsRow}
@@ -37,15 +38,20 @@ pub record ArePlain (cs : List ClassDef) (rows : List ClassRow) (naming : Naming
   pub shown : AllZip IsPlain rows cs
   pub named : (name : List ℕ) → named_in naming name ≡ option_map class (position (λ d. bytes_eq name d.name) cs)
 
+-- an edit that leaves each class its name, and defines none
+abbrev pub KeepsNames : Edit → Type 0
+KeepsNames e = (cs : List ClassDef) → map (λ d. d.name) (classes_after cs e) ≡ map (λ d. d.name) cs
+
 -- the table of a list of edits
-pub record IsTable (edits : List Edit) (rows : List ClassRow) (naming : Naming) : Type 0 where
+pub record IsTable (edits : List Edit) (rows : List ClassRow) (depths : List ℕ) (naming : Naming) : Type 0 where
   pub kept : IsKept edits
   pub sound : AllSound edits
   pub shown : AreRows edits rows
+  pub deep : AreDepths edits depths
   pub named : IsNaming edits naming
 
--- an edit that defines no class, and at its place gives a class this method, or none, for a selector
+-- an edit that leaves the classes, and at its place gives a class this method, or none, for a selector
 pub record IsAt (e : Edit) (place : ℕ) (d : ClassId) (t : Selector) (o : Option MethodId) : Type 0 where
-  pub no_class : defined (e ∷ []) ≡ []
+  pub same_classes : (cs : List ClassDef) → classes_after cs e ≡ cs
   pub decides : (found : Option Found) (c : ClassId) (s : Selector) →
       decided e place found c s ≡ (if is_at d t c s then option_map User o else found)

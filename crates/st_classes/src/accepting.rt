@@ -1,17 +1,24 @@
 //! Which edits a class table accepts.
-ghost use Rattle.std.specs.Prelude.{◌≡◌, ◌∷◌, ◌++◌, []};
+ghost use Rattle.std.specs.Prelude.{◌≡◌, ◌∷◌, ◌++◌, [], false, true};
 ghost use Rattle.std.specs.List.{list_any, list_all};
 ghost use Rattle.std.specs.Str.{bytes_eq};
+ghost use Rattle.std.specs.Cmp.Lexicographic.{pointwise};
 ghost use Rattle.st_classes.specs.Refusals.{first_of};
+ghost use Rattle.st_classes.specs.Classes.{chain, classes, inherited, is_class, reparented, slots};
+ghost use Rattle.st_classes.specs.Depths.{IsDeep};
 ghost use Rattle.st_classes.specs.Selectors.{is_slot_name as slot_name};
 ghost use Rattle.st_classes.specs.EditRules.{
+  is_among as among,
+  is_kernel_class as kernel_class,
   is_value_class as closed,
+  has_too_deep,
   has_twice as twice,
   are_names as names,
   too_many_edits,
   define_rules,
   install_rules,
   remove_rules,
+  reparent_rules,
   edit_rules,
 };
 
@@ -19,6 +26,7 @@ use crate::edits::Edit;
 use crate::kernel::{Found, KERNEL_CLASSES, kernel_at};
 use crate::limits;
 use crate::refusals::{Limited, Refusal};
+use crate::same::same_texts;
 use crate::selectors::{is_class_name, is_slot_name};
 use crate::seq::Seq;
 use crate::values::{ClassId, Selector};
@@ -29,6 +37,13 @@ fn is_closed(class: ClassId) -> bool
     ensures { result ≡ closed class }
 {
     1 <= class.0 && class.0 < KERNEL_CLASSES
+}
+
+/// Whether a class is the kernel's.
+fn is_kernel(class: ClassId) -> bool
+    ensures { result ≡ kernel_class class }
+{
+    class.0 < KERNEL_CLASSES
 }
 
 fn are_slot_names(texts: &[Seq<u8>]) -> bool
@@ -156,6 +171,83 @@ impl Version {
         self.full()
     }
 
+    /// The instance variables that a class inherits.
+    fn inherited(&self, class: ClassId) -> &[Seq<u8>]
+        ensures { result.now ≡ inherited self.now class }
+    {
+        self.kept();
+        match self.parent(class) {
+            Some(up) => self.slots(up),
+            None => &[],
+        }
+    }
+
+    /// Whether a superclass has the instance variables that a class inherits.
+    fn fits_under(&self, class: ClassId, parent: ClassId) -> bool
+        requires { is_class self.now parent ≡ true }
+        ensures { result ≡ pointwise bytes_eq (slots self.now parent) (inherited self.now class) }
+    {
+        same_texts(self.slots(parent), self.inherited(class))
+    }
+
+    /// How deep a class stands once another is under a new superclass, which is not below that one.
+    pub(crate) fn depth_after(&self, at: ClassId, class: ClassId, parent: ClassId) -> usize
+        requires at { is_class self.now at ≡ true }
+        requires class { is_class self.now class ≡ true }
+        requires parent { is_class self.now parent ≡ true }
+        requires apart { among (chain self.now parent) class ≡ false }
+        ensures { IsDeep (reparented (classes self.now) class.0 parent) at result }
+    {
+        self.kept();
+        let depth = usize::from(self.depth(at));
+        if !self.is_above(class, at) {
+            return depth;
+        }
+        depth - usize::from(self.depth(class)) + usize::from(self.depth(parent)) + 1
+    }
+
+    /// Whether some class would have too long a chain once a class is under a new superclass, which is not below it.
+    fn is_too_deep(&self, class: ClassId, parent: ClassId) -> bool
+        requires class { is_class self.now class ≡ true }
+        requires parent { is_class self.now parent ≡ true }
+        requires apart { among (chain self.now parent) class ≡ false }
+        ensures { result ≡ has_too_deep (reparented (classes self.now) class.0 parent) }
+    {
+        self.kept();
+        for number in 0..self.classes() {
+            let at = ClassId(number as u16);
+            if self.depth_after(at, class, parent) > limits::CHAIN {
+                return true;
+            }
+        }
+        false
+    }
+
+    /// The refusal of another superclass.
+    fn reparent_refusal(&self, class: ClassId, parent: ClassId) -> Option<Refusal>
+        ensures { result ≡ first_of (reparent_rules self.now class parent) }
+    {
+        if !self.is_class(class) {
+            return Some(Refusal::UnknownClass);
+        }
+        if !self.is_class(parent) {
+            return Some(Refusal::UnknownClass);
+        }
+        if is_kernel(class) || is_closed(parent) {
+            return Some(Refusal::KernelClass);
+        }
+        if self.is_above(class, parent) {
+            return Some(Refusal::Cycle);
+        }
+        if !self.fits_under(class, parent) {
+            return Some(Refusal::SlotsDiffer);
+        }
+        if self.is_too_deep(class, parent) {
+            return Some(Refusal::TooDeep);
+        }
+        self.full()
+    }
+
     /// Why an edit is refused: the first of its refusals that applies.
     pub fn refusal(&self, edit: &Edit) -> Option<Refusal>
         ensures { result ≡ first_of (edit_rules self.now edit.now) }
@@ -168,6 +260,7 @@ impl Version {
             } => self.define_refusal(name.as_slice(), *parent, slots.as_slice()),
             Edit::Install { class, method } => self.install_refusal(*class, method.selector()),
             Edit::Remove { class, selector } => self.remove_refusal(*class, *selector),
+            Edit::Reparent { class, parent } => self.reparent_refusal(*class, *parent),
         }
     }
 }

@@ -3,7 +3,7 @@ ghost use Rattle.std.specs.Prelude.{◌≡◌, List, ◌∷◌, ◌++◌, [], �
 ghost use Rattle.std.specs.List.{AllZip, slice_get};
 ghost use Rattle.std.specs.Option.{option_copied};
 ghost use Rattle.st_classes.specs.Classes.{ClassDef};
-ghost use Rattle.st_classes.specs.ClassRows.{IsPlain, IsUnder, Puts, row_own};
+ghost use Rattle.st_classes.specs.ClassRows.{IsMoved, IsPlain, IsUnder, Puts, row_own};
 
 use crate::kernel::{Found, kernel_at};
 use crate::method_map::MethodMap;
@@ -18,8 +18,6 @@ use std::sync::Arc;
 pub struct ClassRow {
     pub name: Seq<u8>,
     pub superclass: Option<ClassId>,
-    /// The classes on its chain, itself and Object counted: 1 to 64.
-    pub depth: u8,
     /// All its instance variables, inherited ones first.
     pub slots: Seq<Seq<u8>>,
     /// The user's methods. The kernel's are in `kernel_at`.
@@ -85,9 +83,20 @@ impl ClassRow {
         Ok(ClassRow {
             name: copy_text(alloc, self.name.as_slice())?,
             superclass: self.superclass,
-            depth: self.depth,
             slots: join_texts(alloc, self.slots.as_slice(), &[])?,
             methods: self.methods.with(selector, method)?,
+        })
+    }
+
+    /// The row of the class under another superclass.
+    pub fn moved(&self, alloc: Global, parent: ClassId) -> Result<ClassRow, AllocError>
+        ensures { IfOk result (λ row. IsMoved self.now row parent) }
+    {
+        Ok(ClassRow {
+            name: copy_text(alloc, self.name.as_slice())?,
+            superclass: Some(parent),
+            slots: join_texts(alloc, self.slots.as_slice(), &[])?,
+            methods: self.methods.again()?,
         })
     }
 
@@ -102,7 +111,6 @@ impl ClassRow {
         Ok(ClassRow {
             name: copy_text(alloc, name)?,
             superclass,
-            depth: if superclass.is_some() { 2 } else { 1 },
             slots: Seq::from_vec(Vec::new(alloc)),
             methods: MethodMap::new(alloc),
         })
@@ -116,13 +124,11 @@ impl ClassRow {
         parent: ClassId,
         added: &[Seq<u8>],
     ) -> Result<ClassRow, AllocError>
-        requires { self.now.depth < 64 }
         ensures { IfOk result (λ row. IsUnder self.now row name.now parent added.now) }
     {
         Ok(ClassRow {
             name: copy_text(alloc, name)?,
             superclass: Some(parent),
-            depth: self.depth + 1,
             slots: join_texts(alloc, self.slots.as_slice(), added)?,
             methods: MethodMap::new(alloc),
         })

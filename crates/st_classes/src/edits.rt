@@ -25,6 +25,11 @@ pub enum Edit {
         class: ClassId,
         selector: Selector,
     },
+    /// The class gets another superclass.
+    Reparent {
+        class: ClassId,
+        parent: ClassId,
+    },
 }
 
 impl Edit {

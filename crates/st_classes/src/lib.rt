@@ -8,6 +8,7 @@ mod accepting;
 mod class_index;
 mod class_rows;
 pub mod counted_rows;
+mod depths;
 pub mod edits;
 pub mod faults;
 pub mod instructions;

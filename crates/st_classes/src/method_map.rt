@@ -41,7 +41,7 @@ impl MethodMap {
     }
 
     /// A copy.
-    fn again(&self) -> Result<MethodMap, AllocError>
+    pub fn again(&self) -> Result<MethodMap, AllocError>
         ensures { IfOk result (λ copy. copy ≡ self.now) }
     {
         Ok(MethodMap {

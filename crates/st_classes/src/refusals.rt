@@ -101,6 +101,12 @@ pub enum Refusal {
     ReadFault,
     #[error("a write failed")]
     WriteFault,
+    /// The new superclass is the class itself, or has it on its chain.
+    #[error("a class would be above itself")]
+    Cycle,
+    /// The new superclass has other instance variables than the old one, inherited ones counted.
+    #[error("the superclasses differ in their instance variables")]
+    SlotsDiffer,
 }
 
 impl From<AllocError> for Refusal {

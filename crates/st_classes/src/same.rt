@@ -1,4 +1,4 @@
-//! Whether two edits are the same. Shared edits are compared by what they say.
+//! Whether two edits are the same, and two lists of texts. Shared edits are compared by what they say.
 ghost use Rattle.std.specs.Prelude.{◌≡◌, Decides};
 ghost use Rattle.st_classes.specs.EditLists.{Begins};
 
@@ -33,7 +33,8 @@ fn same_code(a: &[Instruction], b: &[Instruction]) -> bool
     true
 }
 
-fn same_texts(a: &[Seq<u8>], b: &[Seq<u8>]) -> bool
+/// Whether two lists have the same texts.
+pub fn same_texts(a: &[Seq<u8>], b: &[Seq<u8>]) -> bool
     ensures { Decides result (a.now ≡ b.now) }
 {
     if a.len() != b.len() {
@@ -94,6 +95,13 @@ fn same_edit(a: &Edit, b: &Edit) -> bool
                 selector: other_selector,
             },
         ) => class == other_class && selector == other_selector,
+        (
+            Edit::Reparent { class, parent },
+            Edit::Reparent {
+                class: other_class,
+                parent: other_parent,
+            },
+        ) => class == other_class && parent == other_parent,
         _ => false,
     }
 }

@@ -15,6 +15,7 @@ ghost use Rattle.st_classes.specs.Classes.{
 };
 ghost use Rattle.st_classes.specs.ClassRows.{IsRow};
 ghost use Rattle.st_classes.specs.Tables.{IsKept};
+ghost use Rattle.st_classes.specs.EditRules.{is_among};
 ghost use Rattle.st_classes.specs.EditLists.{AllSound, AreLawful, Begins, method_at};
 ghost use Rattle.st_classes.specs.declared.methods.MethodParts.{MethodParts as PartsOf};
 ghost use Rattle.st_classes.specs.Kernel.{does_not_understand};
@@ -24,6 +25,7 @@ mod building;
 
 use crate::class_index::ClassIndex;
 use crate::class_rows::{ClassRow, ClassRows};
+use crate::depths::Depths;
 use crate::edits::{Edit, SharedEdit};
 use crate::kernel::{DOES_NOT_UNDERSTAND, Found, Target};
 use crate::methods::Method;
@@ -38,6 +40,8 @@ use std::sync::Arc;
 pub struct Version {
     edits: Vec<SharedEdit>,
     rows: ClassRows,
+    /// How deep each class stands. Tables with the same classes under the same superclasses share it.
+    depths: Arc<Depths>,
     /// The classes by name. Tables that define the same classes share it.
     named: Arc<ClassIndex>,
 }
@@ -53,13 +57,13 @@ impl Model for Version {
 
     ghost view = { λ v. v.edits.items };
 
-    ghost invariant = { λ v. IsTable v.edits.items v.rows (arc_value v.named) };
+    ghost invariant = { λ v. IsTable v.edits.items v.rows (arc_value v.depths) (arc_value v.named) };
 }
 
 impl Version {
     /// Shows the part of the invariant that is about the edits alone.
     #[inline(always)]
-    fn kept(&self)
+    pub(crate) fn kept(&self)
         ensures { IsKept self.now }
     {
         let _ = &self.edits;
@@ -166,7 +170,25 @@ impl Version {
         requires { is_class self.now class ≡ true }
         ensures { result ≡ length (chain self.now class) }
     {
-        self.row(class).depth
+        self.depths.of(class)
+    }
+
+    /// Whether a class is on the chain of another: it is that class, or stands above it.
+    pub(crate) fn is_above(&self, class: ClassId, below: ClassId) -> bool
+        requires { is_class self.now below ≡ true }
+        ensures { result ≡ is_among (chain self.now below) class }
+    {
+        self.kept();
+        let mut at = below;
+        'up: loop {
+            if at == class {
+                return true;
+            }
+            match self.parent(at) {
+                Some(above) => at = above,
+                None => return false,
+            }
+        }
     }
 
     /// The instance variables of a class, inherited ones first.

@@ -2,17 +2,19 @@
 ghost use Rattle.std.specs.Prelude.{◌≡◌, ◌≤◌, ℕ, List, [], ◌∷◌, ◌++◌, IfOk, IfErr, length, map, true, false, None};
 ghost use Rattle.std.specs.Arc.{arc_value};
 ghost use Rattle.st_classes.specs.declared.edits.Edit.{Edit as EditOf};
-ghost use Rattle.st_classes.specs.declared.edits.Edit.TheVariants.{Define};
+ghost use Rattle.st_classes.specs.declared.edits.Edit.TheVariants.{Define, Reparent};
 ghost use Rattle.st_classes.specs.declared.refusals.Refusal.TheVariants.{NoMemory};
 ghost use Rattle.st_classes.specs.Refusals.{Answers, first_of};
-ghost use Rattle.st_classes.specs.EditRules.{define_rules, edit_rules, has_twice, install_rules};
+ghost use Rattle.st_classes.specs.EditRules.{define_rules, edit_rules, has_twice, install_rules, reparent_rules};
 ghost use Rattle.st_classes.specs.MethodSuits.{edit_suits};
-ghost use Rattle.st_classes.specs.Classes.{defined};
+ghost use Rattle.st_classes.specs.Classes.{ClassDef, classes_after};
+ghost use Rattle.st_classes.specs.Depths.{AreDepths};
 ghost use Rattle.st_classes.specs.ClassRows.{plain_class};
-ghost use Rattle.st_classes.specs.Tables.{ArePlain, AreRows, IsAt, IsNaming};
+ghost use Rattle.st_classes.specs.Tables.{ArePlain, AreRows, IsAt, IsNaming, KeepsNames};
 
 use crate::class_index::ClassIndex;
 use crate::class_rows::ClassRows;
+use crate::depths::Depths;
 use crate::edits::{Edit, SharedEdit};
 use crate::kernel::OBJECT;
 use crate::refusals::Refusal;
@@ -60,9 +62,12 @@ impl Version {
     {
         let (rows, index) = Version::plain_tables(alloc, &KERNEL)?;
         let named = Arc::new(alloc, index)?;
+        let counts = Depths::kernel(alloc)?;
+        let depths = Arc::new(alloc, counts)?;
         Ok(Version {
             edits: Vec::new(alloc),
             rows,
+            depths,
             named,
         })
     }
@@ -78,14 +83,20 @@ impl Version {
         Ok(edits)
     }
 
-    /// The same table once more. The edits, the rows and the names are shared; memory is taken for their pointers.
+    /// The same table once more. The edits, the rows, the depths and the names are shared; memory is taken for their pointers.
     pub fn again(&self, alloc: Global) -> Result<Version, AllocError>
         ensures { IfOk result (λ version. version ≡ self.now) }
     {
         let edits = self.edits_again(alloc)?;
         let rows = self.rows.again(alloc)?;
+        let depths = Arc::try_clone(&self.depths)?;
         let named = Arc::try_clone(&self.named)?;
-        Ok(Version { edits, rows, named })
+        Ok(Version {
+            edits,
+            rows,
+            depths,
+            named,
+        })
     }
 
     /// The edits with one more.
@@ -130,6 +141,22 @@ impl Version {
         Ok(rows)
     }
 
+    /// The rows with another superclass of a class.
+    fn rows_with_parent(
+        &self,
+        alloc: Global,
+        class: ClassId,
+        parent: ClassId,
+    ) -> Result<ClassRows, AllocError>
+        requires { first_of (reparent_rules self.now class parent) ≡ None }
+        ensures { IfOk result (λ rows. AreRows (self.now ++ Reparent class parent ∷ []) rows) }
+    {
+        self.kept();
+        let row = self.row(class).moved(alloc, parent)?;
+        let rows = self.rows.with_at(alloc, class, row)?;
+        Ok(rows)
+    }
+
     /// The rows with an accepted edit more.
     fn rows_with(&self, alloc: Global, edit: &Edit) -> Result<ClassRows, AllocError>
         requires { first_of (edit_rules self.now edit.now) ≡ None }
@@ -148,6 +175,70 @@ impl Version {
             Edit::Remove { class, selector } => {
                 self.rows_with_method(alloc, *class, *selector, None)
             }
+            Edit::Reparent { class, parent } => self.rows_with_parent(alloc, *class, *parent),
+        }
+    }
+
+    /// The depths with that of a new class.
+    fn depths_with_class(
+        &self,
+        alloc: Global,
+        name: &[u8],
+        parent: ClassId,
+        added: &[Seq<u8>],
+    ) -> Result<Arc<Depths>, AllocError>
+        requires { first_of (define_rules self.now name.now parent added.now) ≡ None }
+        ensures { IfOk result (λ depths. AreDepths (self.now ++ Define name.now parent added.now ∷ []) (arc_value depths)) }
+    {
+        self.kept();
+        let depth = self.depth(parent) + 1;
+        let counts = self.depths.with(alloc, depth)?;
+        let depths = Arc::new(alloc, counts)?;
+        Ok(depths)
+    }
+
+    /// The depths with another superclass of a class.
+    fn depths_with_parent(
+        &self,
+        alloc: Global,
+        class: ClassId,
+        parent: ClassId,
+    ) -> Result<Arc<Depths>, AllocError>
+        requires { first_of (reparent_rules self.now class parent) ≡ None }
+        ensures { IfOk result (λ depths. AreDepths (self.now ++ Reparent class parent ∷ []) (arc_value depths)) }
+    {
+        self.kept();
+        let mut counts = Vec::with_capacity(alloc, self.classes() as usize)?;
+        for number in 0..self.classes() {
+            let at = ClassId(number as u16);
+            counts.push(self.depth_after(at, class, parent) as u8)?;
+        }
+        let depths = Arc::new(alloc, Depths::from_vec(counts))?;
+        Ok(depths)
+    }
+
+    /// The same depths, for a table with a method more or less.
+    fn depths_again(&self) -> Result<Arc<Depths>, AllocError>
+        ensures { IfOk result (λ depths. (e : EditOf) → ((cs : List ClassDef) → classes_after cs e ≡ cs) → AreDepths (self.now ++ e ∷ []) (arc_value depths)) }
+    {
+        let depths = Arc::try_clone(&self.depths)?;
+        Ok(depths)
+    }
+
+    /// The depths with an accepted edit more.
+    fn depths_with(&self, alloc: Global, edit: &Edit) -> Result<Arc<Depths>, AllocError>
+        requires { first_of (edit_rules self.now edit.now) ≡ None }
+        ensures { IfOk result (λ depths. AreDepths (self.now ++ edit.now ∷ []) (arc_value depths)) }
+    {
+        match edit {
+            Edit::Define {
+                name,
+                parent,
+                slots,
+            } => self.depths_with_class(alloc, name.as_slice(), *parent, slots.as_slice()),
+            Edit::Install { .. } => self.depths_again(),
+            Edit::Remove { .. } => self.depths_again(),
+            Edit::Reparent { class, parent } => self.depths_with_parent(alloc, *class, *parent),
         }
     }
 
@@ -169,9 +260,9 @@ impl Version {
         Ok(named)
     }
 
-    /// The same names, for a table with a method more or less.
+    /// The same names, for a table with the same classes.
     fn named_again(&self) -> Result<Arc<ClassIndex>, AllocError>
-        ensures { IfOk result (λ named. (e : EditOf) → defined (e ∷ []) ≡ [] → IsNaming (self.now ++ e ∷ []) (arc_value named)) }
+        ensures { IfOk result (λ named. (e : EditOf) → KeepsNames e → IsNaming (self.now ++ e ∷ []) (arc_value named)) }
     {
         let named = Arc::try_clone(&self.named)?;
         Ok(named)
@@ -190,6 +281,7 @@ impl Version {
             } => self.named_with_class(alloc, name.as_slice(), *parent, slots.as_slice()),
             Edit::Install { .. } => self.named_again(),
             Edit::Remove { .. } => self.named_again(),
+            Edit::Reparent { .. } => self.named_again(),
         }
     }
 
@@ -205,9 +297,15 @@ impl Version {
         let accepted = edit.edit();
         accepted.known();
         let rows = self.rows_with(alloc, accepted)?;
+        let depths = self.depths_with(alloc, accepted)?;
         let named = self.named_with(alloc, accepted)?;
         let edits = self.edits_with(alloc, edit)?;
-        Ok(Version { edits, rows, named })
+        Ok(Version {
+            edits,
+            rows,
+            depths,
+            named,
+        })
     }
 
     /// The table with one edit more, or the first refusal that applies. This table stays as it is, and the two share what
@@ -217,7 +315,8 @@ impl Version {
     /// Refusals of a definition, in this order: `UnknownClass`, `BadName`, `KernelClass`, `ClassExists`, `SlotClash`,
     /// `TooDeep`, `TooMany` classes, instance variables or edits. Of an install: `UnknownClass`, `KernelMethod`, `TooMany`
     /// edits. Of a removal: `UnknownClass`, `KernelMethod`, `NoSuchMethod` where the class has no method of its own for the
-    /// selector, `TooMany` edits.
+    /// selector, `TooMany` edits. Of a reparent: `UnknownClass` of the class and then of the superclass, `KernelClass`, `Cycle`,
+    /// `SlotsDiffer`, `TooDeep` where a chain through the class would have over 64 classes, `TooMany` edits.
     pub fn with_edit(&self, alloc: Global, edit: Edit) -> Result<Version, Refusal>
         requires { (names : List (List ℕ)) × (edit_suits names self.now edit ≡ true) }
         ensures answers { Answers (first_of (edit_rules self.now edit)) result (λ version. version ≡ self.now ++ edit ∷ []) }

@@ -12,7 +12,8 @@ use Rattle.st_classes.specs.Kernel.{does_not_understand}
 use Rattle.st_classes.specs.MethodSuits.{arity_at}
 use Rattle.st_classes.specs.EditLists.{AreLawful, AllSound, AllSuit}
 use Rattle.st_classes.proofs.LawLists.{slice_get_kept}
-use Rattle.st_guard.proofs.Covering.{lawful_before, or_parts}
+use Rattle.st_classes.proofs.LawGrowing.{lawful_before}
+use Rattle.st_guard.proofs.Covering.{or_parts}
 use Rattle.st_turn.specs.declared.body.Body.{Body}
 use Rattle.st_turn.specs.BodyFits.{Fits, Referents}
 use Rattle.st_turn.specs.Claims.{ClaimView, IsSound, asked_from, own_asked, selectors_asked, used}

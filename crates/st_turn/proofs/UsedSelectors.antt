@@ -1,5 +1,5 @@
 -- Whether an edit touches a selector that steps used, by the first message of a turn and the sites of the sends.
-use Rattle.std.proofs.Common.{refl, ◌≡◌, ◌∙◌, ◌<◌, ◌++◌, ◌+◌, drop, ℕ, zero, suc, ap, ap₂, sym, subst, List, [], ◌∷◌, length, Option, Some, None, Bool, true, false, ◌||◌, map, slice_get, option_and_then, arith}
+use Rattle.std.proofs.Common.{refl, ◌≡◌, ◌∙◌, ◌<◌, ◌++◌, ◌+◌, drop, ℕ, zero, suc, ap, ap₂, sym, subst, List, [], ◌∷◌, length, Option, Some, None, Bool, true, false, ◌==◌, ◌||◌, map, slice_get, option_and_then, arith}
 use Rattle.std.specs.List.{list_any}
 use Rattle.std.specs.Option.{option_to_list}
 use Rattle.std.proofs.lemmas.List.{map-append}
@@ -14,8 +14,9 @@ use Rattle.st_classes.specs.declared.instructions.Instruction.{Instruction}
 use Rattle.st_classes.specs.declared.instructions.Instruction.TheVariants.{PushLit, PushSelf, PushActor, PushTemp, PushSlot, StoreTemp, StoreSlot, Pop, Dup, Send, SuperSend, Jump, JumpFalse, JumpTrue, Answer}
 use Rattle.st_classes.specs.declared.methods.MethodParts.{MethodParts}
 use Rattle.st_classes.specs.declared.edits.Edit.{Edit}
-use Rattle.st_classes.specs.declared.edits.Edit.TheVariants.{Define}
+use Rattle.st_classes.specs.declared.edits.Edit.TheVariants.{Define, Reparent}
 use Rattle.st_classes.specs.EditLists.{method_at}
+use Rattle.st_classes.specs.Kernel.{does_not_understand}
 use Rattle.st_guard.specs.Touching.{touches}
 use Rattle.st_guard.specs.ValidCaches.{asks}
 use Rattle.st_guard.specs.ValidCaches as caches
@@ -151,6 +152,15 @@ any_touched ss (e ∷ es) = any_or (touches e) (touched es) ss ∙ ap (λ (b : B
 -- a definition touches none
 pub defines_none : (name : List ℕ) (up : ClassId) (slots : List (List ℕ)) (ss : List Selector) → list_any (touches (Define name up slots)) ss ≡ false
 defines_none name up slots ss = nothing_any ss
+
+-- a reparent touches them all, as an edit for `doesNotUnderstand:` does
+or_true : (b : Bool) → (b || true) ≡ true
+or_true true = refl
+or_true false = refl
+
+pub reparents_all : (c p : ClassId) (ss : List Selector) → list_any (touches_from does_not_understand) ss ≡ list_any (touches (Reparent c p)) ss
+reparents_all c p [] = refl
+reparents_all c p (s ∷ ss) = ap (λ (b : Bool). b || list_any (touches_from does_not_understand) ss) (or_true (does_not_understand.0 == s.0))
 
 -- the rest of a list from an element on
 drop_here : {X : Type 0} (xs : List X) (n : ℕ) (x : X) → slice_get xs n ≡ Some x → drop n xs ≡ x ∷ drop (n + 1) xs

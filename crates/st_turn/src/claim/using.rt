@@ -81,6 +81,8 @@ impl Claim {
             Edit::Define { .. } => false,
             Edit::Install { method, .. } => self.is_used(method.selector()),
             Edit::Remove { selector, .. } => self.is_used(*selector),
+            // It touches every selector, as one for `doesNotUnderstand:` does.
+            Edit::Reparent { .. } => self.is_used(DOES_NOT_UNDERSTAND),
         }
     }
 

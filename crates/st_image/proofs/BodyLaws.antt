@@ -13,7 +13,7 @@ use Rattle.st_turn.proofs.KeepingGrowth.{fits_later, fits_given_more, there_late
 use Rattle.st_image.specs.WorldInvariant.{given}
 
 -- after one edit more
-pub fits_after : (g : Referents) (edits : List Edit) (e : Edit) (b : Body) → AreLawful edits → AllSuit g.names edits → Fits g edits b → Fits g (edits ++ e ∷ []) b
+pub fits_after : (g : Referents) (edits : List Edit) (e : Edit) (b : Body) → AreLawful (edits ++ e ∷ []) → AllSuit g.names edits → Fits g edits b → Fits g (edits ++ e ∷ []) b
 fits_after g edits e b l s f = fits_later g edits (e ∷ []) b l s f
 
 -- with more names and actors

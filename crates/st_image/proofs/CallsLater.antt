@@ -17,8 +17,8 @@ use Rattle.st_mailbox.specs.declared.messages.Message.{Message}
 use Rattle.st_image.specs.declared.items.Item.{Item}
 use Rattle.st_image.specs.declared.items.Item.TheVariants.{Begun, Closed, Created, Edited, Posted}
 use Rattle.st_image.specs.Worlds.{World}
-use Rattle.st_image.specs.Images.{ImageView, accepted_by, appended, constants, close_rules, create_rules, image_define_rules, image_post_rules, image_remove_rules, world}
-use Rattle.st_image.specs.Calls.{Adds, Closes, Creates, Defines, InstallsIn, Posts, Removes}
+use Rattle.st_image.specs.Images.{ImageView, accepted_by, appended, constants, close_rules, create_rules, image_define_rules, image_post_rules, image_remove_rules, image_reparent_rules, world}
+use Rattle.st_image.specs.Calls.{Adds, Closes, Creates, Defines, InstallsIn, Posts, Removes, Reparents}
 use Rattle.st_image.specs.Installs.{AnswersInstall, LeavesNames}
 use Rattle.st_image.specs.Commits.{IsAsBefore, ChecksOut, Commits, IsReleased, RefusesCommit, idle_at, items_of, with_out}
 use Rattle.st_image.specs.WorldInvariant.{IsLawful}
@@ -62,6 +62,9 @@ defines_later i j name parent slots r li lj (inr h) = adds_later (image_define_r
 
 pub removes_later : (i j : ImageView) (class : ClassId) (s : Selector) (r : Result ℕ Refusal) → IsLawful i → IsLawful j → Removes i class s r j → GoesOnIn i j
 removes_later i j class s r li lj h = adds_later (image_remove_rules i class s) i j _ (λ x. length (world x).edits) r li lj h
+
+pub reparents_later : (i j : ImageView) (class parent : ClassId) (r : Result ℕ Refusal) → IsLawful i → IsLawful j → Reparents i class parent r j → GoesOnIn i j
+reparents_later i j class parent r li lj h = adds_later (image_reparent_rules i class parent) i j _ (λ x. length (world x).edits) r li lj h
 
 pub creates_later : (i j : ImageView) (class : ClassId) (r : Result ActorId Refusal) → IsLawful i → IsLawful j → Creates i class r j → GoesOnIn i j
 creates_later i j class r li lj h = adds_later (create_rules i class) i j (Created class) (λ x. record { 0 = length (world i).actors }) r li lj h

@@ -1,5 +1,5 @@
 -- A class is found by its name.
-use Rattle.std.proofs.Common.{◌≡◌, ℕ, zero, suc, ◌<◌, Bool, List, [], ◌∷◌, ◌++◌, length, Option, Some, None, option_map, slice_get, get_or, is_some, false, cond, inl, inr, refl, sym, ap, ap₂, subst, ◌∙◌, unwrap_or}
+use Rattle.std.proofs.Common.{arith, ◌≡◌, ℕ, zero, suc, ◌<◌, map, Bool, List, [], ◌∷◌, ◌++◌, length, length-append, Option, Some, None, option_map, slice_get, get_or, is_some, false, cond, inl, inr, refl, sym, ap, ap₂, subst, ◌∙◌, unwrap_or}
 use Rattle.std.specs.List.{position}
 use Rattle.std.specs.Option.{option_or}
 use Rattle.std.specs.Str.{bytes_eq}
@@ -7,15 +7,16 @@ use Rattle.std.proofs.lemmas.Slice.Eq.{bytes_eq-Decides}
 use Rattle.std.proofs.lemmas.Option.{slice_get-get_or}
 use Rattle.st_classes.specs.declared.values.ClassId.{ClassId}
 use Rattle.st_classes.specs.declared.edits.Edit.{Edit}
-use Rattle.st_classes.specs.declared.edits.Edit.TheVariants.{Define, Install, Remove}
+use Rattle.st_classes.specs.declared.edits.Edit.TheVariants.{Define, Install, Remove, Reparent}
 use Rattle.st_classes.specs.Kernel.{class}
 use Rattle.st_classes.specs.Refusals.{first_of}
-use Rattle.st_classes.specs.Classes.{ClassDef, kernel_classes, classes, class_count, class_name, class_named, defined}
+use Rattle.st_classes.specs.Classes.{ClassDef, kernel_classes, reparented, classes, classes_after, classes_from, class_count, class_name, class_named}
 use Rattle.st_classes.specs.EditRules.{edit_rules}
 use Rattle.st_classes.proofs.Indexing.{position_push}
-use Rattle.st_classes.proofs.LawLists.{slice_get_push, slice_get_kept}
-use Rattle.st_classes.proofs.LawChains.{classes_append}
-use Rattle.st_classes.proofs.Growing.{classes_push, classes_same}
+use Rattle.st_classes.proofs.LawLists.{slice_get_old, slice_get_push}
+use Rattle.st_classes.proofs.LawChains.{classes_append, classes_push}
+use Rattle.st_classes.proofs.Naming.{position-map}
+use Rattle.st_classes.proofs.Reparenting.{name_kept, names_kept, reparented_long}
 use Rattle.st_classes.proofs.Defining.{no_such_class, new_def}
 
 -- each class is the first of its name
@@ -52,27 +53,59 @@ once_push cs d once none = λ n e at. elim (slice_get_push cs d e n at) [
       subst (λ (y : ClassDef). position (λ x. bytes_eq y.name x.name) (cs ++ d ∷ []) ≡ Some n) w.1 (last ∙ ap (λ (k : ℕ). Some k) (sym w.0))
 ]
 
+-- the place of a name, by the names alone
+place_by_names : (cs : List ClassDef) (t : List ℕ) → position (λ x. bytes_eq t x.name) cs ≡ position (bytes_eq t) (map (λ d. d.name) cs)
+place_by_names cs t = sym (position-map (λ (d : ClassDef). d.name) (bytes_eq t) cs)
+
+named_at : (o : Option ClassDef) (t : List ℕ) → option_map (λ d. d.name) o ≡ Some t → (d : ClassDef) × (o ≡ Some d) × (d.name ≡ t)
+named_at None t h = cc
+named_at (Some d) t h = (d, refl, cc)
+
+once_reparented : (cs : List ClassDef) (k : ℕ) (p : ClassId) → NamedOnce cs → NamedOnce (reparented cs k p)
+once_reparented cs k p once = λ n e at.
+    let was = named_at (slice_get cs n) e.name (sym (name_kept cs k p n) ∙ ap (option_map (λ (d : ClassDef). d.name)) at) in
+    place_by_names (reparented cs k p) e.name
+    ∙ ap (position (bytes_eq e.name)) (names_kept cs k p)
+    ∙ sym (place_by_names cs e.name)
+    ∙ ap (λ (t : List ℕ). position (λ x. bytes_eq t x.name) cs) (sym was.2)
+    ∙ once n was.0 was.1
+
 pub once_after : (edits : List Edit) (e : Edit) → first_of (edit_rules edits e) ≡ None → NamedOnce (classes edits) → NamedOnce (classes (edits ++ e ∷ []))
 once_after edits (Define name parent slots) h once = subst NamedOnce (sym (classes_push edits (Define name parent slots))) (once_push (classes edits) (new_def name parent slots) once (no_place (position (λ x. bytes_eq name x.name) (classes edits)) (no_such_class edits name parent slots h)))
-once_after edits (Install c m) h once = subst NamedOnce (sym (classes_same edits (Install c m) refl)) once
-once_after edits (Remove c s) h once = subst NamedOnce (sym (classes_same edits (Remove c s) refl)) once
+once_after edits (Install c m) h once = subst NamedOnce (sym (classes_push edits (Install c m))) once
+once_after edits (Remove c s) h once = subst NamedOnce (sym (classes_push edits (Remove c s))) once
+once_after edits (Reparent c p) h once = subst NamedOnce (sym (classes_push edits (Reparent c p))) (once_reparented (classes edits) c.0 p once)
 
 -- ---- found again
 
-name_at : List ClassDef → ℕ → List ℕ
-name_at cs n = unwrap_or (option_map (λ d. d.name) (slice_get cs n)) []
+-- a class keeps its name with an edit more
+name_after : (cs : List ClassDef) (e : Edit) (n : ℕ) → n < length cs → option_map (λ d. d.name) (slice_get (classes_after cs e) n) ≡ option_map (λ d. d.name) (slice_get cs n)
+name_after cs (Define name parent slots) n h = ap (option_map (λ d. d.name)) (slice_get_old cs (new_def name parent slots ∷ []) n h)
+name_after cs (Install c m) n h = refl
+name_after cs (Remove c s) n h = refl
+name_after cs (Reparent c p) n h = name_kept cs c.0 p n
 
-found_there : (cs more : List ClassDef) (n : ℕ) → n < length cs → NamedOnce cs → position (λ x. bytes_eq (name_at (cs ++ more) n) x.name) cs ≡ Some n
-unfolding name_at
-found_there cs more n h once =
+within_after : (cs : List ClassDef) (e : Edit) (n : ℕ) → n < length cs → n < length (classes_after cs e)
+within_after cs (Define name parent slots) n h = omega (arith, h, length-append cs (new_def name parent slots ∷ []))
+within_after cs (Install c m) n h = h
+within_after cs (Remove c s) n h = h
+within_after cs (Reparent c p) n h = omega (arith, h, reparented_long cs c.0 p)
+
+-- and with all later edits
+name_from : (cs : List ClassDef) (es : List Edit) (n : ℕ) → n < length cs → option_map (λ d. d.name) (slice_get (classes_from cs es) n) ≡ option_map (λ d. d.name) (slice_get cs n)
+name_from cs [] n h = refl
+name_from cs (e ∷ es) n h = name_from (classes_after cs e) es n (within_after cs e n h) ∙ name_after cs e n h
+
+-- the class of that name is the one at the number
+found_there : (cs : List ClassDef) (n : ℕ) → n < length cs → NamedOnce cs → position (λ x. bytes_eq (unwrap_or (option_map (λ d. d.name) (slice_get cs n)) []) x.name) cs ≡ Some n
+found_there cs n h once =
     let d : ClassDef = get_or cs n (new_def [] (class 0) []) in
     let at : slice_get cs n ≡ Some d = slice_get-get_or cs n (new_def [] (class 0) []) h in
-    let named : name_at (cs ++ more) n ≡ d.name = ap (λ (o : Option ClassDef). unwrap_or (option_map (λ x. x.name) o) []) (slice_get_kept cs more n d at) in
-    ap (λ (t : List ℕ). position (λ x. bytes_eq t x.name) cs) named ∙ once n d at
+    ap (λ (o : Option ClassDef). position (λ x. bytes_eq (unwrap_or (option_map (λ y. y.name) o) []) x.name) cs) at ∙ once n d at
 
 -- a class is found by the name that it has among later edits
 pub class_again : (edits more : List Edit) (c : ClassId) → c.0 < class_count edits → NamedOnce (classes edits) → class_named edits (unwrap_or (class_name (edits ++ more) c) []) ≡ Some c
-unfolding name_at
 class_again edits more c h once =
-    ap (λ (cs : List ClassDef). class_named edits (name_at cs c.0)) (classes_append edits more)
-    ∙ ap (option_map class) (found_there (classes edits) (defined more) c.0 h once)
+    ap (λ (cs : List ClassDef). class_named edits (unwrap_or (option_map (λ d. d.name) (slice_get cs c.0)) [])) (classes_append edits more)
+    ∙ ap (λ (o : Option (List ℕ)). class_named edits (unwrap_or o [])) (name_from (classes edits) more c.0 h)
+    ∙ ap (option_map class) (found_there (classes edits) c.0 h once)

@@ -76,7 +76,7 @@ message_later names c a c' a' h k m e = let t = and_parts _ _ e in and_from _ _ 
 
 -- ---- one actor
 
-being_after : (names : List (List ℕ)) (edits : List Edit) (n : ℕ) (e : Edit) (b : WorldActor) → AreLawful edits → AllSuit names edits → IsWorldActor names edits n b → IsWorldActor names (edits ++ e ∷ []) n b
+being_after : (names : List (List ℕ)) (edits : List Edit) (n : ℕ) (e : Edit) (b : WorldActor) → AreLawful (edits ++ e ∷ []) → AllSuit names edits → IsWorldActor names edits n b → IsWorldActor names (edits ++ e ∷ []) n b
 being_after names edits n e b l r h = record {
   fits = fits_after (given names n) edits e b.body l r h.fits;
   itself = h.itself;
@@ -173,7 +173,7 @@ edited_keeps c w v e h s f =
         lawful = lawful_with w.edits e h.lawful r;
         suited = all_suit_with c.names w.edits e h.lawful r h.suited b.1;
         sound = sound_push w.edits e h.sound s;
-        actors = all_map (IsWorldActor c.names w.edits (length w.actors)) (IsWorldActor c.names (w.edits ++ e ∷ []) (length w.actors)) w.actors (λ x g. being_after c.names w.edits (length w.actors) e x h.lawful h.suited g) h.actors;
+        actors = all_map (IsWorldActor c.names w.edits (length w.actors)) (IsWorldActor c.names (w.edits ++ e ∷ []) (length w.actors)) w.actors (λ x g. being_after c.names w.edits (length w.actors) e x (lawful_with w.edits e h.lawful r) h.suited g) h.actors;
         clients = h.clients;
       };
       turns = λ base t. record { long = t.long; each = t.each; starts = t.starts };

@@ -3,7 +3,7 @@ use Rattle.std.proofs.Common.{◌≡◌, ℕ, List, [], ◌∷◌, ◌++◌, sym
 use Rattle.std.proofs.lemmas.Option.{same_Some}
 use Rattle.st_classes.specs.declared.values.ClassId.{ClassId}
 use Rattle.st_classes.specs.declared.edits.Edit.{Edit}
-use Rattle.st_classes.specs.declared.edits.Edit.TheVariants.{Define, Remove}
+use Rattle.st_classes.specs.declared.edits.Edit.TheVariants.{Define, Remove, Reparent}
 use Rattle.st_classes.specs.Kernel.{selector}
 use Rattle.st_reader.specs.Spelling.{OneReading}
 use Rattle.st_image.specs.declared.edit_text.EditText.TheVariants as text
@@ -25,6 +25,10 @@ edit_once one l (text.Remove class name) m n p q =
     let holders : p.holder ≡ q.holder = same_Some p.holder q.holder (sym p.named ∙ q.named) in
     let numbers : p.number ≡ q.number = same_Some p.number q.number (sym p.there ∙ q.there) in
     same_view m n (p.names ∙ sym q.names) (p.accepts.added ∙ (ap (λ (c : ClassId). l.edits ++ Remove c (selector p.number) ∷ []) holders ∙ (ap (λ (k : ℕ). l.edits ++ Remove q.holder (selector k) ∷ []) numbers ∙ sym q.accepts.added)))
+edit_once one l (text.Reparent class parent) m n p q =
+    let classes : p.moved ≡ q.moved = same_Some p.moved q.moved (sym p.named ∙ q.named) in
+    let above : p.above ≡ q.above = same_Some p.above q.above (sym p.named_above ∙ q.named_above) in
+    same_view m n (p.names ∙ sym q.names) (p.accepts.added ∙ (ap (λ (c : ClassId). l.edits ++ Reparent c p.above ∷ []) classes ∙ (ap (λ (c : ClassId). l.edits ++ Reparent q.moved c ∷ []) above ∙ sym q.accepts.added)))
 
 -- several, one after the other
 pub all_once : {T : Type 0} (step : LoaderView → T → LoaderView → Type 0) → LeadsToOne step → LeadsToOne (LoadsAll step)

@@ -3,7 +3,7 @@ use Rattle.std.proofs.Common.{◌≡◌, ℕ, ◌++◌, List, refl, length, true
 use Rattle.std.proofs.lemmas.Bool.{and_parts, and_from}
 use Rattle.st_classes.specs.declared.values.Value.{Value}
 use Rattle.st_classes.specs.declared.edits.Edit.{Edit}
-use Rattle.st_classes.specs.declared.edits.Edit.TheVariants.{Define, Install, Remove}
+use Rattle.st_classes.specs.declared.edits.Edit.TheVariants.{Define, Install, Remove, Reparent}
 use Rattle.st_classes.specs.Classes.{class_count}
 use Rattle.st_classes.specs.MethodSuits.{edit_suits}
 use Rattle.st_classes.proofs.LawLists.{list_all_weaker}
@@ -20,6 +20,7 @@ pub edit_suits_more : (names more : List (List ℕ)) (edits : List Edit) (e : Ed
 edit_suits_more names more edits (Define name parent added) h = refl
 edit_suits_more names more edits (Install c m) h = suits_more_names names more edits c m h
 edit_suits_more names more edits (Remove c s) h = refl
+edit_suits_more names more edits (Reparent c p) h = refl
 
 -- ---- messages
 

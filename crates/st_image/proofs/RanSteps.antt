@@ -12,7 +12,7 @@ use Rattle.st_classes.specs.declared.instructions.Instruction.{Instruction}
 use Rattle.st_classes.specs.declared.instructions.Instruction.TheVariants.{Send, SuperSend}
 use Rattle.st_classes.specs.declared.methods.MethodParts.{MethodParts}
 use Rattle.st_classes.specs.declared.edits.Edit.{Edit}
-use Rattle.st_classes.specs.declared.edits.Edit.TheVariants.{Define, Install, Remove}
+use Rattle.st_classes.specs.declared.edits.Edit.TheVariants.{Define, Install, Remove, Reparent}
 use Rattle.st_classes.specs.declared.kernel.Kernel.{Kernel}
 use Rattle.st_classes.specs.declared.kernel.Found.{Found}
 use Rattle.st_classes.specs.declared.kernel.Found.TheVariants.{Kernel as FoundKernel}
@@ -79,11 +79,13 @@ leaves : (e : Edit) (at : List Edit) (c : ClassId) (s : Selector) (k : Kernel) �
 leaves (Define name parent slots) at c s k there h = refl
 leaves (Install d m) at c s k there h = not_true (is_at d m.selector c s) (not_here c d s m.selector k there (install_kernel at d m.selector h))
 leaves (Remove d t) at c s k there h = not_true (is_at d t c s) (not_here c d s t k there (install_kernel at d t (remove_install at d t h)))
+leaves (Reparent d p) at c s k there h = refl
 
 left_alone : (e : Edit) (place : ℕ) (found : Option Found) (c : ClassId) (s : Selector) → decides e c s ≡ false → decided e place found c s ≡ found
 left_alone (Define name up added) place found c s h = refl
 left_alone (Install d m) place found c s h = rw h
 left_alone (Remove d t) place found c s h = rw h
+left_alone (Reparent d p) place found c s h = refl
 
 own_stays : (es : List Edit) (place : ℕ) (found : Option Found) (c : ClassId) (s : Selector) (k : Kernel) → kernel_method c s ≡ Some k → WereAccepted es → own_from place found es c s ≡ found
 own_stays [] place found c s k there h = refl

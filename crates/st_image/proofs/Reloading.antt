@@ -11,7 +11,7 @@ use Rattle.st_classes.specs.declared.values.ClassId.{ClassId}
 use Rattle.st_classes.specs.declared.values.MethodId.{MethodId}
 use Rattle.st_classes.specs.declared.values.Selector.{Selector}
 use Rattle.st_classes.specs.declared.edits.Edit.{Edit}
-use Rattle.st_classes.specs.declared.edits.Edit.TheVariants.{Define, Install, Remove}
+use Rattle.st_classes.specs.declared.edits.Edit.TheVariants.{Define, Install, Remove, Reparent}
 use Rattle.st_classes.specs.declared.kernel.Found.{Found}
 use Rattle.st_classes.specs.declared.kernel.Found.TheVariants.{User, Kernel as FoundKernel}
 use Rattle.st_classes.specs.declared.methods.MethodParts.{MethodParts}
@@ -26,6 +26,7 @@ use Rattle.st_classes.specs.EditRules.{edit_rules}
 use Rattle.st_classes.specs.LookupLaws.{Stands}
 use Rattle.st_classes.specs.MethodSuits.{arity_at, instruction_suits, is_number, suits}
 use Rattle.st_classes.specs.Walks.{own, user_method}
+use Rattle.st_classes.proofs.LawChains.{may_move}
 use Rattle.st_classes.proofs.LawLists.{no_rule, slice_get_here, slice_get_kept, take_whole}
 use Rattle.st_classes.proofs.LawLookup.{own_stands, stands_at}
 use Rattle.st_compile.proofs.Places.{first, at-first, place-of_name}
@@ -94,6 +95,13 @@ install_class edits c m h = ltb-true c.0 (class_count edits) (not-false (is_clas
 
 remove_class : (edits : List Edit) (c : ClassId) (s : Selector) → first_of (edit_rules edits (Remove c s)) ≡ None → c.0 < class_count edits
 remove_class edits c s h = ltb-true c.0 (class_count edits) (not-false (is_class edits c) (no_rule (edit_rules edits (Remove c s)) 0 (not (is_class edits c), UnknownClass) h refl))
+
+-- both classes of a reparent are classes
+reparent_class : (edits : List Edit) (c p : ClassId) → first_of (edit_rules edits (Reparent c p)) ≡ None → c.0 < class_count edits
+reparent_class edits c p h = (may_move edits c p h).here
+
+reparent_above : (edits : List Edit) (c p : ClassId) → first_of (edit_rules edits (Reparent c p)) ≡ None → p.0 < class_count edits
+reparent_above edits c p h = (may_move edits c p h).there
 
 users : (o : Option Found) → is_some (user_method o) ≡ true → (m : MethodId) × (o ≡ Some (User m))
 users None h = cc
@@ -170,6 +178,14 @@ edit_loads names edits (Remove c s) more t once allowed = record {
   number = s.0;
   named = class_again edits (Remove c s ∷ more) c (remove_class edits c s allowed) once;
   there = place-of_name names t.named (selector_text names s) s.0 (removed_text names edits (Remove c s ∷ more) c s t.suited allowed);
+  accepts = record { allowed = allowed; added = refl };
+  names = refl;
+}
+edit_loads names edits (Reparent c p) more t once allowed = record {
+  moved = c;
+  above = p;
+  named = class_again edits (Reparent c p ∷ more) c (reparent_class edits c p allowed) once;
+  named_above = class_again edits (Reparent c p ∷ more) p (reparent_above edits c p allowed) once;
   accepts = record { allowed = allowed; added = refl };
   names = refl;
 }

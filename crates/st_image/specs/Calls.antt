@@ -4,14 +4,14 @@ use Rattle.st_classes.specs.declared.values.ClassId.{ClassId}
 use Rattle.st_classes.specs.declared.values.ActorId.{ActorId}
 use Rattle.st_classes.specs.declared.values.Selector.{Selector}
 use Rattle.st_classes.specs.declared.edits.Edit.{Edit}
-use Rattle.st_classes.specs.declared.edits.Edit.TheVariants.{Define, Remove}
+use Rattle.st_classes.specs.declared.edits.Edit.TheVariants.{Define, Remove, Reparent}
 use Rattle.st_classes.specs.declared.refusals.Refusal.{Refusal}
 use Rattle.st_classes.specs.declared.refusals.Refusal.TheVariants.{NoMemory}
 use Rattle.st_classes.specs.Refusals.{Rule, first_of}
 use Rattle.st_mailbox.specs.declared.messages.Message.{Message}
 use Rattle.st_image.specs.declared.items.Item.{Item}
 use Rattle.st_image.specs.declared.items.Item.TheVariants.{Edited, Created, Posted, Closed}
-use Rattle.st_image.specs.Images.{ImageView, world, appended, image_define_rules, image_remove_rules, close_rules, create_rules, image_post_rules, accepted_by}
+use Rattle.st_image.specs.Images.{ImageView, world, appended, image_define_rules, image_remove_rules, image_reparent_rules, close_rules, create_rules, image_post_rules, accepted_by}
 use Rattle.st_image.specs.Installs.{AnswersInstall, LeavesNames}
 
 -- the answer of a call that asks its rules before it takes memory: a value only where no refusal applies; else the
@@ -38,6 +38,10 @@ Defines i name parent slots result j = ((result ≡ Err NoMemory) × (j ≡ i))
 -- a class's own method for a selector is removed
 abbrev pub Removes : ImageView → ClassId → Selector → Result ℕ Refusal → ImageView → Type 0
 Removes i c s = Edits (image_remove_rules i c s) (Remove c s) i
+
+-- a class gets another superclass
+abbrev pub Reparents : ImageView → ClassId → ClassId → Result ℕ Refusal → ImageView → Type 0
+Reparents i c parent = Edits (image_reparent_rules i c parent) (Reparent c parent) i
 
 -- a new actor is made, and the answer is its number
 abbrev pub Creates : ImageView → ClassId → Result ActorId Refusal → ImageView → Type 0

@@ -2,7 +2,7 @@
 use Rattle.std.specs.Prelude.{◌≡◌, ℕ, List, Some, None, slice_get, take}
 use Rattle.st_classes.specs.declared.values.ClassId.{ClassId}
 use Rattle.st_classes.specs.declared.edits.Edit.{Edit}
-use Rattle.st_classes.specs.declared.edits.Edit.TheVariants.{Define, Install, Remove}
+use Rattle.st_classes.specs.declared.edits.Edit.TheVariants.{Define, Install, Remove, Reparent}
 use Rattle.st_classes.specs.declared.methods.MethodParts.{MethodParts}
 use Rattle.st_classes.specs.Refusals.{first_of}
 use Rattle.st_reader.specs.Syntax.{Method}
@@ -23,6 +23,7 @@ abbrev pub IsCompiledEdit : List (List ℕ) → List Edit → Edit → Type 0
 IsCompiledEdit names edits (Define name parent slots) = Unit {0}
 IsCompiledEdit names edits (Install c m) = IsCompiledFrom names edits c m
 IsCompiledEdit names edits (Remove c s) = Unit {0}
+IsCompiledEdit names edits (Reparent c p) = Unit {0}
 
 -- each installed method is compiled from its source at the edits before it
 abbrev pub AllCompiled : List (List ℕ) → List Edit → Type 0

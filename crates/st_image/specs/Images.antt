@@ -8,7 +8,7 @@ use Rattle.st_classes.specs.declared.refusals.Limited.TheVariants.{Edits, Actors
 use Rattle.st_classes.specs.Refusals.{Rule}
 use Rattle.st_classes.specs.Kernel.{kernel_selectors}
 use Rattle.st_classes.specs.Classes.{is_class}
-use Rattle.st_classes.specs.EditRules.{is_value_class, define_rules, remove_rules}
+use Rattle.st_classes.specs.EditRules.{is_value_class, define_rules, remove_rules, reparent_rules}
 use Rattle.st_mailbox.specs.declared.messages.Message.{Message}
 use Rattle.st_image.specs.declared.items.Item.{Item}
 use Rattle.st_image.specs.declared.settings.Settings.{Settings}
@@ -103,6 +103,10 @@ image_define_rules i name parent added = define_rules (world i).edits name paren
 -- the refusals of a removal in an image, in their order
 abbrev pub image_remove_rules : ImageView → ClassId → Selector → List Rule
 image_remove_rules i c s = remove_rules (world i).edits c s ++ run_rules i
+
+-- of another superclass of a class
+abbrev pub image_reparent_rules : ImageView → ClassId → ClassId → List Rule
+image_reparent_rules i c parent = reparent_rules (world i).edits c parent ++ run_rules i
 
 -- the refusals of a new actor, in their order
 abbrev pub create_rules : ImageView → ClassId → List Rule

@@ -3,7 +3,7 @@ use Rattle.std.specs.Prelude.{◌≡◌, ◌⊎◌, ℕ, List, [], ◌∷◌, �
 use Rattle.st_classes.specs.declared.values.ClassId.{ClassId}
 use Rattle.st_classes.specs.declared.values.Selector.{Selector}
 use Rattle.st_classes.specs.declared.edits.Edit.{Edit}
-use Rattle.st_classes.specs.declared.edits.Edit.TheVariants.{Define, Install, Remove}
+use Rattle.st_classes.specs.declared.edits.Edit.TheVariants.{Define, Install, Remove, Reparent}
 use Rattle.st_classes.specs.declared.methods.MethodParts.{MethodParts}
 use Rattle.st_classes.specs.declared.refusals.Refusal.{Refusal}
 use Rattle.st_classes.specs.declared.refusals.Refusal.TheVariants.{BadImage, NoMemory}
@@ -82,11 +82,21 @@ pub record LoadsRemove (l : LoaderView) (class name : List ℕ) (m : LoaderView)
   pub accepts : Accepts l (Remove holder (selector number)) m
   pub names : m.names ≡ l.names
 
+-- another superclass of a class; both are named
+pub record LoadsReparent (l : LoaderView) (class parent : List ℕ) (m : LoaderView) : Type 0 where
+  pub moved : ClassId
+  pub above : ClassId
+  pub named : class_named l.edits class ≡ Some moved
+  pub named_above : class_named l.edits parent ≡ Some above
+  pub accepts : Accepts l (Reparent moved above) m
+  pub names : m.names ≡ l.names
+
 -- by the kind of the edit
 abbrev pub LoadsEdit : LoaderView → EditText → LoaderView → Type 0
 LoadsEdit l (text.Define name parent slots) m = LoadsDefine l name parent slots m
 LoadsEdit l (text.Install class source) m = InstallsFrom l class source m
 LoadsEdit l (text.Remove class name) m = LoadsRemove l class name m
+LoadsEdit l (text.Reparent class parent) m = LoadsReparent l class parent m
 
 -- one after the other
 abbrev pub LoadsAll : {T : Type 0} → (LoaderView → T → LoaderView → Type 0) → LoaderView → List T → LoaderView → Type 0
@@ -145,6 +155,7 @@ abbrev pub edit_text : List (List ℕ) → List Edit → Edit → EditText
 edit_text names edits (Define name parent slots) = text.Define name (class_text edits parent) slots
 edit_text names edits (Install c m) = text.Install (class_text edits c) m.source
 edit_text names edits (Remove c s) = text.Remove (class_text edits c) (selector_text names s)
+edit_text names edits (Reparent c p) = text.Reparent (class_text edits c) (class_text edits p)
 
 -- all edits of a table as texts
 abbrev pub edit_texts : List (List ℕ) → List Edit → List EditText

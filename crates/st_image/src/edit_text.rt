@@ -17,4 +17,8 @@ pub enum EditText {
         class: Seq<u8>,
         selector: Seq<u8>,
     },
+    Reparent {
+        class: Seq<u8>,
+        parent: Seq<u8>,
+    },
 }

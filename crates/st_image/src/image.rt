@@ -15,6 +15,7 @@ mod listing;
 mod parting;
 mod posting;
 mod removing;
+mod reparenting;
 mod stating;
 
 use crate::actor::Actor;

@@ -89,7 +89,7 @@ impl Loader {
     ghost use Rattle.st_classes.specs.EditRules.{edit_rules};
     ghost use Rattle.st_classes.specs.MethodSuits.{edit_suits};
     ghost use Rattle.st_classes.specs.Refusals.{first_of, Answers};
-    ghost use Rattle.st_image.specs.Loading.{AnswersEdit, AnswersName, AnswersTree, InstallsFrom, LoadsDefine, LoadsRemove, LoadsEdit, OnlyNames};
+    ghost use Rattle.st_image.specs.Loading.{AnswersEdit, AnswersName, AnswersTree, InstallsFrom, LoadsDefine, LoadsRemove, LoadsReparent, LoadsEdit, OnlyNames};
     ghost use Rattle.st_classes.specs.Kernel.{kernel_selectors};
     ghost use Rattle.st_classes.specs.Names.{AreNames};
     ghost use Rattle.st_classes.specs.EditLists.{AllSuit, AllSound, AreLawful};
@@ -165,6 +165,9 @@ impl Loader {
             }
             EditText::Remove { class, selector } => {
                 self.remove(alloc, class.as_slice(), selector.as_slice())
+            }
+            EditText::Reparent { class, parent } => {
+                self.reparent(alloc, class.as_slice(), parent.as_slice())
             }
         }
     }
@@ -275,6 +278,22 @@ impl Loader {
             return Err(EDITS);
         };
         match self.accept(alloc, Edit::Remove { class, selector }) {
+            Ok(()) => Ok(()),
+            Err(refusal) => Err(refused(refusal)),
+        }
+    }
+
+    fn reparent(&mut self, alloc: Global, class: &[u8], parent: &[u8]) -> Result<(), Refusal>
+        ensures answers { AnswersEdit (LoadsReparent self.old class.now parent.now) self.new result }
+        ensures refused { OnErr result (OnlyNames self.old self.new) }
+    {
+        let Some(class) = self.version.class_named(class) else {
+            return Err(EDITS);
+        };
+        let Some(parent) = self.version.class_named(parent) else {
+            return Err(EDITS);
+        };
+        match self.accept(alloc, Edit::Reparent { class, parent }) {
             Ok(()) => Ok(()),
             Err(refusal) => Err(refused(refusal)),
         }

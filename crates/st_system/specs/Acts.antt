@@ -1,12 +1,12 @@
 -- What each event makes of a schedule, and rows of events.
 use Rattle.std.specs.Prelude.{◌≡◌, ◌⊎◌, List, [], ◌∷◌, Result, slice_get}
 use Rattle.st_classes.specs.declared.refusals.Refusal.{Refusal}
-use Rattle.st_image.specs.Calls.{Closes, Creates, Defines, InstallsIn, Posts, Removes}
+use Rattle.st_image.specs.Calls.{Closes, Creates, Defines, InstallsIn, Posts, Removes, Reparents}
 use Rattle.st_image.specs.PostRules.{from_client}
 use Rattle.st_system.specs.declared.events.Answer.{Answer}
 use Rattle.st_system.specs.declared.events.Answer.TheVariants.{Interned, Version, Created, Position, Done}
 use Rattle.st_system.specs.declared.events.Event.{Event}
-use Rattle.st_system.specs.declared.events.Event.TheVariants.{Intern, Define, Install, Remove, Create, Post, Close, Checkout, Local, Commit, Release, Forget}
+use Rattle.st_system.specs.declared.events.Event.TheVariants.{Intern, Define, Install, Remove, Reparent, Create, Post, Close, Checkout, Local, Commit, Release, Forget}
 use Rattle.st_system.specs.Schedules.{Schedule}
 use Rattle.st_system.specs.ImageEvents.{FindsNoMemory, Interns, OfImage}
 use Rattle.st_system.specs.ClaimEvents.{AtWorker, CommitsClaim, KeepsClaim, OfClaim, ReleasesClaim, StepsClaim, TakesClaim}
@@ -17,6 +17,7 @@ Acts S (Intern text) r T = OfImage Interned (Interns S.image text) S r T
 Acts S (Define name parent slots) r T = OfImage Version (Defines S.image name parent slots) S r T
 Acts S (Install c source) r T = OfImage Version (InstallsIn S.image c source) S r T
 Acts S (Remove c s) r T = OfImage Version (Removes S.image c s) S r T
+Acts S (Reparent c parent) r T = OfImage Version (Reparents S.image c parent) S r T
 Acts S (Create c) r T = OfImage Created (Creates S.image c) S r T
 Acts S (Post sender seq a s args) r T =
     FindsNoMemory S r T ⊎ OfImage Position (Posts S.image a (from_client sender seq s args)) S r T

@@ -1,7 +1,7 @@
 //! The image's calls, as events make them: the image before goes on in the one after.
 ghost use Rattle.std.specs.Prelude.{◌≡◌, ◌⊎◌, None, Some, Ok, Err, IfOk, IfErr};
 ghost use Rattle.st_classes.specs.declared.refusals.Refusal.TheVariants.{NoMemory};
-ghost use Rattle.st_image.specs.Calls.{Closes, Creates, Defines, InstallsIn, Posts, Removes};
+ghost use Rattle.st_image.specs.Calls.{Closes, Creates, Defines, InstallsIn, Posts, Removes, Reparents};
 ghost use Rattle.st_image.specs.Commits.{ChecksOut, Commits, IsReleased};
 ghost use Rattle.st_image.specs.PostRules.{from_client};
 ghost use Rattle.st_system.specs.ImageEvents.{Interns};
@@ -73,6 +73,22 @@ pub(crate) fn remove<M: Mailbox>(
 {
     image.known();
     let answer = image.remove(alloc, class, selector);
+    image.known();
+    answer
+}
+
+/// Puts a class under another superclass.
+pub(crate) fn reparent<M: Mailbox>(
+    alloc: Global,
+    image: &mut Image<M>,
+    class: ClassId,
+    parent: ClassId,
+) -> Result<u32, Refusal>
+    ensures reparents { Reparents image.old class parent result image.new }
+    ensures later { GoesOnIn image.old image.new }
+{
+    image.known();
+    let answer = image.reparent(alloc, class, parent);
     image.known();
     answer
 }

@@ -24,6 +24,11 @@ pub enum Event {
         class: ClassId,
         selector: Selector,
     },
+    /// A class gets another superclass.
+    Reparent {
+        class: ClassId,
+        parent: ClassId,
+    },
     /// An actor is made.
     Create(ClassId),
     /// A client posts a message, with its own number for it.

@@ -138,6 +138,7 @@ impl<M: Mailbox, G: Guard> System<M, G> {
             } => self.define(alloc, name, *parent, slots),
             Event::Install { class, source } => self.install(alloc, *class, source),
             Event::Remove { class, selector } => self.remove(alloc, *class, *selector),
+            Event::Reparent { class, parent } => self.reparent(alloc, *class, *parent),
             Event::Create(class) => self.create(alloc, *class),
             Event::Post {
                 sender,

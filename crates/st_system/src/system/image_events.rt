@@ -11,7 +11,7 @@ use st_mailbox::mailboxes::Mailbox;
 use std::alloc::Global;
 
 impl<M: Mailbox, G: Guard> System<M, G> {
-    ghost use Rattle.st_system.specs.declared.events.Event.TheVariants.{Intern as InternOf, Define as DefineOf, Install as InstallOf, Remove as RemoveOf, Create as CreateOf, Post as PostOf, Close as CloseOf};
+    ghost use Rattle.st_system.specs.declared.events.Event.TheVariants.{Intern as InternOf, Define as DefineOf, Install as InstallOf, Remove as RemoveOf, Reparent as ReparentOf, Create as CreateOf, Post as PostOf, Close as CloseOf};
     ghost use Rattle.st_system.specs.Acts.{Acts};
     ghost use Rattle.st_system.specs.Others.{LeavesOthers};
     ghost use Rattle.st_system.specs.Schedules.{schedule};
@@ -58,6 +58,18 @@ impl<M: Mailbox, G: Guard> System<M, G> {
         ensures others { LeavesOthers (RemoveOf class selector) self.old.seats self.new.seats }
     {
         Ok(Answer::Version(calls::remove(alloc, &mut self.image, class, selector)?))
+    }
+
+    pub(super) fn reparent(
+        &mut self,
+        alloc: Global,
+        class: ClassId,
+        parent: ClassId,
+    ) -> Result<Answer, Refusal>
+        ensures acts { Acts (schedule self.old) (ReparentOf class parent) result (schedule self.new) }
+        ensures others { LeavesOthers (ReparentOf class parent) self.old.seats self.new.seats }
+    {
+        Ok(Answer::Version(calls::reparent(alloc, &mut self.image, class, parent)?))
     }
 
     pub(super) fn create(&mut self, alloc: Global, class: ClassId) -> Result<Answer, Refusal>

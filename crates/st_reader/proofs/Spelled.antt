@@ -2,7 +2,7 @@
 use Rattle.std.proofs.Common.{◌≡◌, ℕ, ◌<◌, ◌≤◌, true, false, List, length, Some, None, refl, sym, ap, subst, ◌∙◌, arith, ◌⊎◌, inl, inr}
 use Rattle.std.specs.List.{list_all}
 use Rattle.st_classes.specs.declared.refusals.Refusal.{Refusal}
-use Rattle.st_classes.specs.declared.refusals.Refusal.TheVariants.{BadSource, NoMemory, UnknownClass, ClassExists, KernelClass, KernelMethod, BadName, SlotClash, TooDeep, NoSuchMethod, UnknownActor, Closed, Full, Old, BadArguments, NothingToDo, Stale, Changed, TooMany, Pending, Expired, BadCommand, TooLong, BadImage, HistoryFull, ReadFault, WriteFault}
+use Rattle.st_classes.specs.declared.refusals.Refusal.TheVariants.{BadSource, NoMemory, UnknownClass, ClassExists, KernelClass, KernelMethod, BadName, SlotClash, TooDeep, NoSuchMethod, UnknownActor, Closed, Full, Old, BadArguments, NothingToDo, Stale, Changed, TooMany, Pending, Expired, BadCommand, TooLong, BadImage, HistoryFull, ReadFault, WriteFault, Cycle, SlotsDiffer}
 use Rattle.st_reader.specs.Faults.{IsBadSource, RefusesSource}
 use Rattle.st_reader.specs.Tokens.{Token, IsCut, CutsOneWay, is_character, token_fits}
 use Rattle.st_reader.specs.Syntax.{Method}
@@ -83,3 +83,5 @@ said (BadImage place) r x = absurd r
 said HistoryFull r x = absurd r
 said ReadFault r x = absurd r
 said WriteFault r x = absurd r
+said Cycle r x = absurd r
+said SlotsDiffer r x = absurd r

@@ -4,7 +4,7 @@ use Rattle.std.specs.Prelude.{is_ok, IfOk, OnErr, OnOk}
 use Rattle.st_classes.specs.declared.values.ActorId.{ActorId}
 use Rattle.st_classes.specs.declared.values.ClassId.{ClassId}
 use Rattle.st_classes.specs.declared.values.Selector.{Selector}
-use Rattle.st_classes.specs.declared.edits.Edit.TheVariants.{Define, Install, Remove}
+use Rattle.st_classes.specs.declared.edits.Edit.TheVariants.{Define, Install, Remove, Reparent}
 use Rattle.st_classes.specs.declared.refusals.Refusal.{Refusal}
 use Rattle.st_classes.specs.declared.refusals.Refusal.TheVariants.{NoMemory, Stale, Changed, HistoryFull, TooMany}
 use Rattle.st_classes.specs.declared.refusals.Limited.TheVariants.{Names, Edits}
@@ -14,8 +14,8 @@ use Rattle.st_turn.specs.Claims.{ClaimView}
 use Rattle.st_mailbox.specs.declared.messages.Message.{Message}
 use Rattle.st_image.specs.declared.items.Item.{Item}
 use Rattle.st_image.specs.declared.items.Item.TheVariants.{Begun, Closed, Created, Edited, Posted, Ran}
-use Rattle.st_image.specs.Images.{ImageView, accepted_by, appended, close_rules, create_rules, image_define_rules, image_post_rules, image_remove_rules, world}
-use Rattle.st_image.specs.Calls.{Adds, Closes, Creates, Defines, InstallsIn, Posts, Removes}
+use Rattle.st_image.specs.Images.{ImageView, accepted_by, appended, close_rules, create_rules, image_define_rules, image_post_rules, image_remove_rules, image_reparent_rules, world}
+use Rattle.st_image.specs.Calls.{Adds, Closes, Creates, Defines, InstallsIn, Posts, Removes, Reparents}
 use Rattle.st_image.specs.Installs.{LeavesNames}
 use Rattle.st_image.specs.Commits.{ChecksOut, Commits, HasCheckedOut, IsReleased, RefusesCommit, idle_at, items_of, stands_before_act, steps_of, with_out}
 use Rattle.st_image.specs.WorldInvariant.{IsLawful}
@@ -50,6 +50,10 @@ defines_grow i j name parent slots (Err e) (inr h) = by_none (image_define_rules
 pub removes_grow : (i j : ImageView) (class : ClassId) (s : Selector) (r : Result ℕ Refusal) → Removes i class s r j → Grows 0 (counted (is_ok r)) 0 i j
 removes_grow i j class s (Ok v) h = by_one (image_remove_rules i class s) i j (Edited (Remove class s)) (λ x. length (world x).edits) v (omega arith) h
 removes_grow i j class s (Err e) h = by_none (image_remove_rules i class s) i j (Edited (Remove class s)) (λ x. length (world x).edits) e h
+
+pub reparents_grow : (i j : ImageView) (class parent : ClassId) (r : Result ℕ Refusal) → Reparents i class parent r j → Grows 0 (counted (is_ok r)) 0 i j
+reparents_grow i j class parent (Ok v) h = by_one (image_reparent_rules i class parent) i j (Edited (Reparent class parent)) (λ x. length (world x).edits) v (omega arith) h
+reparents_grow i j class parent (Err e) h = by_none (image_reparent_rules i class parent) i j (Edited (Reparent class parent)) (λ x. length (world x).edits) e h
 
 pub creates_grow : (i j : ImageView) (class : ClassId) (r : Result ActorId Refusal) → Creates i class r j → Grows 0 0 0 i j
 creates_grow i j class (Ok v) h = by_one {T = ActorId} (create_rules i class) i j (Created class) (λ x. record { 0 = length (world i).actors }) v (omega arith) h

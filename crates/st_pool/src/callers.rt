@@ -3,7 +3,7 @@ ghost use Rattle.std.specs.Prelude.{◌≡◌, ◌+◌, IfOk, is_ok};
 ghost use Rattle.std.specs.Borrow.{Bor};
 ghost use Rattle.std.specs.Fn.{FnOnceReturnsAt};
 ghost use Rattle.st_classes.specs.Refusals.{first_of};
-ghost use Rattle.st_image.specs.Calls.{AnswersExactly, Closes, Creates, Defines, InstallsIn, Removes};
+ghost use Rattle.st_image.specs.Calls.{AnswersExactly, Closes, Creates, Defines, InstallsIn, Removes, Reparents};
 ghost use Rattle.st_image.specs.Images.{ImageView, world};
 ghost use Rattle.st_image.specs.Outcomes.{image_outcome};
 ghost use Rattle.st_image.specs.PostRules.{from_client};
@@ -187,6 +187,26 @@ impl<'a, K: Naming, M: Mailbox> Caller<'a, K, M> {
         let mut office = shared.enter(rt);
         office.audit(share);
         let answer = office.remove(alloc, share, class, selector);
+        drop(office);
+        shared.moved.notify_one();
+        answer
+    }
+
+    /// Puts a class under another superclass, and answers the version.
+    pub fn reparent<R: Wait>(
+        &mut self,
+        rt: &R,
+        alloc: Global,
+        class: ClassId,
+        parent: ClassId,
+    ) -> Result<u32, Refusal>
+        ensures edits { self.new ≡ record self.old { edits = self.old.edits + counted (is_ok result) } }
+        ensures answers { (i : ImageView) × (j : ImageView) × HasAtLeast K.start self.old i × Reparents i class parent result j }
+    {
+        let Caller { shared, share } = self;
+        let mut office = shared.enter(rt);
+        office.audit(share);
+        let answer = office.reparent(alloc, share, class, parent);
         drop(office);
         shared.moved.notify_one();
         answer

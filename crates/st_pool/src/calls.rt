@@ -1,6 +1,6 @@
 //! The image's calls: what they answer, that the image before goes on in the one after, and what they add to the history.
 ghost use Rattle.std.specs.Prelude.{◌≡◌, ◌⊎◌, None, Some, Ok, Err, IfOk, IfErr, IfSome, is_ok, true};
-ghost use Rattle.st_image.specs.Calls.{Closes, Creates, Defines, InstallsIn, Posts, Removes};
+ghost use Rattle.st_image.specs.Calls.{Closes, Creates, Defines, InstallsIn, Posts, Removes, Reparents};
 ghost use Rattle.st_image.specs.Commits.{ChecksOut, Commits};
 ghost use Rattle.st_image.specs.Images.{world};
 ghost use Rattle.st_image.specs.PostRules.{from_client};
@@ -77,6 +77,23 @@ pub(crate) fn remove<M: Mailbox>(
 {
     image.known();
     let answer = image.remove(alloc, class, selector);
+    image.known();
+    answer
+}
+
+/// Puts a class under another superclass.
+pub(crate) fn reparent<M: Mailbox>(
+    alloc: Global,
+    image: &mut Image<M>,
+    class: ClassId,
+    parent: ClassId,
+) -> Result<u32, Refusal>
+    ensures reparents { Reparents image.old class parent result image.new }
+    ensures later { GoesOnIn image.old image.new }
+    ensures grows { Grows 0 (counted (is_ok result)) 0 image.old image.new }
+{
+    image.known();
+    let answer = image.reparent(alloc, class, parent);
     image.known();
     answer
 }

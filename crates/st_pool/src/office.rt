@@ -84,7 +84,7 @@ fn has_steps(answer: &Result<u32, Refusal>) -> bool {
 
 impl<K: Naming, M: Mailbox> Office<K, M> {
     ghost use Rattle.std.specs.Prelude.{◌≡◌, ◌+◌, ◌<◌, ◌≤◌, ◌^◌, length, OnOk, OnErr, IfOk, IfErr, is_ok};
-    ghost use Rattle.st_image.specs.Calls.{Closes, Creates, Defines, InstallsIn, Posts as PostsMessage, Removes};
+    ghost use Rattle.st_image.specs.Calls.{Closes, Creates, Defines, InstallsIn, Posts as PostsMessage, Removes, Reparents};
     ghost use Rattle.st_image.specs.Commits.{ChecksOut};
     ghost use Rattle.st_image.specs.PostRules.{from_client};
     ghost use Rattle.st_image.specs.WorldInvariant.{IsLawful};
@@ -249,6 +249,26 @@ impl<K: Naming, M: Mailbox> Office<K, M> {
         self.moves = self.moves.wrapping_add(1);
         self.image.known();
         let answer = calls::remove(alloc, &mut self.image, class, selector);
+        self.books.edit(mine, &answer);
+        answer
+    }
+
+    /// Puts a class under another superclass for a caller.
+    pub(crate) fn reparent(
+        &mut self,
+        alloc: Global,
+        mine: &mut CallerShare<K>,
+        class: ClassId,
+        parent: ClassId,
+    ) -> Result<u32, Refusal>
+        ensures reparents { Reparents self.old.image class parent result self.new.image }
+        ensures books { self.new.books ≡ record self.old.books { edits = self.old.books.edits + counted (is_ok result) } }
+        ensures share { mine.new ≡ record mine.old { edits = mine.old.edits + counted (is_ok result) } }
+        ensures within { mine.old.edits ≤ since edits_of K.start self.old.image }
+    {
+        self.moves = self.moves.wrapping_add(1);
+        self.image.known();
+        let answer = calls::reparent(alloc, &mut self.image, class, parent);
         self.books.edit(mine, &answer);
         answer
     }

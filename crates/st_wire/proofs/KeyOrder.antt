@@ -1,7 +1,7 @@
 -- The keys of replies.
 use Rattle.std.proofs.Common.{◌≡◌, true, List, [], ◌∷◌, refl}
 use Rattle.st_classes.specs.declared.refusals.Refusal.{Refusal}
-use Rattle.st_classes.specs.declared.refusals.Refusal.TheVariants.{UnknownClass, ClassExists, KernelClass, KernelMethod, BadName, SlotClash, TooDeep, BadSource, NoSuchMethod, UnknownActor, Closed, Full, Old, BadArguments, NothingToDo, Stale, Changed, TooMany, Pending, Expired, BadCommand, TooLong, BadImage, HistoryFull, NoMemory, ReadFault, WriteFault}
+use Rattle.st_classes.specs.declared.refusals.Refusal.TheVariants.{UnknownClass, ClassExists, KernelClass, KernelMethod, BadName, SlotClash, TooDeep, BadSource, NoSuchMethod, UnknownActor, Closed, Full, Old, BadArguments, NothingToDo, Stale, Changed, TooMany, Pending, Expired, BadCommand, TooLong, BadImage, HistoryFull, NoMemory, ReadFault, WriteFault, Cycle, SlotsDiffer}
 use Rattle.st_wire.specs.declared.replies.Answered.{Answered}
 use Rattle.st_wire.specs.declared.replies.Answered.TheVariants as value
 use Rattle.st_wire.specs.declared.replies.SiteReport.{SiteReport}
@@ -49,6 +49,8 @@ in_refusal HistoryFull = refl
 in_refusal NoMemory = refl
 in_refusal ReadFault = refl
 in_refusal WriteFault = refl
+in_refusal Cycle = refl
+in_refusal SlotsDiffer = refl
 
 pub keys_in_order : RepliesHaveKeysInOrder
 keys_in_order (reply.Version n) = refl

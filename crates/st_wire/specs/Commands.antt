@@ -9,7 +9,7 @@ use Rattle.st_classes.specs.declared.values.ActorId.{ActorId}
 use Rattle.st_classes.specs.Refusals.{Rule}
 use Rattle.st_wire.specs.declared.commands.Argument.{Argument}
 use Rattle.st_wire.specs.declared.commands.Command.{Command}
-use Rattle.st_wire.specs.declared.commands.Command.TheVariants.{Define, Method, Remove, Actor, Post, Close, Run, Outcome, Stats}
+use Rattle.st_wire.specs.declared.commands.Command.TheVariants.{Define, Method, Remove, Reparent, Actor, Post, Close, Run, Outcome, Stats}
 use Rattle.st_wire.specs.Fields.{size, text_at, texts_at, actor_at, sender_at, number_at, quanta_at, arguments_at}
 
 -- all of some keys are there
@@ -51,6 +51,15 @@ abbrev pub remove_in : Data → Option Command
 remove_in d =
     of_keys (codes "class" ∷ codes "cmd" ∷ codes "selector" ∷ []) d
     (remove_from (text_at (codes "class") d) (text_at (codes "selector") d))
+
+abbrev pub reparent_from : Option (List ℕ) → Option (List ℕ) → Option Command
+reparent_from (Some class) (Some parent) = Some (Reparent class parent)
+reparent_from _ _ = None
+
+abbrev pub reparent_in : Data → Option Command
+reparent_in d =
+    of_keys (codes "class" ∷ codes "cmd" ∷ codes "super" ∷ []) d
+    (reparent_from (text_at (codes "class") d) (text_at (codes "super") d))
 
 abbrev pub new_actor_in : Data → Option Command
 new_actor_in d = of_keys (codes "class" ∷ codes "cmd" ∷ []) d (option_map Actor (text_at (codes "class") d))
@@ -102,13 +111,14 @@ form_in d cmd =
     if bytes_eq cmd (codes "define") then define_in d
     else (if bytes_eq cmd (codes "method") then method_in d
     else (if bytes_eq cmd (codes "remove") then remove_in d
+    else (if bytes_eq cmd (codes "reparent") then reparent_in d
     else (if bytes_eq cmd (codes "actor") then new_actor_in d
     else (if bytes_eq cmd (codes "post") then post_in d
     else (if bytes_eq cmd (codes "close") then close_in d
     else (if bytes_eq cmd (codes "run") then run_in d
     else (if bytes_eq cmd (codes "outcome") then outcome_in d
     else (if bytes_eq cmd (codes "stats") then stats_in d
-    else None))))))))
+    else None)))))))))
 
 -- the command of an object, by its `cmd`
 abbrev pub command_in : Data → Option Command

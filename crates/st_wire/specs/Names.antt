@@ -9,7 +9,7 @@ use Rattle.st_classes.specs.declared.refusals.Limited.TheVariants.{Classes, Slot
 use Rattle.st_classes.specs.declared.refusals.ImagePlace.{ImagePlace}
 use Rattle.st_classes.specs.declared.refusals.ImagePlace.TheVariants as place
 use Rattle.st_classes.specs.declared.refusals.Refusal.{Refusal}
-use Rattle.st_classes.specs.declared.refusals.Refusal.TheVariants.{UnknownClass, ClassExists, KernelClass, KernelMethod, BadName, SlotClash, TooDeep, BadSource, NoSuchMethod, UnknownActor, Closed, Full, Old, BadArguments, NothingToDo, Stale, Changed, TooMany, Pending, Expired, BadCommand, TooLong, BadImage, HistoryFull, NoMemory, ReadFault, WriteFault}
+use Rattle.st_classes.specs.declared.refusals.Refusal.TheVariants.{UnknownClass, ClassExists, KernelClass, KernelMethod, BadName, SlotClash, TooDeep, BadSource, NoSuchMethod, UnknownActor, Closed, Full, Old, BadArguments, NothingToDo, Stale, Changed, TooMany, Pending, Expired, BadCommand, TooLong, BadImage, HistoryFull, NoMemory, ReadFault, WriteFault, Cycle, SlotsDiffer}
 
 -- the names of the faults
 abbrev pub fault_name : Fault → List ℕ
@@ -82,3 +82,5 @@ refusal_name HistoryFull = codes "HistoryFull"
 refusal_name NoMemory = codes "NoMemory"
 refusal_name ReadFault = codes "ReadFault"
 refusal_name WriteFault = codes "WriteFault"
+refusal_name Cycle = codes "Cycle"
+refusal_name SlotsDiffer = codes "SlotsDiffer"

@@ -4,7 +4,7 @@ ghost use Rattle.serde_json.specs.View.{view};
 ghost use Rattle.st_classes.specs.Refusals.{Answers, first_of};
 ghost use Rattle.st_classes.specs.declared.refusals.Refusal.TheVariants.{BadCommand};
 ghost use Rattle.st_wire.specs.PartResults.{Reads};
-ghost use Rattle.st_wire.specs.Commands.{ReturnsMeanNothing, command_of, command_rules, has_just as has_just_keys, has_all as has_all_keys, command_in, define_in, method_in, remove_in, new_actor_in, post_in, close_in, run_in, outcome_in, stats_in};
+ghost use Rattle.st_wire.specs.Commands.{ReturnsMeanNothing, command_of, command_rules, has_just as has_just_keys, has_all as has_all_keys, command_in, define_in, method_in, remove_in, reparent_in, new_actor_in, post_in, close_in, run_in, outcome_in, stats_in};
 
 use crate::fields::{
     actor_at, arguments_at, quanta_at, sender_at, size, text_at, texts_at, whole_at,
@@ -47,6 +47,11 @@ pub enum Command {
     Remove {
         class: Seq<u8>,
         selector: Seq<u8>,
+    },
+    /// Another superclass for a class. On the wire the parent's key is `super`.
+    Reparent {
+        class: Seq<u8>,
+        parent: Seq<u8>,
     },
     /// A new actor.
     Actor {
@@ -107,6 +112,7 @@ fn read_object(alloc: Global, object: &Value) -> Result<Command, Refusal>
         Some("define") => define(alloc, object),
         Some("method") => method(alloc, object),
         Some("remove") => remove(alloc, object),
+        Some("reparent") => reparent(alloc, object),
         Some("actor") => new_actor(alloc, object),
         Some("post") => post(alloc, object),
         Some("close") => close(object),
@@ -175,6 +181,16 @@ fn remove(alloc: Global, object: &Value) -> Result<Command, Refusal>
     Ok(Command::Remove {
         class: text_at(alloc, object, "class")?,
         selector: text_at(alloc, object, "selector")?,
+    })
+}
+
+fn reparent(alloc: Global, object: &Value) -> Result<Command, Refusal>
+    ensures { Reads (reparent_in (view object.now)) result }
+{
+    just_keys(object, &["class", "cmd", "super"])?;
+    Ok(Command::Reparent {
+        class: text_at(alloc, object, "class")?,
+        parent: text_at(alloc, object, "super")?,
     })
 }
 

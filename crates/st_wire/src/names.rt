@@ -96,5 +96,7 @@ pub fn refusal_name(refusal: Refusal) -> &'static str
         Refusal::NoMemory => "NoMemory",
         Refusal::ReadFault => "ReadFault",
         Refusal::WriteFault => "WriteFault",
+        Refusal::Cycle => "Cycle",
+        Refusal::SlotsDiffer => "SlotsDiffer",
     }
 }

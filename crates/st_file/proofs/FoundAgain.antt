@@ -9,7 +9,7 @@ use Rattle.std.proofs.lemmas.Option.{slice_get-get_or, slice_get-map}
 use Rattle.std.proofs.lemmas.Slice.Eq.{bytes_eq-Decides}
 use Rattle.st_classes.specs.declared.values.ClassId.{ClassId}
 use Rattle.st_classes.specs.declared.edits.Edit.{Edit}
-use Rattle.st_classes.specs.declared.edits.Edit.TheVariants.{Define, Install, Remove}
+use Rattle.st_classes.specs.declared.edits.Edit.TheVariants.{Define, Install, Remove, Reparent}
 use Rattle.st_classes.specs.Classes.{ClassDef, classes, class_name, class_named, is_class}
 use Rattle.st_classes.specs.EditLists.{AreLawful}
 use Rattle.st_classes.specs.EditRules.{are_names, edit_rules, define_rules, has_twice}
@@ -20,7 +20,9 @@ use Rattle.st_classes.specs.Selectors.{place_of, is_class_name, is_slot_name}
 use Rattle.st_classes.proofs.Indexing.{position_cons}
 use Rattle.st_classes.proofs.LawLists.{take_at_place, list_all_get}
 use Rattle.st_classes.proofs.Naming.{or-parts, position-map}
-use Rattle.st_classes.proofs.Growing.{classes_push, classes_same, none_apply, NoneApply}
+use Rattle.st_classes.proofs.LawChains.{classes_push}
+use Rattle.st_classes.proofs.Reparenting.{names_kept}
+use Rattle.st_classes.proofs.Growing.{none_apply, NoneApply}
 use Rattle.st_classes.proofs.Defining.{no_such_class}
 
 same : (text : List ℕ) → bytes_eq text text ≡ true
@@ -109,8 +111,9 @@ class_names_after es (Define name parent slots) are h =
     let d : ClassDef = record { name = name; parent = Some parent; slots = slots } in
     let good : is_class_name name ≡ true = (and_parts (is_class_name name) (list_all is_slot_name slots) (not-false (are_names name slots) r.1.0)).0 in
     subst (λ (cs : List ClassDef). AreClassNames (names_of cs)) (sym (classes_push es (Define name parent slots))) (class_names_push (classes es) d are good (is_new (classes es) name (no_such_class es name parent slots h)))
-class_names_after es (Install c m) are h = subst (λ (cs : List ClassDef). AreClassNames (names_of cs)) (sym (classes_same es (Install c m) refl)) are
-class_names_after es (Remove c s) are h = subst (λ (cs : List ClassDef). AreClassNames (names_of cs)) (sym (classes_same es (Remove c s) refl)) are
+class_names_after es (Install c m) are h = subst (λ (cs : List ClassDef). AreClassNames (names_of cs)) (sym (classes_push es (Install c m))) are
+class_names_after es (Remove c s) are h = subst (λ (cs : List ClassDef). AreClassNames (names_of cs)) (sym (classes_push es (Remove c s))) are
+class_names_after es (Reparent c p) are h = subst (λ (cs : List ClassDef). AreClassNames (names_of cs)) (sym (classes_push es (Reparent c p))) (subst AreClassNames (sym (names_kept (classes es) c.0 p)) are)
 
 class_names_take : (edits : List Edit) → AreLawful edits → (n : ℕ) → n ≤ length edits → AreClassNames (names_of (classes (take n edits)))
 class_names_take edits l zero h = record { names = refl; once = refl }

@@ -11,7 +11,7 @@ use Rattle.std.proofs.lemmas.Str.Ascii.{IsAscii-cons, IsAscii-from_all}
 use Rattle.st_classes.specs.declared.values.ClassId.{ClassId}
 use Rattle.st_classes.specs.declared.values.Selector.{Selector}
 use Rattle.st_classes.specs.declared.edits.Edit.{Edit}
-use Rattle.st_classes.specs.declared.edits.Edit.TheVariants.{Define, Install, Remove}
+use Rattle.st_classes.specs.declared.edits.Edit.TheVariants.{Define, Install, Remove, Reparent}
 use Rattle.st_classes.specs.Classes.{class_name}
 use Rattle.st_classes.specs.EditLists.{AreLawful}
 use Rattle.st_classes.specs.EditRules.{are_names, define_rules}
@@ -74,6 +74,7 @@ edit_is_text names edits are lawful compiled place (Install c m) at =
     let from = compiled place c m at in
     (class_is_text edits c lawful, spelled_is_ascii from.method m.source from.spelled)
 edit_is_text names edits are lawful compiled place (Remove c s) at = (class_is_text edits c lawful, name_is_text names s are)
+edit_is_text names edits are lawful compiled place (Reparent c p) at = (class_is_text edits c lawful, class_is_text edits p lawful)
 
 pub edits_are_text : (names : List (List ℕ)) (edits : List Edit) → AreNames names → AreLawful edits → AllCompiled names edits → All EditIsText (edit_texts names edits)
 edits_are_text names edits are lawful compiled = All-map EditIsText (edit_text names edits) edits (all_there (λ (e : Edit). EditIsText (edit_text names edits e)) edits (edit_is_text names edits are lawful compiled))

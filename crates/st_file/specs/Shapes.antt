@@ -223,14 +223,24 @@ abbrev pub remove_in : Data → Option EditText
 remove_in d = of_keys (codes "class" ∷ codes "selector" ∷ []) d
     (remove_from (text_at (codes "class") d) (text_at (codes "selector") d))
 
--- `{"define":..}`, `{"install":..}` or `{"remove":..}`, by what stands at these keys
-abbrev pub edit_by : Data → Option Data → Option Data → Option EditText
-edit_by d (Some e) install = define_in e
-edit_by d None (Some e) = install_in e
-edit_by d None None = one_at remove_in (codes "remove") d
+abbrev pub reparent_from : Option (List ℕ) → Option (List ℕ) → Option EditText
+reparent_from (Some class) (Some parent) = Some (edit.Reparent class parent)
+reparent_from _ _ = None
+
+abbrev pub reparent_in : Data → Option EditText
+reparent_in d = of_keys (codes "class" ∷ codes "super" ∷ []) d
+    (reparent_from (text_at (codes "class") d) (text_at (codes "super") d))
+
+-- `{"define":..}`, `{"install":..}`, `{"remove":..}` or `{"reparent":..}`, by what stands at these keys
+abbrev pub edit_by : Data → Option Data → Option Data → Option Data → Option EditText
+edit_by d (Some e) install remove = define_in e
+edit_by d None (Some e) remove = install_in e
+edit_by d None None (Some e) = remove_in e
+edit_by d None None None = one_at reparent_in (codes "reparent") d
 
 abbrev pub edit_in : Data → Option EditText
-edit_in d = if size d == 1 then edit_by d (get (codes "define") d) (get (codes "install") d) else None
+edit_in d =
+    if size d == 1 then edit_by d (get (codes "define") d) (get (codes "install") d) (get (codes "remove") d) else None
 
 abbrev pub client_from : Option ℕ → Option ℕ → Option (ℕ × ℕ)
 client_from (Some client) (Some last) = Some (client, last)

@@ -55,6 +55,7 @@ abbrev pub EditIsText : EditText → Type 0
 EditIsText (edit.Define name parent slots) = IsText name × IsText parent × All IsText slots
 EditIsText (edit.Install class source) = IsText class × IsText source
 EditIsText (edit.Remove class selector) = IsText class × IsText selector
+EditIsText (edit.Reparent class parent) = IsText class × IsText parent
 
 -- a client sent something
 abbrev pub HasSent : ℕ × ℕ → Type 0

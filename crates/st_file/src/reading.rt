@@ -288,6 +288,18 @@ fn remove(alloc: Global, value: &Value) -> Result<EditText, Refusal>
     })
 }
 
+fn reparent(alloc: Global, value: &Value) -> Result<EditText, Refusal>
+    ensures { Finds Shape (shapes.reparent_in (view value.now)) result }
+{
+    if !has_just(value, &["class", "super"]) {
+        return Err(SHAPE);
+    }
+    Ok(EditText::Reparent {
+        class: text_at(alloc, value, "class")?,
+        parent: text_at(alloc, value, "super")?,
+    })
+}
+
 impl Readable for EditText {
     ghost form = { shapes.edit_in };
 
@@ -301,8 +313,11 @@ impl Readable for EditText {
         if let Some(edit) = value.get("install") {
             return install(alloc, edit);
         }
-        match value.get("remove") {
-            Some(edit) => remove(alloc, edit),
+        if let Some(edit) = value.get("remove") {
+            return remove(alloc, edit);
+        }
+        match value.get("reparent") {
+            Some(edit) => reparent(alloc, edit),
             None => Err(SHAPE),
         }
     }

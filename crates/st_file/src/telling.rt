@@ -324,6 +324,16 @@ fn remove(alloc: Global, class: Seq<u8>, selector: Seq<u8>) -> Result<Value, All
     json!(in alloc; {"class": class, "selector": selector})
 }
 
+fn reparent(alloc: Global, class: Seq<u8>, parent: Seq<u8>) -> Result<Value, AllocError>
+    requires class { IsText class }
+    requires parent { IsText parent }
+    ensures { IfOk result (λ v. Says shapes.reparent_in 1 (edit.Reparent class parent) (view v)) }
+{
+    let class = class.tell(alloc)?;
+    let parent = parent.tell(alloc)?;
+    json!(in alloc; {"class": class, "super": parent})
+}
+
 impl Telling for EditText {
     ghost form = { shapes.edit_in };
 
@@ -348,6 +358,10 @@ impl Telling for EditText {
             EditText::Remove { class, selector } => {
                 let remove = remove(alloc, class, selector)?;
                 json!(in alloc; {"remove": remove})
+            }
+            EditText::Reparent { class, parent } => {
+                let reparent = reparent(alloc, class, parent)?;
+                json!(in alloc; {"reparent": reparent})
             }
         }
     }

@@ -75,6 +75,10 @@ fn edit_text(
             class: class_text(alloc, version, *class)?,
             selector: name_text(alloc, names, *selector)?,
         }),
+        Edit::Reparent { class, parent } => Ok(EditText::Reparent {
+            class: class_text(alloc, version, *class)?,
+            parent: class_text(alloc, version, *parent)?,
+        }),
     }
 }
 

@@ -24,7 +24,7 @@ class Loaded(Written):
 
     def edit(self, place, edit):
         [(kind, parts)] = edit.items()
-        {"define": self.define, "install": self.method, "remove": self.remove}[kind](parts)
+        {"define": self.define, "install": self.method, "remove": self.remove, "reparent": self.reparent}[kind](parts)
         if kind == "install":
             self.methods[place] = self.installed, self.classes.numbers[parts["class"]]
 

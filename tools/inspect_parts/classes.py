@@ -39,7 +39,6 @@ class Class:
 
     def __post_init__(self):
         self.slots = (self.parent.slots if self.parent else []) + self.own_slots
-        self.depth = self.parent.depth + 1 if self.parent else 1
         if self.parent:
             self.parent.subclasses.append(self)
 
@@ -55,6 +54,15 @@ class Class:
     @property
     def kernel_selectors(self):
         return KERNEL_SELECTORS.get(self.name, ())
+
+    @property
+    def depth(self):
+        return len(self.lineage())
+
+    @property
+    def height(self):
+        """How many classes are on the longest way down, this one counted."""
+        return 1 + max((below.height for below in self.subclasses), default=0)
 
     def lineage(self):
         """Object, and so on down to the class."""
@@ -82,6 +90,12 @@ class Classes:
         method.holder.methods[method.selector] = method
         method.holder.edits += 1
         self.methods[method.place] = method
+
+    def reparent(self, moved, above):
+        moved.parent.subclasses.remove(moved)
+        above.subclasses.append(moved)
+        moved.parent = above
+        moved.edits += 1
 
     def remove(self, name, selector, place):
         holder = self.all[name]

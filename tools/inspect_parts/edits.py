@@ -83,6 +83,20 @@ class Editor:
             refuse(path, "NoSuchMethod", f"{holder.name} has no method of its own for {selector}")
         self.classes.remove(holder.name, selector, place)
 
+    def reparent(self, parts, place, path):
+        moved, above = self.holder(parts["class"], path + ".class"), self.holder(parts["super"], path + ".super")
+        if moved.is_kernel:
+            refuse(path + ".class", "KernelClass", f"{moved.name} is a class of the kernel")
+        if not above.has_objects:
+            refuse(path + ".super", "KernelClass", f"{above.name} is a class of the kernel")
+        if moved in above.lineage():
+            refuse(path + ".super", "Cycle", f"{above.name} is {moved.name}, or stands below it")
+        if above.slots != moved.parent.slots:
+            refuse(path + ".super", "SlotsDiffer", f"{above.name} has other instance variables than {moved.parent.name}")
+        if above.depth + moved.height > LONGEST_CHAIN:
+            refuse(path, "TooDeep", f"the superclass chain has over {LONGEST_CHAIN} classes")
+        self.classes.reparent(moved, above)
+
 
 def check_define_names(name, slots, path):
     if not CLASS_NAME.fullmatch(name):

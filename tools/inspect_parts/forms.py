@@ -147,6 +147,7 @@ EDIT = one_of(
         "define": record({"name": text, "slots": items(text), "super": text}),
         "install": record({"class": text, "source": text}),
         "remove": record({"class": text, "selector": text}),
+        "reparent": record({"class": text, "super": text}),
     }
 )
 IMAGE = record(

@@ -47,7 +47,8 @@ def facts(image):
     posting = sum(actor["last"] > 0 for actor in image.actors)
     yield "format", image.format
     yield "classes", f"{len(image.classes.all):,}: {len(KERNEL_CLASSES)} of the kernel and {defined:,} defined"
-    edits = ", ".join(count(kinds.count(kind), kind) for kind in ("define", "install", "remove"))
+    told = ("define", "install", "remove", "reparent") if "reparent" in kinds else ("define", "install", "remove")
+    edits = ", ".join(count(kinds.count(kind), kind) for kind in told)
     yield "edits", f"{len(kinds):,}: {edits}"
     yield "methods", f"{present:,} present"
     yield "names", f"{len(image.names.given):,} beyond the kernel's"

@@ -51,6 +51,12 @@ class Written(Image):
             self.done("remove", selector=command["selector"], **{"class": command["class"]})
         return reply
 
+    def reparent(self, command):
+        reply = super().reparent(command)
+        if "ok" in reply:
+            self.done("reparent", super=command["super"], **{"class": command["class"]})
+        return reply
+
     def new_actor(self, class_number):
         number = super().new_actor(class_number)
         if number is not None:

@@ -27,6 +27,7 @@ LINES = [
     ({"actor": 0, "args": [], "cmd": "post", "selector": "make", "sender": 1, "seq": 2}, {"ok": {"turn": 2}}),
     ({"actor": 0, "cmd": "outcome", "turn": 2}, {"ok": {"answer": {"ref": 1}}}),
     ({"class": "A", "cmd": "remove", "selector": "go"}, {"ok": {"version": 5}}),
+    ({"class": "A", "cmd": "reparent", "super": "Object"}, {"ok": {"version": 6}}),
     ({"actor": 1, "cmd": "close"}, {"ok": {}}),
     ({"actor": 1, "args": [], "cmd": "post", "selector": "go", "sender": 1, "seq": 3}, {"error": "Closed"}),
 ]

@@ -10,6 +10,7 @@ PATTERNS = UNARY + ["foo: x", "bar: x", "count: x", "foo: x bar: y", "= x", "doe
 SAFE = "1 2 #a nil thisActor A".split()
 POSTED = ["foo bar m m1 who tag class".split(), "foo: bar: count: = + doesNotUnderstand:".split(), ["foo:bar:"]]
 SLOTS = {"A": ["count", "total"], "B": ["count", "total", "extra"], "C": ["count", "total", "extra", "more"]}
+SLOTS |= {"D": SLOTS["A"], "E": SLOTS["B"]}
 
 
 class Acting:

@@ -1,10 +1,12 @@
-"""The class table: definitions, installs, removes, and lookup."""
+"""The class table: definitions, installs, removes, reparents, and lookup."""
 
 from dataclasses import dataclass, field
 
 from .checks import read_method
 from .compiler import compile_method
 from .language import KERNEL_CLASSES, KERNEL_SELECTORS, is_selector
+
+LONGEST_CHAIN = 64
 
 
 @dataclass
@@ -24,7 +26,7 @@ class Refused(Exception):
 
 
 class Classes:
-    """`edits` counts the definitions, installs and removes."""
+    """`edits` counts the definitions, installs, removes and reparents."""
 
     def __init__(self):
         self.all = [Class(name, None if number == 0 else 0, []) for number, name in enumerate(KERNEL_CLASSES)]
@@ -61,6 +63,35 @@ class Classes:
             raise Refused("NoSuchMethod")
         del methods[selector]
         self.edits += 1
+
+    def reparent(self, class_name, parent):
+        """Puts a class under another one."""
+        if class_name not in self.numbers or parent not in self.numbers:
+            raise Refused("UnknownClass")
+        if class_name in KERNEL_CLASSES or parent in KERNEL_CLASSES[1:]:
+            raise Refused("KernelClass")
+        number, above = self.numbers[class_name], self.numbers[parent]
+        if number in self.chain(above):
+            raise Refused("Cycle")
+        if self.all[above].slots != self.all[self.all[number].parent].slots:
+            raise Refused("SlotsDiffer")
+        if self.height(number) + len(self.chain(above)) > LONGEST_CHAIN:
+            raise Refused("TooDeep")
+        self.all[number].parent = above
+        self.edits += 1
+
+    def chain(self, number):
+        """The numbers of a class and those above it."""
+        chain = []
+        while number is not None:
+            chain.append(number)
+            number = self.all[number].parent
+        return chain
+
+    def height(self, number):
+        """How many classes are on the longest way from a class down, itself counted."""
+        chains = [self.chain(below) for below in range(len(self.all))]
+        return max(chain.index(number) + 1 for chain in chains if number in chain)
 
     def find(self, number, selector):
         """The number of the class that has the method, and the method: a compiled one, or None for one of the kernel. None

@@ -53,6 +53,13 @@ class Image:
             return {"error": refused.name}
         return {"ok": {"version": self.classes.edits}}
 
+    def reparent(self, command):
+        try:
+            self.classes.reparent(command["class"], command["super"])
+        except Refused as refused:
+            return {"error": refused.name}
+        return {"ok": {"version": self.classes.edits}}
+
     def actor(self, command):
         number = self.new_actor(self.classes.numbers[command["class"]])
         return {"error": "TooMany", "what": "actors"} if number is None else {"ok": {"actor": number}}

@@ -1,10 +1,10 @@
-"""Scripts picked by hand, for messages to super, removes, doesNotUnderstand:, and the objects and actors that methods make.
+"""Scripts picked by hand, for messages to super, removes, doesNotUnderstand:, classes that move, and the objects and actors that methods make.
 
 Each is a text: a command a line, and behind a `>` the reply to the last command, where it is said. These replies come from the
 rules, and the second reader is held to them before it is compared with anything.
 
     class C S x y         a class C under S with the instance variables x and y
-    method C source       actor C         remove C selector
+    method C source       actor C         remove C selector       move C S
     post 0 at:put: 1 2    run             run 5            close 0
     send 2 7 0 at:put: 1 2                the same post by client 2, with the number 7
     outcome 0 1           how turn 1 of actor 0 ended; without the 1, the last message that it got
@@ -14,7 +14,7 @@ rules, and the second reader is held to them before it is compared with anything
 import json
 from dataclasses import dataclass
 
-from . import picked_actors, picked_lookup, picked_mailboxes, picked_objects
+from . import picked_actors, picked_lookup, picked_mailboxes, picked_moves, picked_objects
 from .language import LONGEST_WORD
 
 
@@ -31,6 +31,7 @@ def all_picked():
         picked_lookup.SUPER,
         picked_lookup.REMOVES,
         picked_lookup.MISSING,
+        picked_moves.MOVES,
         picked_objects.OBJECTS,
         picked_actors.MAKING,
         picked_actors.POSTING,
@@ -39,8 +40,9 @@ def all_picked():
     ):
         for says, text in texts.items():
             yield Picked(says, text)
-    for says, text in picked_lookup.WHILE_RUNNING.items():
-        yield Picked(says, text, quantum=1)
+    for texts in (picked_lookup.WHILE_RUNNING, picked_moves.WHILE_RUNNING):
+        for says, text in texts.items():
+            yield Picked(says, text, quantum=1)
     for texts in (picked_actors.FULL, picked_mailboxes.NARROW):
         for says, text in texts.items():
             yield Picked(says, text, capacity=1)
@@ -80,6 +82,10 @@ class Taker:
     def take_remove(self, rest):
         class_name, selector = rest.replace("LONG", "n" * LONGEST_WORD).split()
         self.script.add({"class": class_name, "cmd": "remove", "selector": selector})
+
+    def take_move(self, rest):
+        class_name, above = rest.split()
+        self.script.add({"class": class_name, "cmd": "reparent", "super": above})
 
     def take_actor(self, rest):
         self.script.add({"class": rest, "cmd": "actor"})

@@ -14,6 +14,8 @@ SETUP = [
     {"cmd": "define", "name": "A", "slots": ["count", "total"], "super": "Object"},
     {"cmd": "define", "name": "B", "slots": ["extra"], "super": "A"},
     {"cmd": "define", "name": "C", "slots": ["more"], "super": "B"},
+    {"cmd": "define", "name": "D", "slots": [], "super": "A"},
+    {"cmd": "define", "name": "E", "slots": [], "super": "B"},
     {"class": "A", "cmd": "actor"},
     {"class": "B", "cmd": "actor"},
     {"class": "C", "cmd": "actor"},
@@ -35,7 +37,10 @@ ARGUMENTS += [{"sym": "a"}, {"sym": "at:put:"}, {"ref": 0}, {"ref": 1}, {"ref": 
 REMOVED = KERNEL_SELECTORS["Object"] + KERNEL_SELECTORS["ActorRef"] + KERNEL_SELECTORS["Class"]
 REMOVED += ("foo", "bar", "neverSeen", "+", "a:b", "")
 
-CLASSES_TO_EDIT = "A A A A B B B C C Object Object SmallInteger Symbol True Class ActorRef".split()
+CLASSES_TO_EDIT = "A A A A B B B C C D E Object Object SmallInteger Symbol True Class ActorRef".split()
+# What may stand under what: B under A and D, and C under B and E.
+CLASSES_TO_MOVE = "B B B C C C D E A Object True Nowhere".split()
+CLASSES_ABOVE = "A A D D B B E E C Object Symbol Nowhere".split()
 OTHER_CLASSES = "Object Object SmallInteger SmallInteger True False Symbol UndefinedObject ActorRef Class".split()
 
 
@@ -100,6 +105,9 @@ class Script:
         own = list(self.image.classes.all[self.image.classes.numbers[class_name]].methods)
         selector = rng.choice(own) if own and rng.random() < 0.75 else rng.choice(REMOVED)
         self.add({"class": class_name, "cmd": "remove", "selector": selector})
+
+    def reparent(self, rng):
+        self.add({"class": rng.choice(CLASSES_TO_MOVE), "cmd": "reparent", "super": rng.choice(CLASSES_ABOVE)})
 
     def post(self, number, selector, arguments):
         return self.send(1, len(self.lines) + 1, number, selector, arguments)
@@ -185,6 +193,8 @@ def random_script(rng, sources, size):
                 script.run_turn(number, method.selector, random_arguments(rng, method.arguments))
         if rng.random() < 0.1:
             script.remove(rng, class_name)
+        if rng.random() < 0.1:
+            script.reparent(rng)
     return script
 
 
@@ -209,8 +219,10 @@ class CutTurns:
     def command(self, kind):
         if kind < 0.3:
             self.install()
-        elif kind < 0.37:
+        elif kind < 0.35:
             self.script.remove(self.rng, self.rng.choice(CLASSES_TO_EDIT))
+        elif kind < 0.4:
+            self.script.reparent(self.rng)
         elif kind < 0.6:
             self.post()
         elif kind < 0.8:
@@ -220,7 +232,7 @@ class CutTurns:
         elif kind < 0.99:
             self.script.add({"actor": self.actor(), "cmd": "close"})
         elif len(self.script.image.actors) < 8:
-            self.script.add({"class": self.rng.choice(["A", "B", "C", "Object"]), "cmd": "actor"})
+            self.script.add({"class": self.rng.choice(["A", "B", "C", "D", "E", "Object"]), "cmd": "actor"})
 
     def install(self):
         class_name = self.rng.choice(CLASSES_TO_EDIT)

@@ -1,4 +1,4 @@
-"""Wrong rules of super, of removes, of doesNotUnderstand:, and of the objects and actors that methods make."""
+"""Wrong rules of super, of removes, of classes that move, of doesNotUnderstand:, and of the objects and actors that methods make."""
 
 from .wrong_rule import WrongRule
 
@@ -145,6 +145,41 @@ REMOVES = [
             "            self.all[above].methods.pop(selector, None)\n"
             "            above = self.all[above].parent\n"
         ),
+    ),
+]
+
+MOVES = [
+    WrongRule("a reparent moves nothing", "classes", "        self.all[number].parent = above\n", ""),
+    WrongRule(
+        "a reparent is no edit",
+        "classes",
+        "        self.all[number].parent = above\n        self.edits += 1\n",
+        "        self.all[number].parent = above\n",
+    ),
+    WrongRule(
+        "a class goes under one with fewer instance variables",
+        "classes",
+        "self.all[above].slots != self.all[self.all[number].parent].slots",
+        "self.all[above].slots > self.all[self.all[number].parent].slots",
+    ),
+    WrongRule(
+        "a reparent looks at the number of instance variables of the class itself",
+        "classes",
+        "self.all[above].slots != self.all[self.all[number].parent].slots",
+        "self.all[above].slots != self.all[number].slots",
+    ),
+    WrongRule(
+        "the classes below one that is moved are not counted",
+        "classes",
+        "self.height(number) + len(self.chain(above))",
+        "1 + len(self.chain(above))",
+    ),
+    WrongRule("Object is moved", "classes", "if class_name in KERNEL_CLASSES or", "if class_name in KERNEL_CLASSES[1:] or"),
+    WrongRule(
+        "a class goes under True",
+        "classes",
+        " or parent in KERNEL_CLASSES[1:]:\n",
+        ' or parent in KERNEL_CLASSES[1:] and parent != "True":\n',
     ),
 ]
 
@@ -642,4 +677,4 @@ POSTS = [
     WrongRule("a reference may name an actor that isn't there", "image", 'argument.get("ref", -1) < len(self.actors)', "True"),
 ]
 
-WRONG_ACTING = SUPER + REMOVES + MISSING + OBJECTS + ACTORS + POSTS
+WRONG_ACTING = SUPER + REMOVES + MOVES + MISSING + OBJECTS + ACTORS + POSTS

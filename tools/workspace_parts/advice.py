@@ -6,6 +6,7 @@ Words in braces are what the refused command named."""
 import re
 
 from .in_general import IN_GENERAL
+from .known import KERNEL
 from .statements import RESERVED
 
 REFUSALS = {
@@ -16,8 +17,10 @@ REFUSALS = {
     "BadName": "{name} cannot be a name; take a letter and then letters and digits, at most 64, a capital first for a class and a "
     "small letter for a variable",
     "BadSource": "the method is not written as the language asks; mend it at the mark and type it again",
-    "ClassExists": "there is a class {class} already, and its variables stay; replace its methods, or take another name",
+    "ClassExists": "there is a class {class} already, and its variables stay; name just these to put it under another class, or "
+    "take another name",
     "Closed": "the mailbox of {actor} is closed for ever; make a new actor",
+    "Cycle": "{super} is {class} itself or stands below it; take a class that does not",
     "Expired": "how turn {turn} of {actor} ended is no longer kept, or its number is 0; ask for one of the newest 64",
     "Full": "the mailbox of {actor} is full; :run makes room",
     "HistoryFull": "the history is full, often of the quanta of an endless turn, and nothing more is accepted; :save FILE keeps "
@@ -30,6 +33,8 @@ REFUSALS = {
     "Pending": "turn {turn} of {actor} has not ended, or not begun; :run goes on with it",
     "ReadFault": "the program could not read what was sent; start anew with :restart",
     "SlotClash": "a variable is named twice, here or in a class above; take another name",
+    "SlotsDiffer": "{super} has other variables than the class above {class} has now, inherited ones counted, and objects keep theirs; "
+    "take a class with the same ones",
     "Stale": "a method that this used was edited meanwhile, and this was not done; try again",
     "TooDeep": "the chain of classes above {class} would be over 64 long; take a class nearer to Object",
     "TooLong": "this is too long for one line to the program, 8,192 bytes; make it shorter",
@@ -108,6 +113,8 @@ class Words(dict):
             is_above = reply["error"] in ("UnknownClass", "KernelClass", "TooDeep")
             self["class"] = command["super" if is_above else "name"]
             self["name"] = bad_name(command)
+        if command["cmd"] == "reparent" and reply["error"] == "KernelClass" and command["class"] not in KERNEL:
+            self["class"] = command["super"]
 
 
 # The words where a command named nothing.
@@ -117,6 +124,7 @@ PLAIN = {
     "name": "this",
     "place": "one of its places",
     "selector": "with this name",
+    "super": "the class above",
     "token": "this",
     "turn": "N",
     "what": "of these",

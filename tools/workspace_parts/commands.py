@@ -7,7 +7,7 @@ from .known import near
 from .wrong import Wrong
 
 HELP = """\
-Counter : Object | count |         defines a class with its variables
+Counter : Object | count |         defines a class with its variables, or puts it under another class
 Counter >> bump  count := count+1  writes a method, or replaces it
 c := Counter actor                 makes an actor, and names it
 c start. c bump                    sends messages, and shows the last answer

@@ -5,16 +5,20 @@ IN_GENERAL = {
     "BadImage": "an image file cannot be read; take another file",
     "BadName": "what stands in place of a name is none; take a letter and then letters and digits, at most 64, a capital first for "
     "a class and a small letter for a variable",
-    "ClassExists": "a class has this name already, and its variables stay; replace its methods, or take another name",
+    "ClassExists": "a class has this name already, and its variables stay; name just these to put it under another class, or take "
+    "another name",
     "Closed": "the actor's mailbox is closed for ever; make a new actor",
+    "Cycle": "no class is put under itself or under a class below it; take another one",
     "DuplicateName": "a name is taken, by another variable or by the language; take another one",
     "Expired": "how the turn ended is no longer kept, or its number is 0; ask for one of the newest 64",
     "Full": "the actor's mailbox is full; :run makes room",
-    "KernelClass": "classes of the kernel, Object aside, have no subclasses and make no actors; take Object or a class of your own",
+    "KernelClass": "classes of the kernel stay where they are and, Object aside, have no subclasses and make no actors; take Object or "
+    "a class of your own",
     "KernelMethod": "a method of the kernel stays in its class; take another name, or a class of your own",
     "NoSuchMethod": "a class has no such method of its own; :methods lists those it has",
     "Pending": "the turn has not ended, or its message was never posted; :run goes on",
     "ReadOnly": "only temporaries and instance variables are assigned to; name a temporary between bars",
+    "SlotsDiffer": "a class keeps its variables, so it goes only under classes that give it the same ones; take one of those",
     "TooDeep": "a chain of classes would be over 64 long; take a class nearer to Object",
     "TooMany": "there would be too many classes, variables, edits, names or actors; start anew with :restart",
     "UnknownActor": "no actor has this number; :actors lists those there are",

@@ -43,12 +43,21 @@ class Known:
     def define(self, name, parent, slots):
         self.classes[name] = KnownClass(name, parent, slots)
 
+    def move(self, name, parent):
+        self.classes[name].parent = parent
+
     def install(self, name, selector, source):
         """A class that has a method may be one that another session defined."""
         self.classes.setdefault(name, KnownClass(name, None, [])).methods[selector] = source
 
     def user_classes(self):
-        return [known for name, known in self.classes.items() if name not in KERNEL and known.parent]
+        """Those that were defined, each after the class above it, which may have been defined later."""
+        ordered = {}
+        for name, known in self.classes.items():
+            if name not in KERNEL and known.parent:
+                above = [it for it in self.chain(name) if it.name not in KERNEL and it.parent]
+                ordered.update((it.name, it) for it in reversed(above) if it.name not in ordered)
+        return list(ordered.values())
 
     def chain(self, name):
         """The classes from this one to Object."""

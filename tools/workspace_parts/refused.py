@@ -18,7 +18,7 @@ def lines(command, reply, known, turns, image):
 
 def unknown_class(command, reply, known, image):
     """Names the first class of the command that is not known. Others may have defined some that are not."""
-    given = [command.get("super"), command.get("class")]
+    given = [command.get("class"), command.get("super")]
     given += [it["class"] for it in command.get("args", []) if isinstance(it, dict) and "class" in it]
     unknown = [name for name in given if name and name not in known.classes]
     name = " or ".join(unknown if image.is_served else unknown[:1]) or "this"

@@ -124,6 +124,9 @@ class Session:
     def define(self, found):
         if self.loading and self.is_as_before(found) and not self.image.is_served:
             return
+        if self.is_moved(found):
+            self.move(found)
+            return
         command = {"cmd": "define", "name": found.name, "super": found.parent, "slots": found.slots}
         try:
             version = self.turns.ask(command)["version"]
@@ -134,6 +137,18 @@ class Session:
         self.known.define(found.name, found.parent, found.slots)
         if not self.loading:
             self.say(f"class {found.name}, version {version}")
+
+    def is_moved(self, found):
+        """Whether a definition is that of a class which was defined before, but for the class above it."""
+        old = self.known.classes.get(found.name)
+        return old and old.parent and old.parent != found.parent and old.slots == found.slots
+
+    def move(self, found):
+        command = {"cmd": "reparent", "class": found.name, "super": found.parent}
+        version = self.turns.ask(command)["version"]
+        self.known.move(found.name, found.parent)
+        if not self.loading:
+            self.say(f"class {found.name} under {found.parent}, version {version}")
 
     def is_as_before(self, found):
         """Whether a definition is that of a class which was defined before."""

@@ -6,7 +6,7 @@ use Rattle.st_classes.specs.declared.values.ActorId.{ActorId}
 use Rattle.st_classes.specs.declared.values.Selector.{Selector}
 use Rattle.st_classes.specs.declared.values.Value.{Value}
 use Rattle.st_classes.specs.declared.edits.Edit.{Edit}
-use Rattle.st_classes.specs.declared.edits.Edit.TheVariants.{Define, Install, Remove}
+use Rattle.st_classes.specs.declared.edits.Edit.TheVariants.{Define, Install, Remove, Reparent}
 use Rattle.st_classes.specs.declared.refusals.Refusal.{Refusal}
 use Rattle.st_classes.specs.declared.refusals.Refusal.TheVariants.{UnknownClass}
 use Rattle.st_classes.specs.Classes.{class_named}
@@ -15,9 +15,9 @@ use Rattle.st_guard.specs.Moves.{CachesView}
 use Rattle.st_image.specs.declared.items.Item.TheVariants.{Edited, Created, Posted, Closed}
 use Rattle.st_image.specs.Worlds.{World}
 use Rattle.st_image.specs.PostRules.{from_client}
-use Rattle.st_image.specs.Images.{ImageView, world, accepted_by, close_rules, create_rules, image_define_rules, image_post_rules, image_remove_rules}
+use Rattle.st_image.specs.Images.{ImageView, world, accepted_by, close_rules, create_rules, image_define_rules, image_post_rules, image_remove_rules, image_reparent_rules}
 use Rattle.st_image.specs.WorldInvariant.{IsLawful}
-use Rattle.st_image.specs.Calls.{Closes, Creates, Defines, InstallsIn, Removes}
+use Rattle.st_image.specs.Calls.{Closes, Creates, Defines, InstallsIn, Removes, Reparents}
 use Rattle.st_image.proofs.GrowingEdits.{GoesOn, edits_grow, goes_added, goes_both, goes_from, goes_named}
 use Rattle.st_wire.specs.declared.commands.Argument.{Argument}
 use Rattle.st_wire.specs.declared.commands.Argument.TheVariants as argument
@@ -27,7 +27,7 @@ use Rattle.st_wire.specs.declared.replies.Reply.{Reply}
 use Rattle.st_wire.specs.declared.replies.Reply.TheVariants as reply
 use Rattle.st_server.specs.ArgumentValues.{Resolves, AllResolve, found_selector}
 use Rattle.st_server.specs.Runners.{GuardView, KeepsFirst}
-use Rattle.st_server.specs.CommandReplies.{Asks, PostsArguments, PostsNamed, RemovesNamed, RepliesTo}
+use Rattle.st_server.specs.CommandReplies.{Asks, PostsArguments, PostsNamed, RemovesNamed, ReparentsNamed, RepliesTo}
 
 -- ---- lists of edits
 
@@ -71,6 +71,10 @@ removes_grows : (o : Result Selector Refusal) (i j : ImageView) (c : ClassId) (r
 removes_grows (Ok s) i j c result h = grows i j (goes_added (image_remove_rules i c s) i j (Edited (Remove c s)) (λ k. length (world k).edits) result h)
 removes_grows (Err e) i j c result h = grows i j (goes_from i j h.1)
 
+reparents_grows : (o : Option ClassId) (i j : ImageView) (c : ClassId) (result : Result ℕ Refusal) → MatchOption o ((result ≡ Err UnknownClass) × (j ≡ i)) (λ p. Reparents i c p result j) → Grows i j
+reparents_grows None i j c result h = grows i j (goes_from i j h.1)
+reparents_grows (Some p) i j c result h = grows i j (goes_added (image_reparent_rules i c p) i j (Edited (Reparent c p)) (λ k. length (world k).edits) result h)
+
 creates_grows : (i j : ImageView) (c : ClassId) (result : Result ActorId Refusal) → Creates i c result j → Grows i j
 creates_grows i j c result h = grows i j (goes_added (create_rules i c) i j (Created c) (λ k. record { 0 = length (world i).actors }) result h)
 
@@ -109,6 +113,8 @@ asks_grows i (command.Method class source) r j h =
     grows_for (class_named (world i).edits class) i j reply.Version (λ c. InstallsIn i c source) r (λ c result d. installs_grows i j c source result d) h
 asks_grows i (command.Remove class text) r j h =
     grows_for (class_named (world i).edits class) i j reply.Version (RemovesNamed i text) r (λ c result d. removes_grows (found_selector i.names text) i j c result d) h
+asks_grows i (command.Reparent class parent) r j h =
+    grows_for (class_named (world i).edits class) i j reply.Version (ReparentsNamed i parent) r (λ c result d. reparents_grows (class_named (world i).edits parent) i j c result d) h
 asks_grows i (command.Actor class) r j h =
     grows_for (class_named (world i).edits class) i j reply.Actor (Creates i) r (λ c result d. creates_grows i j c result d) h
 asks_grows i (command.Post actor args text sender seq) r j h = grows i j (posts_goes i actor args text sender seq r j h)

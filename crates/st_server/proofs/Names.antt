@@ -1,5 +1,5 @@
 -- Selectors and class names are ASCII.
-use Rattle.std.proofs.Common.{◌≡◌, ℕ, ◌<◌, ◌+◌, ◌==◌, ◌&&◌, Bool, true, false, not, List, [], ◌∷◌, length, nat_le, Option, Some, None, is_some, option_map, suc, take, slice_get, refl, ◌∙◌, subst, arith}
+use Rattle.std.proofs.Common.{◌≡◌, ℕ, ◌<◌, ◌+◌, ◌==◌, ◌&&◌, Bool, true, false, not, List, [], ◌∷◌, length, nat_le, Option, Some, None, is_some, option_map, zero, suc, take, slice_get, refl, ap, ◌∙◌, subst, arith}
 use Rattle.std.specs.List.{list_all}
 use Rattle.std.specs.Str.{IsAscii, IsUtf8}
 use Rattle.std.proofs.lemmas.Str.{IsUtf8-from_ascii}
@@ -8,10 +8,10 @@ use Rattle.std.proofs.lemmas.Bool.{and_parts, and_from, not-false}
 use Rattle.std.proofs.lemmas.Bool.Decides.{nat_tests}
 use Rattle.std.proofs.lemmas.List.Folds.{list_all-append}
 use Rattle.st_classes.specs.declared.edits.Edit.{Edit}
-use Rattle.st_classes.specs.declared.edits.Edit.TheVariants.{Define, Install, Remove}
+use Rattle.st_classes.specs.declared.edits.Edit.TheVariants.{Define, Install, Remove, Reparent}
 use Rattle.st_classes.specs.declared.values.ClassId.{ClassId}
 use Rattle.st_classes.specs.EditRules.{define_rules, edit_rules}
-use Rattle.st_classes.specs.Classes.{ClassDef, kernel_classes, defined, classes, class_name}
+use Rattle.st_classes.specs.Classes.{ClassDef, kernel_classes, reparented, classes, classes_after, classes_from, class_name}
 use Rattle.st_classes.specs.EditLists.{AreLawful}
 use Rattle.st_classes.specs.Refusals.{first_of}
 use Rattle.st_classes.specs.Selectors.{is_letter, is_letter_or_digit, is_identifier, begins_upper, is_class_name, is_slot_name, is_binary_character, is_binary, before_first_part, parts, keywords, keyword_arity, is_selector}
@@ -101,6 +101,7 @@ abbrev defines_name : Edit → Bool
 defines_name (Define name parent slots) = is_class_name name
 defines_name (Install c m) = true
 defines_name (Remove c s) = true
+defines_name (Reparent c p) = true
 
 accepted : (es : List Edit) (e : Edit) → first_of (edit_rules es e) ≡ None → defines_name e ≡ true
 accepted es (Define name parent slots) h =
@@ -108,21 +109,32 @@ accepted es (Define name parent slots) h =
     (and_parts (is_class_name name) (list_all is_slot_name slots) (not-false _ r.1.0)).0
 accepted es (Install c m) h = refl
 accepted es (Remove c s) h = refl
+accepted es (Reparent c p) h = refl
 
 abbrev has_name : ClassDef → Bool
 has_name d = is_class_name d.name
 
-names_defined : (edits : List Edit) → ((place : ℕ) (e : Edit) → slice_get edits place ≡ Some e → defines_name e ≡ true) → list_all has_name (defined edits) ≡ true
-names_defined [] h = refl
-names_defined (Define name parent slots ∷ edits) h = and_from (is_class_name name) _ (h 0 _ refl) (names_defined edits (λ place e at. h (suc place) e at))
-names_defined (Install c m ∷ edits) h = names_defined edits (λ place e at. h (suc place) e at)
-names_defined (Remove c s ∷ edits) h = names_defined edits (λ place e at. h (suc place) e at)
+names_kept : (cs : List ClassDef) (n : ℕ) (p : ClassId) → list_all has_name (reparented cs n p) ≡ list_all has_name cs
+names_kept [] n p = refl
+names_kept (d ∷ cs) zero p = refl
+names_kept (d ∷ cs) (suc n) p = ap (λ (b : Bool). has_name d && b) (names_kept cs n p)
+
+names_after : (cs : List ClassDef) (e : Edit) → defines_name e ≡ true → list_all has_name cs ≡ true → list_all has_name (classes_after cs e) ≡ true
+names_after cs (Define name parent slots) h all = list_all-append has_name cs (record { name = name; parent = Some parent; slots = slots } ∷ []) ∙ and_from (list_all has_name cs) (is_class_name name && true) all (and_from (is_class_name name) true h refl)
+names_after cs (Install c m) h all = all
+names_after cs (Remove c s) h all = all
+names_after cs (Reparent c p) h all = names_kept cs c.0 p ∙ all
+
+-- the classes that edits make have class names
+names_from : (cs : List ClassDef) (edits : List Edit) → ((place : ℕ) (e : Edit) → slice_get edits place ≡ Some e → defines_name e ≡ true) → list_all has_name cs ≡ true → list_all has_name (classes_from cs edits) ≡ true
+names_from cs [] h all = all
+names_from cs (e ∷ edits) h all = names_from (classes_after cs e) edits (λ place d at. h (suc place) d at) (names_after cs e (h 0 e refl) all)
 
 pub class_name_ascii : (edits : List Edit) (c : ClassId) (name : List ℕ) → AreLawful edits → class_name edits c ≡ Some name → IsAscii name
 class_name_ascii edits c name lawful h = by (slice_get (classes edits) c.0) refl
   where
     all : list_all has_name (classes edits) ≡ true
-    all = list_all-append has_name kernel_classes (defined edits) ∙ and_from (list_all has_name kernel_classes) (list_all has_name (defined edits)) refl (names_defined edits (λ place e at. accepted (take place edits) e (lawful place e at)))
+    all = names_from kernel_classes edits (λ place e at. accepted (take place edits) e (lawful place e at)) refl
 
     by : (o : Option ClassDef) → slice_get (classes edits) c.0 ≡ o → IsAscii name
     by None e = let none : None ≡ Some name = rw e at h in cc

@@ -11,7 +11,7 @@ use Rattle.st_turn.specs.declared.body.Outcome.TheVariants as outcome
 use Rattle.st_image.specs.PostRules.{from_client}
 use Rattle.st_image.specs.Images.{ImageView, world}
 use Rattle.st_image.specs.Outcomes.{image_outcome}
-use Rattle.st_image.specs.Calls.{Closes, Creates, Defines, InstallsIn, Posts, Removes}
+use Rattle.st_image.specs.Calls.{Closes, Creates, Defines, InstallsIn, Posts, Removes, Reparents}
 use Rattle.st_wire.specs.declared.commands.Argument.{Argument}
 use Rattle.st_wire.specs.declared.commands.Command.{Command}
 use Rattle.st_wire.specs.declared.commands.Command.TheVariants as command
@@ -50,6 +50,12 @@ abbrev pub RemovesNamed : ImageView → List ℕ → ClassId → Result ℕ Refu
 RemovesNamed i text c result j = MatchResult (found_selector i.names text)
     (λ s. Removes i c s result j)
     (λ e. (result ≡ Err e) × (j ≡ i))
+
+-- a class gets the superclass that a text names
+abbrev pub ReparentsNamed : ImageView → List ℕ → ClassId → Result ℕ Refusal → ImageView → Type 0
+ReparentsNamed i text c result j = MatchOption (class_named (world i).edits text)
+    ((result ≡ Err UnknownClass) × (j ≡ i))
+    (λ parent. Reparents i c parent result j)
 
 -- ---- a post: its selector and its arguments are resolved from the left, and then it is posted
 
@@ -95,6 +101,7 @@ abbrev pub Asks : ImageView → Command → Reply → ImageView → Type 0
 Asks i (command.Define name parent slots) r j = RepliesFor i parent reply.Version (λ c. Defines i name c slots) r j
 Asks i (command.Method class source) r j = RepliesFor i class reply.Version (λ c. InstallsIn i c source) r j
 Asks i (command.Remove class text) r j = RepliesFor i class reply.Version (RemovesNamed i text) r j
+Asks i (command.Reparent class parent) r j = RepliesFor i class reply.Version (ReparentsNamed i parent) r j
 Asks i (command.Actor class) r j = RepliesFor i class reply.Actor (Creates i) r j
 Asks i (command.Post actor args text sender seq) r j = PostsNamed i actor args text sender seq r j
 Asks i (command.Run quanta) r j = (r ≡ reply.Refused BadCommand) × (j ≡ i)

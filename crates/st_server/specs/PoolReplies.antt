@@ -9,7 +9,7 @@ use Rattle.st_classes.specs.declared.values.Value.TheVariants as value
 use Rattle.st_classes.specs.declared.refusals.Refusal.{Refusal}
 use Rattle.st_classes.specs.declared.refusals.Refusal.TheVariants.{NoMemory, UnknownClass, BadCommand}
 use Rattle.st_classes.specs.Classes.{class_named}
-use Rattle.st_image.specs.Calls.{Closes, Creates, Defines, InstallsIn, Removes}
+use Rattle.st_image.specs.Calls.{Closes, Creates, Defines, InstallsIn, Removes, Reparents}
 use Rattle.st_image.specs.Images.{ImageView, world}
 use Rattle.st_image.specs.Outcomes.{image_outcome}
 use Rattle.st_image.specs.PostRules.{from_client}
@@ -59,6 +59,12 @@ RemovesText start d text c = GoesOn
     (λ found. Finds start d (λ i. found ≡ found_selector i.names text))
     (λ s. CallsOnce start d (λ i. Removes i c s))
 
+-- a class gets the superclass that a text names, which is looked up once the class is
+abbrev pub ReparentsText : ℕ → Done → List ℕ → ClassId → Result ℕ Refusal → Type 0
+ReparentsText start d text c result = (named : Option ClassId) × ClassNamed start d text named × MatchOption named
+    (result ≡ Err UnknownClass)
+    (λ parent. CallsOnce start d (λ i. Reparents i c parent) result)
+
 -- ---- a post: its selector and its arguments are resolved from the left, and then it is posted
 
 -- the value of a symbol that was interned
@@ -104,6 +110,8 @@ Attends start d (command.Define name parent slots) r e =
 Attends start d (command.Method class source) r e =
     RepliesOn start d class reply.Version (λ c. CallsOnce start d (λ i. InstallsIn i c source)) r × (e ≡ after_edit d r)
 Attends start d (command.Remove class text) r e = RepliesOn start d class reply.Version (RemovesText start d text) r × (e ≡ after_edit d r)
+Attends start d (command.Reparent class parent) r e =
+    RepliesOn start d class reply.Version (ReparentsText start d parent) r × (e ≡ after_edit d r)
 Attends start d (command.Actor class) r e = RepliesOn start d class reply.Actor (λ c. CallsOnce start d (λ i. Creates i c)) r × (e ≡ d)
 Attends start d (command.Post a args text sender seq) r e = (result : Result ℕ Refusal) × PostsText start d a args text sender seq result e
     × (r ≡ reply_by reply.Turn result)

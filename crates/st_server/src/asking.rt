@@ -4,7 +4,7 @@ ghost use Rattle.st_image.specs.Calls.{Closes, Creates, Defines, InstallsIn, Pos
 ghost use Rattle.st_image.specs.PostRules.{from_client};
 ghost use Rattle.st_image.specs.Outcomes.{image_outcome};
 ghost use Rattle.st_wire.specs.declared.replies.Reply.TheVariants as replies;
-ghost use Rattle.st_server.specs.CommandReplies.{RepliesTo, RepliesFor, RemovesNamed, PostsArguments, PostsNamed, Tells, Asks};
+ghost use Rattle.st_server.specs.CommandReplies.{RepliesTo, RepliesFor, RemovesNamed, ReparentsNamed, PostsArguments, PostsNamed, Tells, Asks};
 
 use crate::images::Image;
 use crate::resolving::{argument_values, find_selector, shown};
@@ -68,6 +68,32 @@ fn remove(alloc: Global, image: &mut Image, class: &[u8], selector: &[u8]) -> Re
         return Reply::Refused(Refusal::UnknownClass);
     };
     match remove_named(alloc, image, class, selector) {
+        Ok(version) => Reply::Version(version),
+        Err(refusal) => Reply::Refused(refusal),
+    }
+}
+
+fn reparent_named(
+    alloc: Global,
+    image: &mut Image,
+    class: ClassId,
+    parent: &[u8],
+) -> Result<u32, Refusal>
+    ensures { ReparentsNamed image.old parent.now class result image.new }
+{
+    match image.version().class_named(parent) {
+        Some(parent) => image.reparent(alloc, class, parent),
+        None => Err(Refusal::UnknownClass),
+    }
+}
+
+fn reparent(alloc: Global, image: &mut Image, class: &[u8], parent: &[u8]) -> Reply
+    ensures { RepliesFor image.old class.now replies.Version (ReparentsNamed image.old parent.now) result image.new }
+{
+    let Some(class) = image.version().class_named(class) else {
+        return Reply::Refused(Refusal::UnknownClass);
+    };
+    match reparent_named(alloc, image, class, parent) {
         Ok(version) => Reply::Version(version),
         Err(refusal) => Reply::Refused(refusal),
     }
@@ -174,6 +200,9 @@ pub(crate) fn ask(alloc: Global, image: &mut Image, command: Command) -> Reply
         }
         Command::Remove { class, selector } => {
             remove(alloc, image, class.as_slice(), selector.as_slice())
+        }
+        Command::Reparent { class, parent } => {
+            reparent(alloc, image, class.as_slice(), parent.as_slice())
         }
         Command::Actor { class } => create(alloc, image, class.as_slice()),
         Command::Post {

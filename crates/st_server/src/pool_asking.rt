@@ -8,7 +8,7 @@ ghost use Rattle.st_image.specs.Outcomes.{image_outcome};
 ghost use Rattle.st_wire.specs.declared.replies.Reply.TheVariants as replies;
 ghost use Rattle.st_server.specs.ArgumentValues.{found_selector};
 ghost use Rattle.st_server.specs.CommandReplies.{States, Tells, reply_by};
-ghost use Rattle.st_server.specs.PoolReplies.{Attends, CallsOnce, ClassNamed, Finds, HasValue, HaveValues, PostsText, PostsWith, RemovesText, RepliesOn, after_edit};
+ghost use Rattle.st_server.specs.PoolReplies.{Attends, CallsOnce, ClassNamed, Finds, HasValue, HaveValues, PostsText, PostsWith, RemovesText, ReparentsText, RepliesOn, after_edit};
 
 use crate::images::Mailbox;
 use crate::resolving::find_selector;
@@ -116,6 +116,41 @@ fn remove<K: Naming, R: Wait>(
         return Reply::Refused(Refusal::UnknownClass);
     };
     match remove_named(rt, alloc, caller, class, selector) {
+        Ok(version) => Reply::Version(version),
+        Err(refusal) => Reply::Refused(refusal),
+    }
+}
+
+fn reparent_named<K: Naming, R: Wait>(
+    rt: &R,
+    alloc: Global,
+    caller: &mut Caller<'_, K, Mailbox>,
+    class: ClassId,
+    parent: &[u8],
+) -> Result<u32, Refusal>
+    ensures reparents { ReparentsText K.start caller.old parent.now class result }
+    ensures done { caller.new ≡ after_edit caller.old (reply_by replies.Version result) }
+{
+    match class_named(rt, caller, parent) {
+        Some(parent) => caller.reparent(rt, alloc, class, parent),
+        None => Err(Refusal::UnknownClass),
+    }
+}
+
+fn reparent<K: Naming, R: Wait>(
+    rt: &R,
+    alloc: Global,
+    caller: &mut Caller<'_, K, Mailbox>,
+    class: &[u8],
+    parent: &[u8],
+) -> Reply
+    ensures replies { RepliesOn K.start caller.old class.now replies.Version (ReparentsText K.start caller.old parent.now) result }
+    ensures done { caller.new ≡ after_edit caller.old result }
+{
+    let Some(class) = class_named(rt, caller, class) else {
+        return Reply::Refused(Refusal::UnknownClass);
+    };
+    match reparent_named(rt, alloc, caller, class, parent) {
         Ok(version) => Reply::Version(version),
         Err(refusal) => Reply::Refused(refusal),
     }
@@ -297,6 +332,9 @@ pub(crate) fn ask<K: Naming, R: Wait>(
         }
         Command::Remove { class, selector } => {
             remove(rt, alloc, caller, class.as_slice(), selector.as_slice())
+        }
+        Command::Reparent { class, parent } => {
+            reparent(rt, alloc, caller, class.as_slice(), parent.as_slice())
         }
         Command::Actor { class } => create(rt, alloc, caller, class.as_slice()),
         Command::Post {

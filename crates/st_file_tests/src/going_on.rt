@@ -1,5 +1,5 @@
 //! Images that go on where the texts of their files stood.
-use crate::texts::{LOOPING, PENDING, VARIED};
+use crate::texts::{LOOPING, MOVED, PENDING, VARIED};
 use st_classes::refusals::Refusal;
 use st_file::files::image_of_bytes;
 use st_file::saving::save;
@@ -62,6 +62,25 @@ fn a_pending_message_goes_on(rt: HostRuntime) -> Result<(), Fail> {
                 steps: 14
             }
     );
+    Ok(())
+}
+
+/// A class stands under the superclass that it got last, in a file and in the image that the file gives.
+#[test]
+fn a_class_that_was_moved_stays_moved(rt: HostRuntime) -> Result<(), Fail> {
+    let alloc = rt.alloc();
+    let ask = r#"{"actor":0,"args":[],"cmd":"post","selector":"go","sender":1,"seq":1}
+{"cmd":"run"}
+{"actor":0,"cmd":"outcome","turn":1}
+"#;
+    let replies = r#"{"ok":{"turn":1}}
+{"ok":{"quanta":1,"steps":6}}
+{"ok":{"answer":2}}
+"#;
+    let moved = session_of(alloc, MOVED.as_bytes(), ask)?;
+    assert!(rt; moved.replies.as_slice() == replies.as_bytes());
+    let again = session_of(alloc, moved.file.as_slice(), "")?;
+    assert!(rt; again.file.as_slice() == moved.file.as_slice());
     Ok(())
 }
 

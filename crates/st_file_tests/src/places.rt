@@ -1,5 +1,5 @@
 //! Texts that are refused by a place, once something in them is changed.
-use crate::texts::{LOOPING, PENDING, VARIED, refused};
+use crate::texts::{LOOPING, MOVED, PENDING, VARIED, refused};
 use st_classes::refusals::{ImagePlace, Refusal};
 use std::alloc::{AllocError, Global};
 use std::test::*;
@@ -171,5 +171,41 @@ fn cut_texts(rt: HostRuntime) -> Result<(), Fail> {
         );
     }
     assert!(rt; refused(alloc, text) == None);
+    Ok(())
+}
+
+/// Another superclass that the image would refuse, and one of another form.
+#[test]
+fn by_what_is_moved(rt: HostRuntime) -> Result<(), Fail> {
+    let alloc = rt.alloc();
+    let moved = "{\"class\":\"C\",\"super\":\"B\"}";
+    assert!(rt;
+        all_refused(
+            alloc,
+            MOVED,
+            ImagePlace::Edits,
+            &[
+                (moved, "{\"class\":\"C\",\"super\":\"C\"}"),
+                (moved, "{\"class\":\"A\",\"super\":\"C\"}"),
+                (moved, "{\"class\":\"Object\",\"super\":\"C\"}"),
+                (moved, "{\"class\":\"C\",\"super\":\"Symbol\"}"),
+                (moved, "{\"class\":\"C\",\"super\":\"D\"}"),
+                (moved, "{\"class\":\"D\",\"super\":\"B\"}"),
+            ]
+        )?
+    );
+    assert!(rt;
+        all_refused(
+            alloc,
+            MOVED,
+            ImagePlace::Shape,
+            &[
+                (moved, "{\"class\":\"C\",\"parent\":\"B\"}"),
+                (moved, "{\"class\":\"C\",\"slots\":[],\"super\":\"B\"}"),
+                (moved, "[\"C\",\"B\"]"),
+                ("\"reparent\"", "\"move\""),
+            ]
+        )?
+    );
     Ok(())
 }

@@ -198,14 +198,26 @@ fn remove(alloc: Global) -> Result<EditText, AllocError> {
     })
 }
 
+fn reparent(alloc: Global) -> Result<EditText, AllocError> {
+    Ok(EditText::Reparent {
+        class: text(alloc, "M")?,
+        parent: text(alloc, "Object")?,
+    })
+}
+
 /// Whether a loader takes a name and an edit of each kind, and has them then.
 fn takes_all(alloc: Global, loader: &mut Loader) -> Result<bool, AllocError> {
-    let edits = [define(alloc)?, install(alloc)?, remove(alloc)?];
+    let edits = [
+        define(alloc)?,
+        install(alloc)?,
+        remove(alloc)?,
+        reparent(alloc)?,
+    ];
     let mut are_taken = is_named(alloc, loader, "first:");
     for edit in &edits {
         are_taken = are_taken && is_edited(alloc, loader, edit);
     }
-    Ok(are_taken && counts(loader) == (25, 3))
+    Ok(are_taken && counts(loader) == (25, 4))
 }
 
 #[test]

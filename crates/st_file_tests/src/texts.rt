@@ -17,6 +17,10 @@ pub(crate) const PENDING: &str =
 pub(crate) const LOOPING: &str =
     r#"{"actors":[{"body":{"objects":[{"class":"L","slots":[]}],"phase":{"frames":[{"method":2,"operands":[],"pc":6,"receiver":{"local":0},"temps":[1,1]}]}},"capacity":64,"class":"L","last":0,"open":true,"pending":[]}],"edits":[{"define":{"name":"L","slots":[],"super":"Object"}},{"install":{"class":"SmallInteger","source":"tag ^1"}},{"install":{"class":"L","source":"go | i s | i := 0. s := 0. [i < 3] whileTrue: [s := s * 10 + 3 tag. i := i + 1]. ^s"}},{"install":{"class":"L","source":"go ^0"}},{"install":{"class":"SmallInteger","source":"tag ^2"}}],"format":1,"names":["tag","go"],"senders":[[1,1]]}"#;
 
+/// An actor of a class that was first under A and is under B.
+pub(crate) const MOVED: &str =
+    r#"{"actors":[{"body":{"objects":[{"class":"C","slots":[]}],"phase":"fresh"},"capacity":64,"class":"C","last":0,"open":true,"pending":[]}],"edits":[{"define":{"name":"A","slots":[],"super":"Object"}},{"install":{"class":"A","source":"who ^1"}},{"define":{"name":"B","slots":[],"super":"Object"}},{"install":{"class":"B","source":"who ^2"}},{"define":{"name":"C","slots":[],"super":"A"}},{"install":{"class":"C","source":"go ^self who"}},{"reparent":{"class":"C","super":"B"}}],"format":1,"names":["who","go"],"senders":[]}"#;
+
 /// All kinds of values and of phases, an actor that is closed, and one that has sent.
 pub(crate) const VARIED: &str =
     r#"{"actors":[{"body":{"objects":[{"class":"P","slots":[-9223372036854775808,{"local":1}]},{"class":"Object","slots":[]}],"phase":{"answer":{"sym":"at:put:"}}},"capacity":1,"class":"P","last":18446744073709551615,"open":false,"pending":[{"args":[true,{"class":"P"}],"selector":"at:put:","sender":{"ref":0},"seq":7}]},{"body":{"objects":[{"class":"Object","slots":[]}],"phase":{"start":{"args":[null],"selector":"x:"}}},"capacity":1024,"class":"Object","last":0,"open":true,"pending":[]},{"body":{"objects":[{"class":"P","slots":[false,{"ref":1}]}],"phase":{"fault":"zeroDivide"}},"capacity":64,"class":"P","last":0,"open":true,"pending":[]}],"edits":[{"define":{"name":"P","slots":["a","b"],"super":"Object"}},{"install":{"class":"P","source":"x: y a := y"}},{"remove":{"class":"P","selector":"x:"}}],"format":1,"names":["at:put:","x:"],"senders":[[0,5],[65535,18446744073709551615]]}"#;
@@ -55,7 +59,7 @@ fn is_told(alloc: Global, text: &str, line: &str, status: u8) -> Result<bool, Al
 #[test]
 fn saved_as_loaded(rt: HostRuntime) -> Result<(), Fail> {
     let alloc = rt.alloc();
-    for text in [PENDING, LOOPING, VARIED] {
+    for text in [PENDING, LOOPING, MOVED, VARIED] {
         assert!(rt; is_saved_as(alloc, text.as_bytes(), text) == Ok(true));
     }
     // A name that only a method has may be left out, and white space is.

@@ -129,6 +129,19 @@ pub(crate) fn remove(
     )
 }
 
+/// Another superclass of a class.
+pub(crate) fn reparent(
+    alloc: Global,
+    version: &Version,
+    class: ClassId,
+    parent: ClassId,
+) -> Result<Box<Version>, Refusal> {
+    boxed(
+        alloc,
+        version.with_edit(alloc, Edit::Reparent { class, parent })?,
+    )
+}
+
 /// Whether a send to an instance of a class finds this.
 fn finds(version: &Version, class: ClassId, selector: Selector, target: Target) -> bool {
     version.is_class(class) && version.find(class, selector) == target
@@ -207,6 +220,24 @@ fn finds_before_and_after(alloc: Global, before: &Version) -> Result<bool, Refus
 fn finds_up_a_chain(rt: HostRuntime) -> Result<(), Fail> {
     let before = three_classes(rt.alloc())?;
     assert!(rt; finds_before_and_after(rt.alloc(), &before)?);
+    Ok(())
+}
+
+/// Whether C finds what A has, once it stands under A.
+fn finds_where_it_moved(alloc: Global, before: &Version) -> Result<bool, Refusal> {
+    let after = reparent(alloc, before, C, A)?;
+    Ok(
+        finds(before, C, WHO, Target::Run(MethodId(3)))
+            && finds(&after, C, WHO, Target::Run(MethodId(1)))
+            && finds_above(&after, C, C, WHO, Target::Run(MethodId(1)))
+            && after.parent(C) == Some(A),
+    )
+}
+
+#[test]
+fn finds_up_another_chain(rt: HostRuntime) -> Result<(), Fail> {
+    let before = three_classes(rt.alloc())?;
+    assert!(rt; finds_where_it_moved(rt.alloc(), &before)?);
     Ok(())
 }
 

@@ -6,7 +6,7 @@ ghost use Rattle.st_classes.specs.Classes.{is_class};
 ghost use Rattle.st_guard.specs.Moves.{IsAt};
 ghost use Rattle.st_guard.specs.ValidCaches.{asks};
 
-use crate::classes::{boxed, define, kernel_version, remove};
+use crate::classes::{boxed, define, kernel_version, remove, reparent};
 use st_classes::counted_rows::CountedRows;
 use st_classes::edits::Edit;
 use st_classes::instructions::Instruction;
@@ -355,7 +355,8 @@ fn each_site_is_kept(rt: HostRuntime) -> Result<(), Fail> {
     Ok(())
 }
 
-/// An edit of each kind: a definition, an install, a removal, and an install of a method for the last name that a table can have.
+/// An edit of each kind: a definition, an install, a removal, another superclass, and an install of a method for the last name that a
+/// table can have.
 pub(crate) fn next_edit(
     alloc: Global,
     version: &Version,
@@ -365,6 +366,7 @@ pub(crate) fn next_edit(
         0 => define(alloc, version, b"D", C, &[]),
         1 => install(alloc, version, B, MISSING, WHO),
         2 => remove(alloc, version, B, MISSING),
+        3 => reparent(alloc, version, C, A),
         _ => install(alloc, version, B, Selector(8191), WHO),
     }
 }
@@ -373,7 +375,7 @@ pub(crate) fn next_edit(
 fn follow_each_kind<G: Guard>(alloc: Global, caches: &mut Caches<G>) -> Result<bool, Refusal> {
     let mut version = three_classes(alloc)?;
     let mut follow = ask(caches, alloc, &version, None, key(None, WHO)) == Some(How::Walk);
-    for kind in 0..4 {
+    for kind in 0..5 {
         version = next_edit(alloc, &version, kind)?;
         follow = caches.move_to(alloc, &version) == Moved::Followed && follow;
     }

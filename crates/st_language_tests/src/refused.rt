@@ -93,7 +93,7 @@ fn edits(version: &Version) -> u32 {
 /// How many edits there are after one of each kind.
 fn edits_of_each_kind(alloc: Global) -> Result<u32, Refusal> {
     let mut version = three_classes(alloc)?;
-    for kind in 0..3 {
+    for kind in 0..4 {
         version = edited_again(alloc, &version, kind)?;
     }
     Ok(edits(&version))
@@ -101,7 +101,7 @@ fn edits_of_each_kind(alloc: Global) -> Result<u32, Refusal> {
 
 #[test]
 fn versions_stay(rt: HostRuntime) -> Result<(), Fail> {
-    assert!(rt; edits_of_each_kind(rt.alloc())? == 9);
+    assert!(rt; edits_of_each_kind(rt.alloc())? == 10);
     Ok(())
 }
 

@@ -23,14 +23,24 @@ pub const FIRST: ActorId = ActorId(0);
 pub const SECOND: ActorId = ActorId(1);
 
 /// Defines a class under Object without instance variables. Its number is that of the order of definition.
+pub fn define_under<K: Naming, R: Wait>(
+    rt: &R,
+    alloc: Global,
+    caller: &mut Caller<'_, K>,
+    name: &str,
+    parent: ClassId,
+) -> Result<u32, Refusal> {
+    let slots = Seq::from_vec(Vec::new(alloc));
+    caller.define(rt, alloc, name.as_bytes(), parent, slots)
+}
+
 pub fn define<K: Naming, R: Wait>(
     rt: &R,
     alloc: Global,
     caller: &mut Caller<'_, K>,
     name: &str,
 ) -> Result<u32, Refusal> {
-    let slots = Seq::from_vec(Vec::new(alloc));
-    caller.define(rt, alloc, name.as_bytes(), OBJECT, slots)
+    define_under(rt, alloc, caller, name, OBJECT)
 }
 
 pub fn install<K: Naming, R: Wait>(
@@ -52,6 +62,16 @@ pub fn remove<K: Naming, R: Wait>(
 ) -> Result<u32, Refusal> {
     let selector = caller.intern(rt, alloc, selector.as_bytes())?;
     caller.remove(rt, alloc, class, selector)
+}
+
+pub fn reparent<K: Naming, R: Wait>(
+    rt: &R,
+    alloc: Global,
+    caller: &mut Caller<'_, K>,
+    class: ClassId,
+    parent: ClassId,
+) -> Result<u32, Refusal> {
+    caller.reparent(rt, alloc, class, parent)
 }
 
 pub fn create<K: Naming, R: Wait>(

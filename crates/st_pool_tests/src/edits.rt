@@ -5,6 +5,7 @@ use crate::plays::totals;
 use crate::pools::Caller;
 use crate::scenes::Scene;
 use st_classes::kernel::SMALL_INTEGER;
+use st_classes::refusals::Refusal;
 use st_classes::values::ClassId;
 use st_pool::naming::Naming;
 use st_pool::totals::Totals;
@@ -54,6 +55,43 @@ pub fn unused_selector<K: Naming, R: Wait + Clock>(
     marks: &Marks,
 ) -> bool {
     edited(rt, alloc, caller, marks, A, "bump ^0", 1, 1)
+}
+
+const B: ClassId = ClassId(9);
+
+const C: ClassId = ClassId(10);
+
+/// C is first under A and then under B, and each of the two answers a number of its own.
+pub fn reparented<K: Naming, R: Wait + Clock>(
+    rt: &R,
+    alloc: Global,
+    caller: &mut Caller<'_, K>,
+) -> bool {
+    define(rt, alloc, caller, "A") == Ok(1)
+        && install(rt, alloc, caller, A, "who ^1") == Ok(2)
+        && define(rt, alloc, caller, "B") == Ok(3)
+        && install(rt, alloc, caller, B, "who ^2") == Ok(4)
+        && define_under(rt, alloc, caller, "C", A) == Ok(5)
+        && install(rt, alloc, caller, C, "go ^self who") == Ok(6)
+        && create(rt, alloc, caller, C) == Ok(FIRST)
+        && post(rt, alloc, caller, 1, FIRST, "go") == Ok(1)
+        && answers(rt, caller, FIRST, 1, 1)
+        && reparent(rt, alloc, caller, A, C) == Err(Refusal::Cycle)
+        && reparent(rt, alloc, caller, C, B) == Ok(7)
+        && post(rt, alloc, caller, 2, FIRST, "go") == Ok(2)
+        && answers(rt, caller, FIRST, 2, 2)
+}
+
+#[test]
+fn a_caller_moves_a_class(rt: HostRuntime) -> Result<(), Fail> {
+    // each turn has six steps
+    let wanted = Totals {
+        posts: 2,
+        edits: 7,
+        steps: 12,
+    };
+    assert!(rt; totals(&rt, rt.alloc(), Scene::Reparented) == Some(Ok(wanted)));
+    Ok(())
 }
 
 #[test]

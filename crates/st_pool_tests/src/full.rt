@@ -4,6 +4,7 @@ use crate::doors::{Marks, pause};
 use crate::plays::totals;
 use crate::pools::Caller;
 use crate::scenes::Scene;
+use st_classes::kernel::OBJECT;
 use st_classes::refusals::Refusal;
 use st_pool::naming::Naming;
 use st_pool::totals::Totals;
@@ -34,6 +35,7 @@ enum Call {
     Define,
     Install,
     Remove,
+    Reparent,
     Create,
     Close,
 }
@@ -43,8 +45,9 @@ const CALLS: &[(Call, u64)] = &[
     (Call::Define, 2),
     (Call::Install, 3),
     (Call::Remove, 4),
-    (Call::Create, 5),
-    (Call::Close, 6),
+    (Call::Reparent, 5),
+    (Call::Create, 6),
+    (Call::Close, 7),
 ];
 
 /// The table behind a function without a contract, so that the proof of a test carries none of it.
@@ -63,6 +66,7 @@ fn is_refused<K: Naming, R: Wait + Clock>(
         Call::Define => define(rt, alloc, caller, "B").err(),
         Call::Install => install(rt, alloc, caller, A, "stop ^2").err(),
         Call::Remove => remove(rt, alloc, caller, A, "go").err(),
+        Call::Reparent => reparent(rt, alloc, caller, A, OBJECT).err(),
         Call::Create => create(rt, alloc, caller, A).err(),
         Call::Close => close(rt, caller, FIRST).err(),
     };

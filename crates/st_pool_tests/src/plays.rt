@@ -5,7 +5,7 @@ use crate::by_callers::{closing, not_understood, numbers};
 use crate::calls::{FIRST, close};
 use crate::crowd::{crowd, hand_back};
 use crate::doors::{Door, Marks, TURNS, pause};
-use crate::edits::{unused_selector, used_selector};
+use crate::edits::{reparented, unused_selector, used_selector};
 use crate::full::{at_checkout, at_commit, late_wait};
 use crate::many::many_callers;
 use crate::overlap::overlap;
@@ -95,6 +95,7 @@ fn act<K: Naming + Send + Sync, R: Threads + Wait + Clock + Sync>(
         Scene::Numbers => numbers(rt, alloc, caller, marks),
         Scene::UsedSelector => used_selector(rt, alloc, caller, marks),
         Scene::UnusedSelector => unused_selector(rt, alloc, caller, marks),
+        Scene::Reparented => reparented(rt, alloc, caller),
         Scene::FullAtCheckout => at_checkout(rt, alloc, caller, marks),
         Scene::FullAtCommit => at_commit(rt, alloc, caller, marks),
         Scene::LateWait => late_wait(rt, alloc, caller, marks),

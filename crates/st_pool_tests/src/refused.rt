@@ -5,7 +5,7 @@ use crate::calls::*;
 use crate::plays::totals;
 use crate::pools::{Caller, Image};
 use crate::scenes::Scene;
-use st_classes::kernel::SMALL_INTEGER;
+use st_classes::kernel::{OBJECT, SMALL_INTEGER};
 use st_classes::refusals::Refusal;
 use st_pool::naming::Naming;
 use st_pool::totals::Totals;
@@ -31,6 +31,7 @@ Ok(24) = intern fresh:
 Ok(2) = sites go
 Ok(4) = remove go
 Err(NoSuchMethod) = remove go
+Ok(5) = reparent
 Ok(0) = close
 Err(Closed) = post 3 tag
 Err(Closed) = close
@@ -73,6 +74,7 @@ fn edit<K: Naming, R: Wait>(
         "define" => define(rt, alloc, caller, rest),
         "install" => install(rt, alloc, caller, A, rest),
         "tag" => install(rt, alloc, caller, SMALL_INTEGER, rest),
+        "reparent" => reparent(rt, alloc, caller, A, OBJECT),
         _ => remove(rt, alloc, caller, A, rest),
     }
 }
@@ -125,7 +127,7 @@ fn ask<K: Naming, R: Wait>(
 ) -> Result<u64, Refusal> {
     let (word, rest) = call.split_once(' ').unwrap_or((call, ""));
     match word {
-        "define" | "install" | "tag" | "remove" => {
+        "define" | "install" | "tag" | "remove" | "reparent" => {
             Ok(u64::from(edit(rt, alloc, caller, word, rest)?))
         }
         _ => act(rt, alloc, caller, word, rest),
@@ -179,7 +181,7 @@ pub fn calls_alone<K: Naming, R: Wait>(rt: &R, alloc: Global, caller: &mut Calle
 fn calls_of_a_caller(rt: HostRuntime) -> Result<(), Fail> {
     let wanted = Totals {
         posts: 2,
-        edits: 4,
+        edits: 5,
         steps: 0,
     };
     assert!(rt; totals(&rt, rt.alloc(), Scene::Refused) == Some(Ok(wanted)));

@@ -18,6 +18,8 @@ pub enum Scene {
     UsedSelector,
     /// A method is installed that no claim has used.
     UnusedSelector,
+    /// A class gets another superclass between two messages.
+    Reparented,
     /// No item is left in the history to begin a message.
     FullAtCheckout,
     /// No item is left in the history for the steps of a quantum.

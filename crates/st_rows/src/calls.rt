@@ -78,6 +78,15 @@ pub(crate) fn remove(
     image.remove(alloc, class, selector)
 }
 
+pub(crate) fn reparent(
+    alloc: Global,
+    image: &mut Image,
+    class: ClassId,
+    parent: ClassId,
+) -> Result<u32, Refusal> {
+    image.reparent(alloc, class, parent)
+}
+
 pub(crate) fn intern(alloc: Global, image: &mut Image, text: &[u8]) -> Result<Selector, Refusal> {
     image.intern(alloc, text)
 }

@@ -9,6 +9,8 @@ use std::test::*;
 
 const A: ClassId = ClassId(8);
 
+const OTHER: ClassId = ClassId(9);
+
 /// An image with an actor to which a message was sent, after three edits.
 fn asked(alloc: Global) -> Result<Box<Image>, Refusal> {
     let mut image = new_image(alloc)?;
@@ -97,6 +99,32 @@ fn commits_after_others(alloc: Global) -> Result<[Result<u32, Refusal>; 2], Refu
 fn a_removal_touches_and_a_definition_does_not(rt: HostRuntime) -> Result<(), Fail> {
     let answers = commits_after_others(rt.alloc())?;
     assert!(rt; answers == [Err(Refusal::Stale { version: 4 }), Ok(1)]);
+    Ok(())
+}
+
+/// What the commit of a claim of so many steps answers after an unrelated class got the superclass again that it has.
+fn commit_after_reparent(
+    alloc: Global,
+    before: u32,
+    steps: u32,
+) -> Result<Result<u32, Refusal>, Refusal> {
+    let mut image = asked(alloc)?;
+    define(alloc, &mut image, b"Other", OBJECT)?;
+    if before > 0 {
+        advance(alloc, &mut image, before)?;
+    }
+    let claim = claim_of(alloc, &mut image, steps)?;
+    reparent(alloc, &mut image, OTHER, OBJECT)?;
+    Ok(commit(alloc, &mut image, claim))
+}
+
+#[test]
+fn a_reparent_makes_stale_what_used_a_selector(rt: HostRuntime) -> Result<(), Fail> {
+    let alloc = rt.alloc();
+    assert!(rt; commit_after_reparent(alloc, 0, 3)? == Err(Refusal::Stale { version: 5 }));
+    assert!(rt; commit_after_reparent(alloc, 0, 1)? == Err(Refusal::Stale { version: 5 }));
+    assert!(rt; commit_after_reparent(alloc, 0, 0)? == Ok(0));
+    assert!(rt; commit_after_reparent(alloc, 7, 8)? == Ok(1));
     Ok(())
 }
 

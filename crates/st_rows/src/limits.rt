@@ -118,6 +118,34 @@ fn instance_variables(rt: HostRuntime) -> Result<(), Fail> {
     Ok(())
 }
 
+/// Two chains under Object: one of 40 classes, from number 8 on, and one of 24, from number 48 on.
+fn two_chains(alloc: Global) -> Result<Box<Image>, Refusal> {
+    let mut image = new_image(alloc)?;
+    for number in 0..64 {
+        let parent = match number {
+            0 | 40 => OBJECT,
+            _ => ClassId(number as u16 + 7),
+        };
+        define(alloc, &mut image, &name(b'C', number), parent)?;
+    }
+    Ok(image)
+}
+
+/// A chain of 64 classes, the lowest class counted, that is below the one that gets another superclass; and one of 65 is too deep.
+#[test]
+fn chains_below_a_reparent(rt: HostRuntime) -> Result<(), Fail> {
+    let alloc = rt.alloc();
+    let mut image = two_chains(alloc)?;
+    assert!(rt; reparent(alloc, &mut image, ClassId(48), ClassId(47)) == Err(Refusal::TooDeep));
+    assert!(rt; reparent(alloc, &mut image, ClassId(48), ClassId(46)) == Ok(65));
+    assert!(rt; define(alloc, &mut image, b"Deeper", ClassId(71)) == Err(Refusal::TooDeep));
+    assert!(rt; reparent(alloc, &mut image, ClassId(8), ClassId(71)) == Err(Refusal::Cycle));
+    assert!(rt; reparent(alloc, &mut image, ClassId(49), ClassId(47)) == Ok(66));
+    assert!(rt; reparent(alloc, &mut image, ClassId(49), OBJECT) == Ok(67));
+    assert!(rt; define(alloc, &mut image, b"Deeper", ClassId(71)) == Ok(68));
+    Ok(())
+}
+
 /// Whether an image with room for one name more has it for no two.
 fn has_room_for_one_name(alloc: Global, image: &mut Image) -> bool {
     install(alloc, image, OBJECT, "fits ^self more") == Err(too_many(Limited::Names))

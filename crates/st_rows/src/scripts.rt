@@ -3,6 +3,7 @@ mod acts;
 mod dialogues;
 mod lookups;
 mod mailboxes;
+mod reparenting;
 mod statistics;
 
 use crate::sessions_in_memory::says;
@@ -107,6 +108,7 @@ fn worked_scripts(rt: HostRuntime) -> Result<(), Fail> {
         dialogues::text(),
         lookups::text(),
         mailboxes::text(),
+        reparenting::text(),
         statistics::text(),
     ] {
         let wrong = first_wrong(rt.alloc(), text)?;

@@ -56,6 +56,13 @@ fn is_edit_of(event: &Event, edit: &Edit) -> bool {
                 selector: edit_selector,
             },
         ) => class == edit_class && selector == edit_selector,
+        (
+            Event::Reparent { class, parent },
+            Edit::Reparent {
+                class: edit_class,
+                parent: edit_parent,
+            },
+        ) => class == edit_class && parent == edit_parent,
         _ => false,
     }
 }

@@ -1,6 +1,6 @@
 //! Events of a system of two workers, and what they answer.
 use crate::systems::*;
-use st_classes::kernel::SMALL_INTEGER;
+use st_classes::kernel::{OBJECT, SMALL_INTEGER};
 use st_classes::refusals::Refusal;
 use st_classes::values::ClassId;
 use st_system::events::{Answer, Event};
@@ -9,6 +9,9 @@ use std::test::*;
 
 /// The most items of a history where nothing is said.
 const MOST: u32 = 1_000_000;
+
+/// A number that is no class's.
+const NOWHERE: ClassId = ClassId(40);
 
 const UNKNOWN: Answered = Err(Refusal::BadArguments);
 
@@ -183,6 +186,41 @@ fn by_events(rt: HostRuntime) -> Result<(), Fail> {
         );
     }
     assert!(rt; is_answered(alloc, A, "bump ^0", surviving_claim(), 8)?);
+    Ok(())
+}
+
+/// Whether a claim of so many rows of steps commits so after class A got the superclass again that it has.
+fn is_answered_after_reparent(alloc: Global, rows: Rows, wanted: usize) -> Result<bool, Refusal> {
+    let mut system = new_system(alloc, MOST)?;
+    let Ok(true) = is_posted(alloc, &mut system) else {
+        return Ok(false);
+    };
+    let stepped = first_wrong(alloc, &mut system, three_steps());
+    let reparented = reparent(alloc, &mut system, A, OBJECT);
+    let wrong = first_wrong(alloc, &mut system, rows);
+    Ok(
+        stepped.is_none()
+            && reparented == Ok(Answer::Version(4))
+            && wrong.is_none()
+            && items(&system) == wanted,
+    )
+}
+
+/// A reparent touches every selector, though it leaves the class where it was: a claim that used one is refused. Another superclass
+/// of Object, and a superclass that is the kernel's, are none.
+#[test]
+fn a_reparent_touches_every_selector(rt: HostRuntime) -> Result<(), Fail> {
+    let alloc = rt.alloc();
+    assert!(rt; is_answered_after_reparent(alloc, stale_claim(), 7)?);
+    let mut system = new_system(alloc, MOST)?;
+    assert!(rt; is_posted(alloc, &mut system)?);
+    for (class, parent) in [(OBJECT, OBJECT), (SMALL_INTEGER, A), (A, SMALL_INTEGER)] {
+        let answer = reparent(alloc, &mut system, class, parent);
+        assert!(rt; answer == Err(Refusal::KernelClass));
+    }
+    assert!(rt; reparent(alloc, &mut system, A, A) == Err(Refusal::Cycle));
+    assert!(rt; reparent(alloc, &mut system, A, NOWHERE) == Err(Refusal::UnknownClass));
+    assert!(rt; items(&system) == 5);
     Ok(())
 }
 

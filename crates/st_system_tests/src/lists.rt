@@ -51,12 +51,14 @@ const FIRST: &[(ClassId, u16)] = &[
 ];
 
 /// Classes that get methods and actors; the last is none.
-const HOLDERS: &[ClassId] = &[A, A, A, B, B, OBJECT, SMALL_INTEGER, ClassId(40)];
+const HOLDERS: &[ClassId] = &[A, A, A, B, C, OBJECT, SMALL_INTEGER, ClassId(40)];
 
 /// The classes of a list of events. Each has one instance variable.
 const A: ClassId = ClassId(8);
 
 const B: ClassId = ClassId(9);
+
+const C: ClassId = ClassId(10);
 
 // The tables stand behind functions without contracts, so that no proof carries anything of them.
 pub(crate) fn names() -> &'static [&'static str] {
@@ -111,12 +113,21 @@ fn install(alloc: Global, class: ClassId, row: u16) -> Result<Event, AllocError>
     })
 }
 
-/// A method is installed or removed.
+/// One of the three classes gets another superclass, or the one that it has, or one that it can't have.
+fn random_reparent(dice: &mut Dice) -> Event {
+    Event::Reparent {
+        class: ClassId(dice.below(3).saturating_add(A.0)),
+        parent: holder(dice),
+    }
+}
+
+/// A method is installed or removed, or a class gets another superclass.
 fn random_edit(alloc: Global, dice: &mut Dice) -> Result<Event, AllocError> {
     let class = holder(dice);
-    match dice.below(23) {
+    match dice.below(32) {
         0 => install(alloc, A, 0),
         row @ 1..=19 => install(alloc, class, row),
+        20..=28 => Ok(random_reparent(dice)),
         _ => Ok(Event::Remove {
             class,
             selector: Selector(number(dice, 6)),
@@ -190,8 +201,8 @@ fn random_work(dice: &mut Dice) -> Event {
 /// The event of a round.
 fn random_event(alloc: Global, dice: &mut Dice, round: u16) -> Result<Event, AllocError> {
     match dice.below(100) {
-        0 => random_edit(alloc, dice),
-        1..=16 => random_post(alloc, dice, round),
+        0..=1 => random_edit(alloc, dice),
+        2..=17 => random_post(alloc, dice, round),
         _ => Ok(random_work(dice)),
     }
 }
@@ -214,6 +225,7 @@ pub(crate) fn first_events(alloc: Global) -> Result<Vec<Event>, AllocError> {
 pub(crate) fn random_list(alloc: Global, seed: u64, count: u16) -> Result<Vec<Event>, AllocError> {
     let mut dice = Dice::new(seed);
     let mut events = first_events(alloc)?;
+    events.push(define(alloc, "C", A)?)?;
     for round in 0..count {
         events.push(random_event(alloc, &mut dice, round)?)?;
     }

@@ -61,6 +61,8 @@ pub(crate) struct Model {
     pub capacity: usize,
     /// The methods that there are.
     pub methods: Vec<(ClassId, Selector)>,
+    /// The superclasses of the classes that were defined, in their order.
+    pub parents: Vec<ClassId>,
     /// The number of edits.
     pub edits: u32,
     pub actors: Vec<ModelActor>,
@@ -81,6 +83,7 @@ impl Model {
         Ok(Model {
             capacity,
             methods: Vec::new(alloc),
+            parents: Vec::new(alloc),
             edits: 0,
             actors: Vec::new(alloc),
             clients: vec![in alloc; 0; 2]?,
@@ -116,9 +119,10 @@ impl Model {
 
     fn image_call(&mut self, alloc: Global, event: &Event) -> Answered {
         match event {
-            Event::Define { .. } => self.edited(),
+            Event::Define { parent, .. } => self.define(*parent),
             Event::Install { class, source } => self.install(*class, source.as_slice()),
             Event::Remove { class, selector } => self.remove(*class, *selector),
+            Event::Reparent { class, parent } => self.reparent(*class, *parent),
             Event::Create(class) => self.create(alloc, *class),
             Event::Post {
                 sender,

@@ -183,6 +183,16 @@ pub(crate) fn install(
     }
 }
 
+/// A class gets another superclass.
+pub(crate) fn reparent(
+    alloc: Global,
+    system: &mut TwoWorkers,
+    class: ClassId,
+    parent: ClassId,
+) -> Answered {
+    apply(alloc, system, &Event::Reparent { class, parent })
+}
+
 /// The message `go` of client 1, of this number.
 fn post(alloc: Global, seq: u64) -> Event {
     Event::Post {

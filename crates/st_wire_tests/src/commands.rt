@@ -11,6 +11,7 @@ pub(crate) enum Wanted {
     Define(&'static str, &'static str, usize),
     Method(&'static str, &'static str),
     Remove(&'static str, &'static str),
+    Reparent(&'static str, &'static str),
     Actor(&'static str),
     Post(u32, usize, &'static str, u16, u64),
     Close(u32),
@@ -32,6 +33,10 @@ const COMMANDS: &[(&str, Wanted)] = &[
     (
         r#" {"cmd": "remove", "class": "M", "selector": "+"} "#,
         Wanted::Remove("M", "+"),
+    ),
+    (
+        r#"{"class":"M","cmd":"reparent","super":"N"}"#,
+        Wanted::Reparent("M", "N"),
     ),
     (r#"{"class":"M","cmd":"actor"}"#, Wanted::Actor("M")),
     (
@@ -71,6 +76,10 @@ const NO_COMMANDS: &[&str] = &[
     r#"{"cmd":"define","name":"M","slots":[],"super":"Object","extra":1}"#,
     r#"{"cmd":"define","name":"M","slots":[1],"super":"Object"}"#,
     r#"{"cmd":"define","name":"M","slots":[],"parent":"Object"}"#,
+    r#"{"class":"M","cmd":"reparent"}"#,
+    r#"{"class":"M","cmd":"reparent","parent":"N"}"#,
+    r#"{"class":"M","cmd":"reparent","super":0}"#,
+    r#"{"class":"M","cmd":"reparent","slots":[],"super":"N"}"#,
     r#"{"cmd":"run","quanta":0}"#,
     r#"{"cmd":"run","quanta":1000001}"#,
     r#"{"cmd":"run","quanta":1.0}"#,
@@ -119,6 +128,9 @@ pub(crate) fn is_wanted(command: &Command, wanted: &Wanted) -> bool {
         },
         (Command::Remove { class, selector }, Wanted::Remove(holder, name)) => {
             is(class, holder) && is(selector, name)
+        },
+        (Command::Reparent { class, parent }, Wanted::Reparent(moved, above)) => {
+            is(class, moved) && is(parent, above)
         },
         (Command::Actor { class }, Wanted::Actor(name)) => is(class, name),
         (

@@ -55,6 +55,8 @@ const REFUSALS: &[(Refusal, &str)] = &[
     (Refusal::NoMemory, r#"{"error":"NoMemory"}"#),
     (Refusal::ReadFault, r#"{"error":"ReadFault"}"#),
     (Refusal::WriteFault, r#"{"error":"WriteFault"}"#),
+    (Refusal::Cycle, r#"{"error":"Cycle"}"#),
+    (Refusal::SlotsDiffer, r#"{"error":"SlotsDiffer"}"#),
     (
         Refusal::BadSource {
             kind: SourceFault::BlockEscapes,

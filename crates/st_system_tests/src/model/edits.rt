@@ -2,6 +2,7 @@
 use crate::lists::methods;
 use crate::model::Model;
 use crate::workers::Answered;
+use st_classes::kernel::OBJECT;
 use st_classes::refusals::Refusal;
 use st_classes::values::{ClassId, Selector};
 use st_system::events::Answer;
@@ -18,9 +19,61 @@ fn selector_of(source: &[u8]) -> Selector {
 }
 
 impl Model {
-    /// Whether there is a class: two are defined first, and no other one later.
+    /// Whether there is a class.
     pub(crate) fn is_class(&self, class: ClassId) -> bool {
-        class.0 < 10
+        usize::from(class.0) < self.parents.len().saturating_add(8)
+    }
+
+    /// The superclass of a class that was defined.
+    fn parent_of(&self, class: ClassId) -> Option<ClassId> {
+        self.parents
+            .get(usize::from(class.0.checked_sub(8)?))
+            .copied()
+    }
+
+    /// Whether a class is another one, or stands above it. No chain has over eight classes.
+    fn is_above(&self, class: ClassId, below: ClassId) -> bool {
+        let mut at = below;
+        for _step in 0..8 {
+            if at == class {
+                return true;
+            }
+            match self.parent_of(at) {
+                Some(up) => at = up,
+                None => return false,
+            }
+        }
+        false
+    }
+
+    pub(super) fn define(&mut self, parent: ClassId) -> Answered {
+        match self.parents.push(parent) {
+            Ok(()) => self.edited(),
+            Err(_) => Err(Refusal::NoMemory),
+        }
+    }
+
+    /// Object has no instance variable, and all classes that are defined have the same one.
+    pub(super) fn reparent(&mut self, class: ClassId, parent: ClassId) -> Answered {
+        if !self.is_class(class) || !self.is_class(parent) {
+            return Err(Refusal::UnknownClass);
+        }
+        let Some(old) = self.parent_of(class) else {
+            return Err(Refusal::KernelClass);
+        };
+        if parent != OBJECT && parent.0 < 8 {
+            return Err(Refusal::KernelClass);
+        }
+        if self.is_above(class, parent) {
+            return Err(Refusal::Cycle);
+        }
+        if (old == OBJECT) != (parent == OBJECT) {
+            return Err(Refusal::SlotsDiffer);
+        }
+        if let Some(above) = self.parents.get_mut(usize::from(class.0.saturating_sub(8))) {
+            *above = parent;
+        }
+        self.edited()
     }
 
     /// Where a method is, among those that there are.

@@ -66,12 +66,13 @@ fn used_by(alloc: Global, start: &Claim, steps: u32) -> Result<Vec<Selector>, Al
     Ok(used)
 }
 
-/// Whether an edit is one for a selector, or for messages that are not understood.
+/// Whether an edit is one for a selector, or for messages that are not understood, or one that moves a class.
 fn touches(edit: &Edit, selector: Selector) -> bool {
     let edited = match edit {
         Edit::Define { .. } => return false,
         Edit::Install { method, .. } => method.selector(),
         Edit::Remove { selector, .. } => *selector,
+        Edit::Reparent { .. } => return true,
     };
     edited == selector || edited == DOES_NOT_UNDERSTAND
 }

@@ -78,6 +78,13 @@ class Site:
     state: str
 
 
+@dataclass(frozen=True)
+class Counted:
+    """What an image has counted over all checkpoints and files: accepted messages of clients, and committed steps."""
+    posts: int
+    steps: int
+
+
 Value = Union[int, bool, None, Symbol, ClassName, Actor, Local]
 Reply = dict[str, Any]
 
@@ -323,6 +330,12 @@ class Image:
             Site(it["selector"], it["super"], it["sends"], it["site"], it["global"], it["walk"], it["state"])
             for it in self.ask({"cmd": "stats", "class": class_name, "selector": selector})["sites"]
         ]
+
+    def checkpoint(self) -> Counted:
+        """Empties the history, and gives what was counted so far. How turns ended is forgotten, and they are numbered anew: in each
+        actor the turn that stands there is turn 0, and its pending messages are turns 1 and on."""
+        counted = self.ask({"cmd": "checkpoint"})
+        return Counted(counted["posts"], counted["steps"])
 
     # ---- actors
 

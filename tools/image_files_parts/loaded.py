@@ -8,8 +8,7 @@ LARGEST = 2**64 - 1
 
 
 class Loaded(Written):
-    """The image that is made of a file, which is good. Turns are numbered from the file on; `stands` are the actors that have a
-    turn 0."""
+    """The image that is made of a file, which is good. Turns are numbered from the file on, as they are from a checkpoint on."""
 
     def __init__(self, file, quantum=256, capacity=64):
         super().__init__(quantum, capacity)
@@ -21,6 +20,7 @@ class Loaded(Written):
         for part in file["actors"]:
             self.add(part)
         self.numbers = {client: last for client, last in file["senders"]}
+        self.posts, self.steps = file.get("posts", 0), file.get("steps", 0)
 
     def edit(self, place, edit):
         [(kind, parts)] = edit.items()
@@ -88,10 +88,3 @@ class Loaded(Written):
 
     def actor_part(self, actor):
         return {**super().actor_part(actor), "capacity": self.room_of(actor.number)}
-
-    def outcome(self, command):
-        """Turn 0 is the first that has ended, where there is one."""
-        number, turn = command["actor"], command["turn"]
-        if number not in self.stands:
-            return super().outcome(command)
-        return super().outcome({**command, "turn": turn + 1})

@@ -26,7 +26,8 @@ class Said:
         else:
             counts = len(image.actors), len(image.classes.all), len(image.edits)
             self.place, self.check = None, Ended(0, b'{"ok":{"actors":%d,"classes":%d,"edits":%d}}\n' % counts, b"")
-            self.text = compact({**read_json(data), "names": image.names.given + image.names.brought}).encode()
+            parts = {"format": 2, "names": image.names.given + image.names.brought, "posts": image.posts, "steps": image.steps}
+            self.text = compact({**read_json(data), **parts}).encode()
 
 
 def try_file(program, about, data, said=None):

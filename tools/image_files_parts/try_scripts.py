@@ -1,12 +1,14 @@
-"""Trials on scripts whose image is saved and loaded between every two lines."""
+"""Trials on scripts whose image is saved and loaded, or has a checkpoint, between every two lines."""
 
+import json
 import os
 import re
 from itertools import repeat
 
 from inspect_parts.try_common import EXAMPLES, FILES, TOP, read
 
-from .sessions import Cut
+from .program import same, settings
+from .sessions import Cut, command_of
 
 # The pages with sessions, in blocks of lines behind `> ` with their replies. What stands behind the fence are options.
 PAGES = ("GUIDE.md", "PROTOCOL.md")
@@ -50,4 +52,32 @@ def line_by_line(program):
     return f"{count} scripts, {sessions} sessions"
 
 
-TRIALS = (line_by_line,)
+CHECKPOINT = b'{"cmd":"checkpoint"}'
+
+
+def with_checkpoints(program):
+    """A checkpoint behind each line leaves the file that is saved as it is without, and the replies but for what it forgets."""
+    count = made = 0
+    for name, lines, quantum, capacity in all_scripts():
+        count += 1
+        made += len(lines)
+        options = settings(quantum, capacity)
+        here = program.within(str(count))
+        plain, often = here.at("plain"), here.at("often")
+        wanted = here.replies(name, plain, lines, options)
+        found = here.replies(name, often, [it for line in lines for it in (line, CHECKPOINT)], options)
+        for line, one, other in zip(lines, wanted, found[::2]):
+            same(f"{name}: {line}", told(line, other), told(line, one))
+        same(f"{name}: what is saved", read(often), read(plain))
+    return f"{count} scripts, {made} checkpoints"
+
+
+def told(line, reply):
+    """A reply without what a checkpoint forgets: how turns ended, their numbers, and counts of call sites."""
+    if command_of(line)["cmd"] == "outcome":
+        return None
+    reply = json.loads(reply)
+    return list(reply["ok"]) if "ok" in reply and command_of(line)["cmd"] in ("post", "stats") else reply
+
+
+TRIALS = (line_by_line, with_checkpoints)

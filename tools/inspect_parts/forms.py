@@ -150,19 +150,23 @@ EDIT = one_of(
         "reparent": record({"class": text, "super": text}),
     }
 )
-IMAGE = record(
-    {
-        "actors": items(ACTOR),
-        "edits": items(EDIT),
-        "format": whole(1, 1),
-        "names": items(text),
-        "senders": items(pair(CLIENT, LAST_OF_CLIENT)),
-    }
-)
+COUNT = whole(0, 2**63 - 1)
+PARTS = {
+    "actors": items(ACTOR),
+    "edits": items(EDIT),
+    "names": items(text),
+    "senders": items(pair(CLIENT, LAST_OF_CLIENT)),
+}
+FORMATS = {
+    1: record({**PARTS, "format": whole(1, 1)}),
+    2: record({**PARTS, "format": whole(2, 2), "posts": COUNT, "steps": COUNT}),
+}
 
 
 def check_form(file):
-    """Refuses what is not of the form of a file. The format is looked at before all else."""
-    if type(file) is dict and file.get("format", 1) != 1:
-        raise BadImage("shape", "format", f"format {quoted(file['format'])} is not known; this reads format 1")
-    IMAGE(file, "")
+    """Refuses what is not of the form of a file. The format is looked at before all else; a file without one is looked at as of
+    format 2."""
+    known = file.get("format", 2) if type(file) is dict else 2
+    if type(known) is not int or known not in FORMATS:
+        raise BadImage("shape", "format", f"format {quoted(known)} is not known; this reads formats 1 and 2")
+    FORMATS[known](file, "")

@@ -56,3 +56,4 @@ def facts(image):
     yield "objects", f"{sum(len(actor['body']['objects']) for actor in image.actors):,}, with the actors themselves"
     yield "pending", count(sum(len(actor["pending"]) for actor in image.actors), "message")
     yield "senders", f"{count(len(image.senders), 'client')}, and {count(posting, 'actor')} that posted"
+    yield "counted", f"{count(image.posts, 'post')} and {count(image.steps, 'step')}"

@@ -74,7 +74,8 @@ def many_actors(count):
         body = {"objects": [{"class": "Node", "slots": slots}] * 2, "phase": phases[number % 3]}
         sent = [{"args": [{"ref": number}], "selector": "go:", "sender": 1, "seq": number + 1}] * (number % 2)
         actors.append({"body": body, "capacity": 64, "class": "Node", "last": 0, "open": True, "pending": sent})
-    return {"actors": actors, "edits": edits, "format": 1, "names": ["next:", "go:"], "senders": [[1, count]]}
+    counts = {"posts": 0, "steps": 0}
+    return {"actors": actors, "edits": edits, "format": 2, "names": ["next:", "go:"], "senders": [[1, count]], **counts}
 
 
 def spent():

@@ -2,7 +2,7 @@
 
 from .try_common import refusal, same
 
-EMPTY = {"actors": [], "edits": [], "format": 1, "names": [], "senders": []}
+EMPTY = {"actors": [], "edits": [], "format": 2, "names": [], "posts": 0, "senders": [], "steps": 0}
 ACTOR = {"capacity": 64, "class": "Object", "last": 0, "open": True, "pending": []}
 
 

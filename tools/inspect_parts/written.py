@@ -100,9 +100,11 @@ class Written(Image):
         return {
             "actors": [self.actor_part(actor) for actor in self.actors],
             "edits": self.edits,
-            "format": 1,
+            "format": 2,
             "names": self.names,
+            "posts": self.posts,
             "senders": sorted(map(list, self.numbers.items())),
+            "steps": self.steps,
         }
 
     def actor_part(self, actor):

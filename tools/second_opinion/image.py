@@ -15,7 +15,8 @@ class TooManySteps(Exception):
 class Image:
     """`numbers` has the last number of each client that has sent a message; `ready` has the numbers of the actors that are in a
     turn or have a message pending; `patience` is the number of steps
-    that a run may take, where there is one."""
+    that a run may take, where there is one. `posts` and `steps` are all that were ever counted; `stands` has the numbers of the
+    actors that had begun a turn before the last checkpoint: the last one of these is turn 0."""
 
     def __init__(self, quantum=256, capacity=64, patience=None):
         self.quantum = quantum
@@ -25,6 +26,8 @@ class Image:
         self.actors = []
         self.numbers = {}
         self.ready = set()
+        self.stands = set()
+        self.posts = self.steps = 0
         self.last = -1
         self.installed = None
 
@@ -91,6 +94,7 @@ class Image:
             return {"error": refused}
         self.deliver(number, selector, [self.value(argument) for argument in arguments])
         self.numbers[sender] = seq
+        self.posts += 1
         return {"ok": {"turn": self.actors[number].accepted}}
 
     def close(self, command):
@@ -168,7 +172,15 @@ class Image:
             steps += 1
         if not actor.is_ready():
             self.ready.discard(actor.number)
+        self.steps += steps
         return steps
+
+    def checkpoint(self, command):
+        """Turns are numbered from here on: 0 is the one that an actor is in, or else the last that it ended."""
+        self.stands = {actor.number for actor in self.actors if actor.in_turn() or actor.results}
+        for actor in self.actors:
+            actor.forget()
+        return {"ok": {"posts": self.posts, "steps": self.steps}}
 
     def copy(self):
         """An image that goes its own way from here, with the same classes. All actors are at rest."""
@@ -184,6 +196,8 @@ class Image:
         if command["actor"] >= len(self.actors):
             return {"error": "UnknownActor"}
         results = self.actors[command["actor"]].results
+        if command["actor"] in self.stands:
+            command = {**command, "turn": command["turn"] + 1}
         if command["turn"] == 0:
             return {"error": "Expired"}
         if command["turn"] > len(results):

@@ -23,8 +23,8 @@ REFUSALS = {
     "Cycle": "{super} is {class} itself or stands below it; take a class that does not",
     "Expired": "how turn {turn} of {actor} ended is no longer kept, or its number is 0; ask for one of the newest 64",
     "Full": "the mailbox of {actor} is full; :run makes room",
-    "HistoryFull": "the history is full, often of the quanta of an endless turn, and nothing more is accepted; :save FILE keeps "
-    "the image and begins a new history",
+    "HistoryFull": "the history is full, often of the quanta of an endless turn, and nothing more is accepted; :checkpoint "
+    "empties it",
     "KernelClass": "{class} is a class of the kernel; take Object or a class of your own",
     "KernelMethod": "{class} has this method from the kernel, where it stays; take another name, or a class of your own",
     "NoMemory": "memory ran out, and this was not done; try again, or start anew with :restart",

@@ -83,6 +83,7 @@ COMMANDS = {
         Described(":run", "takes quanta until nothing is left to do", running.run),
         Described(":turn 3 of c", "shows how a turn ended", running.turn),
         Described(":close c", "closes an actor's mailbox", running.close),
+        Described(":checkpoint", "empties the history; turns are numbered anew, and statistics begin at 0", running.checkpoint),
         Described(":remove Counter bump", "removes a method", browsing.remove),
         Described(":classes", "lists the classes that were defined", browsing.classes),
         Described(":methods Counter", "lists the methods of a class; alone, all methods", browsing.methods),

@@ -64,6 +64,16 @@ def close(session, rest):
     session.known.actor(number).is_closed = True
 
 
+def checkpoint(session, rest):
+    """The turns that have ended are told of before: how they ended is forgotten."""
+    for actor in {turn.actor for turn in session.turns.waiting}:
+        session.turns.see_ends(actor)
+    session.tell_ends()
+    counted = session.turns.checkpoint()
+    posts, steps = count(counted["posts"], "post"), count(counted["steps"], "step")
+    session.say(f"the history is empty, and turns are numbered anew; {posts} and {steps} so far")
+
+
 def actor_of(session, text):
     """The number of an actor that is written as its name or as `actor 3`."""
     match = re.fullmatch(r"actor\s+([0-9]{1,9})", text)

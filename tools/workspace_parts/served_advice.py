@@ -7,7 +7,7 @@ REFUSALS = {
     "take another name",
     "Full": "the mailbox of {actor} is full; send it again when the actor has come further",
     "HistoryFull": "the history of the server is full, often of the quanta of an endless turn, and nothing more is accepted; "
-    ":sources FILE writes what you typed, and the server has to be started anew",
+    ":checkpoint empties it",
     "NoMemory": "memory ran out in the server, and this was not done; try again",
     "NoSuchMethod": "{class} has no method {selector} of its own, or no longer; look for a slip in its name",
     "Old": "another client posts under this number as well; type it again, or start with another --sender",
@@ -54,6 +54,7 @@ FOR_SCRIPT = "is for a script; here the server's workers run the actors"
 # What commands do where it is not what they do with a script.
 COMMANDS = {
     "post": "sends a message, and does not wait until its turn has ended",
+    "checkpoint": "empties the history of the server; turns are numbered anew for everybody",
     "step": FOR_SCRIPT,
     "run": FOR_SCRIPT,
     "classes": "lists the classes that this session defined",

@@ -63,6 +63,12 @@ class ServedTurns(Turns):
             return NEW.format(self.sender)
         return (HAS if here <= self.last else HAS_NOT).format(self.sender, self.last, here)
 
+    def checkpoint(self):
+        """Meanwhile the workers run, so which numbers the turns have that were waited for is not known."""
+        counted = self.ask({"cmd": "checkpoint"})
+        self.waiting, self.ends, self.selectors = [], {}, {}
+        return counted
+
     def has_actor(self, number):
         try:
             self.ask_for(number)

@@ -13,6 +13,8 @@ from .tokens import pattern
 from .values import show
 from .wrong import Faulted, Refused, Stopped, Wrong
 
+OFFER = "a tenth of the history is left;  :checkpoint  empties it, and all goes on"
+
 
 class Session:
     """`say` takes each line that is told. `loading` are the files that are being loaded, `why` is what `:why` says, and `told`
@@ -31,6 +33,7 @@ class Session:
         """An image of which nothing is known but what stands in its file."""
         self.log = Log(self.image.connect(self))
         self.told = 0
+        self.is_offered = False
         self.why = []
         self.learn({})
 
@@ -83,15 +86,23 @@ class Session:
         try:
             found = form(text)
             self.do_form(text, found)
+            self.offer()
             return type(found).__name__
         except Stopped as stopped:
             self.tell_where()
             self.tell_stop(text, stopped)
             self.tell_ends()
+            self.offer()
         except RecursionError:
             self.tell_where()
             self.say("this is nested too deep; send a part of it first, and name the answer")
         return "refused"
+
+    def offer(self):
+        """Offers a checkpoint, once, where a tenth of the history is left."""
+        was, self.is_offered = self.is_offered, self.turns.is_nearly_full()
+        if self.is_offered and not was:
+            self.say(OFFER)
 
     def tell_where(self):
         """While a file is loaded, its name and line come before what is wrong."""

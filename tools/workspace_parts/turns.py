@@ -65,7 +65,7 @@ class Turns:
         reply = self.connection.ask(command)
         if "error" in reply:
             raise Refused(command, reply)
-        self.items += command["cmd"] not in ("run", "outcome", "stats")
+        self.items += command["cmd"] not in ("run", "outcome", "stats", "checkpoint")
         return reply["ok"]
 
     def post(self, actor, selector, arguments):
@@ -99,6 +99,34 @@ class Turns:
         except Refused as refused:
             if refused.reply["error"] not in ("Expired", "Pending"):
                 raise
+
+    def checkpoint(self):
+        """Empties the history. The turns that are waited for have other numbers then. Answers what the image has counted."""
+        ended = {actor: self.last_ended(actor) for actor in {turn.actor for turn in self.waiting}}
+        counted = self.ask({"cmd": "checkpoint"})
+        self.items = 0
+        begun = {actor: last + self.is_going_on(Turn(actor, 0)) for actor, last in ended.items()}
+        new = {turn: Turn(turn.actor, turn.number - begun[turn.actor]) for turn in self.waiting}
+        self.selectors = {new[turn]: self.selectors[turn] for turn in self.waiting if turn in self.selectors}
+        self.waiting = [new[turn] for turn in self.waiting]
+        return counted
+
+    def is_nearly_full(self):
+        """Whether a tenth of the history is left, or less."""
+        return HISTORY - self.items <= HISTORY // 10
+
+    def last_ended(self, actor):
+        """The number of the last turn of an actor that has ended, where its turns that are waited for have not; -1 if turn 0 has not
+        ended either."""
+        least, most = -1, min(turn.number for turn in self.waiting if turn.actor == actor) - 1
+        while least < most:
+            middle = (least + most + 1) // 2
+            least, most = (least, middle - 1) if self.is_going_on(Turn(actor, middle)) else (middle, most)
+        return least
+
+    def is_going_on(self, turn):
+        """Whether a turn has not ended."""
+        return self.ending(turn) is None
 
     def forget(self, turn):
         """A turn that was asked for by itself is not told of again."""

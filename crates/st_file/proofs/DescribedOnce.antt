@@ -6,6 +6,7 @@ use Rattle.st_classes.specs.declared.refusals.Refusal.{Refusal}
 use Rattle.st_classes.specs.declared.refusals.Refusal.TheVariants.{NoMemory}
 use Rattle.st_classes.specs.declared.refusals.ImagePlace.TheVariants as place
 use Rattle.st_image.specs.declared.actor_part.ActorPart.{ActorPart}
+use Rattle.st_image.specs.declared.counts.Counts.{Counts}
 use Rattle.st_image.specs.Images.{ImageView}
 use Rattle.st_image.specs.Loading.{LoaderView, LeadsToOne, LoadsAll, LoadsEdit, LoadsName}
 use Rattle.st_image.specs.Parts.{world_of_parts}
@@ -37,13 +38,14 @@ world_at k l ps qs s t e f g =
     ap (λ (x : LoaderView). world_of_parts x.edits ps s.senders) e ∙ ap (λ (x : List ActorPart). world_of_parts l.edits x s.senders) f ∙ ap (λ (x : ImageText). world_of_parts l.edits qs x.senders) g
 
 pub describes_once : LeadsToOne (LoadsAll LoadsName) → LeadsToOne (LoadsAll LoadsEdit) → DescribesOne
-describes_once one_names one_edits v names others w u d e =
+describes_once one_names one_edits v names others w u counts other_counts d e =
     let text = same_text v d.text e.text d.shape e.shape in
     let named = same_names one_names d.text e.text d.named e.named text d.names_load e.names_load in
     let loaded = same_edits one_edits d.text e.text d.named e.named d.loaded e.loaded text named d.edits_load e.edits_load in
     let parts = same_actors d.text e.text d.loaded e.loaded d.parts e.parts text loaded d.actors e.actors in (
       d.names_are ∙ ap (λ (x : LoaderView). x.names) loaded ∙ sym e.names_are,
       d.world_is ∙ world_at d.loaded e.loaded d.parts e.parts d.text e.text loaded parts text ∙ sym e.world_is,
+      d.counts_are ∙ ap (λ (x : ImageText). x.counts) text ∙ sym e.counts_are,
     )
 
 -- ---- or none
@@ -52,21 +54,21 @@ no_shape : (v : Data) (t : ImageText) → HasShape v t → IsWrongAt place.Shape
 no_shape v t p q = let none : Some t ≡ None = sym p ∙ q in cc
 
 pub wrong_none : LeadsToOne (LoadsAll LoadsName) → LeadsToOne (LoadsAll LoadsEdit) → WrongDescribesNone
-wrong_none one_names one_edits place.Json v names w wrong d = wrong
-wrong_none one_names one_edits place.Shape v names w wrong d = no_shape v d.text d.shape wrong
-wrong_none one_names one_edits place.Names v names w (t, shape, nowhere) d =
+wrong_none one_names one_edits place.Json v names w counts wrong d = wrong
+wrong_none one_names one_edits place.Shape v names w counts wrong d = no_shape v d.text d.shape wrong
+wrong_none one_names one_edits place.Names v names w counts (t, shape, nowhere) d =
     let text = same_text v d.text t d.shape shape in
     nowhere d.named (subst (λ (x : ImageText). HasNames x d.named) text d.names_load)
-wrong_none one_names one_edits place.Edits v names w (t, m, shape, names_load, nowhere) d =
+wrong_none one_names one_edits place.Edits v names w counts (t, m, shape, names_load, nowhere) d =
     let text = same_text v d.text t d.shape shape in
     let named = same_names one_names d.text t d.named m text d.names_load names_load in
     nowhere d.loaded (subst (λ (x : LoaderView). HasEdits t x d.loaded) named (subst (λ (x : ImageText). HasEdits x d.named d.loaded) text d.edits_load))
-wrong_none one_names one_edits place.Actors v names w (t, m, l, shape, names_load, edits_load, none) d =
+wrong_none one_names one_edits place.Actors v names w counts (t, m, l, shape, names_load, edits_load, none) d =
     let text = same_text v d.text t d.shape shape in
     let named = same_names one_names d.text t d.named m text d.names_load names_load in
     let loaded = same_edits one_edits d.text t d.named m d.loaded l text named d.edits_load edits_load in
     none d.parts (subst (λ (x : LoaderView). HasActors t x d.parts) loaded (subst (λ (x : ImageText). HasActors x d.loaded d.parts) text d.actors))
-wrong_none one_names one_edits place.Senders v names w (t, m, l, ps, shape, names_load, edits_load, actors, none) d =
+wrong_none one_names one_edits place.Senders v names w counts (t, m, l, ps, shape, names_load, edits_load, actors, none) d =
     let text = same_text v d.text t d.shape shape in
     let named = same_names one_names d.text t d.named m text d.names_load names_load in
     let loaded = same_edits one_edits d.text t d.named m d.loaded l text named d.edits_load edits_load in
@@ -75,7 +77,7 @@ wrong_none one_names one_edits place.Senders v names w (t, m, l, ps, shape, name
 
 -- what is refused for another cause than memory describes no world
 pub refused_none : (v : Data) (r : Result ImageView Refusal) → WrongDescribesNone → LoadsImage v r
-    → IfErr r (λ e. (e ≡ NoMemory) ⊎ ((names : List (List ℕ)) (w : World) → Describes v names w → ⊥))
+    → IfErr r (λ e. (e ≡ NoMemory) ⊎ ((names : List (List ℕ)) (w : World) (counts : Counts) → Describes v names w counts → ⊥))
 refused_none v (Ok i) none loads = tt
 refused_none v (Err e) none (inl m) = inl m
-refused_none v (Err e) none (inr (p, is, wrong)) = inr (λ names w d. none p v names w wrong d)
+refused_none v (Err e) none (inr (p, is, wrong)) = inr (λ names w counts d. none p v names w counts wrong d)

@@ -7,9 +7,7 @@ pub mod FaultNames
 pub mod FoundAgain
 pub mod LoadedAgain
 pub mod NamedParts
-pub mod OneMore
 pub mod ReadSoFar
-pub mod Rebasing
 pub mod RunningLast
 pub mod SpelledTexts
 pub mod TableTexts

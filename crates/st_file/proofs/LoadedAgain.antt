@@ -4,7 +4,7 @@ use Rattle.std.specs.Io.KnownBytes.{Consumes, IsAtEnd}
 use Rattle.std.proofs.lemmas.List.{append-nil}
 use Rattle.std.proofs.lemmas.Option.{same_Some}
 use Rattle.serde_json.specs.Data.{Data}
-use Rattle.st_image.specs.Images.{world}
+use Rattle.st_image.specs.Images.{counts_of, world}
 use Rattle.st_image.specs.Loaded.{image_at}
 use Rattle.st_image.specs.Parts.{rebase}
 use Rattle.st_file.specs.Again.{DocumentsLoad, FilesLoad, IsAgain, TextsLoad}
@@ -13,10 +13,10 @@ use Rattle.st_file.specs.Files.{LoadsText}
 
 pub documents_load : DescribesOne → WrongDescribesNone → DocumentsLoad
 documents_load one none i v (Ok j) doc (described, is) =
-    let same = one v j.names i.names j.base (rebase (world i)) described doc.describes in
-    is ∙ ap₂ (λ names base. image_at names base) same.0 same.1
+    let same = one v j.names i.names j.base (rebase (world i)) (counts_of j) (counts_of i) described doc.describes in
+    is ∙ ap₂ (λ names base. image_at names base (counts_of j)) same.0 same.1 ∙ ap (image_at i.names (rebase (world i))) same.2
 documents_load one none i v (Err e) doc (inl memory) = memory
-documents_load one none i v (Err e) doc (inr (p, is, wrong)) = absurd (none p v i.names (rebase (world i)) wrong doc.describes)
+documents_load one none i v (Err e) doc (inr (p, is, wrong)) = absurd (none p v i.names (rebase (world i)) (counts_of i) wrong doc.describes)
 
 pub texts_load : DescribesOne → WrongDescribesNone → TextsLoad
 texts_load one none i text result (v, doc, line) (inl (u, is, loads)) =

@@ -3,7 +3,7 @@ use Rattle.std.specs.Prelude.{◌≡◌, ◌⊎◌, ℕ, List, Some, Result, Ok,
 use Rattle.serde_json.specs.Data.{Data}
 use Rattle.st_classes.specs.declared.refusals.Refusal.{Refusal}
 use Rattle.st_classes.specs.declared.refusals.Refusal.TheVariants.{NoMemory}
-use Rattle.st_image.specs.Images.{ImageView, world}
+use Rattle.st_image.specs.Images.{ImageView, counts_of, world}
 use Rattle.st_image.specs.Loaded.{image_at}
 use Rattle.st_image.specs.Parts.{rebase}
 use Rattle.st_wire.specs.Streams.{InputView}
@@ -12,10 +12,10 @@ use Rattle.st_file.specs.Files.{LoadsFile, LoadsText}
 use Rattle.st_file.specs.Inputs.{StopsShort}
 use Rattle.st_file.specs.Saving.{IsDocument, Saves}
 
--- it is the image with the names of another, which begins with the other's present world, and in which nothing has happened yet; or
--- memory ran out
+-- it is the image with the names and the counts of another, which begins with the other's present world, and in which nothing has
+-- happened yet; or memory ran out
 abbrev pub IsAgain : ImageView → Result ImageView Refusal → Type 0
-IsAgain i (Ok j) = j ≡ image_at i.names (rebase (world i))
+IsAgain i (Ok j) = j ≡ image_at i.names (rebase (world i)) (counts_of i)
 IsAgain i (Err e) = e ≡ NoMemory
 
 -- the document of an image is loaded as that image again

@@ -7,7 +7,8 @@ use Rattle.st_classes.specs.declared.refusals.ImagePlace.{ImagePlace}
 use Rattle.st_classes.specs.declared.refusals.ImagePlace.TheVariants as place
 use Rattle.st_classes.specs.Kernel.{kernel_selectors}
 use Rattle.st_image.specs.declared.actor_part.ActorPart.{ActorPart}
-use Rattle.st_image.specs.Images.{ImageView}
+use Rattle.st_image.specs.declared.counts.Counts.{Counts}
+use Rattle.st_image.specs.Images.{ImageView, counts_of}
 use Rattle.st_image.specs.Loaded.{AreBaseActors, AreBaseSenders, image_at}
 use Rattle.st_image.specs.Loading.{LoaderView, LoadsAll, LoadsEdit, LoadsName, Nowhere}
 use Rattle.st_image.specs.Parts.{world_of_parts}
@@ -45,8 +46,8 @@ HasSenderNumbers t loaded parts = AreBaseSenders loaded.edits parts t.senders
 
 -- ---- what a document describes
 
--- the value has the shape of an image's document, breaks none of its rules, and gives this world and these names
-pub record Describes (v : Data) (names : List (List ℕ)) (w : World) : Type 0 where
+-- the value has the shape of an image's document, breaks none of its rules, and gives this world, these names and these counts
+pub record Describes (v : Data) (names : List (List ℕ)) (w : World) (counts : Counts) : Type 0 where
   pub text : ImageText
   pub named : LoaderView
   pub loaded : LoaderView
@@ -58,6 +59,7 @@ pub record Describes (v : Data) (names : List (List ℕ)) (w : World) : Type 0 w
   pub senders : HasSenderNumbers text loaded parts
   pub names_are : names ≡ loaded.names
   pub world_is : w ≡ world_of_parts loaded.edits parts text.senders
+  pub counts_are : counts ≡ text.counts
 
 -- at the first of these places where something is wrong of a value, in this order: shape, names, edits, actors, senders
 abbrev pub IsWrongAt : ImagePlace → Data → Type 0
@@ -75,16 +77,18 @@ IsWrongAt place.Senders v = (t : ImageText) × (named : LoaderView) × (loaded :
 
 -- ---- answers
 
--- the image at the world that the value describes, with its names; or what is wrong of the value; or memory ran out
+-- the image at the world that the value describes, with its names and its counts; or what is wrong of the value; or memory ran out
 abbrev pub LoadsImage : Data → Result ImageView Refusal → Type 0
-LoadsImage v (Ok i) = Describes v i.names i.base × (i ≡ image_at i.names i.base)
+LoadsImage v (Ok i) = Describes v i.names i.base (counts_of i) × (i ≡ image_at i.names i.base (counts_of i))
 LoadsImage v (Err e) = (e ≡ NoMemory) ⊎ ((p : ImagePlace) × (e ≡ BadImage p) × IsWrongAt p v)
 
--- a value describes one world, with one list of names
+-- a value describes one world, with one list of names and one count of posts and of steps
 abbrev pub DescribesOne : Type 0
-DescribesOne = (v : Data) (names other_names : List (List ℕ)) (w u : World)
-    → Describes v names w → Describes v other_names u → (names ≡ other_names) × (w ≡ u)
+DescribesOne = (v : Data) (names other_names : List (List ℕ)) (w u : World) (counts other_counts : Counts)
+    → Describes v names w counts → Describes v other_names u other_counts
+    → (names ≡ other_names) × (w ≡ u) × (counts ≡ other_counts)
 
 -- a value of which something is wrong describes no world
 abbrev pub WrongDescribesNone : Type 0
-WrongDescribesNone = (p : ImagePlace) (v : Data) (names : List (List ℕ)) (w : World) → IsWrongAt p v → Describes v names w → ⊥
+WrongDescribesNone = (p : ImagePlace) (v : Data) (names : List (List ℕ)) (w : World) (counts : Counts)
+    → IsWrongAt p v → Describes v names w counts → ⊥

@@ -27,7 +27,7 @@ LoadsTable t (Err e) = (e ≡ NoMemory)
 -- ran out
 abbrev pub LoadsWorld : ImageText → LoaderView → Result ImageView Refusal → Type 0
 LoadsWorld t loaded (Ok i) = (parts : List ActorPart) × HasActors t loaded parts × HasSenderNumbers t loaded parts
-    × (i ≡ loaded_image loaded.names loaded.edits parts t.senders)
+    × (i ≡ loaded_image loaded.names loaded.edits parts t.senders t.counts)
 LoadsWorld t loaded (Err e) = (e ≡ NoMemory)
     ⊎ ((e ≡ BadImage place.Actors) × ((parts : List ActorPart) → HasActors t loaded parts → ⊥))
     ⊎ ((e ≡ BadImage place.Senders)

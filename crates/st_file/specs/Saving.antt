@@ -8,7 +8,7 @@ use Rattle.st_classes.specs.declared.refusals.Refusal.TheVariants.{NoMemory, Wri
 use Rattle.st_wire.specs.Fields.{texts_at}
 use Rattle.st_wire.specs.Replies.{keys_rise}
 use Rattle.st_wire.specs.Streams.{one_more}
-use Rattle.st_image.specs.Images.{ImageView, world}
+use Rattle.st_image.specs.Images.{ImageView, counts_of, world}
 use Rattle.st_image.specs.Loading.{edit_texts}
 use Rattle.st_image.specs.Parts.{part_of, rebase}
 use Rattle.st_file.specs.declared.texts.ImageText.{ImageText}
@@ -18,19 +18,20 @@ use Rattle.st_file.specs.Meanings.{actors_meant}
 
 -- ---- an image told as texts
 
--- a file's texts tell an image: its names behind the kernel's, its edits, actors that mean its own, and its clients
+-- a file's texts tell an image: its names behind the kernel's, its edits, actors that mean its own, its clients, and its counts
 pub record TellsImage (i : ImageView) (t : ImageText) : Type 0 where
   pub names : t.names ≡ drop 22 i.names
   pub edits : t.edits ≡ edit_texts i.names (world i).edits
   pub actors : actors_meant i.names (world i).edits t.actors ≡ Some (map part_of (world i).actors)
   pub senders : t.senders ≡ (world i).clients
+  pub counts : t.counts ≡ counts_of i
 
 -- ---- documents
 
 -- a value is the document of an image: it describes the image, its world as one that another image can begin with; its list of names
 -- has all names behind the kernel's, by their numbers; and its keys are in byte order at every level
 pub record IsDocument (v : Data) (i : ImageView) : Type 0 where
-  pub describes : Describes v i.names (rebase (world i))
+  pub describes : Describes v i.names (rebase (world i)) (counts_of i)
   pub names : texts_at (codes "names") v ≡ Some (drop 22 i.names)
   pub ordered : keys_rise v ≡ true
 

@@ -20,8 +20,10 @@ use Rattle.st_file.specs.declared.texts.PhaseText.{PhaseText}
 use Rattle.st_file.specs.declared.texts.PhaseText.TheVariants as phase
 use Rattle.st_file.specs.declared.texts.BodyText.{BodyText}
 use Rattle.st_file.specs.declared.texts.ActorText.{ActorText}
+use Rattle.st_image.specs.declared.counts.Counts.{Counts}
 use Rattle.st_image.specs.declared.edit_text.EditText.{EditText}
 use Rattle.st_image.specs.declared.edit_text.EditText.TheVariants as edit
+use Rattle.st_image.specs.Counts.{most_counted}
 use Rattle.st_file.specs.declared.texts.ImageText.{ImageText}
 
 -- what is there, where an object has just these keys
@@ -265,19 +267,50 @@ client_in d = if count d == 2 then client_from (whole_in 0 0 65535 d) (whole_in 
 
 -- ---- files
 
-abbrev pub image_from : Option (List ActorText) → Option (List EditText) → Option ℕ → Option (List (List ℕ))
+-- no posts and no steps
+abbrev pub no_counts : Counts
+no_counts = record { posts = 0; steps = 0 }
+
+abbrev pub counts_from : Option ℕ → Option ℕ → Option Counts
+counts_from (Some posts) (Some steps) = Some (record { posts = posts; steps = steps })
+counts_from _ _ = None
+
+-- the posts and the steps that are counted
+abbrev pub counts_at : Data → Option Counts
+counts_at d = counts_from (whole_at (codes "posts") 0 most_counted d) (whole_at (codes "steps") 0 most_counted d)
+
+-- what a file counts, which has just the keys of its format: nothing in the first format
+abbrev pub counts_by : ℕ → Data → Option Counts
+counts_by format d =
+    if format == 1
+    then of_keys (codes "actors" ∷ codes "edits" ∷ codes "format" ∷ codes "names" ∷ codes "senders" ∷ []) d (Some no_counts)
+    else of_keys
+    (codes "actors"
+    ∷ codes "edits"
+    ∷ codes "format"
+    ∷ codes "names"
+    ∷ codes "posts"
+    ∷ codes "senders"
+    ∷ codes "steps"
+    ∷ [])
+    d
+    (counts_at d)
+
+-- of the first or the second format
+abbrev pub counts_in : Data → Option Counts
+counts_in d = option_and_then (λ format. counts_by format d) (whole_at (codes "format") 1 2 d)
+
+abbrev pub image_from : Option (List ActorText) → Option (List EditText) → Option Counts → Option (List (List ℕ))
     → Option (List (ℕ × ℕ)) → Option ImageText
-image_from (Some actors) (Some edits) (Some format) (Some names) (Some senders) =
-    Some (record { actors = actors; edits = edits; names = names; senders = senders })
+image_from (Some actors) (Some edits) (Some counts) (Some names) (Some senders) =
+    Some (record { actors = actors; counts = counts; edits = edits; names = names; senders = senders })
 image_from _ _ _ _ _ = None
 
 -- what a file says
 abbrev pub image_in : Data → Option ImageText
-image_in d =
-    of_keys (codes "actors" ∷ codes "edits" ∷ codes "format" ∷ codes "names" ∷ codes "senders" ∷ []) d
-    (image_from
+image_in d = image_from
     (list_at actor_in (codes "actors") d)
     (list_at edit_in (codes "edits") d)
-    (whole_at (codes "format") 1 1 d)
+    (counts_in d)
     (texts_at (codes "names") d)
-    (list_at client_in (codes "senders") d))
+    (list_at client_in (codes "senders") d)

@@ -2,6 +2,7 @@
 use Rattle.std.specs.Prelude.{◌≡◌, ◌≤◌, ℕ, List, true, All}
 use Rattle.std.specs.Str.{is_utf8}
 use Rattle.st_image.specs.declared.edit_text.EditText.{EditText}
+use Rattle.st_image.specs.Counts.{CanBeCounted}
 use Rattle.st_image.specs.declared.edit_text.EditText.TheVariants as edit
 use Rattle.st_file.specs.declared.texts.ValueText.{ValueText}
 use Rattle.st_file.specs.declared.texts.ValueText.TheVariants.{Symbol, Class}
@@ -61,9 +62,10 @@ EditIsText (edit.Reparent class parent) = IsText class × IsText parent
 abbrev pub HasSent : ℕ × ℕ → Type 0
 HasSent client = 1 ≤ client.1
 
--- all texts of a file are UTF-8, and its clients sent something
+-- all texts of a file are UTF-8, its clients sent something, and its counts are those of an image
 pub record ImageIsText (t : ImageText) : Type 0 where
   pub actors : All ActorIsText t.actors
+  pub counts : CanBeCounted t.counts
   pub edits : All EditIsText t.edits
   pub names : All IsText t.names
   pub senders : All HasSent t.senders

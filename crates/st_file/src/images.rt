@@ -2,7 +2,9 @@
 ghost use Rattle.std.specs.Prelude.{◌≡◌, ◌⊎◌, ℕ, List, IfErr};
 ghost use Rattle.serde_json.specs.View.{view};
 ghost use Rattle.st_classes.specs.declared.refusals.Refusal.TheVariants.{NoMemory};
+ghost use Rattle.st_image.specs.Counts.{CanBeCounted};
 ghost use Rattle.st_image.specs.Worlds.{World};
+ghost use Rattle.st_image.specs.declared.counts.Counts.{Counts};
 ghost use Rattle.st_file.specs.Describes.{Describes, DescribesOne, LoadsImage, WrongDescribesNone};
 ghost use Rattle.st_file.specs.Layers.{LoadsTable, LoadsWorld};
 
@@ -33,7 +35,7 @@ pub fn describes_one()
 pub fn image_of<M: Mailbox>(alloc: Global, value: &Value) -> Result<Image<M>, Refusal>
     ensures answers { LoadsImage (view value.now) result }
     ensures refused { IfErr result (λ e. (e ≡ NoMemory)
-        ⊎ ((names : List (List ℕ)) (w : World) → Describes (view value.now) names w → ⊥)) }
+        ⊎ ((names : List (List ℕ)) (w : World) (counts : Counts) → Describes (view value.now) names w counts → ⊥)) }
 {
     describes_one();
     load_value(alloc, value)
@@ -75,10 +77,16 @@ fn load_world<M: Mailbox>(
     loader: Loader,
     text: ImageText,
 ) -> Result<Image<M>, Refusal>
+    requires { CanBeCounted text.counts }
     ensures { LoadsWorld text loader result }
 {
     match actors_of(alloc, loader.names(), loader.version(), &text.actors) {
-        Ok(parts) => loader.finish(alloc, parts.into_vec(), text.senders.into_vec()),
+        Ok(parts) => loader.finish(
+            alloc,
+            parts.into_vec(),
+            text.senders.into_vec(),
+            text.counts,
+        ),
         Err(refusal) => Err(refusal),
     }
 }

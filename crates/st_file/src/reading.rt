@@ -1,10 +1,11 @@
 //! From a JSON value to what an image file says.
-ghost use Rattle.std.specs.Prelude.{◌≡◌, codes, option_map, option_and_then};
+ghost use Rattle.std.specs.Prelude.{◌≡◌, IfOk, codes, option_map, option_and_then};
 ghost use Rattle.serde_json.specs.Find.{as_bool};
 ghost use Rattle.st_wire.specs.Fields as spec;
 ghost use Rattle.st_file.specs.declared.texts.PhaseText.TheVariants as phase;
 ghost use Rattle.serde_json.specs.View.{view};
 ghost use Rattle.st_classes.specs.declared.refusals.ImagePlace.TheVariants.{Shape};
+ghost use Rattle.st_image.specs.Counts.{CanBeCounted};
 ghost use Rattle.st_file.specs.Answers.{Finds};
 ghost use Rattle.st_file.specs.Shapes as shapes;
 
@@ -19,23 +20,57 @@ use crate::texts::{
 };
 use serde_json::Value;
 use st_classes::refusals::Refusal;
+use st_image::counts::{Counts, MOST_COUNTED};
 use st_image::edit_text::EditText;
 use st_mailbox::messages::Sender;
 use std::alloc::Global;
 
 /// What a file says. The refusal of a value that has no such form is `BadImage` with the place `Shape`.
 pub fn read_image(alloc: Global, value: &Value) -> Result<ImageText, Refusal>
-    ensures { Finds Shape (shapes.image_in (view value.now)) result }
+    ensures read { Finds Shape (shapes.image_in (view value.now)) result }
+    ensures counted { IfOk result (λ t. CanBeCounted t.counts) }
 {
-    if !has_just(value, &["actors", "edits", "format", "names", "senders"]) {
-        return Err(SHAPE);
-    }
-    whole_at(value, "format", 1, 1)?;
+    let counts = counts(value)?;
     Ok(ImageText {
         actors: list_at(alloc, value, "actors")?,
+        counts,
         edits: list_at(alloc, value, "edits")?,
         names: list_at(alloc, value, "names")?,
         senders: list_at(alloc, value, "senders")?,
+    })
+}
+
+/// What a file counts, which has just the keys of its format. A file of the first format counts nothing.
+fn counts(value: &Value) -> Result<Counts, Refusal>
+    ensures read { Finds Shape (shapes.counts_in (view value.now)) result }
+    ensures few { IfOk result (λ c. CanBeCounted c) }
+{
+    let format = whole_at(value, "format", 1, 2)?;
+    counts_of(value, format)
+}
+
+/// The same, of a format.
+fn counts_of(value: &Value, format: u64) -> Result<Counts, Refusal>
+    ensures read { Finds Shape (shapes.counts_by format (view value.now)) result }
+    ensures few { IfOk result (λ c. CanBeCounted c) }
+{
+    if format == 1 {
+        if !has_just(value, &["actors", "edits", "format", "names", "senders"]) {
+            return Err(SHAPE);
+        }
+        return Ok(Counts { posts: 0, steps: 0 });
+    }
+    if !has_just(
+        value,
+        &[
+            "actors", "edits", "format", "names", "posts", "senders", "steps",
+        ],
+    ) {
+        return Err(SHAPE);
+    }
+    Ok(Counts {
+        posts: whole_at(value, "posts", 0, MOST_COUNTED)?,
+        steps: whole_at(value, "steps", 0, MOST_COUNTED)?,
     })
 }
 

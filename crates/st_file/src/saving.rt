@@ -8,12 +8,10 @@ ghost use Rattle.st_wire.specs.Streams.{one_more};
 ghost use Rattle.st_file.specs.Saving.{IsDocument, Saves, TellsImage, failures_after};
 ghost use Rattle.st_file.specs.Tellable.{ImageIsText};
 
-mod parts;
 mod tables;
 mod writing;
 
 use crate::part_texts::tell_actors;
-use crate::saving::parts::{can_be_base, parts};
 use crate::saving::tables::{edit_texts, name_texts};
 use crate::saving::writing::write_value;
 use crate::telling::image_data;
@@ -32,15 +30,16 @@ fn image_text<M: Mailbox>(alloc: Global, image: &Image<M>) -> Result<ImageText, 
     ensures tells { IfOk result (λ t. TellsImage image.now t) }
     ensures text { IfOk result (λ t. ImageIsText t) }
 {
-    can_be_base(image);
+    image.can_be_base();
     image.all_compiled();
     image.known();
-    let parts = parts(alloc, image)?;
+    let parts = image.parts(alloc)?;
     let senders = image.clients(alloc)?;
     let names = image.names();
     let version = image.version();
     Ok(ImageText {
         actors: tell_actors(alloc, names, version, &parts)?,
+        counts: image.counted(),
         edits: edit_texts(alloc, names, version)?,
         names: name_texts(alloc, names)?,
         senders: Seq::from_vec(senders),
@@ -48,13 +47,13 @@ fn image_text<M: Mailbox>(alloc: Global, image: &Image<M>) -> Result<ImageText, 
 }
 
 /// The document of an image: the JSON value that describes it, with all its names behind the kernel's, its class table, its actors
-/// with what is pending and where their turns stand, and its clients. Only want of memory is an error.
+/// with what is pending and where their turns stand, its clients, and its counts of posts and steps. Only want of memory is an error.
 pub fn image_value<M: Mailbox>(alloc: Global, image: &Image<M>) -> Result<Value, AllocError>
     ensures document { IfOk result (λ v. IsDocument (view v) image.now) }
     ensures shallow { IfOk result (λ v. depth (view v) ≤ 9) }
     ensures whole { IfOk result (λ v. has_float (view v) ≡ false) }
 {
-    can_be_base(image);
+    image.can_be_base();
     image.all_compiled();
     image.known();
     image.names().known();

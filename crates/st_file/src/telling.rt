@@ -390,6 +390,7 @@ impl Telling for ImageText {
     fn tell(self, alloc: Global) -> Result<Value, AllocError> {
         let ImageText {
             actors,
+            counts,
             edits,
             names,
             senders,
@@ -398,7 +399,15 @@ impl Telling for ImageText {
         let edits = list(alloc, edits)?;
         let names = list(alloc, names)?;
         let senders = list(alloc, senders)?;
-        image(alloc, actors, edits, names, senders)
+        image(
+            alloc,
+            actors,
+            edits,
+            names,
+            counts.posts,
+            senders,
+            counts.steps,
+        )
     }
 }
 
@@ -408,21 +417,27 @@ fn image(
     actors: Value,
     edits: Value,
     names: Value,
+    posts: u64,
     senders: Value,
+    steps: u64,
 ) -> Result<Value, AllocError>
     ensures { IfOk result (λ v. view v ≡ object
         (member (codes "actors") (view actors)
         (member (codes "edits") (view edits)
-        (member (codes "format") (whole 1)
+        (member (codes "format") (whole 2)
         (member (codes "names") (view names)
+        (member (codes "posts") (whole posts)
         (member (codes "senders") (view senders)
-        no_members)))))) }
+        (member (codes "steps") (whole steps)
+        no_members)))))))) }
 {
     json!(in alloc; {
         "actors": actors,
         "edits": edits,
-        "format": 1u64,
+        "format": 2u64,
         "names": names,
-        "senders": senders
+        "posts": posts,
+        "senders": senders,
+        "steps": steps
     })
 }

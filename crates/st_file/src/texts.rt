@@ -2,6 +2,7 @@
 use st_classes::faults::Fault;
 use st_classes::seq::Seq;
 use st_classes::values::ActorId;
+use st_image::counts::Counts;
 use st_image::edit_text::EditText;
 use st_mailbox::messages::Sender;
 
@@ -78,6 +79,8 @@ pub struct ActorText {
 #[derive(Drop)]
 pub struct ImageText {
     pub actors: Seq<ActorText>,
+    /// How many posts and steps there were.
+    pub counts: Counts,
     pub edits: Seq<EditText>,
     pub names: Seq<Seq<u8>>,
     /// Clients, each with the number of its last message.

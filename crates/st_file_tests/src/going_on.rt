@@ -36,7 +36,7 @@ fn session_of(alloc: Global, text: &[u8], script: &str) -> Result<Ended, Refusal
     })
 }
 
-/// What is pending stays pending, the numbers of senders go on, and counts begin anew.
+/// What is pending stays pending, and the numbers of senders and the counts go on.
 #[test]
 fn a_pending_message_goes_on(rt: HostRuntime) -> Result<(), Fail> {
     let script = r#"{"actor":0,"args":[],"cmd":"post","selector":"a","sender":1,"seq":1}
@@ -58,7 +58,7 @@ fn a_pending_message_goes_on(rt: HostRuntime) -> Result<(), Fail> {
     assert!(rt;
         ended.counts
             == Counts {
-                posts: 1,
+                posts: 2,
                 steps: 14
             }
     );
@@ -105,5 +105,21 @@ fn a_closed_mailbox_stays_closed(rt: HostRuntime) -> Result<(), Fail> {
 "#;
     let ended = session_of(rt.alloc(), VARIED.as_bytes(), post)?;
     assert!(rt; ended.replies.as_slice() == b"{\"error\":\"Closed\"}\n".as_slice());
+    Ok(())
+}
+
+/// A checkpoint is nothing to a file that is saved behind it.
+#[test]
+fn a_checkpoint_is_nothing_to_a_file(rt: HostRuntime) -> Result<(), Fail> {
+    let alloc = rt.alloc();
+    let post = r#"{"actor":0,"args":[],"cmd":"post","selector":"a","sender":1,"seq":2}
+"#;
+    let checkpoint = r#"{"actor":0,"args":[],"cmd":"post","selector":"a","sender":1,"seq":2}
+{"cmd":"checkpoint"}
+"#;
+    let without = session_of(alloc, PENDING.as_bytes(), post)?;
+    let with = session_of(alloc, PENDING.as_bytes(), checkpoint)?;
+    assert!(rt; with.replies.as_slice() == b"{\"ok\":{\"turn\":2}}\n{\"ok\":{\"posts\":2,\"steps\":0}}\n".as_slice());
+    assert!(rt; with.file.as_slice() == without.file.as_slice());
     Ok(())
 }

@@ -1,5 +1,5 @@
 //! Texts that are refused by a place, once something in them is changed.
-use crate::texts::{LOOPING, MOVED, PENDING, VARIED, refused};
+use crate::texts::{LOOPING, MOVED, PENDING, VARIED, refused, PENDING_BEFORE};
 use st_classes::refusals::{ImagePlace, Refusal};
 use std::alloc::{AllocError, Global};
 use std::test::*;
@@ -48,8 +48,12 @@ fn by_their_places(rt: HostRuntime) -> Result<(), Fail> {
             PENDING,
             ImagePlace::Shape,
             &[
-                ("\"format\":1", "\"format\":3"),
-                ("\"format\":1,", "\"format\":1,\"further\":1,"),
+                ("\"format\":2", "\"format\":3"),
+                ("\"format\":2", "\"format\":1"),
+                ("\"format\":2,", "\"format\":2,\"further\":1,"),
+                ("\"posts\":1,", ""),
+                ("\"posts\":1", "\"posts\":9223372036854775808"),
+                ("\"steps\":0", "\"steps\":-1"),
                 ("\"slots\":[]}]", "\"further\":1,\"slots\":[]}]"),
                 ("\"seq\":1", "\"seq\":18446744073709551616"),
                 ("\"sender\":1", "\"sender\":65536"),
@@ -115,6 +119,26 @@ fn by_their_places(rt: HostRuntime) -> Result<(), Fail> {
                     "\"seq\":1}]}]",
                     "\"seq\":1}]},{\"body\":{\"objects\":[{\"class\":\"M\",\"slots\":[]}],\"phase\":\"fresh\"},\"capacity\":64,\"class\":\"M\",\"last\":0,\"open\":true,\"pending\":[{\"args\":[],\"selector\":\"a\",\"sender\":1,\"seq\":1}]}]"
                 ),
+            ]
+        )?
+    );
+    Ok(())
+}
+
+/// A file of the first format has no counts.
+#[test]
+fn first_format(rt: HostRuntime) -> Result<(), Fail> {
+    let alloc = rt.alloc();
+    assert!(rt; refused(alloc, PENDING_BEFORE.as_bytes()) == None);
+    assert!(rt;
+        all_refused(
+            alloc,
+            PENDING_BEFORE,
+            ImagePlace::Shape,
+            &[
+                ("\"format\":1", "\"format\":0"),
+                ("\"format\":1", "\"format\":2"),
+                ("\"senders\"", "\"posts\":1,\"senders\""),
             ]
         )?
     );

@@ -11,11 +11,15 @@ use std::test::*;
 
 /// An actor with a message pending.
 pub(crate) const PENDING: &str =
+    r#"{"actors":[{"body":{"objects":[{"class":"M","slots":[]}],"phase":"fresh"},"capacity":64,"class":"M","last":0,"open":true,"pending":[{"args":[],"selector":"a","sender":1,"seq":1}]}],"edits":[{"define":{"name":"M","slots":[],"super":"Object"}},{"install":{"class":"M","source":"a ^3 + 4 * 2"}}],"format":2,"names":["a"],"posts":1,"senders":[[1,1]],"steps":0}"#;
+
+/// The same in the first format, which counts nothing.
+pub(crate) const PENDING_BEFORE: &str =
     r#"{"actors":[{"body":{"objects":[{"class":"M","slots":[]}],"phase":"fresh"},"capacity":64,"class":"M","last":0,"open":true,"pending":[{"args":[],"selector":"a","sender":1,"seq":1}]}],"edits":[{"define":{"name":"M","slots":[],"super":"Object"}},{"install":{"class":"M","source":"a ^3 + 4 * 2"}}],"format":1,"names":["a"],"senders":[[1,1]]}"#;
 
 /// An actor in the middle of a turn, whose method and a method that it sends were replaced meanwhile.
 pub(crate) const LOOPING: &str =
-    r#"{"actors":[{"body":{"objects":[{"class":"L","slots":[]}],"phase":{"frames":[{"method":2,"operands":[],"pc":6,"receiver":{"local":0},"temps":[1,1]}]}},"capacity":64,"class":"L","last":0,"open":true,"pending":[]}],"edits":[{"define":{"name":"L","slots":[],"super":"Object"}},{"install":{"class":"SmallInteger","source":"tag ^1"}},{"install":{"class":"L","source":"go | i s | i := 0. s := 0. [i < 3] whileTrue: [s := s * 10 + 3 tag. i := i + 1]. ^s"}},{"install":{"class":"L","source":"go ^0"}},{"install":{"class":"SmallInteger","source":"tag ^2"}}],"format":1,"names":["tag","go"],"senders":[[1,1]]}"#;
+    r#"{"actors":[{"body":{"objects":[{"class":"L","slots":[]}],"phase":{"frames":[{"method":2,"operands":[],"pc":6,"receiver":{"local":0},"temps":[1,1]}]}},"capacity":64,"class":"L","last":0,"open":true,"pending":[]}],"edits":[{"define":{"name":"L","slots":[],"super":"Object"}},{"install":{"class":"SmallInteger","source":"tag ^1"}},{"install":{"class":"L","source":"go | i s | i := 0. s := 0. [i < 3] whileTrue: [s := s * 10 + 3 tag. i := i + 1]. ^s"}},{"install":{"class":"L","source":"go ^0"}},{"install":{"class":"SmallInteger","source":"tag ^2"}}],"format":2,"names":["tag","go"],"posts":1,"senders":[[1,1]],"steps":27}"#;
 
 /// An actor of a class that was first under A and is under B.
 pub(crate) const MOVED: &str =
@@ -23,7 +27,7 @@ pub(crate) const MOVED: &str =
 
 /// All kinds of values and of phases, an actor that is closed, and one that has sent.
 pub(crate) const VARIED: &str =
-    r#"{"actors":[{"body":{"objects":[{"class":"P","slots":[-9223372036854775808,{"local":1}]},{"class":"Object","slots":[]}],"phase":{"answer":{"sym":"at:put:"}}},"capacity":1,"class":"P","last":18446744073709551615,"open":false,"pending":[{"args":[true,{"class":"P"}],"selector":"at:put:","sender":{"ref":0},"seq":7}]},{"body":{"objects":[{"class":"Object","slots":[]}],"phase":{"start":{"args":[null],"selector":"x:"}}},"capacity":1024,"class":"Object","last":0,"open":true,"pending":[]},{"body":{"objects":[{"class":"P","slots":[false,{"ref":1}]}],"phase":{"fault":"zeroDivide"}},"capacity":64,"class":"P","last":0,"open":true,"pending":[]}],"edits":[{"define":{"name":"P","slots":["a","b"],"super":"Object"}},{"install":{"class":"P","source":"x: y a := y"}},{"remove":{"class":"P","selector":"x:"}}],"format":1,"names":["at:put:","x:"],"senders":[[0,5],[65535,18446744073709551615]]}"#;
+    r#"{"actors":[{"body":{"objects":[{"class":"P","slots":[-9223372036854775808,{"local":1}]},{"class":"Object","slots":[]}],"phase":{"answer":{"sym":"at:put:"}}},"capacity":1,"class":"P","last":18446744073709551615,"open":false,"pending":[{"args":[true,{"class":"P"}],"selector":"at:put:","sender":{"ref":0},"seq":7}]},{"body":{"objects":[{"class":"Object","slots":[]}],"phase":{"start":{"args":[null],"selector":"x:"}}},"capacity":1024,"class":"Object","last":0,"open":true,"pending":[]},{"body":{"objects":[{"class":"P","slots":[false,{"ref":1}]}],"phase":{"fault":"zeroDivide"}},"capacity":64,"class":"P","last":0,"open":true,"pending":[]}],"edits":[{"define":{"name":"P","slots":["a","b"],"super":"Object"}},{"install":{"class":"P","source":"x: y a := y"}},{"remove":{"class":"P","selector":"x:"}}],"format":2,"names":["at:put:","x:"],"posts":9223372036854775807,"senders":[[0,5],[65535,18446744073709551615]],"steps":9223372036854775807}"#;
 
 /// The image of a text, on the heap.
 pub(crate) fn loaded(alloc: Global, text: &[u8]) -> Result<Box<Image>, Refusal> {
@@ -62,6 +66,12 @@ fn saved_as_loaded(rt: HostRuntime) -> Result<(), Fail> {
     for text in [PENDING, LOOPING, MOVED, VARIED] {
         assert!(rt; is_saved_as(alloc, text.as_bytes(), text) == Ok(true));
     }
+    // A file of the first format counts nothing, and is saved in the second.
+    let counted = changed(alloc, PENDING, "\"posts\":1", "\"posts\":0")?;
+    let first = loaded(alloc, PENDING_BEFORE.as_bytes())?;
+    let mut output = MemoryOutput::new(alloc);
+    save(alloc, &first, &mut output)?;
+    assert!(rt; output.as_slice().strip_suffix(b"\n") == Some(counted.as_slice()));
     // A name that only a method has may be left out, and white space is.
     let by_hand = changed(alloc, PENDING, "[\"a\"]", " [ ]\n")?;
     assert!(rt; is_saved_as(alloc, &by_hand, PENDING) == Ok(true));

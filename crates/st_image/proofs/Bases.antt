@@ -5,14 +5,13 @@ use Rattle.std.proofs.lemmas.List.{length-map, map-append, replicate-append-repl
 use Rattle.std.proofs.lemmas.List.Elements.{All-map, All-nil, All-weaker}
 use Rattle.std.proofs.lemmas.Option.{slice_get-map}
 use Rattle.st_classes.specs.declared.edits.Edit.{Edit}
-use Rattle.st_classes.specs.Kernel.{kernel_selectors}
 use Rattle.st_classes.specs.Names.{AreNames}
 use Rattle.st_classes.specs.EditLists.{AreLawful, AllSuit, AllSound}
 use Rattle.st_turn.specs.declared.body.Phase.{Phase}
 use Rattle.st_turn.specs.declared.body.Phase.TheVariants.{Fresh, Start, Frames, Done}
 use Rattle.st_image.specs.declared.actor_part.ActorPart.{ActorPart}
 use Rattle.st_image.specs.declared.settings.Settings.{Settings}
-use Rattle.st_image.specs.Worlds.{Constants, World, WorldActor}
+use Rattle.st_image.specs.Worlds.{World, WorldActor}
 use Rattle.st_image.specs.WorldInvariant.{BeginsWithKernel, HasTurns, HaveTurns, IsSoundItem, IsWorld, IsWorldActor, first_turn}
 use Rattle.st_image.specs.Images.{world_of}
 use Rattle.st_image.specs.Starts.{StartsLast}
@@ -21,7 +20,8 @@ use Rattle.st_image.specs.ActResults.{constants_of}
 use Rattle.st_image.specs.ImageInvariant.{IsImage}
 use Rattle.st_image.specs.Parts.{FitsMailbox, actor_of, result_of, world_of_parts}
 use Rattle.st_image.specs.ClaimsOut.{put_first, trimmed}
-use Rattle.st_image.specs.Earlier.{Earlier, nothing_earlier}
+use Rattle.st_image.specs.Earlier.{Earlier, counted_earlier}
+use Rattle.st_image.specs.declared.counts.Counts.{Counts}
 use Rattle.st_image.specs.declared.items.Item.{Item}
 use Rattle.st_image.specs.declared.tallies.Tally.{Tally}
 use Rattle.st_image.specs.Loaded.{AreBaseActors, AreBaseSenders, loaded_image}
@@ -64,7 +64,7 @@ some_part (Some p) b e = (p, cc)
 part_at : (parts : List ActorPart) (a : ℕ) (b : WorldActor) → slice_get (map actor_of parts) a ≡ Some b → (p : ActorPart) × (b ≡ actor_of p)
 part_at parts a b e = some_part (slice_get parts a) b (sym (slice_get-map actor_of parts a) ∙ e)
 
-base_turns : (edits : List Edit) (parts : List ActorPart) (clients : List (ℕ × ℕ)) → HaveTurns (world_of_parts edits parts clients) (world_of_parts edits parts clients)
+pub base_turns : (edits : List Edit) (parts : List ActorPart) (clients : List (ℕ × ℕ)) → HaveTurns (world_of_parts edits parts clients) (world_of_parts edits parts clients)
 base_turns edits parts clients = record {
   long = omega arith;
   each = λ a b e.
@@ -130,5 +130,5 @@ none_out (suc n) = ap (put_first 0) (none_out n)
 
 -- ---- what callers see
 
-pub loaded_by : (names : List (List ℕ)) (edits : List Edit) (parts : List ActorPart) (clients : List (ℕ × ℕ)) (base : World) (h : List Item) (out : List ℕ) (rows : List (List Tally)) (earlier : Earlier) → base ≡ world_of_parts edits parts clients → h ≡ [] → trimmed out ≡ [] → rows ≡ [] → earlier ≡ nothing_earlier → seen base names h default (standing_of earlier 0 out rows) ≡ loaded_image names edits parts clients
-loaded_by names edits parts clients base h out rows earlier b e o r f = rw (b, e, o, r, f) refl
+pub loaded_by : (names : List (List ℕ)) (edits : List Edit) (parts : List ActorPart) (clients : List (ℕ × ℕ)) (base : World) (h : List Item) (out : List ℕ) (rows : List (List Tally)) (earlier : Earlier) (counts : Counts) → base ≡ world_of_parts edits parts clients → h ≡ [] → trimmed out ≡ [] → rows ≡ [] → earlier ≡ counted_earlier counts → seen base names h default (standing_of earlier 0 out rows) ≡ loaded_image names edits parts clients counts
+loaded_by names edits parts clients base h out rows earlier counts b e o r f = rw (b, e, o, r, f) refl

@@ -133,7 +133,7 @@ stayed_steps a c k (suc n) w v o e = let p = bound (world_after c k n) (after_st
 
 -- ---- an item
 
-stayed_next : (a : ℕ) (c : Constants) (w v : World) (i : Item) → next c w i ≡ Some v → changes_body a i ≡ false → HasStayed a w v
+pub stayed_next : (a : ℕ) (c : Constants) (w v : World) (i : Item) → next c w i ≡ Some v → changes_body a i ≡ false → HasStayed a w v
 stayed_next a c w v (Edited e) h o = stayed_by a w v (ap (λ (x : World). x.actors) (sym (let_through _ _ v h).1))
 stayed_next a c w v (Created class) h o = subst (HasStayed a w) (let_through _ _ v h).1 (stayed_new a c class w)
 stayed_next a c w v (Posted k m) h o = stayed_posted a c w v k m h

@@ -1,37 +1,23 @@
 -- Checkouts: a claim of an actor, whose next message may begin.
-use Rattle.std.proofs.Common.{arith, ◌≡◌, ℕ, zero, suc, ◌+◌, ◌<◌, ◌≤◌, ◌++◌, [], ◌∷◌, List, length, Option, Some, None, Ok, Bool, true, false, cond, refl, ap, sym, ◌∙◌, subst, slice_get, slice_set, length-append, append-nil, inl, nat_le, nat_lt, Fits as FitsIn, w32}
-use Rattle.std.specs.Prelude.{◌&&◌, ◌==◌, not}
+use Rattle.std.proofs.Common.{arith, ◌≡◌, ℕ, ◌+◌, ◌<◌, ◌≤◌, ◌++◌, [], ◌∷◌, List, length, Option, Some, None, Bool, true, false, cond, refl, ap, sym, ◌∙◌, subst, slice_get, slice_set, append-nil, inl, nat_lt}
+use Rattle.std.specs.Prelude.{◌&&◌, ◌==◌}
 use Rattle.std.specs.Option.{option_map}
-use Rattle.std.specs.List.{list_any}
 use Rattle.std.proofs.lemmas.Bool.Decides.{nat_tests}
-use Rattle.std.proofs.lemmas.Option.{slice_get_within}
 use Rattle.st_classes.specs.declared.values.ActorId.{ActorId}
-use Rattle.st_classes.specs.declared.values.ClassId.{ClassId}
-use Rattle.st_classes.specs.declared.values.Selector.{Selector}
-use Rattle.st_classes.specs.declared.values.Value.{Value}
-use Rattle.st_classes.specs.declared.values.Value.TheVariants.{Int, Bool as Boolean, Nil, Sym, Class, Actor as Reference, Local}
-use Rattle.st_classes.specs.declared.faults.Fault.TheVariants.{BadArgument, LocalArgument, TooManyActors}
-use Rattle.st_classes.specs.EditRules.{is_value_class}
-use Rattle.st_classes.specs.MethodSuits.{arity_at, is_number}
 use Rattle.st_classes.specs.declared.edits.Edit.{Edit}
 use Rattle.st_classes.specs.declared.refusals.Refusal.TheVariants.{NothingToDo, HistoryFull}
 use Rattle.st_classes.specs.Refusals.{first_of}
-use Rattle.st_turn.specs.declared.acts.Act.{Act}
-use Rattle.st_turn.specs.declared.acts.Act.TheVariants.{Post, Close, Create}
 use Rattle.st_turn.specs.declared.body.Body.{Body}
 use Rattle.st_turn.specs.Idle.{is_idle}
-use Rattle.st_turn.specs.Steps.{Step, next as leads, ended, outer, reply_body, step}
 use Rattle.st_mailbox.specs.declared.messages.Message.{Message}
-use Rattle.st_mailbox.specs.declared.messages.Sender.{Sender}
-use Rattle.st_mailbox.specs.declared.messages.Sender.TheVariants.{Client, Actor}
 use Rattle.st_image.specs.declared.settings.Settings.{Settings}
 use Rattle.st_image.specs.declared.items.Item.{Item}
-use Rattle.st_image.specs.declared.items.Item.TheVariants.{Edited, Created, Posted, Closed, Begun, Ran}
-use Rattle.st_image.specs.Worlds.{Constants, World, WorldActor, change, change_at, pending}
-use Rattle.st_image.specs.Replay.{ActResult as Acted, with_accepted, with_begun, after_close, create_result, act_result, failed_act, is_local, new_world_actor, next, next_message, post_result, after_post, after_post_by, replay, after_step, after_step_of, attempted_act, with_body, with_last, with_new}
+use Rattle.st_image.specs.declared.items.Item.TheVariants.{Begun}
+use Rattle.st_image.specs.Worlds.{World, WorldActor, change, change_at, pending}
+use Rattle.st_image.specs.Replay.{with_begun, next_message}
 use Rattle.st_image.specs.Images.{ImageView, Standing, appended, world, world_of}
 use Rattle.st_image.specs.ActorViews.{ActorView, Shows, actor_view, view_after_begin, view_checked_out}
-use Rattle.st_image.specs.ActResults.{constants_of, world_after}
+use Rattle.st_image.specs.ActResults.{constants_of}
 use Rattle.st_image.specs.ImageInvariant.{CanRun, IsImage}
 use Rattle.st_image.specs.declared.tallies.Tally.{Tally}
 use Rattle.st_image.specs.ClaimsOut.{one_more}
@@ -40,10 +26,8 @@ use Rattle.st_image.specs.Changes.{change_count, changes_in}
 use Rattle.st_image.specs.Earlier.{Earlier}
 use Rattle.st_image.specs.Commits.{HasCheckedOut, after_checkout, checkout_rules, idle_at, new_claim, with_out}
 use Rattle.st_image.proofs.Lists.{off, set_at_same}
-use Rattle.st_image.proofs.Changing.{change_here, get-change, length-change}
-use Rattle.st_image.proofs.Stepping.{bound, cond_some, mapped, ran_after}
-use Rattle.st_image.proofs.Deliveries.{let_through}
-use Rattle.st_image.proofs.Showing.{being_at_kept, count_is, kept_at}
+use Rattle.st_image.proofs.Changing.{change_here, get-change}
+use Rattle.st_image.proofs.Showing.{being_at_kept, kept_at}
 use Rattle.st_image.proofs.Keeping.{IsNext, begun_kept}
 use Rattle.st_image.proofs.Outer.{shown_runs}
 use Rattle.st_image.proofs.Posting.{seen, standing_of}

@@ -1,6 +1,6 @@
 -- Commits: the steps of a claim, as those of the world.
 use Rattle.std.proofs.Common.{arith, ◌≡◌, ℕ, zero, suc, ◌+◌, ◌<◌, ◌≤◌, ◌++◌, [], ◌∷◌, List, length, Option, Some, None, Bool, true, false, cond, refl, ap, ap₂, sym, ◌∙◌, subst, slice_get, slice_set, option_and_then, map, append-nil, inr}
-use Rattle.std.specs.Prelude.{All, ◌==◌, if◌then◌else◌, is_some}
+use Rattle.std.specs.Prelude.{All, ◌==◌, if◌then◌else◌, is_some, nat_lt, MatchOption}
 use Rattle.std.proofs.Math.Dec.{eqb-suc-zero}
 use Rattle.std.specs.Option.{option_to_list}
 use Rattle.st_classes.specs.declared.values.ActorId.{ActorId}
@@ -15,7 +15,9 @@ use Rattle.st_turn.specs.Claims.{ClaimView, IsSound, own_asked, sites_asked}
 use Rattle.st_image.specs.Earlier.{Earlier}
 use Rattle.st_image.specs.Worlds.{Constants, World, WorldActor, change, change_at}
 use Rattle.st_image.specs.Replay.{after_step, with_body}
-use Rattle.st_image.specs.Images.{ImageView, Standing, no_room, world, world_of}
+use Rattle.st_image.specs.Counts.{most_counted}
+use Rattle.st_image.specs.Images.{ImageView, Standing, counts_of, no_room, too_many_steps, world, world_of}
+use Rattle.st_classes.specs.declared.refusals.Refusal.{Refusal}
 use Rattle.st_classes.specs.declared.refusals.Refusal.TheVariants.{HistoryFull}
 use Rattle.st_classes.specs.Refusals.{first_of}
 use Rattle.st_turn.specs.declared.claim.Sent.{Sent}
@@ -29,11 +31,11 @@ use Rattle.st_image.specs.declared.settings.Settings.{Settings}
 use Rattle.st_image.specs.declared.tallies.Tally.{Tally}
 use Rattle.st_image.specs.ImageInvariant.{IsImage}
 use Rattle.st_image.specs.Tallies.{CountsSends, Tallied, after_act_at, after_sends, asked_by_item, tally_at}
-use Rattle.st_image.specs.Commits.{CommitAllowed, HasCommitted, IsUnchanged, act_site, commit_room, items_of, stands_before_act, steps_of}
+use Rattle.st_image.specs.Commits.{CommitAllowed, CommitRefused, HasCommitted, IsUnchanged, Survives, act_site, commit_room, items_of, stands_before_act, steps_of}
 use Rattle.st_image.specs.Newest.{Kept, kept_with}
 use Rattle.st_image.specs.ActorViews.{ActorView, Shows, view_after_steps}
 use Rattle.st_image.specs.ActResults.{GrowsByOne, IsShown, StandsBefore, TakesOuter, constants_of, world_after}
-use Rattle.st_image.proofs.Lists.{set_at_same, set_twice}
+use Rattle.st_image.proofs.Lists.{off, set_at_same, set_twice}
 use Rattle.st_image.proofs.Changing.{All-change, change_here, get-change}
 use Rattle.st_image.proofs.Stepping.{after_then, mapped}
 use Rattle.st_image.proofs.NewestResults.{view_steps}
@@ -238,7 +240,7 @@ has_taken base names edits actors new h made s beside rows rows' c m t k counts 
     let u : Bool = is_outer (step w.edits c.actor c.after) in
     let run : HasRun names s.capacity edits new c.actor w (c.steps + (if u then 1 else 0)) = has_run names s.capacity edits actors new c.actor w c.steps c.after t g.went o in
     let steps : m ≡ c.steps + (if u then 1 else 0) = count ∙ steps_at c w.edits g.same in
-    let room : length h + 1 ≤ s.history = has_room s.history (length h) 1 HistoryFull (room_of (seen base names h s beside) c (steps_of c) refl (subst (λ (n : ℕ). 0 < n) count some) allowed.room) in
+    let room : length h + 1 ≤ s.history = has_room s.history (length h) 1 HistoryFull (room_of (seen base names h s beside) c (steps_of c) refl (subst (λ (n : ℕ). 0 < n) count some) (off (nat_lt s.history (length h + length (items_of c))) HistoryFull (too_many_steps (seen base names h s beside) (steps_of c) ∷ []) allowed.room).0) in
     let sites : map (λ (x : Sent). x.site) c.sends ≡ sites_asked (own_asked w.edits c.actor c.steps g.went.being.body) = sound.sites ∙ ap sites_asked (sym g.same.asks) ∙ ap (λ (b : Body). sites_asked (own_asked w.edits c.actor c.steps b)) (sym g.before) in
     let same : map (λ (x : Sent). x.site) c.sends ++ option_to_list (act_site c) ≡ sites_asked (asked_by_item cs w (Ran c.actor (c.steps + cond u 1 0))) =
     ap (λ (x : Option SiteId). map (λ (y : Sent). y.site) c.sends ++ option_to_list x) (site_at_is c w.edits g.same)
@@ -251,9 +253,40 @@ has_taken base names edits actors new h made s beside rows rows' c m t k counts 
       sends = subst (λ (n : ℕ). CountsSends cs base (h ++ Ran c.actor n ∷ []) rows') (sym steps) counted;
     }
   where
-    room_of : (i : ImageView) (d : ClaimView) (n : ℕ) → steps_of d ≡ n → 0 < n → commit_room i d ≡ None → first_of (no_room i 1 ∷ []) ≡ None
+    room_of : (i : ImageView) (d : ClaimView) (n : ℕ) → steps_of d ≡ n → 0 < n → nat_lt i.most_items (length i.history + length (items_of d)) ≡ false → first_of (no_room i 1 ∷ []) ≡ None
     room_of i d zero e l r = absurd (omega (arith, l))
-    room_of i d (suc n) e l r = sym (ap (λ (x : Bool). first_of (no_room i (length (cond x [] (Ran d.actor (steps_of d) ∷ []))) ∷ [])) (ap (λ (y : ℕ). y == 0) e ∙ eqb-suc-zero n)) ∙ r
+    room_of i d (suc n) e l r =
+        let some : (steps_of d == 0) ≡ false = ap (λ (y : ℕ). y == 0) e ∙ eqb-suc-zero n in
+        let off_one : nat_lt i.most_items (length i.history + 1) ≡ false = sym (ap (λ (x : Bool). nat_lt i.most_items (length i.history + length (cond x [] (Ran d.actor (steps_of d) ∷ [])))) some) ∙ r in
+        rw off_one refl
+
+-- steps that may be committed are counted
+pub steps_room : (i : ImageView) (d : ClaimView) → commit_room i d ≡ None → (counts_of i).steps + steps_of d ≤ most_counted
+steps_room i d r = has_room most_counted (counts_of i).steps (steps_of d) HistoryFull (off (nat_lt i.most_items (length i.history + length (items_of d))) HistoryFull (too_many_steps i (steps_of d) ∷ []) r).1
+
+one_or_none : (c : ClaimView) → length (items_of c) ≡ (if steps_of c == 0 then 0 else 1)
+one_or_none c = by (steps_of c == 0)
+  where
+    by : (t : Bool) → length (cond t [] (Ran c.actor (steps_of c) ∷ [])) ≡ cond t 0 1
+    by true = refl
+    by false = refl
+
+told_by : (i : ImageView) (c : ClaimView) (r : Option Refusal) → r ≡ commit_room i c → Survives i c → IsUnchanged i c → MatchOption r (CommitAllowed i c) (λ e. CommitRefused i c e)
+told_by i c None h s u = record { survives = s; unchanged = u; room = sym h }
+told_by i c (Some e) h s u =
+    let full : e ≡ HistoryFull = only_full (nat_lt i.most_items (length i.history + length (items_of c))) (nat_lt most_counted ((counts_of i).steps + steps_of c)) e (sym h) in
+    subst (CommitRefused i c) (sym full) (s, u, sym h ∙ ap (λ (x : Refusal). Some x) full)
+  where
+    only_full : (a b : Bool) (e : Refusal) → first_of ((a, HistoryFull) ∷ (b, HistoryFull) ∷ []) ≡ Some e → e ≡ HistoryFull
+    only_full true b e h = cc
+    only_full false true e h = cc
+    only_full false false e h = cc
+
+-- what is told of the room for a commit
+pub room_told : (i : ImageView) (c : ClaimView) (items steps : ℕ) (r : Option Refusal) → r ≡ first_of (no_room i items ∷ too_many_steps i steps ∷ []) → items ≡ (if steps == 0 then 0 else 1) → steps ≡ steps_of c → Survives i c → IsUnchanged i c → MatchOption r (CommitAllowed i c) (λ e. CommitRefused i c e)
+room_told i c items steps r h few same s u =
+    let count : items ≡ length (items_of c) = few ∙ ap (λ (n : ℕ). cond (n == 0) 0 1) same ∙ sym (one_or_none c) in
+    told_by i c r (h ∙ ap (λ (n : ℕ). first_of (no_room i n ∷ too_many_steps i steps ∷ [])) count ∙ ap (λ (n : ℕ). first_of (no_room i (length (items_of c)) ∷ too_many_steps i n ∷ [])) same) s u
 
 -- what a commit of some steps adds
 pub items_are : (d : ClaimView) (n m : ℕ) → n ≡ steps_of d → n ≡ m → 0 < m → items_of d ≡ Ran d.actor n ∷ []

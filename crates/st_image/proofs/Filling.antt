@@ -1,5 +1,5 @@
 -- Mailboxes that are filled, one message after the other.
-use Rattle.std.proofs.Common.{arith, ◌≡◌, ℕ, ◌+◌, ◌<◌, ◌≤◌, ◌++◌, [], ◌∷◌, List, length, take, get_or, Option, None, Bool, true, false, refl, ap, sym, ◌∙◌, subst, add-one, nat_le}
+use Rattle.std.proofs.Common.{arith, ◌≡◌, ℕ, ◌+◌, ◌<◌, ◌++◌, [], ◌∷◌, List, length, take, get_or, None, true, false, refl, ap, sym, ◌∙◌, add-one, nat_le}
 use Rattle.std.proofs.lemmas.Bool.Decides.{nat_tests}
 use Rattle.std.proofs.Math.Seq.{take-suc}
 use Rattle.st_mailbox.specs.declared.messages.Message.{Message}

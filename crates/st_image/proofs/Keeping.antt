@@ -9,7 +9,7 @@ use Rattle.st_classes.specs.declared.values.ClassId.{ClassId}
 use Rattle.st_classes.specs.declared.values.ActorId.{ActorId}
 use Rattle.st_classes.specs.declared.edits.Edit.{Edit}
 use Rattle.st_classes.specs.declared.refusals.Refusal.{Refusal}
-use Rattle.st_classes.specs.Refusals.{first_of}
+use Rattle.st_classes.specs.Refusals.{Rule, first_of}
 use Rattle.st_classes.specs.Classes.{is_class}
 use Rattle.st_classes.specs.EditRules.{is_value_class, edit_rules}
 use Rattle.st_classes.specs.MethodSuits.{edit_suits}
@@ -94,6 +94,10 @@ none_is_none (Some x) e = cc
 -- the room that no refusal for a full history leaves
 pub has_room : (limit n m : ℕ) (e : Refusal) → first_of ((nat_lt limit (n + m), e) ∷ []) ≡ None → n + m ≤ limit
 has_room limit n m e h = let o : (nat_lt limit (n + m) ≡ false) × (first_of [] ≡ None) = off _ e [] h in let f : nat_lt limit (n + m) ≡ false = o.0 in grind (arith, nat_tests)
+
+-- the same, before other rules
+pub first_room : (limit n m : ℕ) (e : Refusal) (rules : List Rule) → first_of ((nat_lt limit (n + m), e) ∷ rules) ≡ None → n + m ≤ limit
+first_room limit n m e rules h = let f : nat_lt limit (n + m) ≡ false = (off (nat_lt limit (n + m)) e rules h).0 in grind (arith, nat_tests)
 
 pub being_at : (c : Constants) (w : World) (a : ℕ) (b : WorldActor) → IsWorld c w → slice_get w.actors a ≡ Some b → IsWorldActor c.names w.edits (length w.actors) b
 being_at c w a b h e = at_all (IsWorldActor c.names w.edits (length w.actors)) w.actors a b h.actors e

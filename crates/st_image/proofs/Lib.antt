@@ -49,8 +49,11 @@ pub mod GrowingEdits
 pub mod RanSteps
 pub mod CountingOnce
 pub mod CallsLater
+pub mod CallsGoOn
 pub mod Filling
 pub mod Bases
+pub mod Sums
+pub mod ChangeBounds
 pub mod Alls
 pub mod LoadedNames
 pub mod LoadedOnce
@@ -61,3 +64,8 @@ pub mod SenderNumbers
 pub mod NumberedClients
 pub mod PartsInOrder
 pub mod PartsWorld
+pub mod OneMore
+pub mod Rebasing
+pub mod Renewal
+pub mod RenewedEach
+pub mod Checkpointing

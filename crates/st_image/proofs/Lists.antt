@@ -1,5 +1,5 @@
 -- Lists, and lists of rules.
-use Rattle.std.proofs.Common.{◌≡◌, ℕ, zero, suc, ◌+◌, ◌++◌, [], ◌∷◌, List, drop, Some, None, Bool, true, false, refl, ap, sym, ◌∙◌, slice_get, slice_set, ◌⊎◌, inl, inr, Result, Ok, Err, OnOk, OnErr, add-one}
+use Rattle.std.proofs.Common.{◌≡◌, ℕ, zero, suc, ◌+◌, ◌++◌, [], ◌∷◌, List, drop, Some, None, Bool, true, false, refl, ap, sym, ◌∙◌, slice_get, slice_set, ◌⊎◌, inl, inr, Result, Ok, Err, IfOk, OnOk, OnErr, add-one}
 use Rattle.st_classes.specs.declared.refusals.Refusal.{Refusal}
 use Rattle.st_classes.specs.Refusals.{Rule, first_of}
 
@@ -47,3 +47,8 @@ drop_first n xs y ys e = ap (λ (k : ℕ). drop k xs) (add-one n) ∙ drop_suc n
 pub each_way : {T E A B : Type 0} (r : Result T E) → OnOk r A → OnErr r B → A ⊎ B
 each_way (Ok x) a b = inl a
 each_way (Err e) a b = inr b
+
+-- an Ok that is known, by what it tells
+pub ok_by : {T E : Type 0} (r : Result T E) (P Q : T → Type 0) → ((x : T) → P x → Q x) → IfOk r P → IfOk r Q
+ok_by (Ok x) P Q f p = f x p
+ok_by (Err e) P Q f p = tt

@@ -1,7 +1,9 @@
 -- Posts.
 use Rattle.std.proofs.Common.{◌≡◌, ℕ, ◌+◌, ◌≤◌, ◌++◌, [], ◌∷◌, List, length, Option, Some, None, refl, ap, sym, ◌∙◌, slice_get, length-append}
+use Rattle.std.specs.Prelude.{nat_lt}
 use Rattle.st_classes.specs.declared.values.ActorId.{ActorId}
 use Rattle.st_classes.specs.declared.edits.Edit.{Edit}
+use Rattle.st_classes.specs.declared.refusals.Refusal.TheVariants.{HistoryFull}
 use Rattle.st_classes.specs.Refusals.{first_of}
 use Rattle.st_mailbox.specs.declared.messages.Message.{Message}
 use Rattle.st_mailbox.specs.declared.messages.Sender.{Sender}
@@ -15,14 +17,15 @@ use Rattle.st_image.specs.PostRules.{IsClients, post_rules}
 use Rattle.st_image.specs.declared.tallies.Tally.{Tally}
 use Rattle.st_image.specs.ClaimsOut.{trimmed}
 use Rattle.st_image.specs.Earlier.{Earlier}
-use Rattle.st_image.specs.Images.{ImageView, Standing, world_of, image_post_rules, no_room, accepted_by}
+use Rattle.st_image.specs.Counts.{most_counted}
+use Rattle.st_image.specs.Images.{ImageView, Standing, counts_of, world, world_of, image_post_rules, no_room, too_many_posts, accepted_by}
 use Rattle.st_image.specs.ActorViews.{ActorView, actor_view, view_with_message}
 use Rattle.st_image.specs.ActResults.{constants_of}
 use Rattle.st_image.specs.ImageInvariant.{IsImage}
-use Rattle.st_image.proofs.Lists.{off_append}
+use Rattle.st_image.proofs.Lists.{off, off_append}
 use Rattle.st_image.proofs.Changing.{get-change}
 use Rattle.st_image.proofs.Showing.{kept_at}
-use Rattle.st_image.proofs.Keeping.{IsNext, posted_kept, has_room}
+use Rattle.st_image.proofs.Keeping.{IsNext, first_room, has_room, posted_kept}
 
 -- an image as callers see it
 abbrev pub seen : World → List (List ℕ) → List Item → Settings → Standing → ImageView
@@ -60,6 +63,13 @@ pub posted : (base : World) (names : List (List ℕ)) (edits : List Edit) (actor
     → IsPosted base names edits actors' (h ++ Posted a m ∷ []) made s a n
 posted base names edits actors actors' h made s from n a m k allowed client put place =
     let w : World = world_of (constants_of names s.capacity) base h in
-    let both = off_append (post_rules names w (slice_get w.actors a.0) m) (no_room (seen base names h s from) 1 ∷ []) allowed in
-    let room : length h + 1 ≤ s.history = has_room s.history (length h) 1 _ both.1 in
+    let both = off_append (post_rules names w (slice_get w.actors a.0) m) (no_room (seen base names h s from) 1 ∷ too_many_posts (seen base names h s from) ∷ []) allowed in
+    let room : length h + 1 ≤ s.history = first_room s.history (length h) 1 HistoryFull (too_many_posts (seen base names h s from) ∷ []) both.1 in
     posted_option base names edits actors actors' h made s n a m (slice_get w.actors a.0) refl k both.0 room client (posted_kept base names edits actors actors' h made s a m k both.0 client room put) place
+
+-- a post that is not refused is counted
+pub posts_room : (i : ImageView) (a : ActorId) (m : Message) → first_of (image_post_rules i a m) ≡ None → (counts_of i).posts + 1 ≤ most_counted
+posts_room i a m allowed =
+    let both = off_append (post_rules i.names (world i) (slice_get (world i).actors a.0) m) (no_room i 1 ∷ too_many_posts i ∷ []) allowed in
+    let rest : first_of (too_many_posts i ∷ []) ≡ None = (off (nat_lt i.most_items (length i.history + 1)) HistoryFull (too_many_posts i ∷ []) both.1).1 in
+    has_room most_counted (counts_of i).posts 1 HistoryFull rest

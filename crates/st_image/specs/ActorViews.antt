@@ -13,6 +13,7 @@ use Rattle.st_mailbox.specs.declared.messages.Message.{Message}
 use Rattle.st_image.specs.declared.actor_part.ActorPart.{ActorPart}
 use Rattle.st_image.specs.Worlds.{World, WorldActor, pending}
 use Rattle.st_image.specs.Newest.{Kept, kept_of, kept_with}
+use Rattle.st_image.specs.Parts.{result_of}
 use Rattle.st_image.specs.ClaimsOut.{claims_of}
 
 -- an actor without the messages that it began: what is pending, and how many it accepted
@@ -38,6 +39,14 @@ actor_view b = record {
   accepted = length b.accepted;
   results = kept_of b.results;
 }
+
+-- what is kept of the result of the turn that an actor is behind, where it is behind one
+abbrev pub last_kept : ActorView → Kept
+last_kept k = kept_of (result_of k.body.phase)
+
+-- an actor that begins anew: what is pending is all that it accepted, and only the turn that it is behind has a result
+abbrev pub view_anew : ActorView → ActorView
+view_anew k = record k { accepted = length k.pending; results = last_kept k }
 
 -- the part of an actor
 abbrev pub view_part : ActorView → ActorPart

@@ -15,7 +15,7 @@ use Rattle.st_turn.specs.Steps.{Asked, asked, is_outer, step}
 use Rattle.st_image.specs.declared.items.Item.{Item}
 use Rattle.st_image.specs.declared.items.Item.TheVariants.{Begun, Ran}
 use Rattle.st_image.specs.Worlds.{WorldActor, pending}
-use Rattle.st_image.specs.Images.{ImageView, appended, no_room, world}
+use Rattle.st_image.specs.Images.{ImageView, appended, no_room, too_many_steps, world}
 use Rattle.st_image.specs.Calls.{AnswersExactly}
 use Rattle.st_image.specs.Changes.{change_count, changes_in}
 use Rattle.st_image.specs.ClaimsOut.{claims_of, one_less, one_more}
@@ -120,9 +120,9 @@ abbrev pub BodiesLast : ImageView → ImageView → Type 0
 BodiesLast i j = (a : ActorId) → (changed_at i a.0 ≤ changed_at j a.0)
     × ((b : Body) → changed_at j a.0 ≡ changed_at i a.0 → body_at i a ≡ Some b → body_at j a ≡ Some b)
 
--- why the history has no place for what a commit adds, if it has none
+-- why the history has no place for what a commit adds, or the count of steps none, if so
 abbrev pub commit_room : ImageView → ClaimView → Option Refusal
-commit_room i c = first_of (no_room i (length (items_of c)) ∷ [])
+commit_room i c = first_of (no_room i (length (items_of c)) ∷ too_many_steps i (steps_of c) ∷ [])
 
 -- nothing refuses a commit
 pub record CommitAllowed (i : ImageView) (c : ClaimView) : Type 0 where
@@ -151,7 +151,7 @@ pub record IsAsBefore (i j : ImageView) : Type 0 where
   pub tallies : SameTallies i.standing.tallies j.standing.tallies
 
 -- Why a commit is refused, memory aside: the claim does not survive, with the present number of edits; else the actor is not
--- there or has another body; else the history has no place.
+-- there or has another body; else the history has no place, or there are too many steps.
 abbrev pub CommitRefused : ImageView → ClaimView → Refusal → Type 0
 CommitRefused i c (Stale version) = (Survives i c → ⊥) × (version ≡ length (world i).edits)
 CommitRefused i c Changed = Survives i c × (body_at i c.actor ≢ Some c.before)

@@ -1,8 +1,9 @@
 -- How many posts, edits and steps a history has.
-use Rattle.std.specs.Prelude.{◌≡◌, ℕ, ◌+◌, ◌*◌, ◌^◌, ◌≤◌, List, [], ◌∷◌, length}
+use Rattle.std.specs.Prelude.{◌≡◌, ℕ, ◌+◌, ◌-◌, ◌^◌, ◌≤◌, List, [], ◌∷◌}
 use Rattle.st_image.specs.declared.items.Item.{Item}
 use Rattle.st_image.specs.declared.items.Item.TheVariants.{Edited, Created, Posted, Closed, Begun, Ran}
 use Rattle.st_image.specs.declared.counts.Counts.{Counts}
+use Rattle.st_image.specs.Earlier.{Earlier}
 
 -- an item's posts
 abbrev pub posts_of : Item → ℕ
@@ -40,8 +41,17 @@ weigh f (item ∷ items) = f item + weigh f items
 abbrev pub counts_in : List Item → Counts
 counts_in history = record { posts = weigh posts_of history; steps = weigh ran_of history }
 
--- these are the counts of a history, whose items have no more than 2^32 steps each
-pub record CountsItems (c : Counts) (history : List Item) : Type 0 where
+-- the most posts, and the most steps, that an image counts
+abbrev pub most_counted : ℕ
+most_counted = 2 ^ 63 - 1
+
+-- counts that an image can have
+pub record CanBeCounted (c : Counts) : Type 0 where
+  pub posts : c.posts ≤ most_counted
+  pub steps : c.steps ≤ most_counted
+
+-- these are the counts of a history, which with those before it are no more than an image counts
+pub record CountsItems (c : Counts) (e : Earlier) (history : List Item) : Type 0 where
   pub counts : c ≡ counts_in history
-  pub few_posts : weigh posts_of history ≤ length history
-  pub few_steps : weigh ran_of history ≤ length history * 2 ^ 32
+  pub few_posts : e.posts + weigh posts_of history ≤ most_counted
+  pub few_steps : e.steps + weigh ran_of history ≤ most_counted

@@ -1,5 +1,6 @@
 -- What was counted in an image before the world that it began with: a history that is emptied leaves its counts here.
 use Rattle.std.specs.Prelude.{ℕ, List, []}
+use Rattle.st_image.specs.declared.counts.Counts.{Counts}
 
 -- how often each actor's body was changed, by the actors' numbers, past the end never; and how many edits, posts and steps
 -- there were
@@ -8,6 +9,10 @@ pub record Earlier : Type 0 where
   pub edits : ℕ
   pub posts : ℕ
   pub steps : ℕ
+
+-- so many posts and steps were counted before, and nothing else
+abbrev pub counted_earlier : Counts → Earlier
+counted_earlier c = record { changes = []; edits = 0; posts = c.posts; steps = c.steps }
 
 -- nothing was counted before
 abbrev pub nothing_earlier : Earlier

@@ -1,5 +1,5 @@
 -- What is true of the fields of an image.
-use Rattle.std.specs.Prelude.{◌≡◌, ℕ, ◌+◌, ◌<◌, ◌≤◌, List, length, Some, All}
+use Rattle.std.specs.Prelude.{◌≡◌, ℕ, ◌+◌, ◌*◌, ◌<◌, ◌≤◌, List, length, Option, None, Some, All, if◌then◌else◌, slice_get}
 use Rattle.st_classes.specs.declared.values.ActorId.{ActorId}
 use Rattle.st_classes.specs.declared.edits.Edit.{Edit}
 use Rattle.st_classes.specs.Kernel.{does_not_understand}
@@ -7,15 +7,17 @@ use Rattle.st_classes.specs.MethodSuits.{arity_at}
 use Rattle.st_classes.specs.EditLists.{AreLawful, AllSuit, AllSound}
 use Rattle.st_turn.specs.declared.body.Body.{Body}
 use Rattle.st_turn.specs.BodyFits.{Referents, Fits}
+use Rattle.st_turn.specs.Idle.{is_idle}
 use Rattle.st_image.specs.declared.items.Item.{Item}
 use Rattle.st_image.specs.declared.settings.Settings.{Settings}
-use Rattle.st_image.specs.Worlds.{World}
+use Rattle.st_image.specs.Earlier.{Earlier}
+use Rattle.st_image.specs.Worlds.{World, WorldActor}
 use Rattle.st_image.specs.Replay.{replay}
 use Rattle.st_image.specs.Images.{world_of, edits_in}
 use Rattle.st_image.specs.WorldInvariant.{AreSettings, HaveTurns, IsSoundItem, IsWorld}
 use Rattle.st_image.specs.Senders.{InSendingOrder}
 use Rattle.st_image.specs.Clients.{KeepsClients}
-use Rattle.st_image.specs.Changes.{CountsChanges}
+use Rattle.st_image.specs.Changes.{CountsChanges, change_count}
 use Rattle.st_image.specs.Counts.{CountsItems}
 use Rattle.st_image.specs.CompiledEdits.{AllCompiled}
 use Rattle.st_image.specs.declared.counts.Counts.{Counts}
@@ -40,19 +42,32 @@ pub record IsImage (base : World) (names : List (List ℕ)) (edits : List Edit) 
   pub few_items : length history ≤ s.history
   pub few_accepted : All (λ (k : ActorView). k.accepted ≤ length history + 1024) actors
 
+-- 1 where an actor is in a turn, else 0
+abbrev pub turns_open : Option WorldActor → ℕ
+turns_open None = 0
+turns_open (Some b) = if is_idle b.body.phase then 0 else 1
+
+-- What was counted before a base fits it: the edits are among those of its table, and a body was changed at most twice for
+-- each step that was taken, and once more where it is in a turn. Each turn begins once and takes a step before it ends.
+pub record FitsBase (e : Earlier) (base : World) : Type 0 where
+  pub edits : e.edits ≤ length base.edits
+  pub changes : (a : ℕ) → change_count e.changes a ≤ 2 * e.steps + turns_open (slice_get base.actors a)
+
 -- The history leads to what is kept; the numbers of clients are those that it leads to, the tallies count its sends and have
 -- places for the methods of so many edits as are covered, each actor's number is how often it changed the actor's body,
--- its posts and steps are counted, and the methods of the table are compiled from their sources.
+-- its posts and steps are counted, the methods of the table are compiled from their sources, and what was counted before the
+-- base fits it.
 pub record HoldsImage (base : World) (names : List (List ℕ)) (edits : List Edit) (actors : List ActorView)
     (history : List Item) (made : ℕ) (s : Settings) (clients : List ℕ) (tallies : List (List Tally))
-    (covered : ℕ) (changes : List ℕ) (counted : Counts) : Type 0 where
+    (covered : ℕ) (changes : List ℕ) (counted : Counts) (earlier : Earlier) : Type 0 where
   pub image : IsImage base names edits actors history made s
   pub numbers_of_clients : KeepsClients clients base.clients history
   pub sends : CountsSends (constants_of names s.capacity) base history tallies
   pub places : Covers tallies covered edits
   pub counts : CountsChanges changes history
-  pub totals : CountsItems counted history
+  pub totals : CountsItems counted earlier history
   pub compiled : AllCompiled names edits
+  pub before : FitsBase earlier base
 
 -- a body fits a table whose edits are lawful and sound, so that its steps fit it too
 abbrev pub CanRun : List Edit → ActorId → Body → Type 0

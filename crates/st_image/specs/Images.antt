@@ -17,7 +17,7 @@ use Rattle.st_image.specs.Worlds.{Constants, World, WorldActor, start, is_capaci
 use Rattle.st_image.specs.PostRules.{post_rules}
 use Rattle.st_image.specs.Replay.{replay}
 use Rattle.st_image.specs.Earlier.{Earlier, nothing_earlier}
-use Rattle.st_image.specs.Counts.{edits_of, posts_of, ran_of, weigh}
+use Rattle.st_image.specs.Counts.{edits_of, most_counted, posts_of, ran_of, weigh}
 use Rattle.st_image.specs.declared.counts.Counts.{Counts}
 
 -- what an image keeps beside its world: the number from which the next ready actor is looked for, how many claims of
@@ -54,7 +54,7 @@ world i = world_of (constants i) i.base i.history
 abbrev pub edits_in : List Item → ℕ
 edits_in = weigh edits_of
 
--- how many messages of clients were accepted, and how many steps were taken, since the image was new or loaded
+-- how many messages of clients were accepted, and how many steps were taken, since the image was new, and before it was loaded
 abbrev pub counts_of : ImageView → Counts
 counts_of i = record {
   posts = i.standing.earlier.posts + weigh posts_of i.history;
@@ -88,6 +88,14 @@ settings_rules s =
 abbrev pub no_room : ImageView → ℕ → Rule
 no_room i n = (nat_lt i.most_items (length i.history + n), HistoryFull)
 
+-- a post more would be more posts than an image counts
+abbrev pub too_many_posts : ImageView → Rule
+too_many_posts i = (nat_lt most_counted ((counts_of i).posts + 1), HistoryFull)
+
+-- so many steps more would be more steps than an image counts
+abbrev pub too_many_steps : ImageView → ℕ → Rule
+too_many_steps i n = (nat_lt most_counted ((counts_of i).steps + n), HistoryFull)
+
 -- how many edits the run has accepted
 abbrev pub edits_made : ImageView → ℕ
 edits_made i = i.standing.earlier.edits + edits_in i.history
@@ -119,7 +127,8 @@ create_rules i c =
 
 -- the refusals of a post in an image, in their order
 abbrev pub image_post_rules : ImageView → ActorId → Message → List Rule
-image_post_rules i a m = post_rules i.names (world i) (slice_get (world i).actors a.0) m ++ no_room i 1 ∷ []
+image_post_rules i a m =
+    post_rules i.names (world i) (slice_get (world i).actors a.0) m ++ no_room i 1 ∷ too_many_posts i ∷ []
 
 -- the refusals of a close, in their order
 abbrev pub close_rules : ImageView → Option WorldActor → List Rule

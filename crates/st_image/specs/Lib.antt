@@ -22,6 +22,7 @@ pub mod Installs
 pub mod Tallies
 pub mod Calls
 pub mod Commits
+pub mod Checkpoints
 pub mod GoingOn
 pub mod Stats
 pub mod SentMessages

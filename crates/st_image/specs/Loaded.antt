@@ -5,7 +5,8 @@ use Rattle.st_classes.specs.declared.refusals.Refusal.{Refusal}
 use Rattle.st_classes.specs.declared.refusals.Refusal.TheVariants.{BadImage, NoMemory}
 use Rattle.st_classes.specs.declared.refusals.ImagePlace.TheVariants as place
 use Rattle.st_image.specs.declared.actor_part.ActorPart.{ActorPart}
-use Rattle.st_image.specs.Earlier.{nothing_earlier}
+use Rattle.st_image.specs.declared.counts.Counts.{Counts}
+use Rattle.st_image.specs.Earlier.{counted_earlier}
 use Rattle.st_image.specs.Images.{ImageView}
 use Rattle.st_image.specs.Parts.{actor_of, world_of_parts}
 use Rattle.st_image.specs.SenderNumbers.{HasSenders}
@@ -25,26 +26,26 @@ pub record AreBaseActors (names : List (List ℕ)) (edits : List Edit) (parts : 
 abbrev pub AreBaseSenders : List Edit → List ActorPart → List (ℕ × ℕ) → Type 0
 AreBaseSenders edits parts clients = AreClientsFrom 0 clients × InSendingOrder (world_of_parts edits parts clients)
 
--- the image at a base, set as by default: nothing has happened yet
-abbrev pub image_at : List (List ℕ) → World → ImageView
-image_at names base = record {
+-- the image at a base, with the counts of posts and steps before it, set as by default: nothing has happened yet
+abbrev pub image_at : List (List ℕ) → World → Counts → ImageView
+image_at names base counts = record {
   base = base;
   names = names;
   history = [];
   capacity = 64;
   most_items = 1000000;
-  standing = record { next_from = 0; claims_out = []; tallies = []; earlier = nothing_earlier };
+  standing = record { next_from = 0; claims_out = []; tallies = []; earlier = counted_earlier counts };
 }
 
 -- the image at the world of these parts
-abbrev pub loaded_image : List (List ℕ) → List Edit → List ActorPart → List (ℕ × ℕ) → ImageView
-loaded_image names edits parts clients = image_at names (world_of_parts edits parts clients)
+abbrev pub loaded_image : List (List ℕ) → List Edit → List ActorPart → List (ℕ × ℕ) → Counts → ImageView
+loaded_image names edits parts clients counts = image_at names (world_of_parts edits parts clients) counts
 
 -- an image is made, or its actors, or the numbers of its senders, are none of a world; or memory ran out
-abbrev pub Finishes : List (List ℕ) → List Edit → List ActorPart → List (ℕ × ℕ) → Result ImageView Refusal → Type 0
-Finishes names edits parts clients (Ok i) = AreBaseActors names edits parts
+abbrev pub Finishes : List (List ℕ) → List Edit → List ActorPart → List (ℕ × ℕ) → Counts → Result ImageView Refusal → Type 0
+Finishes names edits parts clients counts (Ok i) = AreBaseActors names edits parts
     × AreBaseSenders edits parts clients
-    × (i ≡ loaded_image names edits parts clients)
-Finishes names edits parts clients (Err e) = (e ≡ NoMemory)
+    × (i ≡ loaded_image names edits parts clients counts)
+Finishes names edits parts clients counts (Err e) = (e ≡ NoMemory)
     ⊎ ((e ≡ BadImage place.Actors) × (AreBaseActors names edits parts → ⊥))
     ⊎ ((e ≡ BadImage place.Senders) × AreBaseActors names edits parts × (AreBaseSenders edits parts clients → ⊥))

@@ -25,6 +25,10 @@ pub record Kept : Type 0 where
   pub items : List Outcome
   pub count : ℕ
 
+-- what a buffer of results keeps
+abbrev pub kept_in : Newest Outcome → Kept
+kept_in n = record { items = n.items; count = n.count }
+
 -- what is kept of all results
 abbrev pub kept_of : List Outcome → Kept
 kept_of results = record { items = newest results; count = length results }

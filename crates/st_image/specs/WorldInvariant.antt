@@ -17,7 +17,8 @@ use Rattle.st_image.specs.declared.items.Item.TheVariants.{Edited}
 use Rattle.st_image.specs.declared.settings.Settings.{Settings}
 use Rattle.st_image.specs.Worlds.{Constants, World, WorldActor, pending}
 use Rattle.st_image.specs.Replay.{replay}
-use Rattle.st_image.specs.Images.{ImageView, constants, world}
+use Rattle.st_image.specs.Counts.{CanBeCounted}
+use Rattle.st_image.specs.Images.{ImageView, constants, counts_of, world}
 use Rattle.st_image.specs.PostRules.{message_fits}
 use Rattle.st_image.specs.Senders.{InSendingOrder}
 use Rattle.st_image.specs.Delivery.{BeginsInOrder}
@@ -116,7 +117,8 @@ abbrev pub settings_of : ImageView → Settings
 settings_of i = record { capacity = i.capacity; history = i.most_items }
 
 -- what is true of every image: it began with a world, its history is lawful from there and no longer than its limit,
--- its numbers are within theirs, its world has what every world has, and each turn has its message and its result
+-- its numbers are within theirs, its world has what every world has, each turn has its message and its result, and no more
+-- posts and steps are counted than an image counts
 pub record IsLawful (i : ImageView) : Type 0 where
   pub base : IsWorld (constants i) i.base
   pub senders : InSendingOrder i.base
@@ -126,3 +128,4 @@ pub record IsLawful (i : ImageView) : Type 0 where
   pub numbers : AreSettings (settings_of i)
   pub few_items : length i.history ≤ i.most_items
   pub few_actors : length (world i).actors ≤ 65536
+  pub counted : CanBeCounted (counts_of i)

@@ -3,6 +3,7 @@ ghost use Rattle.std.specs.Prelude.{◌≡◌, ◌&&◌, ◌==◌};
 ghost use Rattle.st_image.specs.ClaimsOut.{one_less as one_less_of, one_more as one_more_of};
 
 mod plain_data;
+mod renewal;
 
 use crate::actor::Actor;
 use st_classes::faults::Fault;

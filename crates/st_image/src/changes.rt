@@ -31,14 +31,28 @@ impl Changes {
         }
     }
 
+    /// The number of actors up to the last whose body was changed, or more.
+    pub(crate) fn len(&self) -> usize
+        ensures { result ≡ length self.now }
+    {
+        self.counts.len()
+    }
+
+    /// How often the body of the actor of a place was changed.
+    pub(crate) fn at(&self, place: usize) -> u32
+        ensures { result ≡ change_count self.now place }
+    {
+        match self.counts.get(place) {
+            Some(count) => *count,
+            None => 0,
+        }
+    }
+
     /// How often the body of an actor was changed.
     pub(crate) fn count(&self, actor: ActorId) -> u32
         ensures { result ≡ change_count self.now actor.0 }
     {
-        match self.counts.get(actor.0 as usize) {
-            Some(count) => *count,
-            None => 0,
-        }
+        self.at(actor.0 as usize)
     }
 
     /// Makes room for the number of an actor. No number changes.

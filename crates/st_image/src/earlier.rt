@@ -1,11 +1,12 @@
 //! What was counted before the world that an image began with.
-ghost use Rattle.std.specs.Prelude.{◌≡◌, ◌<◌, ◌^◌, IfOk};
+ghost use Rattle.std.specs.Prelude.{◌≡◌, ◌+◌, ◌<◌, ◌≤◌, ◌^◌, ℕ, length, IfOk};
 ghost use Rattle.st_image.specs.Changes.{change_count};
-ghost use Rattle.st_image.specs.Earlier.{nothing_earlier};
+ghost use Rattle.st_image.specs.Earlier.{counted_earlier};
 
+use crate::changes::Changes;
 use crate::counts::Counts;
 use st_classes::values::ActorId;
-use std::alloc::Global;
+use std::alloc::{AllocError, Global};
 use std::marker::Model;
 
 /// What was counted in an image before the world that it began with.
@@ -18,38 +19,30 @@ pub(crate) struct Earlier {
 }
 
 impl Model for Earlier {
-    ghost use Rattle.std.specs.Prelude.{ℕ, ◌<◌, ◌^◌};
-    ghost use Rattle.st_image.specs.Changes.{change_count as changes_of};
     ghost use Rattle.st_image.specs.Earlier.{Earlier as EarlierOf};
 
     ghost Value = { EarlierOf };
 
     ghost view = { λ e. record { changes = e.changes.items; edits = e.edits; posts = e.counts.posts; steps = e.counts.steps } };
-
-    ghost invariant = { λ e. ((a : ℕ) → changes_of e.changes.items a < 2 ^ 63) × (e.counts.posts < 2 ^ 63) × (e.counts.steps < 2 ^ 63) };
 }
 
 impl Earlier {
-    /// Nothing was counted.
-    pub(crate) fn none(alloc: Global) -> Earlier
-        ensures { result ≡ nothing_earlier }
+    /// So many posts and steps were counted, and nothing else.
+    pub(crate) fn counted(alloc: Global, counts: Counts) -> Earlier
+        ensures { result ≡ counted_earlier counts }
     {
         Earlier {
             changes: Vec::new(alloc),
             edits: 0,
-            counts: Counts { posts: 0, steps: 0 },
+            counts,
         }
     }
 
     /// How often the body of an actor was changed.
     pub(crate) fn changes(&self, actor: ActorId) -> u64
-        ensures count { result ≡ change_count self.now.changes actor.0 }
-        ensures few { result < 2 ^ 63 }
+        ensures { result ≡ change_count self.now.changes actor.0 }
     {
-        match self.changes.get(actor.0 as usize) {
-            Some(count) => *count,
-            None => 0,
-        }
+        self.changed_at(actor.0 as usize)
     }
 
     /// How many edits there were.
@@ -63,9 +56,55 @@ impl Earlier {
     pub(crate) fn counts(&self) -> Counts
         ensures posts { result.posts ≡ self.now.posts }
         ensures steps { result.steps ≡ self.now.steps }
-        ensures few_posts { result.posts < 2 ^ 63 }
-        ensures few_steps { result.steps < 2 ^ 63 }
     {
         self.counts
+    }
+
+    /// The same with these changes besides, so many edits in all, and these counts in all.
+    pub(crate) fn with(
+        &self,
+        alloc: Global,
+        changes: &Changes,
+        edits: u32,
+        counts: Counts,
+    ) -> Result<Earlier, AllocError>
+        requires { (a : ℕ) → change_count self.now.changes a + change_count changes.now a < 2 ^ 64 }
+        ensures changes { IfOk result (λ e. (a : ℕ) → change_count e.changes a ≡ change_count self.now.changes a + change_count changes.now a) }
+        ensures edits { IfOk result (λ e. e.edits ≡ edits) }
+        ensures posts { IfOk result (λ e. e.posts ≡ counts.posts) }
+        ensures steps { IfOk result (λ e. e.steps ≡ counts.steps) }
+    {
+        let mut sums = Vec::new(alloc);
+        let actors = self.actors_with(changes);
+        for actor in 0..actors {
+            sums.push(self.changed_at(actor) + u64::from(changes.at(actor)))?;
+        }
+        Ok(Earlier {
+            changes: sums,
+            edits,
+            counts,
+        })
+    }
+
+    /// The number of actors up to the last whose body was changed before or by these changes, or more.
+    fn actors_with(&self, changes: &Changes) -> usize
+        ensures before { length self.now.changes ≤ result }
+        ensures since { length changes.now ≤ result }
+    {
+        if self.changes.len() < changes.len() {
+            changes.len()
+        } else {
+            self.changes.len()
+        }
+    }
+
+    /// How often the body of the actor of a place was changed.
+    fn changed_at(&self, place: usize) -> u64
+        ensures { result ≡ change_count self.now.changes place }
+    {
+        match self.changes.get(place) {
+            Some(count) => *count,
+            None => 0,
+        }
     }
 }

@@ -1,12 +1,14 @@
 //! The image: construction, readers, interning, new actors, and the laws of images. Edits and installs, posts, closing, checkouts
-//! and commits, statistics, and the list of clients are in image/.
+//! and commits, checkpoints, statistics, and the list of clients are in image/.
 ghost use Rattle.st_image.specs.Changes.{BodiesStay};
+ghost use Rattle.st_image.specs.Checkpoints.{LeavesClaims};
 ghost use Rattle.st_image.specs.Delivery.{Delivers};
 ghost use Rattle.st_image.specs.OneClaim.{CountsOnItsBody};
 ghost use Rattle.st_image.specs.WorldInvariant.{NamesMayGrow};
 
 mod at_base;
 mod checking_out;
+mod checkpointing;
 mod closing;
 mod committing;
 mod defining;
@@ -64,6 +66,12 @@ pub fn one_claim_counts()
     ensures { CountsOnItsBody }
 {}
 
+/// A checkpoint is nothing to a claim that is out: the claim commits afterwards as it would have before, and is refused as `Stale` or
+/// `Changed` where it would have been.
+pub fn checkpoint_leaves_claims()
+    ensures { LeavesClaims }
+{}
+
 /// An image: a class table, actors, and the history that led to them.
 ///
 /// Contracts see the world that it began with, its names, its history, the numbers that are set, and what it keeps beside its
@@ -103,7 +111,7 @@ impl<M: Mailbox> Model for Image<M> {
 
     ghost view = { λ i. record { base = i.base; names = i.names; history = i.history.items; capacity = i.settings.capacity; most_items = i.settings.history; standing = record { next_from = i.next_from; claims_out = trimmed i.actors.out; tallies = i.tallies; earlier = i.earlier } } };
 
-    ghost invariant = { λ i. HoldsImage i.base i.names i.token i.actors.kept i.history.items i.edits_made i.settings i.clients i.tallies i.covered i.changes i.counts };
+    ghost invariant = { λ i. HoldsImage i.base i.names i.token i.actors.kept i.history.items i.edits_made i.settings i.clients i.tallies i.covered i.changes i.counts i.earlier };
 }
 
 impl<M: Mailbox> Image<M> {
@@ -159,7 +167,7 @@ impl<M: Mailbox> Image<M> {
             covered: 0,
             changes: Changes::new(alloc),
             counts: Counts { posts: 0, steps: 0 },
-            earlier: Earlier::none(alloc),
+            earlier: Earlier::counted(alloc, Counts { posts: 0, steps: 0 }),
         })
     }
 

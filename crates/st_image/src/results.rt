@@ -1,11 +1,12 @@
 //! The newest results.
 ghost use Rattle.std.specs.Prelude.{◌≡◌, ◌<◌, ◌≤◌, ◌+◌, ◌-◌, ◌^◌, ◌++◌, ◌∷◌, [], length, None, slice_get, OnOk, OnErr, IfOk};
 ghost use Rattle.std.specs.Option.{option_copied};
-ghost use Rattle.st_image.specs.Newest.{HasRoom, kept_result, newest};
+ghost use Rattle.st_image.specs.Newest.{HasRoom, kept_in, kept_of, kept_result, newest};
+ghost use Rattle.st_image.specs.Parts.{result_of};
 
 use circular_buffer::HeapCircularBuffer;
 use st_classes::refusals::Refusal;
-use st_turn::body::Outcome;
+use st_turn::body::{Outcome, Phase};
 use std::alloc::{AllocError, Global};
 use std::marker::Model;
 
@@ -40,6 +41,18 @@ impl Results {
             newest: HeapCircularBuffer::with_capacity(alloc, 0)?,
             count: 0,
         })
+    }
+
+    /// That of the turn that a body is behind, if it is behind one.
+    pub(crate) fn of_phase(alloc: Global, phase: &Phase) -> Result<Results, AllocError>
+        ensures { IfOk result (λ r. kept_in r ≡ kept_of (result_of phase.now)) }
+    {
+        let mut results = Results::new(alloc)?;
+        if let Phase::Done(outcome) = phase {
+            results.reserve()?;
+            results.push(*outcome);
+        }
+        Ok(results)
     }
 
     /// The result of a number, from 0: `Pending` where there is none yet, `Expired` where it is not kept any more.

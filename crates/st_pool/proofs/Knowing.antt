@@ -1,5 +1,5 @@
 -- What is known of a claim and of a worker, from the images that were seen.
-use Rattle.std.proofs.Common.{◌≡◌, List, [], ◌∷◌, Option, Some, None, refl, ap, sym, ◌∙◌, subst, append-nil, inr}
+use Rattle.std.proofs.Common.{◌≡◌, List, [], Option, Some, None, sym, ◌∙◌, subst, append-nil, inr}
 use Rattle.std.specs.Option.{IfSome}
 use Rattle.st_classes.specs.declared.edits.Edit.{Edit}
 use Rattle.st_classes.specs.EditLists.{Begins}
@@ -8,8 +8,7 @@ use Rattle.st_turn.specs.Claims.{BeganAs, ClaimView}
 use Rattle.st_image.specs.Images.{ImageView, world}
 use Rattle.st_image.proofs.KnownBodies.{knows_as, knows_later}
 use Rattle.st_image.specs.GoingOn.{FitsClaim, GoesOnIn}
-use Rattle.st_pool.specs.Going.{KeepsBeginning}
-use Rattle.st_pool.specs.Seen.{Along, Ends, Fits, Follows, LeadsTo, MayFollow, Precedes}
+use Rattle.st_pool.specs.Seen.{Ends, Fits, Follows, MayFollow, Precedes}
 use Rattle.st_pool.proofs.Fronts.{begins_then, carries, follows_later, follows_leads, goes_same}
 
 pub fits_later : (i j : ImageView) (c : ClaimView) → GoesOnIn i j → FitsClaim i c → FitsClaim j c

@@ -1,10 +1,11 @@
 -- What a caller has done, and how it stands in an image.
-use Rattle.std.specs.Prelude.{◌≡◌, ◌⊎◌, ℕ, ◌≤◌, List, [], ◌∷◌, ◌++◌, All, false, Option, None, Some, Result, Ok, Err, MatchResult, length, slice_get}
+use Rattle.std.specs.Prelude.{◌≡◌, ◌⊎◌, ℕ, ◌+◌, ◌-◌, ◌<◌, ◌≤◌, List, [], ◌∷◌, ◌++◌, false, Option, None, Some, Result, Ok, Err, MatchResult, length, slice_get}
 use Rattle.st_classes.specs.declared.values.ActorId.{ActorId}
 use Rattle.st_classes.specs.declared.refusals.Refusal.{Refusal}
 use Rattle.st_classes.specs.declared.refusals.Refusal.TheVariants.{NoMemory}
 use Rattle.st_mailbox.specs.declared.messages.Message.{Message}
 use Rattle.st_turn.specs.Claims.{ClaimView}
+use Rattle.st_image.specs.declared.items.Item.{Item}
 use Rattle.st_image.specs.declared.items.Item.TheVariants.{Posted}
 use Rattle.st_image.specs.Images.{ImageView}
 use Rattle.st_image.specs.Calls.{Posts}
@@ -15,8 +16,7 @@ use Rattle.st_pool.specs.declared.office.Work.{Work}
 use Rattle.st_pool.specs.declared.office.Work.TheVariants.{Stop, Wait, Turn}
 use Rattle.st_pool.specs.declared.receipts.Receipt.{Receipt}
 use Rattle.st_pool.specs.Books.{BooksView}
-use Rattle.st_image.specs.Counts.{posts_of, edits_of}
-use Rattle.st_pool.specs.Counts.{since}
+use Rattle.st_pool.specs.Counts.{Amounts, amounts}
 
 -- the edits that were accepted, and a receipt for each post that was
 pub record Done : Type 0 where
@@ -26,30 +26,38 @@ pub record Done : Type 0 where
 abbrev pub nothing_done : Done
 nothing_done = record { edits = 0; receipts = [] }
 
--- what lies under the lock: the image and the books
+-- what lies under the lock: the image and the books, and how many items of histories checkpoints have emptied since they were
+-- opened
 pub record OfficeView : Type 0 where
   pub image : ImageView
   pub books : BooksView
+  pub emptied : ℕ
 
--- a lawful image that has at least as many posts and edits since a place
-pub record HasAtLeast (start : ℕ) (done : Done) (i : ImageView) : Type 0 where
+-- a lawful image that has counted at least as many posts and edits since it had these amounts
+pub record HasAtLeast (start : Amounts) (done : Done) (i : ImageView) : Type 0 where
   pub lawful : IsLawful i
-  pub posts : length done.receipts ≤ since posts_of start i
-  pub edits : done.edits ≤ since edits_of start i
+  pub posts : start.posts + length done.receipts ≤ (amounts i).posts
+  pub edits : start.edits + done.edits ≤ (amounts i).edits
 
--- the message of a receipt stands in the history at its place
-abbrev pub Stands : ImageView → Receipt → Type 0
-Stands i r = slice_get i.history r.place ≡ Some (Posted r.actor r.message)
+-- The place of a receipt counts the items that checkpoints have emptied: its item is among them, or its message stands in the
+-- history at its place behind them.
+abbrev pub StandsIn : ℕ → List Item → Receipt → Type 0
+StandsIn emptied history r =
+    (r.place < emptied) ⊎ ((emptied ≤ r.place) × (slice_get history (r.place - emptied) ≡ Some (Posted r.actor r.message)))
+
+-- in the history of an image
+abbrev pub Stands : ℕ → ImageView → Receipt → Type 0
+Stands emptied i r = StandsIn emptied i.history r
 
 abbrev pub receipt : ℕ → ActorId → Message → Receipt
 receipt place actor message = record { place = place; actor = actor; message = message }
 
--- a message is posted in one hold, and where it is accepted its receipt goes last: its place is where the history ended in that hold.
--- Memory may run out before
-abbrev pub PostsOnce : ℕ → Done → ActorId → Message → Result ℕ Refusal → Done → Type 0
+-- a message is posted in one hold, and where it is accepted its receipt goes last: its place is where the history ended in that hold,
+-- behind all that was emptied. Memory may run out before
+abbrev pub PostsOnce : Amounts → Done → ActorId → Message → Result ℕ Refusal → Done → Type 0
 PostsOnce start d a m result e = ((result ≡ Err NoMemory) × (e ≡ d))
-    ⊎ ((i : ImageView) × (j : ImageView) × HasAtLeast start d i × Posts i a m result j × MatchResult result
-    (λ turn. e ≡ record d { receipts = d.receipts ++ receipt (length i.history) a m ∷ [] })
+    ⊎ ((o : OfficeView) × (j : ImageView) × HasAtLeast start d o.image × Posts o.image a m result j × MatchResult result
+    (λ turn. e ≡ record d { receipts = d.receipts ++ receipt (o.emptied + length o.image.history) a m ∷ [] })
     (λ f. e ≡ d))
 
 -- what a worker finds. Where it is to end, nothing has changed; nor where it is to wait, and then no actor is ready, or the next one

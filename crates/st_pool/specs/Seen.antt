@@ -1,6 +1,5 @@
 -- The list of images that were seen under the lock, as each thread knows a beginning of it.
 use Rattle.std.specs.Prelude.{ℕ, ◌≡◌, ◌==◌, ◌⊎◌, true, List, [], ◌∷◌, ◌++◌, length, MatchBool, All, Option, Some}
-use Rattle.std.specs.Option.{IfSome}
 use mathlib.Core.List.{IsPrefix}
 use Rattle.logbook.specs.Pages.{Cell, Step, View, Book, Named}
 use Rattle.st_guard.specs.Moves.{CachesView}

@@ -1,20 +1,36 @@
 -- What settling answers.
-use Rattle.std.specs.Prelude.{◌≡◌, ℕ, ◌+◌, List, All, length}
+use Rattle.std.specs.Prelude.{◌≡◌, ℕ, ◌+◌, ◌-◌, ◌≤◌, List, All, count_by, length, nat_lt}
 use Rattle.std.specs.List.{sum_by}
+use Rattle.st_image.specs.Counts.{posts_of, weigh}
 use Rattle.st_image.specs.Images.{ImageView}
-use Rattle.st_image.specs.Counts.{posts_of, edits_of, ran_of}
-use Rattle.st_pool.specs.Counts.{since}
+use Rattle.st_pool.specs.Counts.{Amounts, amounts}
 use Rattle.st_pool.specs.Books.{BooksView}
-use Rattle.st_pool.specs.Done.{Done, OfficeView, Stands}
+use Rattle.st_pool.specs.Done.{Done, Stands}
+use Rattle.st_pool.specs.declared.receipts.Receipt.{Receipt}
 use Rattle.st_pool.specs.declared.totals.Totals.{Totals}
 
 -- all shares that were given out are here
 abbrev pub AreAll : BooksView → List Done → List ℕ → Type 0
 AreAll b callers workers = (length callers ≡ b.callers) × (length workers ≡ b.workers)
 
--- each message of each receipt stands in the history at its place
-abbrev pub AllStand : ImageView → List Done → Type 0
-AllStand i callers = All (λ (d : Done). All (Stands i) d.receipts) callers
+-- each message of each receipt stands in the history at its place, or its item was emptied
+abbrev pub AllStand : ℕ → ImageView → List Done → Type 0
+AllStand emptied i callers = All (λ (d : Done). All (Stands emptied i) d.receipts) callers
+
+-- how many receipts of a caller have their items among so many that were emptied
+abbrev pub gone : ℕ → Done → ℕ
+gone emptied d = count_by (λ (r : Receipt). nat_lt r.place emptied) d.receipts
+
+-- the receipts whose items were emptied are no more than the posts that were counted and are not in the history
+abbrev pub AreFew : ℕ → ImageView → ℕ → List Done → Type 0
+AreFew emptied i posts callers = sum_by (gone emptied) callers ≤ posts - weigh posts_of i.history
+
+-- Of so many posts that were counted, those in the history stand there: each message of each receipt stands at its place, but for
+-- those whose items checkpoints have emptied, and these are few. Where no checkpoint was made, all stand.
+pub record HaveStood (i : ImageView) (posts : ℕ) (callers : List Done) : Type 0 where
+  pub emptied : ℕ
+  pub stand : AllStand emptied i callers
+  pub few : AreFew emptied i posts callers
 
 -- the totals are the sums of the shares
 pub record AreSums (t : Totals) (callers : List Done) (workers : List ℕ) : Type 0 where
@@ -22,8 +38,8 @@ pub record AreSums (t : Totals) (callers : List Done) (workers : List ℕ) : Typ
   pub of_edits : t.edits ≡ sum_by (λ (d : Done). d.edits) callers
   pub of_steps : t.steps ≡ sum_by (λ (n : ℕ). n) workers
 
--- the totals are what the history has since a place
-pub record AreCounts (start : ℕ) (i : ImageView) (t : Totals) : Type 0 where
-  pub in_posts : t.posts ≡ since posts_of start i
-  pub in_edits : t.edits ≡ since edits_of start i
-  pub in_steps : t.steps ≡ since ran_of start i
+-- the totals are what the image has counted since it had these amounts
+pub record AreCounts (start : Amounts) (i : ImageView) (t : Totals) : Type 0 where
+  pub in_posts : start.posts + t.posts ≡ (amounts i).posts
+  pub in_edits : start.edits + t.edits ≡ (amounts i).edits
+  pub in_steps : start.steps + t.steps ≡ (amounts i).steps

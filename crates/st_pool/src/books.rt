@@ -1,9 +1,11 @@
 //! The books of a pool: accepted posts, accepted edits and committed steps. Three ledgers of the library, as one.
-ghost use Rattle.std.specs.Prelude.{◌≡◌, ℕ, ◌+◌, ◌<◌, ◌≤◌, ◌^◌, length, vec_len};
+ghost use Rattle.std.specs.Prelude.{◌≡◌, ℕ, ◌+◌, ◌<◌, ◌≤◌, ◌^◌, count_by, length, vec_len, nat_lt};
 ghost use Rattle.std.specs.List.{sum_by};
 ghost use Rattle.st_pool.specs.Done.{Done};
+ghost use Rattle.st_pool.specs.Settled.{gone as gone_of};
 
 use crate::naming::{Edits, Naming, Posts, Steps};
+use crate::receipts::Receipt;
 use crate::shares::{CallerShare, WorkerShare};
 use crate::totals::Totals;
 use st_classes::refusals::Refusal;
@@ -58,24 +60,39 @@ impl<K: Naming> Model for Books<K> {
         × (b.posts_left.amount ≡ 0) × (b.edits_left.amount ≡ 0) × (b.steps_left.amount ≡ 0) × (b.callers < 4294967296) × (b.workers < 4294967296) };
 }
 
-/// Takes in the callers' shares, and answers the sums of their posts and edits.
+/// How many receipts have their items among so many that were emptied.
+fn gone(emptied: u64, receipts: &[Receipt]) -> u64
+    ensures value { result ≡ count_by (λ r. nat_lt r.place emptied) receipts.now }
+    ensures few { result ≤ length receipts.now }
+{
+    receipts
+        .iter()
+        .filter(|receipt| receipt.place < emptied)
+        .count() as u64
+}
+
+/// Takes in the callers' shares, and answers the sums of their posts and edits, and how many receipts have their items among so many
+/// that were emptied.
 fn gather_callers<K: Naming>(
     posts: &mut Book<Posts<K>>,
     edits: &mut Book<Edits<K>>,
     posts_left: &mut Share<Posts<K>>,
     edits_left: &mut Share<Edits<K>>,
+    emptied: u64,
     mut callers: Vec<CallerShare<K>>,
-) -> (u64, u64)
-    requires few { (posts.old.total < 2 ^ 60) × (edits.old.total < 2 ^ 60) }
+) -> (u64, u64, u64)
+    requires few { (posts.old.total < 2 ^ 63) × (edits.old.total < 2 ^ 63) }
     requires empty { (posts_left.old.amount ≡ 0) × (edits_left.old.amount ≡ 0) }
     requires some { (0 < posts_left.old.parts) × (0 < edits_left.old.parts) }
     ensures books { (posts.new.total ≡ posts.old.total) × (edits.new.total ≡ edits.old.total) }
     ensures posts { (result.0 ≡ sum_by (λ (d : Done). length d.receipts) callers.items) × (posts_left.new.amount ≡ result.0) }
     ensures edits { (result.1 ≡ sum_by (λ (d : Done). d.edits) callers.items) × (edits_left.new.amount ≡ result.1) }
+    ensures gone { result.2 ≡ sum_by (gone_of emptied) callers.items }
     ensures parts { (posts_left.new.parts ≡ posts_left.old.parts + vec_len callers) × (edits_left.new.parts ≡ edits_left.old.parts + vec_len callers) }
 {
     let mut posted_sum: u64 = 0;
     let mut edited_sum: u64 = 0;
+    let mut gone_sum: u64 = 0;
     while let Some(share) = callers.pop() {
         let CallerShare {
             edits: made,
@@ -89,8 +106,9 @@ fn gather_callers<K: Naming>(
         edits.audit(edits_left);
         posted_sum += receipts.len() as u64;
         edited_sum += made;
+        gone_sum += gone(emptied, receipts.as_slice());
     }
-    (posted_sum, edited_sum)
+    (posted_sum, edited_sum, gone_sum)
 }
 
 /// Takes in the workers' shares, and answers the sum of their steps.
@@ -99,7 +117,7 @@ fn gather_workers<K: Naming>(
     left: &mut Share<Steps<K>>,
     mut workers: Vec<WorkerShare<K>>,
 ) -> u64
-    requires few { steps.old.total < 2 ^ 60 }
+    requires few { steps.old.total < 2 ^ 63 }
     requires empty { left.old.amount ≡ 0 }
     requires some { 0 < left.old.parts }
     ensures book { steps.new.total ≡ steps.old.total }
@@ -120,7 +138,8 @@ impl<K: Naming> Books<K> {
     ghost use Rattle.std.specs.Prelude.{◌≡◌, ◌+◌, ◌<◌, ◌≤◌, ◌^◌, length, vec_len, is_ok};
     ghost use Rattle.st_pool.specs.Books.{counted, no_books};
     ghost use Rattle.st_pool.specs.Done.{committed, nothing_done};
-    ghost use Rattle.st_pool.specs.Settled.{AreSums};
+    ghost use Rattle.std.specs.List.{sum_by};
+    ghost use Rattle.st_pool.specs.Settled.{AreSums, gone as gone_of};
 
     /// Empty books.
     pub(crate) fn open(blanks: Blanks) -> Books<K>
@@ -219,7 +238,7 @@ impl<K: Naming> Books<K> {
 
     /// Books an edit, where it was accepted.
     pub(crate) fn edit(&mut self, mine: &mut CallerShare<K>, answer: &Result<u32, Refusal>)
-        requires { self.old.edits < 2 ^ 60 }
+        requires { self.old.edits < 2 ^ 63 }
         ensures books { self.new ≡ record self.old { edits = self.old.edits + counted (is_ok answer.now) } }
         ensures share { mine.new ≡ record mine.old { edits = mine.old.edits + counted (is_ok answer.now) } }
         ensures within { mine.old.edits ≤ self.old.edits }
@@ -234,7 +253,7 @@ impl<K: Naming> Books<K> {
 
     /// Books the steps of a commit.
     pub(crate) fn run(&mut self, mine: &mut WorkerShare<K>, answer: &Result<u32, Refusal>)
-        requires { self.old.steps < 2 ^ 60 }
+        requires { self.old.steps < 2 ^ 63 }
         ensures books { self.new ≡ record self.old { steps = self.old.steps + committed answer.now } }
         ensures share { mine.new ≡ mine.old + committed answer.now }
         ensures within { mine.old ≤ self.old.steps }
@@ -268,15 +287,21 @@ impl<K: Naming> Books<K> {
         self.steps.audit(&mut mine.ran);
     }
 
-    /// The totals of all shares, which are here.
-    pub(crate) fn close(self, callers: Vec<CallerShare<K>>, workers: Vec<WorkerShare<K>>) -> Totals
-        requires few { (self.posts < 2 ^ 60) × (self.edits < 2 ^ 60) × (self.steps < 2 ^ 60) }
+    /// The totals of all shares, which are here, and how many receipts have their items among so many that were emptied.
+    pub(crate) fn close(
+        self,
+        emptied: u64,
+        callers: Vec<CallerShare<K>>,
+        workers: Vec<WorkerShare<K>>,
+    ) -> (Totals, u64)
+        requires few { (self.posts < 2 ^ 63) × (self.edits < 2 ^ 63) × (self.steps < 2 ^ 63) }
         requires callers { vec_len callers ≡ self.callers }
         requires workers { vec_len workers ≡ self.workers }
-        ensures sums { AreSums result callers.items workers.items }
-        ensures posts { result.posts ≡ self.posts }
-        ensures edits { result.edits ≡ self.edits }
-        ensures steps { result.steps ≡ self.steps }
+        ensures sums { AreSums result.0 callers.items workers.items }
+        ensures posts { result.0.posts ≡ self.posts }
+        ensures edits { result.0.edits ≡ self.edits }
+        ensures steps { result.0.steps ≡ self.steps }
+        ensures gone { result.1 ≡ sum_by (gone_of emptied) callers.items }
     {
         let Books {
             mut posts,
@@ -287,21 +312,23 @@ impl<K: Naming> Books<K> {
             mut steps_left,
             ..
         } = self;
-        let (posts_sum, edits_sum) = gather_callers(
+        let (posts_sum, edits_sum, gone_sum) = gather_callers(
             &mut posts,
             &mut edits,
             &mut posts_left,
             &mut edits_left,
+            emptied,
             callers,
         );
         let steps_sum = gather_workers(&mut steps, &mut steps_left, workers);
         posts.audit(&mut posts_left);
         edits.audit(&mut edits_left);
         steps.audit(&mut steps_left);
-        Totals {
+        let totals = Totals {
             posts: posts_sum,
             edits: edits_sum,
             steps: steps_sum,
-        }
+        };
+        (totals, gone_sum)
     }
 }

@@ -9,7 +9,8 @@ ghost use Rattle.st_image.specs.Outcomes.{image_outcome};
 ghost use Rattle.st_image.specs.PostRules.{from_client};
 ghost use Rattle.st_image.specs.Stats.{installed_own, method_stats, stats_rules};
 ghost use Rattle.st_pool.specs.Books.{counted};
-ghost use Rattle.st_pool.specs.Done.{HasAtLeast, PostsOnce};
+ghost use Rattle.st_pool.specs.Checkpointed.{Checkpoints};
+ghost use Rattle.st_pool.specs.Done.{HasAtLeast, OfficeView, PostsOnce};
 ghost use Rattle.st_pool.specs.Going.{Interns};
 
 use crate::naming::Naming;
@@ -19,6 +20,7 @@ use crate::shares::CallerShare;
 use st_classes::refusals::Refusal;
 use st_classes::seq::Seq;
 use st_classes::values::{ActorId, ClassId, Selector, Values};
+use st_image::counts::Counts;
 use st_image::image::Image;
 use st_image::tallies::SiteStats;
 use st_mailbox::mailboxes::Mailbox;
@@ -240,6 +242,24 @@ impl<'a, K: Naming, M: Mailbox> Caller<'a, K, M> {
         let mut office = shared.enter(rt);
         office.audit(share);
         let answer = office.close(actor);
+        drop(office);
+        shared.moved.notify_one();
+        answer
+    }
+
+    /// The image begins anew with its present world: its history is emptied, and how turns ended and the statistics are forgotten. The
+    /// answer is how many posts and steps the image has counted, which a checkpoint leaves.
+    ///
+    /// It is refused by `HistoryFull` where more than 2^63 - 1 items would have been emptied since the image was shared, and by `NoMemory`
+    /// where memory ran out. A refused checkpoint changes nothing. Workers that waited for room in the history go on.
+    pub fn checkpoint<R: Wait>(&mut self, rt: &R, alloc: Global) -> Result<Counts, Refusal>
+        ensures same { self.new ≡ self.old }
+        ensures answers { (o : OfficeView) × (p : OfficeView) × HasAtLeast K.start self.old o.image × Checkpoints o result p }
+    {
+        let Caller { shared, share } = self;
+        let mut office = shared.enter(rt);
+        office.audit(share);
+        let answer = office.checkpoint(alloc);
         drop(office);
         shared.moved.notify_one();
         answer

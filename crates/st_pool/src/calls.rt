@@ -1,6 +1,7 @@
-//! The image's calls: what they answer, that the image before goes on in the one after, and what they add to the history.
+//! The image's calls: what they answer, that the image before goes on in the one after, and how much more it has counted.
 ghost use Rattle.std.specs.Prelude.{◌≡◌, ◌⊎◌, None, Some, Ok, Err, IfOk, IfErr, IfSome, is_ok, true};
 ghost use Rattle.st_image.specs.Calls.{Closes, Creates, Defines, InstallsIn, Posts, Removes, Reparents};
+ghost use Rattle.st_image.specs.Checkpoints.{MakesCheckpoint};
 ghost use Rattle.st_image.specs.Commits.{ChecksOut, Commits};
 ghost use Rattle.st_image.specs.Images.{world};
 ghost use Rattle.st_image.specs.PostRules.{from_client};
@@ -29,7 +30,10 @@ pub(crate) fn intern<M: Mailbox>(
     ensures later { GoesOnIn image.old image.new }
     ensures grows { Grows 0 0 0 image.old image.new }
 {
-    image.intern(alloc, text)
+    image.known();
+    let answer = image.intern(alloc, text);
+    image.known();
+    answer
 }
 
 /// Defines a class.
@@ -61,7 +65,10 @@ pub(crate) fn install<M: Mailbox>(
     ensures later { GoesOnIn image.old image.new }
     ensures grows { Grows 0 (counted (is_ok result)) 0 image.old image.new }
 {
-    image.install(alloc, class, source)
+    image.known();
+    let answer = image.install(alloc, class, source);
+    image.known();
+    answer
 }
 
 /// Removes a method.
@@ -144,6 +151,18 @@ pub(crate) fn close<M: Mailbox>(image: &mut Image<M>, actor: ActorId) -> Result<
     let answer = image.close(actor);
     image.known();
     answer
+}
+
+/// Makes a checkpoint, which is nothing to what was counted.
+pub(crate) fn checkpoint<M: Mailbox>(alloc: Global, image: &mut Image<M>) -> Result<(), Refusal>
+    ensures makes { MakesCheckpoint image.old result image.new }
+    ensures later { GoesOnIn image.old image.new }
+    ensures grows { Grows 0 0 0 image.old image.new }
+{
+    match image.checkpoint(alloc) {
+        Ok(()) => Ok(()),
+        Err(_) => Err(Refusal::NoMemory),
+    }
 }
 
 /// Hands out a claim, which fits the image.

@@ -2,11 +2,11 @@
 use std::marker::{Brand, PhantomData};
 use std::sync::ledger::Ledger;
 
-/// What names a pool in proofs: its three ledgers, the place in the history from which on they count, and the book of the images that
-/// were seen. A call of a generic function picks them, so `Brand` is what a program passes.
+/// What names a pool in proofs: its three ledgers, the amounts from which on they count, and the book of the images that were seen. A call of a generic function picks them, so `Brand` is what a program passes.
 pub trait Naming {
     ghost use Rattle.std.specs.Prelude.{ℕ};
     ghost use Rattle.logbook.specs.Pages.{Book};
+    ghost use Rattle.st_pool.specs.Counts.{Amounts};
 
     ghost posts: { ℕ };
 
@@ -14,7 +14,7 @@ pub trait Naming {
 
     ghost steps: { ℕ };
 
-    ghost start: { ℕ };
+    ghost start: { Amounts };
 
     ghost book: { Book };
 }
@@ -26,7 +26,7 @@ impl Naming for Brand {
 
     ghost steps = { 0 };
 
-    ghost start = { 0 };
+    ghost start = { record { posts = 0; edits = 0; steps = 0 } };
 
     ghost book = { record { number = 0; log_name = 0; cells_name = 0 } };
 }

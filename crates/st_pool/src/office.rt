@@ -14,6 +14,7 @@ use crate::shares::{CallerShare, WorkerShare};
 use st_classes::refusals::{Limited, Refusal};
 use st_classes::seq::Seq;
 use st_classes::values::{ActorId, ClassId, Selector, Values};
+use st_image::counts::{Counts, MOST_COUNTED};
 use st_image::image::Image;
 use st_image::leavings::Leavings;
 use st_mailbox::mailboxes::Mailbox;
@@ -45,19 +46,23 @@ pub struct Office<K: Naming, M: Mailbox> {
     /// How many workers sleep, or have been woken and not taken the lock since.
     sleepers: u32,
     is_stopped: bool,
+    /// How many items of histories checkpoints have emptied, at most 2^63 - 1.
+    pub(crate) emptied: u64,
 }
 
 impl<K: Naming, M: Mailbox> Model for Office<K, M> {
+    ghost use Rattle.std.specs.Prelude.{◌≤◌};
     ghost use Rattle.std.specs.Option.{IfSome};
+    ghost use Rattle.st_image.specs.Counts.{most_counted};
     ghost use Rattle.st_pool.specs.Books.{Kept};
     ghost use Rattle.st_pool.specs.Done.{OfficeView};
     ghost use Rattle.st_pool.specs.Seen.{MayFollow};
 
     ghost Value = { OfficeView };
 
-    ghost view = { λ o. record { image = o.image; books = o.books } };
+    ghost view = { λ o. record { image = o.image; books = o.books; emptied = o.emptied } };
 
-    ghost invariant = { λ o. Kept K.start o.image o.books × IfSome o.front (λ l. MayFollow l o.image) };
+    ghost invariant = { λ o. Kept K.start o.image o.books × IfSome o.front (λ l. MayFollow l o.image) × (o.emptied ≤ most_counted) };
 }
 
 /// Puts an image behind those that were seen, where they are known.
@@ -90,8 +95,8 @@ impl<K: Naming, M: Mailbox> Office<K, M> {
     ghost use Rattle.st_image.specs.WorldInvariant.{IsLawful};
     ghost use Rattle.st_pool.specs.Going.{Interns};
     ghost use Rattle.st_pool.specs.Books.{counted, no_books};
-    ghost use Rattle.st_image.specs.Counts.{posts_of, edits_of, ran_of};
-    ghost use Rattle.st_pool.specs.Counts.{since};
+    ghost use Rattle.st_pool.specs.Checkpointed.{Checkpoints};
+    ghost use Rattle.st_pool.specs.Counts.{amounts};
     ghost use Rattle.st_pool.specs.Done.{HasAtLeast, Settles, Takes, committed, nothing_done};
 
     /// The image with empty books.
@@ -100,8 +105,8 @@ impl<K: Naming, M: Mailbox> Office<K, M> {
         requires edits { blanks.edits.name ≡ K.edits }
         requires steps { blanks.steps.name ≡ K.steps }
         requires book { opened.seen.book ≡ K.book }
-        requires start { K.start ≡ length image.history }
-        ensures { result ≡ record { image = image; books = no_books } }
+        requires start { K.start ≡ amounts image }
+        ensures { result ≡ record { image = image; books = no_books; emptied = 0 } }
     {
         let books = Books::open(blanks);
         let (head, front) = opened.named::<K>();
@@ -113,6 +118,7 @@ impl<K: Naming, M: Mailbox> Office<K, M> {
             moves: 0,
             sleepers: 0,
             is_stopped: false,
+            emptied: 0,
         }
     }
 
@@ -168,17 +174,18 @@ impl<K: Naming, M: Mailbox> Office<K, M> {
         requires some { (0 < posted.old.parts) × (0 < edited.old.parts) }
         ensures posts { PostsMessage self.old.image actor (from_client sender seq selector args) result.0 self.new.image }
         ensures books { self.new.books ≡ record self.old.books { posts = self.old.books.posts + counted (is_ok result.0) } }
-        ensures place { result.1 ≡ length self.old.image.history }
+        ensures emptied { self.new.emptied ≡ self.old.emptied }
+        ensures place { result.1 ≡ self.old.emptied + length self.old.image.history }
         ensures amount { posted.new.amount ≡ posted.old.amount + counted (is_ok result.0) }
         ensures parts { posted.new.parts ≡ posted.old.parts }
         ensures same { (edited.new.amount ≡ edited.old.amount) × (edited.new.parts ≡ edited.old.parts) }
         ensures lawful { IsLawful self.old.image }
-        ensures has_posts { posted.old.amount ≤ since posts_of K.start self.old.image }
-        ensures has_edits { edited.old.amount ≤ since edits_of K.start self.old.image }
+        ensures has_posts { K.start.posts + posted.old.amount ≤ (amounts self.old.image).posts }
+        ensures has_edits { K.start.edits + edited.old.amount ≤ (amounts self.old.image).edits }
     {
         self.image.known();
         self.moves = self.moves.wrapping_add(1);
-        let place = self.image.history().len() as u64;
+        let place = self.emptied + self.image.history().len() as u64;
         let answer = calls::post(alloc, &mut self.image, sender, seq, actor, selector, args);
         self.books.post(posted, edited, &answer);
         (answer, place)
@@ -188,6 +195,7 @@ impl<K: Naming, M: Mailbox> Office<K, M> {
     pub(crate) fn intern(&mut self, alloc: Global, text: &[u8]) -> Result<Selector, Refusal>
         ensures interns { Interns self.old.image text.now result self.new.image }
         ensures books { self.new.books ≡ self.old.books }
+        ensures emptied { self.new.emptied ≡ self.old.emptied }
     {
         calls::intern(alloc, &mut self.image, text)
     }
@@ -203,11 +211,13 @@ impl<K: Naming, M: Mailbox> Office<K, M> {
     ) -> Result<u32, Refusal>
         ensures defines { Defines self.old.image name.now parent slots result self.new.image }
         ensures books { self.new.books ≡ record self.old.books { edits = self.old.books.edits + counted (is_ok result) } }
+        ensures emptied { self.new.emptied ≡ self.old.emptied }
         ensures share { mine.new ≡ record mine.old { edits = mine.old.edits + counted (is_ok result) } }
-        ensures within { mine.old.edits ≤ since edits_of K.start self.old.image }
+        ensures within { K.start.edits + mine.old.edits ≤ (amounts self.old.image).edits }
     {
         self.moves = self.moves.wrapping_add(1);
         self.image.known();
+        self.image.version().known();
         let answer = calls::define(alloc, &mut self.image, name, parent, slots);
         self.books.edit(mine, &answer);
         answer
@@ -223,11 +233,13 @@ impl<K: Naming, M: Mailbox> Office<K, M> {
     ) -> Result<u32, Refusal>
         ensures installs { InstallsIn self.old.image class source.now result self.new.image }
         ensures books { self.new.books ≡ record self.old.books { edits = self.old.books.edits + counted (is_ok result) } }
+        ensures emptied { self.new.emptied ≡ self.old.emptied }
         ensures share { mine.new ≡ record mine.old { edits = mine.old.edits + counted (is_ok result) } }
-        ensures within { mine.old.edits ≤ since edits_of K.start self.old.image }
+        ensures within { K.start.edits + mine.old.edits ≤ (amounts self.old.image).edits }
     {
         self.moves = self.moves.wrapping_add(1);
         self.image.known();
+        self.image.version().known();
         let answer = calls::install(alloc, &mut self.image, class, source);
         self.books.edit(mine, &answer);
         answer
@@ -243,11 +255,13 @@ impl<K: Naming, M: Mailbox> Office<K, M> {
     ) -> Result<u32, Refusal>
         ensures removes { Removes self.old.image class selector result self.new.image }
         ensures books { self.new.books ≡ record self.old.books { edits = self.old.books.edits + counted (is_ok result) } }
+        ensures emptied { self.new.emptied ≡ self.old.emptied }
         ensures share { mine.new ≡ record mine.old { edits = mine.old.edits + counted (is_ok result) } }
-        ensures within { mine.old.edits ≤ since edits_of K.start self.old.image }
+        ensures within { K.start.edits + mine.old.edits ≤ (amounts self.old.image).edits }
     {
         self.moves = self.moves.wrapping_add(1);
         self.image.known();
+        self.image.version().known();
         let answer = calls::remove(alloc, &mut self.image, class, selector);
         self.books.edit(mine, &answer);
         answer
@@ -263,11 +277,13 @@ impl<K: Naming, M: Mailbox> Office<K, M> {
     ) -> Result<u32, Refusal>
         ensures reparents { Reparents self.old.image class parent result self.new.image }
         ensures books { self.new.books ≡ record self.old.books { edits = self.old.books.edits + counted (is_ok result) } }
+        ensures emptied { self.new.emptied ≡ self.old.emptied }
         ensures share { mine.new ≡ record mine.old { edits = mine.old.edits + counted (is_ok result) } }
-        ensures within { mine.old.edits ≤ since edits_of K.start self.old.image }
+        ensures within { K.start.edits + mine.old.edits ≤ (amounts self.old.image).edits }
     {
         self.moves = self.moves.wrapping_add(1);
         self.image.known();
+        self.image.version().known();
         let answer = calls::reparent(alloc, &mut self.image, class, parent);
         self.books.edit(mine, &answer);
         answer
@@ -277,6 +293,7 @@ impl<K: Naming, M: Mailbox> Office<K, M> {
     pub(crate) fn create(&mut self, alloc: Global, class: ClassId) -> Result<ActorId, Refusal>
         ensures creates { Creates self.old.image class result self.new.image }
         ensures books { self.new.books ≡ self.old.books }
+        ensures emptied { self.new.emptied ≡ self.old.emptied }
     {
         self.moves = self.moves.wrapping_add(1);
         calls::create(alloc, &mut self.image, class)
@@ -286,9 +303,28 @@ impl<K: Naming, M: Mailbox> Office<K, M> {
     pub(crate) fn close(&mut self, actor: ActorId) -> Result<(), Refusal>
         ensures closes { Closes self.old.image actor result self.new.image }
         ensures books { self.new.books ≡ self.old.books }
+        ensures emptied { self.new.emptied ≡ self.old.emptied }
     {
         self.moves = self.moves.wrapping_add(1);
         calls::close(&mut self.image, actor)
+    }
+
+    /// The image begins anew with its present world, and the items of its history are emptied. The answer is what it has counted.
+    ///
+    /// It is refused by `HistoryFull` where more than 2^63 - 1 items would be emptied, and else where memory runs out. A refused
+    /// checkpoint changes nothing.
+    pub(crate) fn checkpoint(&mut self, alloc: Global) -> Result<Counts, Refusal>
+        ensures { Checkpoints self.old result self.new }
+    {
+        self.image.known();
+        let emptied = self.emptied + self.image.history().len() as u64;
+        if MOST_COUNTED < emptied {
+            return Err(Refusal::HistoryFull);
+        }
+        calls::checkpoint(alloc, &mut self.image)?;
+        self.emptied = emptied;
+        self.moves = self.moves.wrapping_add(1);
+        Ok(self.image.counted())
     }
 
     /// The image has at least what a caller has done.
@@ -313,6 +349,7 @@ impl<K: Naming, M: Mailbox> Office<K, M> {
     pub(crate) fn check_out(&mut self, alloc: Global, actor: ActorId) -> Result<Held<K>, Refusal>
         ensures takes { ChecksOut self.old.image actor result self.new.image }
         ensures books { self.new.books ≡ self.old.books }
+        ensures emptied { self.new.emptied ≡ self.old.emptied }
     {
         match calls::check_out(alloc, &mut self.image, actor) {
             Ok(claim) => {
@@ -331,7 +368,8 @@ impl<K: Naming, M: Mailbox> Office<K, M> {
         ensures takes { Takes self.old.image result self.new.image }
         ensures share { mine.new ≡ mine.old }
         ensures books { self.new.books ≡ self.old.books }
-        ensures within { mine.old ≤ since ran_of K.start self.old.image }
+        ensures emptied { self.new.emptied ≡ self.old.emptied }
+        ensures within { K.start.steps + mine.old ≤ (amounts self.old.image).steps }
     {
         self.books.audit_worker(mine);
         if self.is_stopped {
@@ -356,8 +394,9 @@ impl<K: Naming, M: Mailbox> Office<K, M> {
     ) -> Result<u32, Refusal>
         ensures settles { Settles self.old.image held result self.new.image }
         ensures books { self.new.books ≡ record self.old.books { steps = self.old.books.steps + committed result } }
+        ensures emptied { self.new.emptied ≡ self.old.emptied }
         ensures share { mine.new ≡ mine.old + committed result }
-        ensures within { mine.old ≤ since ran_of K.start self.old.image }
+        ensures within { K.start.steps + mine.old ≤ (amounts self.old.image).steps }
     {
         self.image.known();
         let is_known = precedes(&held.seen, &self.front);

@@ -2,7 +2,8 @@
 use st_classes::values::ActorId;
 use st_mailbox::messages::Message;
 
-/// A message that was accepted for an actor, and the place of its item in the image's history, from 0.
+/// A message that was accepted for an actor, and the place of its item, from 0, among the items that checkpoints have emptied since the
+/// image was shared and those of the image's history behind them.
 #[derive(Drop)]
 pub struct Receipt {
     pub place: u64,

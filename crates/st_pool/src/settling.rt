@@ -3,10 +3,11 @@ ghost use Rattle.std.specs.Prelude.{◌≡◌, ℕ, ◌+◌, ◌<◌, ◌≤◌,
 ghost use Rattle.std.specs.List.{sum_by};
 ghost use Rattle.st_classes.specs.declared.refusals.Refusal.TheVariants as refusals;
 ghost use Rattle.st_image.specs.declared.items.Item.TheVariants.{Posted as PostedItem};
+ghost use Rattle.st_image.specs.Counts.{posts_of, weigh};
 ghost use Rattle.st_image.specs.Images.{ImageView};
 ghost use Rattle.st_image.specs.WorldInvariant.{IsLawful};
-ghost use Rattle.st_pool.specs.Done.{Done};
-ghost use Rattle.st_pool.specs.Settled.{AreAll, AllStand, AreSums, AreCounts};
+ghost use Rattle.st_pool.specs.Done.{Done, StandsIn};
+ghost use Rattle.st_pool.specs.Settled.{AreAll, AllStand, AreCounts, AreFew, AreSums, HaveStood};
 
 use crate::naming::Naming;
 use crate::office::Office;
@@ -45,11 +46,11 @@ fn same_message(a: &Message, b: &Message) -> bool
         && same_values(a.args.as_slice(), b.args.as_slice())
 }
 
-/// Whether the message of a receipt stands in a history at its place.
-fn stands(history: &[Item], receipt: &Receipt) -> bool
-    ensures { IsTrue result ↔ (slice_get history.now receipt.now.place ≡ Some (PostedItem receipt.now.actor receipt.now.message)) }
+/// Whether the message of a receipt stands in a history at a place.
+fn stands_at(history: &[Item], place: u64, receipt: &Receipt) -> bool
+    ensures { IsTrue result ↔ (slice_get history.now place ≡ Some (PostedItem receipt.now.actor receipt.now.message)) }
 {
-    match history.get(receipt.place as usize) {
+    match history.get(place as usize) {
         Some(Item::Posted { actor, message }) => {
             *actor == receipt.actor && same_message(message, &receipt.message)
         }
@@ -57,36 +58,73 @@ fn stands(history: &[Item], receipt: &Receipt) -> bool
     }
 }
 
-/// Whether the messages of receipts stand in a history.
-fn all_stand(history: &[Item], receipts: &[Receipt]) -> bool
-    ensures { IsTrue result ↔ All (λ r. slice_get history.now r.place ≡ Some (PostedItem r.actor r.message)) receipts.now }
+/// Whether the message of a receipt stands in a history at its place behind so many items that were emptied, or its item is one of
+/// these.
+fn stands(emptied: u64, history: &[Item], receipt: &Receipt) -> bool
+    ensures { IsTrue result ↔ StandsIn emptied history.now receipt.now }
 {
-    receipts.iter().all(|receipt| stands(history, receipt))
+    receipt.place < emptied || stands_at(history, receipt.place - emptied, receipt)
+}
+
+/// An item's posts.
+fn posts_at(item: &Item) -> u64
+    ensures value { result ≡ posts_of item.now }
+    ensures few { result ≤ 1 }
+{
+    match item {
+        Item::Posted { .. } => 1,
+        _ => 0,
+    }
+}
+
+/// How many posts a history has.
+fn posts_in(history: &[Item]) -> u64
+    ensures { result ≡ weigh posts_of history.now }
+{
+    let mut posts: u64 = 0;
+    for item in history {
+        posts += posts_at(item);
+    }
+    posts
+}
+
+/// Whether the messages of receipts stand in a history.
+fn all_stand(emptied: u64, history: &[Item], receipts: &[Receipt]) -> bool
+    ensures { IsTrue result ↔ All (StandsIn emptied history.now) receipts.now }
+{
+    receipts
+        .iter()
+        .all(|receipt| stands(emptied, history, receipt))
 }
 
 /// Whether the messages of all receipts stand in a history.
-fn all_callers_stand<K: Naming>(history: &[Item], callers: &Vec<CallerShare<K>>) -> bool
-    ensures { IsTrue result ↔ All (λ (d : Done). All (λ r. slice_get history.now r.place ≡ Some (PostedItem r.actor r.message)) d.receipts) callers.now.items }
+fn all_callers_stand<K: Naming>(
+    emptied: u64,
+    history: &[Item],
+    callers: &Vec<CallerShare<K>>,
+) -> bool
+    ensures { IsTrue result ↔ All (λ (d : Done). All (StandsIn emptied history.now) d.receipts) callers.now.items }
 {
     callers
         .iter()
-        .all(|share| all_stand(history, share.receipts()))
+        .all(|share| all_stand(emptied, history, share.receipts()))
 }
 
 impl<K: Naming, M: Mailbox> Office<K, M> {
     ghost use Rattle.std.specs.Prelude.{◌≡◌, ◌⊎◌, OnOk, IfOk, IfErr};
     ghost use Rattle.st_classes.specs.declared.refusals.Refusal.TheVariants as refusals;
-    ghost use Rattle.st_pool.specs.Settled.{AreAll, AllStand, AreSums, AreCounts};
+    ghost use Rattle.st_pool.specs.Settled.{AreAll, AllStand, AreCounts, AreFew, AreSums};
 
     /// The image, and what all threads have done together. It is refused by `BadArguments` exactly where not all shares that were given out are here,
-    /// and then by `Changed` exactly where a receipt's message does not stand at its place.
+    /// and then by `Changed` exactly where a receipt's message does not stand at its place, or more receipts have their items among those that
+    /// checkpoints have emptied than posts were emptied.
     pub(crate) fn settle(self, shares: Shares<K>) -> Result<(Image<M>, Totals), Refusal>
         ensures image { IfOk result (λ r. r.0 ≡ self.image) }
         ensures sums { IfOk result (λ r. AreSums r.1 shares.callers.items shares.workers.items) }
         ensures counts { IfOk result (λ r. AreCounts K.start r.0 r.1) }
         ensures all { OnOk result (AreAll self.books shares.callers.items shares.workers.items) }
-        ensures stand { IfOk result (λ r. AllStand r.0 shares.callers.items) }
-        ensures refused { IfErr result (λ e. ((e ≡ refusals.BadArguments) × ¬ (AreAll self.books shares.callers.items shares.workers.items)) ⊎ ((e ≡ refusals.Changed) × AreAll self.books shares.callers.items shares.workers.items × ¬ (AllStand self.image shares.callers.items))) }
+        ensures stand { IfOk result (λ r. AllStand self.emptied r.0 shares.callers.items × AreFew self.emptied r.0 r.1.posts shares.callers.items) }
+        ensures refused { IfErr result (λ e. ((e ≡ refusals.BadArguments) × ¬ (AreAll self.books shares.callers.items shares.workers.items)) ⊎ ((e ≡ refusals.Changed) × AreAll self.books shares.callers.items shares.workers.items × ¬ (AllStand self.emptied self.image shares.callers.items × AreFew self.emptied self.image self.books.posts shares.callers.items))) }
     {
         let Shares { callers, workers } = shares;
         if callers.len() as u64 != self.books.callers()
@@ -94,18 +132,28 @@ impl<K: Naming, M: Mailbox> Office<K, M> {
         {
             return Err(Refusal::BadArguments);
         }
-        if !all_callers_stand(self.image.history(), &callers) {
+        if !all_callers_stand(self.emptied, self.image.history(), &callers) {
             return Err(Refusal::Changed);
         }
         self.image.known();
-        let Office { books, image, .. } = self;
-        Ok((image, books.close(callers, workers)))
+        self.image.version().known();
+        let Office {
+            books,
+            image,
+            emptied,
+            ..
+        } = self;
+        let (totals, gone) = books.close(emptied, callers, workers);
+        if totals.posts.saturating_sub(posts_in(image.history())) < gone {
+            return Err(Refusal::Changed);
+        }
+        Ok((image, totals))
     }
 }
 
 /// The image, and what all threads have done together, once they have handed back their shares: the sums of the shares, which are
-/// the counts of the image's history since the pool was made. The message of each receipt stands in that history, posted to its
-/// actor, at its place.
+/// what the image has counted since the pool was made. The message of each receipt stands in the history, posted to its actor, at its
+/// place, where no checkpoint has emptied its item; and no more receipts have theirs among the emptied than posts are.
 ///
 /// It is refused by `BadArguments` where not all shares that were given out are here, and then by `Changed` where a receipt's message
 /// does not stand. All is spent either way.
@@ -114,7 +162,7 @@ pub fn settle_image<K: Naming, M: Mailbox>(
     shares: Shares<K>,
 ) -> Result<(Image<M>, Totals), Refusal>
     ensures sums { IfOk result (λ r. AreSums r.1 shares.callers.items shares.workers.items) }
-    ensures history { IfOk result (λ r. AreCounts K.start r.0 r.1 × AllStand r.0 shares.callers.items) }
+    ensures history { IfOk result (λ r. AreCounts K.start r.0 r.1 × HaveStood r.0 r.1.posts shares.callers.items) }
     ensures refused { IfErr result (λ e. (e ≡ refusals.BadArguments) ⊎ (e ≡ refusals.Changed)) }
 {
     let Shared { office, .. } = shared;
@@ -127,7 +175,7 @@ pub fn settle<K: Naming, M: Mailbox>(
     shares: Shares<K>,
 ) -> Result<Totals, Refusal>
     ensures sums { IfOk result (λ t. AreSums t shares.callers.items shares.workers.items) }
-    ensures history { IfOk result (λ t. (i : ImageView) × IsLawful i × AreCounts K.start i t × AllStand i shares.callers.items) }
+    ensures history { IfOk result (λ t. (i : ImageView) × IsLawful i × AreCounts K.start i t × HaveStood i t.posts shares.callers.items) }
     ensures refused { IfErr result (λ e. (e ≡ refusals.BadArguments) ⊎ (e ≡ refusals.Changed)) }
 {
     let (image, totals) = settle_image(shared, shares)?;

@@ -1,7 +1,8 @@
 //! What threads share: an image behind one lock, its books, and a sign that something has moved.
-ghost use Rattle.std.specs.Prelude.{◌≡◌, length, IfErr, IfOk};
+ghost use Rattle.std.specs.Prelude.{◌≡◌, IfErr, IfOk};
 ghost use Rattle.st_classes.specs.declared.refusals.Refusal.TheVariants as refusals;
 ghost use Rattle.st_classes.specs.declared.refusals.Limited.TheVariants as limits;
+ghost use Rattle.st_pool.specs.Counts.{amounts};
 ghost use Rattle.st_pool.specs.Done.{nothing_done};
 
 use crate::books::Blanks;
@@ -30,14 +31,14 @@ pub struct Shared<K: Naming, M: Mailbox> {
 }
 
 impl<K: Naming, M: Mailbox> Shared<K, M> {
-    /// An image whose books are empty: they count from the end of its history on. The blanks and what was opened give the pool its
+    /// An image whose books are empty: they count from what the image has counted on. The blanks and what was opened give the pool its
     /// name `K`.
     pub fn new(image: Image<M>, blanks: Blanks, opened: Opened) -> Shared<K, M>
         requires posts { blanks.posts.name ≡ K.posts }
         requires edits { blanks.edits.name ≡ K.edits }
         requires steps { blanks.steps.name ≡ K.steps }
         requires book { opened.seen.book ≡ K.book }
-        requires start { K.start ≡ length image.history }
+        requires start { K.start ≡ amounts image }
     {
         Shared {
             office: Mutex::new(Office::new(image, blanks, opened)),

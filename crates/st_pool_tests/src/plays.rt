@@ -1,5 +1,6 @@
 //! Playing a scene: callers act, workers run, and all shares are settled.
-ghost use Rattle.std.specs.Prelude.{◌≡◌, length};
+ghost use Rattle.std.specs.Prelude.{◌≡◌};
+ghost use Rattle.st_pool.specs.Counts.{amounts};
 
 use crate::by_callers::{closing, not_understood, numbers};
 use crate::calls::{FIRST, close};
@@ -220,7 +221,7 @@ fn played<K: Naming + Send + Sync, R: Threads + Wait + Clock + Sync>(
     requires edits { blanks.edits.name ≡ K.edits }
     requires steps { blanks.steps.name ≡ K.steps }
     requires book { opened.seen.book ≡ K.book }
-    requires start { K.start ≡ length image.value.history }
+    requires start { K.start ≡ amounts image.value }
 {
     let stage = Stage {
         shared: Shared::<K>::new(Box::into_inner(image), blanks, opened),

@@ -124,6 +124,14 @@ pub(crate) fn post(
     post_to(alloc, image, client, seq, FIRST, selector)
 }
 
+/// The present world becomes the one that the image begins with.
+pub(crate) fn checkpoint(alloc: Global, image: &mut Image) -> Result<(), Refusal> {
+    match image.checkpoint(alloc) {
+        Ok(()) => Ok(()),
+        Err(_) => Err(Refusal::NoMemory),
+    }
+}
+
 /// Closes the mailbox of the first actor.
 pub(crate) fn close(image: &mut Image) -> Result<(), Refusal> {
     image.close(FIRST)

@@ -158,3 +158,37 @@ fn a_claim_that_used_nothing_survives_every_edit(rt: HostRuntime) -> Result<(), 
     }
     Ok(())
 }
+
+/// What the commits of two claims on one body answer, which are both out at a checkpoint.
+fn two_commits_behind_a_checkpoint(alloc: Global) -> Result<[Result<u32, Refusal>; 2], Refusal> {
+    let mut image = asked(alloc)?;
+    let first = claim_of(alloc, &mut image, 3)?;
+    let second = claim_of(alloc, &mut image, 3)?;
+    checkpoint(alloc, &mut image)?;
+    let answer = commit(alloc, &mut image, first);
+    Ok([answer, commit(alloc, &mut image, second)])
+}
+
+/// What the commits answer where a checkpoint comes between them, and where an edit comes behind one.
+fn commits_round_a_checkpoint(alloc: Global) -> Result<[Result<u32, Refusal>; 3], Refusal> {
+    let mut image = asked(alloc)?;
+    let first = claim_of(alloc, &mut image, 3)?;
+    let second = claim_of(alloc, &mut image, 3)?;
+    let answer = commit(alloc, &mut image, first);
+    checkpoint(alloc, &mut image)?;
+    let changed = commit(alloc, &mut image, second);
+    let mut image = asked(alloc)?;
+    let used = claim_of(alloc, &mut image, 3)?;
+    checkpoint(alloc, &mut image)?;
+    install(alloc, &mut image, SMALL_INTEGER, "tag ^2")?;
+    Ok([answer, changed, commit(alloc, &mut image, used)])
+}
+
+#[test]
+fn a_checkpoint_is_nothing_to_claims(rt: HostRuntime) -> Result<(), Fail> {
+    let answers = two_commits_behind_a_checkpoint(rt.alloc())?;
+    assert!(rt; answers == [Ok(3), Err(Refusal::Changed)]);
+    let answers = commits_round_a_checkpoint(rt.alloc())?;
+    assert!(rt; answers == [Ok(3), Err(Refusal::Changed), Err(Refusal::Stale { version: 4 })]);
+    Ok(())
+}

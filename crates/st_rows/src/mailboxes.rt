@@ -293,3 +293,25 @@ fn close_takes_an_item(rt: HostRuntime) -> Result<(), Fail> {
     }
     Ok(())
 }
+
+/// What a post answers before and behind a checkpoint, in an image whose history of two items is full.
+fn posts_round_a_checkpoint(alloc: Global) -> Result<[Result<u64, Refusal>; 3], Refusal> {
+    let settings = Settings {
+        capacity: 64,
+        history: 2,
+    };
+    let mut image = image_with(alloc, settings)?;
+    define(alloc, &mut image, b"A", OBJECT)?;
+    create_object(alloc, &mut image)?;
+    let full = post(alloc, &mut image, 1, 1, IS_NIL);
+    checkpoint(alloc, &mut image)?;
+    let first = post(alloc, &mut image, 1, 1, IS_NIL);
+    Ok([full, first, post(alloc, &mut image, 1, 1, IS_NIL)])
+}
+
+#[test]
+fn a_checkpoint_makes_room(rt: HostRuntime) -> Result<(), Fail> {
+    let answers = posts_round_a_checkpoint(rt.alloc())?;
+    assert!(rt; answers == [Err(Refusal::HistoryFull), Ok(1), Err(Refusal::Old { last: 1 })]);
+    Ok(())
+}

@@ -1,5 +1,6 @@
 //! Scripts and their replies.
 mod acts;
+mod checkpoints;
 mod dialogues;
 mod lookups;
 mod mailboxes;
@@ -105,6 +106,7 @@ fn first_wrong(alloc: Global, text: &str) -> Result<Option<&str>, Fail> {
 fn worked_scripts(rt: HostRuntime) -> Result<(), Fail> {
     for text in [
         acts::text(),
+        checkpoints::text(),
         dialogues::text(),
         lookups::text(),
         mailboxes::text(),

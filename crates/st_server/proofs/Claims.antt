@@ -12,49 +12,11 @@ use Rattle.st_image.specs.declared.items.Item.TheVariants.{Begun}
 use Rattle.st_image.specs.Images.{ImageView, appended, world}
 use Rattle.st_image.specs.WorldInvariant.{IsLawful}
 use Rattle.st_image.specs.Commits.{HasCheckedOut, RefusesCommit, idle_at, items_of, with_out}
+use Rattle.st_image.proofs.CallsGoOn.{checkout_goes, out_goes, refuse_goes}
 use Rattle.st_image.proofs.GrowingEdits.{GoesOn, edits_grow, goes_both, goes_from}
 use Rattle.st_server.specs.Runners.{GuardView, KeepsFirst, ReleasesBack, Settles}
 
 -- ---- what goes on
-
--- what an image keeps beside its world is no item
-out_goes : (i j : ImageView) → j ≡ with_out i j → GoesOn i j
-out_goes i j e = record {
-  base = ap (λ (k : ImageView). k.base) e;
-  items = [];
-  history = ap (λ (k : ImageView). k.history) e ∙ sym (append-nil i.history);
-}
-
--- an image with the history of another and perhaps a beginning
-begun_goes : (t : Bool) (i k : ImageView) (a : ActorId) → k ≡ with_out (let begun : ImageView = if t then appended i (Begun a ∷ []) else i in record begun { standing = record begun.standing { next_from = a.0 + 1 } }) k → GoesOn i k
-begun_goes true i k a e = record {
-  base = ap (λ (x : ImageView). x.base) e;
-  items = Begun a ∷ [];
-  history = ap (λ (x : ImageView). x.history) e;
-}
-begun_goes false i k a e = record {
-  base = ap (λ (x : ImageView). x.base) e;
-  items = [];
-  history = ap (λ (x : ImageView). x.history) e ∙ sym (append-nil i.history);
-}
-
-pub checkout_goes : (i k : ImageView) (a : ActorId) (c : ClaimView) → HasCheckedOut i a c k → GoesOn i k
-checkout_goes i k a c h = begun_goes (idle_at (slice_get (world i).actors a.0)) i k a h.image
-
-refuse_goes : (i : ImageView) (c : ClaimView) (e : Refusal) (back : Option ClaimView) (j : ImageView) → RefusesCommit i c e back j → GoesOn i j
-refuse_goes i c (Stale version) back j h = out_goes i j h.2.image
-refuse_goes i c Changed back j h = out_goes i j h.2.image
-refuse_goes i c HistoryFull back j h = record {
-  base = ap (λ (k : ImageView). k.base) h.2.image;
-  items = [];
-  history = ap (λ (k : ImageView). k.history) h.2.image ∙ sym (append-nil i.history);
-}
-refuse_goes i c NoMemory back j h = record {
-  base = ap (λ (k : ImageView). k.base) h.2.image;
-  items = [];
-  history = ap (λ (k : ImageView). k.history) h.2.image ∙ sym (append-nil i.history);
-}
-refuse_goes i c e back j h = absurd h
 
 back_goes : (i : ImageView) (back : Option ClaimView) (j : ImageView) → ReleasesBack i back j → GoesOn i j
 back_goes i None j h = goes_from i j h

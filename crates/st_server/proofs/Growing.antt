@@ -18,6 +18,8 @@ use Rattle.st_image.specs.PostRules.{from_client}
 use Rattle.st_image.specs.Images.{ImageView, world, accepted_by, close_rules, create_rules, image_define_rules, image_post_rules, image_remove_rules, image_reparent_rules}
 use Rattle.st_image.specs.WorldInvariant.{IsLawful}
 use Rattle.st_image.specs.Calls.{Closes, Creates, Defines, InstallsIn, Removes, Reparents}
+use Rattle.st_image.specs.Checkpoints.{MakesCheckpoint}
+use Rattle.st_image.proofs.Checkpointing.{anew_later}
 use Rattle.st_image.proofs.GrowingEdits.{GoesOn, edits_grow, goes_added, goes_both, goes_from, goes_named}
 use Rattle.st_wire.specs.declared.commands.Argument.{Argument}
 use Rattle.st_wire.specs.declared.commands.Argument.TheVariants as argument
@@ -81,6 +83,11 @@ creates_grows i j c result h = grows i j (goes_added (create_rules i c) i j (Cre
 closes_grows : (i j : ImageView) (a : ActorId) (result : Result (Unit {0}) Refusal) → Closes i a result j → Grows i j
 closes_grows i j a result h = grows i j (goes_added (close_rules i (slice_get (world i).actors a.0)) i j (Closed a) (λ k. tt) result h)
 
+-- a checkpoint leaves the edits
+checkpoints_grows : (i j : ImageView) (result : Result (Unit {0}) Refusal) → MakesCheckpoint i result j → Grows i j
+checkpoints_grows i j (Ok done) h = λ l m. (anew_later i j h).edits
+checkpoints_grows i j (Err e) h = grows i j (goes_from i j h.1)
+
 -- ---- a post, whose names are interned first
 
 resolve_goes : (i k : ImageView) (a : Argument) (r : Result Value Refusal) → Resolves i a r k → GoesOn i k
@@ -122,3 +129,4 @@ asks_grows i (command.Run quanta) r j h = grows i j (goes_from i j h.1)
 asks_grows i (command.Outcome actor turn) r j h = grows i j (goes_from i j h.1)
 asks_grows i (command.Close actor) r j h = closes_grows i j actor h.0 h.2
 asks_grows i (command.Stats class text) r j h = grows i j (goes_from i j h.1)
+asks_grows i command.Checkpoint r j h = checkpoints_grows i j h.0 h.2

@@ -8,3 +8,4 @@ pub mod Taken
 pub mod Arguments
 mod PoolArguments
 pub mod Scripting
+pub mod Amounts

@@ -9,7 +9,9 @@ use Rattle.st_classes.specs.Classes.{class_named}
 use Rattle.st_turn.specs.declared.body.Outcome.{Outcome}
 use Rattle.st_turn.specs.declared.body.Outcome.TheVariants as outcome
 use Rattle.st_image.specs.PostRules.{from_client}
-use Rattle.st_image.specs.Images.{ImageView, world}
+use Rattle.st_image.specs.declared.counts.Counts.{Counts}
+use Rattle.st_image.specs.Checkpoints.{MakesCheckpoint}
+use Rattle.st_image.specs.Images.{ImageView, counts_of, world}
 use Rattle.st_image.specs.Outcomes.{image_outcome}
 use Rattle.st_image.specs.Calls.{Closes, Creates, Defines, InstallsIn, Posts, Removes, Reparents}
 use Rattle.st_wire.specs.declared.commands.Argument.{Argument}
@@ -94,6 +96,12 @@ States i class text r = MatchOption (class_named (world i).edits class)
     (r ≡ reply.Refused UnknownClass)
     (λ c. (result : Result (List SiteReport) Refusal) × (r ≡ reply_by reply.Sites result) × StatesNamed i text c result)
 
+-- ---- a checkpoint
+
+-- what an image has counted, as a reply
+abbrev pub counted_reply : Counts → Reply
+counted_reply c = reply.Counted c.posts c.steps
+
 -- ---- a command that is asked of the image alone
 
 -- by the command; a run asks a worker too, and is none
@@ -108,6 +116,7 @@ Asks i (command.Run quanta) r j = (r ≡ reply.Refused BadCommand) × (j ≡ i)
 Asks i (command.Outcome actor turn) r j = Tells i (image_outcome i actor turn) r × (j ≡ i)
 Asks i (command.Close actor) r j = RepliesTo (λ done. reply.Closed) (Closes i actor) r j
 Asks i (command.Stats class text) r j = States i class text r × (j ≡ i)
+Asks i command.Checkpoint r j = RepliesTo (λ done. counted_reply (counts_of j)) (MakesCheckpoint i) r j
 
 -- ---- a run: so long as quanta are left and an actor is ready, the next ready one takes a quantum of so many steps
 

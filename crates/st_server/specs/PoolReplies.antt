@@ -13,7 +13,10 @@ use Rattle.st_image.specs.Calls.{Closes, Creates, Defines, InstallsIn, Removes, 
 use Rattle.st_image.specs.Images.{ImageView, world}
 use Rattle.st_image.specs.Outcomes.{image_outcome}
 use Rattle.st_image.specs.PostRules.{from_client}
-use Rattle.st_pool.specs.Done.{Done, HasAtLeast, PostsOnce}
+use Rattle.st_image.specs.declared.counts.Counts.{Counts}
+use Rattle.st_pool.specs.Checkpointed.{Checkpoints}
+use Rattle.st_pool.specs.Counts.{Amounts}
+use Rattle.st_pool.specs.Done.{Done, HasAtLeast, OfficeView, PostsOnce}
 use Rattle.st_pool.specs.Going.{Interns}
 use Rattle.st_wire.specs.declared.commands.Argument.{Argument}
 use Rattle.st_wire.specs.declared.commands.Argument.TheVariants as argument
@@ -22,14 +25,14 @@ use Rattle.st_wire.specs.declared.commands.Command.TheVariants as command
 use Rattle.st_wire.specs.declared.replies.Reply.{Reply}
 use Rattle.st_wire.specs.declared.replies.Reply.TheVariants as reply
 use Rattle.st_server.specs.ArgumentValues.{class_value, found_selector, with_first}
-use Rattle.st_server.specs.CommandReplies.{States, Tells, reply_by}
+use Rattle.st_server.specs.CommandReplies.{States, Tells, counted_reply, reply_by}
 
 -- a hold finds such an image: it is lawful, and has at least what the session has done
-abbrev pub Finds : ℕ → Done → (ImageView → Type 0) → Type 0
+abbrev pub Finds : Amounts → Done → (ImageView → Type 0) → Type 0
 Finds start d P = (i : ImageView) × HasAtLeast start d i × P i
 
 -- a call in one hold
-abbrev pub CallsOnce : {T : Type 0} → ℕ → Done → (ImageView → Result T Refusal → ImageView → Type 0) → Result T Refusal → Type 0
+abbrev pub CallsOnce : {T : Type 0} → Amounts → Done → (ImageView → Result T Refusal → ImageView → Type 0) → Result T Refusal → Type 0
 CallsOnce start d Calls result = Finds start d (λ i. (j : ImageView) × Calls i result j)
 
 -- a step whose value the next one goes on with; a refusal is the answer
@@ -39,11 +42,11 @@ GoesOn {T} {U} First Next result = (first : Result T Refusal) × First first × 
     (λ e. result ≡ Err e)
 
 -- the class that a text names in one hold
-abbrev pub ClassNamed : ℕ → Done → List ℕ → Option ClassId → Type 0
+abbrev pub ClassNamed : Amounts → Done → List ℕ → Option ClassId → Type 0
 ClassNamed start d text named = Finds start d (λ i. named ≡ class_named (world i).edits text)
 
 -- the reply to a call on the class that a text names
-abbrev pub RepliesOn : {T : Type 0} → ℕ → Done → List ℕ → (T → Reply) → (ClassId → Result T Refusal → Type 0) → Reply → Type 0
+abbrev pub RepliesOn : {T : Type 0} → Amounts → Done → List ℕ → (T → Reply) → (ClassId → Result T Refusal → Type 0) → Reply → Type 0
 RepliesOn {T} start d text told Calls r = (named : Option ClassId) × ClassNamed start d text named × MatchOption named
     (r ≡ reply.Refused UnknownClass)
     (λ c. (result : Result T Refusal) × Calls c result × (r ≡ reply_by told result))
@@ -54,13 +57,13 @@ after_edit d (reply.Version n) = record d { edits = d.edits + 1 }
 after_edit d r = d
 
 -- the class's own method for the selector that a text names is removed
-abbrev pub RemovesText : ℕ → Done → List ℕ → ClassId → Result ℕ Refusal → Type 0
+abbrev pub RemovesText : Amounts → Done → List ℕ → ClassId → Result ℕ Refusal → Type 0
 RemovesText start d text c = GoesOn
     (λ found. Finds start d (λ i. found ≡ found_selector i.names text))
     (λ s. CallsOnce start d (λ i. Removes i c s))
 
 -- a class gets the superclass that a text names, which is looked up once the class is
-abbrev pub ReparentsText : ℕ → Done → List ℕ → ClassId → Result ℕ Refusal → Type 0
+abbrev pub ReparentsText : Amounts → Done → List ℕ → ClassId → Result ℕ Refusal → Type 0
 ReparentsText start d text c result = (named : Option ClassId) × ClassNamed start d text named × MatchOption named
     (result ≡ Err UnknownClass)
     (λ parent. CallsOnce start d (λ i. Reparents i c parent) result)
@@ -73,7 +76,7 @@ symbol_value (Ok s) = Ok (value.Sym s)
 symbol_value (Err e) = Err e
 
 -- an argument has a value, or a refusal
-abbrev pub HasValue : ℕ → Done → Argument → Result Value Refusal → Type 0
+abbrev pub HasValue : Amounts → Done → Argument → Result Value Refusal → Type 0
 HasValue start d (argument.Int z) r = r ≡ Ok (value.Int z)
 HasValue start d (argument.Bool b) r = r ≡ Ok (value.Bool b)
 HasValue start d argument.Nil r = r ≡ Ok value.Nil
@@ -82,21 +85,21 @@ HasValue start d (argument.Class text) r = (named : Option ClassId) × ClassName
 HasValue start d (argument.Actor a) r = r ≡ Ok (value.Actor a)
 
 -- the values of arguments, from the left up to the first that is refused
-abbrev pub HaveValues : ℕ → Done → List Argument → Result (List Value) Refusal → Type 0
+abbrev pub HaveValues : Amounts → Done → List Argument → Result (List Value) Refusal → Type 0
 HaveValues start d [] r = r ≡ Ok []
 HaveValues start d (a ∷ args) r = (first : Result Value Refusal) × HasValue start d a first × MatchResult first
     (λ v. (rest : Result (List Value) Refusal) × HaveValues start d args rest × (r ≡ with_first v rest))
     (λ e. r ≡ Err e)
 
 -- memory may run out before the first argument
-abbrev pub PostsWith : ℕ → Done → ActorId → List Argument → Selector → ℕ → ℕ → Result ℕ Refusal → Done → Type 0
+abbrev pub PostsWith : Amounts → Done → ActorId → List Argument → Selector → ℕ → ℕ → Result ℕ Refusal → Done → Type 0
 PostsWith start d a args s sender seq result e = ((result ≡ Err NoMemory) × (e ≡ d))
     ⊎ ((values : Result (List Value) Refusal) × HaveValues start d args values × MatchResult values
     (λ vs. PostsOnce start d a (from_client sender seq s vs) result e)
     (λ f. (result ≡ Err f) × (e ≡ d)))
 
 -- the selector is interned first
-abbrev pub PostsText : ℕ → Done → ActorId → List Argument → List ℕ → ℕ → ℕ → Result ℕ Refusal → Done → Type 0
+abbrev pub PostsText : Amounts → Done → ActorId → List Argument → List ℕ → ℕ → ℕ → Result ℕ Refusal → Done → Type 0
 PostsText start d a args text sender seq result e = (s : Result Selector Refusal) × CallsOnce start d (λ i. Interns i text) s × MatchResult s
     (λ found. PostsWith start d a args found sender seq result e)
     (λ f. (result ≡ Err f) × (e ≡ d))
@@ -104,7 +107,7 @@ PostsText start d a args text sender seq result e = (s : Result Selector Refusal
 -- ---- any command
 
 -- by the command; a run is none here, since workers run the turns
-abbrev pub Attends : ℕ → Done → Command → Reply → Done → Type 0
+abbrev pub Attends : Amounts → Done → Command → Reply → Done → Type 0
 Attends start d (command.Define name parent slots) r e =
     RepliesOn start d parent reply.Version (λ c. CallsOnce start d (λ i. Defines i name c slots)) r × (e ≡ after_edit d r)
 Attends start d (command.Method class source) r e =
@@ -121,3 +124,10 @@ Attends start d (command.Close a) r e = (result : Result Unit Refusal) × CallsO
     × (r ≡ reply_by (λ done. reply.Closed) result)
     × (e ≡ d)
 Attends start d (command.Stats class text) r e = Finds start d (λ i. States i class text r) × (e ≡ d)
+Attends start d command.Checkpoint r e = (result : Result Counts Refusal)
+    × (o : OfficeView)
+    × (p : OfficeView)
+    × HasAtLeast start d o.image
+    × Checkpoints o result p
+    × (r ≡ reply_by counted_reply result)
+    × (e ≡ d)

@@ -1,10 +1,12 @@
 //! Commands that are asked of an image alone.
 ghost use Rattle.std.specs.Prelude.{◌≡◌};
 ghost use Rattle.st_image.specs.Calls.{Closes, Creates, Defines, InstallsIn, Posts};
+ghost use Rattle.st_image.specs.Checkpoints.{MakesCheckpoint};
+ghost use Rattle.st_image.specs.Images.{counts_of};
 ghost use Rattle.st_image.specs.PostRules.{from_client};
 ghost use Rattle.st_image.specs.Outcomes.{image_outcome};
 ghost use Rattle.st_wire.specs.declared.replies.Reply.TheVariants as replies;
-ghost use Rattle.st_server.specs.CommandReplies.{RepliesTo, RepliesFor, RemovesNamed, ReparentsNamed, PostsArguments, PostsNamed, Tells, Asks};
+ghost use Rattle.st_server.specs.CommandReplies.{RepliesTo, RepliesFor, RemovesNamed, ReparentsNamed, PostsArguments, PostsNamed, Tells, Asks, counted_reply};
 
 use crate::images::Image;
 use crate::resolving::{argument_values, find_selector, shown};
@@ -12,6 +14,7 @@ use crate::stating::stats;
 use st_classes::refusals::Refusal;
 use st_classes::seq::Seq;
 use st_classes::values::{ActorId, ClassId, Selector, Values};
+use st_image::counts::Counts;
 use st_turn::body::Outcome;
 use st_wire::commands::{Argument, Command};
 use st_wire::replies::Reply;
@@ -121,6 +124,19 @@ fn close(image: &mut Image, actor: ActorId) -> Reply
     }
 }
 
+/// Makes a checkpoint.
+fn checkpoint(alloc: Global, image: &mut Image) -> Reply
+    ensures { RepliesTo (λ done. counted_reply (counts_of image.new)) (MakesCheckpoint image.old) result image.new }
+{
+    match image.checkpoint(alloc) {
+        Ok(()) => {
+            let Counts { posts, steps } = image.counted();
+            Reply::Counted { posts, steps }
+        }
+        Err(_) => Reply::Refused(Refusal::NoMemory),
+    }
+}
+
 fn post_values(
     alloc: Global,
     image: &mut Image,
@@ -225,6 +241,7 @@ pub(crate) fn ask(alloc: Global, image: &mut Image, command: Command) -> Reply
         Command::Stats { class, selector } => {
             stats(alloc, image, class.as_slice(), selector.as_slice())
         }
+        Command::Checkpoint => checkpoint(alloc, image),
         Command::Run { .. } => Reply::Refused(Refusal::BadCommand),
     }
 }

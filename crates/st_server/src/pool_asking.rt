@@ -1,13 +1,17 @@
 //! Commands that are asked of a pool, by one of its callers.
 //!
 //! A command may take the lock more than once, as where it names a class or interns a text; others may be answered between.
-ghost use Rattle.std.specs.Prelude.{◌≡◌, ◌⊎◌, Err};
+ghost use Rattle.std.specs.Prelude.{◌≡◌, ◌⊎◌, Err, Result};
+ghost use Rattle.st_classes.specs.declared.refusals.Refusal.{Refusal as RefusalOf};
 ghost use Rattle.st_classes.specs.declared.refusals.Refusal.TheVariants.{NoMemory};
+ghost use Rattle.st_image.specs.declared.counts.Counts.{Counts as CountsOf};
 ghost use Rattle.st_image.specs.Calls.{Closes, Creates, Defines, InstallsIn};
 ghost use Rattle.st_image.specs.Outcomes.{image_outcome};
+ghost use Rattle.st_pool.specs.Checkpointed.{Checkpoints};
+ghost use Rattle.st_pool.specs.Done.{HasAtLeast, OfficeView};
 ghost use Rattle.st_wire.specs.declared.replies.Reply.TheVariants as replies;
 ghost use Rattle.st_server.specs.ArgumentValues.{found_selector};
-ghost use Rattle.st_server.specs.CommandReplies.{States, Tells, reply_by};
+ghost use Rattle.st_server.specs.CommandReplies.{States, Tells, reply_by, counted_reply};
 ghost use Rattle.st_server.specs.PoolReplies.{Attends, CallsOnce, ClassNamed, Finds, HasValue, HaveValues, PostsText, PostsWith, RemovesText, ReparentsText, RepliesOn, after_edit};
 
 use crate::images::Mailbox;
@@ -16,6 +20,7 @@ use crate::{asking, stating};
 use st_classes::refusals::Refusal;
 use st_classes::seq::Seq;
 use st_classes::values::{ActorId, ClassId, Selector, Value, Values};
+use st_image::counts::Counts;
 use st_pool::callers::Caller;
 use st_pool::naming::Naming;
 use st_wire::commands::{Argument, Command};
@@ -312,6 +317,22 @@ fn stats<K: Naming, R: Wait>(
     caller.look(rt, |image| stating::stats(alloc, image, class, selector))
 }
 
+/// Makes a checkpoint.
+fn checkpoint<K: Naming, R: Wait>(
+    rt: &R,
+    alloc: Global,
+    caller: &mut Caller<'_, K, Mailbox>,
+) -> Reply
+    ensures replies { (answer : Result CountsOf RefusalOf) × (o : OfficeView) × (p : OfficeView) × HasAtLeast K.start caller.old o.image × Checkpoints o answer p
+        × (result ≡ reply_by counted_reply answer) }
+    ensures same { caller.new ≡ caller.old }
+{
+    match caller.checkpoint(rt, alloc) {
+        Ok(Counts { posts, steps }) => Reply::Counted { posts, steps },
+        Err(refusal) => Reply::Refused(refusal),
+    }
+}
+
 /// The reply to a command. Workers run the turns, so a run is BadCommand.
 pub(crate) fn ask<K: Naming, R: Wait>(
     rt: &R,
@@ -358,6 +379,7 @@ pub(crate) fn ask<K: Naming, R: Wait>(
         Command::Stats { class, selector } => {
             stats(rt, alloc, caller, class.as_slice(), selector.as_slice())
         }
+        Command::Checkpoint => checkpoint(rt, alloc, caller),
         Command::Run { .. } => Reply::Refused(Refusal::BadCommand),
     }
 }

@@ -5,6 +5,7 @@ ghost use Rattle.std.specs.declared.io.ErrorKind.TheVariants.{ConnectionAborted,
 ghost use Rattle.st_classes.specs.declared.refusals.Refusal.TheVariants as refusals;
 ghost use Rattle.st_image.specs.Images.{ImageView};
 ghost use Rattle.st_image.specs.WorldInvariant.{IsLawful};
+ghost use Rattle.st_pool.specs.Counts.{amounts, no_amounts};
 ghost use Rattle.st_pool.specs.Settled.{AreCounts};
 ghost use Rattle.st_server.specs.Serving.{AreInRange, AreSumsOver};
 
@@ -311,8 +312,8 @@ fn serve<K: Naming + Send + Sync, R: Threads + Wait + Sync>(
     requires edits { blanks.edits.name ≡ K.edits }
     requires steps { blanks.steps.name ≡ K.steps }
     requires book { opened.seen.book ≡ K.book }
-    requires start { K.start ≡ length image.history }
-    ensures counts { IfOk result (λ r. AreCounts (length image.history) r.image r.totals) }
+    requires start { K.start ≡ amounts image }
+    ensures counts { IfOk result (λ r. AreCounts (amounts image) r.image r.totals) }
     ensures sums { IfOk result (λ r. AreSumsOver (vec_len workers) r.totals) }
     ensures fault { IfOk result (λ r. IfSome r.fault (λ e. e ≡ refusals.ReadFault)) }
     ensures refused { IfErr result (λ e. (e ≡ refusals.BadArguments) ⊎ (e ≡ refusals.NoMemory) ⊎ (e ≡ refusals.Changed)) }
@@ -352,7 +353,7 @@ fn is_served(workers: u32, sessions: Option<u32>) -> bool
 /// A client beyond 64 is told so and is let go.
 ///
 /// After so many sessions, from 1 to 1,000,000, it waits for their ends, stops the workers, and answers the image and what all have
-/// done together: what its history has beyond that of the image that was handed in. The refusal of each session that ended by one
+/// done together: what it has counted beyond what the image that was handed in had. The refusal of each session that ended by one
 /// goes to `faults`, where there is memory. Without a number it goes on.
 ///
 /// Where accepting fails it accepts nobody any more, and ends in the same way once the sessions that are open have ended; the fault
@@ -370,7 +371,7 @@ pub fn serve_image<R: Threads + Wait + Sync>(
     image: Image,
 ) -> Result<Served, Refusal>
     ensures range { ¬ (AreInRange workers sessions) → result ≡ Err refusals.BadArguments }
-    ensures counts { IfOk result (λ r. AreCounts (length image.history) r.image r.totals) }
+    ensures counts { IfOk result (λ r. AreCounts (amounts image) r.image r.totals) }
     ensures sums { IfOk result (λ r. AreSumsOver workers r.totals) }
     ensures fault { IfOk result (λ r. IfSome r.fault (λ e. e ≡ refusals.ReadFault)) }
     ensures refused { IfErr result (λ e. (e ≡ refusals.BadArguments) ⊎ (e ≡ refusals.NoMemory) ⊎ (e ≡ refusals.Changed)) }
@@ -409,7 +410,7 @@ pub fn serve_on<R: Threads + Wait + Sync>(
     sessions: Option<u32>,
 ) -> Result<Totals, Refusal>
     ensures range { ¬ (AreInRange workers sessions) → (result ≡ Err refusals.BadArguments) ⊎ (result ≡ Err refusals.NoMemory) }
-    ensures counts { IfOk result (λ t. (i : ImageView) × IsLawful i × AreCounts 0 i t) }
+    ensures counts { IfOk result (λ t. (i : ImageView) × IsLawful i × AreCounts no_amounts i t) }
     ensures refused { IfErr result (λ e. (e ≡ refusals.BadArguments) ⊎ (e ≡ refusals.NoMemory) ⊎ (e ≡ refusals.ReadFault) ⊎ (e ≡ refusals.Changed)) }
 {
     let image = Image::new(alloc, Settings::DEFAULT)?;

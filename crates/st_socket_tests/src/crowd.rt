@@ -1,5 +1,6 @@
-//! Four sessions, each on a thread, post to one actor. The output of one of them fails.
-ghost use Rattle.std.specs.Prelude.{◌≡◌, length};
+//! Four sessions, each on a thread, post to one actor. The output of one of them fails. A fifth may make checkpoints meanwhile.
+ghost use Rattle.std.specs.Prelude.{◌≡◌};
+ghost use Rattle.st_pool.specs.Counts.{amounts};
 
 use st_classes::refusals::Refusal;
 use st_image::settings::Settings;
@@ -58,6 +59,26 @@ fn writes_of(sender: u16) -> u32 {
     if sender == 4 { 50 } else { 1000 }
 }
 
+/// How many checkpoints the last session makes.
+const CHECKPOINTS: u32 = 10;
+
+/// The lines of a session: the posts of a sender, or the checkpoints of the fifth.
+fn lines_of(alloc: Global, sender: u16) -> Result<String, AllocError> {
+    if sender == 5 {
+        checkpoints(alloc)
+    } else {
+        posts(alloc, sender)
+    }
+}
+
+fn checkpoints(alloc: Global) -> Result<String, AllocError> {
+    let mut lines = String::new(alloc);
+    for _ in 0..CHECKPOINTS {
+        lines.push_str("{\"cmd\":\"checkpoint\"}\n")?;
+    }
+    Ok(lines)
+}
+
 /// The lines that post the messages of a sender.
 fn posts(alloc: Global, sender: u16) -> Result<String, AllocError> {
     let mut lines = String::new(alloc);
@@ -105,19 +126,20 @@ fn hold<K: Naming, R: Wait>(
 
 /// The session of a sender.
 fn post_all<K: Naming, R: Wait>(rt: &R, alloc: Global, stage: &Stage<K>, sender: u16) {
-    if let Ok(lines) = posts(alloc, sender) {
+    if let Ok(lines) = lines_of(alloc, sender) {
         let _ = hold(rt, alloc, stage, lines.as_str(), writes_of(sender));
     }
 }
 
-/// Lets four sessions post, and waits for them.
+/// Lets the sessions of so many senders run, and waits for them.
 fn post_together<K: Naming + Send + Sync, R: Threads + Wait + Sync>(
     rt: &R,
     alloc: Global,
     stage: &Stage<K>,
+    senders: u16,
 ) {
     thread::scope(thread::scope_env(), rt, |scope| {
-        for sender in 1..5 {
+        for sender in 1..=senders {
             let _ = scope.spawn(move || post_all(rt, alloc, stage, sender));
         }
     });
@@ -139,12 +161,13 @@ fn played<K: Naming + Send + Sync, R: Threads + Wait + Sync>(
     image: Box<Image>,
     blanks: Blanks,
     opened: Opened,
+    senders: u16,
 ) -> Option<(Totals, u64, u32)>
     requires posts { blanks.posts.name ≡ K.posts }
     requires edits { blanks.edits.name ≡ K.edits }
     requires steps { blanks.steps.name ≡ K.steps }
     requires book { opened.seen.book ≡ K.book }
-    requires start { K.start ≡ length image.value.history }
+    requires start { K.start ≡ amounts image.value }
 {
     let stage = Stage {
         shared: Shared::<K, Mailbox>::new(Box::into_inner(image), blanks, opened),
@@ -152,7 +175,7 @@ fn played<K: Naming + Send + Sync, R: Threads + Wait + Sync>(
         faults: Mutex::new(0),
     };
     hold(rt, alloc, &stage, BEGINNING, 3).ok()?;
-    post_together(rt, alloc, &stage);
+    post_together(rt, alloc, &stage, senders);
     let Stage {
         shared,
         shares,
@@ -169,9 +192,13 @@ fn new_image(alloc: Global) -> Option<Box<Image>> {
     Box::new(alloc, Image::new(alloc, SETTINGS).ok()?).ok()
 }
 
-fn together<R: Threads + Wait + Sync>(rt: &R, alloc: Global) -> Option<(Totals, u64, u32)> {
+fn together<R: Threads + Wait + Sync>(
+    rt: &R,
+    alloc: Global,
+    senders: u16,
+) -> Option<(Totals, u64, u32)> {
     let image = new_image(alloc)?;
-    played::<Brand, R>(rt, alloc, image, Blanks::new(), Opened::new())
+    played::<Brand, R>(rt, alloc, image, Blanks::new(), Opened::new(), senders)
 }
 
 /// Whether the posts are those that the shares tell of, and one session failed.
@@ -183,7 +210,15 @@ fn is_told(totals: Totals, told: u64, faults: u32) -> bool {
 /// The posts are those that the shares tell of, also where a session ended in their midst.
 #[test]
 fn a_session_fails_among_others(rt: HostRuntime) -> Result<(), Fail> {
-    let ended = together(&rt, rt.alloc());
+    let ended = together(&rt, rt.alloc(), 4);
+    assert!(rt; ended.is_some_and(|(totals, told, faults)| is_told(totals, told, faults)));
+    Ok(())
+}
+
+/// So it is where checkpoints are made meanwhile.
+#[test]
+fn checkpoints_are_made_among_sessions(rt: HostRuntime) -> Result<(), Fail> {
+    let ended = together(&rt, rt.alloc(), 5);
     assert!(rt; ended.is_some_and(|(totals, told, faults)| is_told(totals, told, faults)));
     Ok(())
 }

@@ -3,5 +3,6 @@ pub mod Interning
 pub mod ClaimsSeen
 pub mod WorkersActing
 pub mod EventRuns
+pub mod Segmenting
 pub mod Uncommitting
 pub mod OtherSeats

@@ -3,6 +3,7 @@ pub mod Seats
 pub mod ClaimEvents
 pub mod ImageEvents
 pub mod Acts
+pub mod Segments
 pub mod Uncommitted
 pub mod Forgetting
 pub mod Others

@@ -2,6 +2,7 @@
 ghost use Rattle.std.specs.Prelude.{◌≡◌, ◌⊎◌, None, Some, Ok, Err, IfOk, IfErr};
 ghost use Rattle.st_classes.specs.declared.refusals.Refusal.TheVariants.{NoMemory};
 ghost use Rattle.st_image.specs.Calls.{Closes, Creates, Defines, InstallsIn, Posts, Removes, Reparents};
+ghost use Rattle.st_image.specs.Checkpoints.{MakesCheckpoint};
 ghost use Rattle.st_image.specs.Commits.{ChecksOut, Commits, IsReleased};
 ghost use Rattle.st_image.specs.PostRules.{from_client};
 ghost use Rattle.st_system.specs.ImageEvents.{Interns};
@@ -136,6 +137,17 @@ pub(crate) fn close<M: Mailbox>(image: &mut Image<M>, actor: ActorId) -> Result<
     let answer = image.close(actor);
     image.known();
     answer
+}
+
+/// Makes a checkpoint.
+pub(crate) fn checkpoint<M: Mailbox>(alloc: Global, image: &mut Image<M>) -> Result<(), Refusal>
+    ensures makes { MakesCheckpoint image.old result image.new }
+    ensures later { GoesOnIn image.old image.new }
+{
+    match image.checkpoint(alloc) {
+        Ok(()) => Ok(()),
+        Err(_) => Err(Refusal::NoMemory),
+    }
 }
 
 /// Hands out a claim, which fits the image.

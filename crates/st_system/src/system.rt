@@ -11,6 +11,7 @@ ghost use Rattle.st_system.specs.Forgetting.{HasForgotten};
 ghost use Rattle.st_system.specs.Others.{LeavesOthers};
 ghost use Rattle.st_system.specs.Schedules.{schedule};
 ghost use Rattle.st_system.specs.Seats.{AreValidWhereKept, TakesSeat};
+ghost use Rattle.st_system.specs.Segments.{HasSegments, IsSegment};
 ghost use Rattle.st_system.specs.WorkerEvents.{TellsWork};
 
 mod image_events;
@@ -148,6 +149,7 @@ impl<M: Mailbox, G: Guard> System<M, G> {
                 args,
             } => self.post(alloc, *sender, *seq, *actor, *selector, args),
             Event::Close(actor) => self.close(*actor),
+            Event::Checkpoint => self.checkpoint(alloc),
             Event::Checkout { worker, actor } => self.check_out(alloc, *worker, *actor),
             Event::Local(worker) => self.step(alloc, *worker),
             Event::Commit(worker) => self.commit(alloc, *worker),
@@ -156,16 +158,32 @@ impl<M: Mailbox, G: Guard> System<M, G> {
         }
     }
 
+    /// What is true of the image of every system, as the end of a segment.
+    fn segment_known(&self)
+        ensures { IsSegment self.now.image }
+    {
+        self.image.known();
+        self.image.delivered();
+        self.image.sends_ran();
+    }
+
     /// Lets events happen in their order. After a refused one it goes on.
+    ///
+    /// A checkpoint ends a segment, and the next begins with the world where it ended. Of every segment it is true that the image at its
+    /// end is the replay of the history since its beginning, that its messages were delivered, and that its sends ran what the walk
+    /// finds. So it is of the one that the system is in.
     pub fn run(&mut self, alloc: Global, events: &[Event])
         ensures led { Leads (schedule self.old) events.now (schedule self.new) }
+        ensures segments { HasSegments self.old.image self.new.image }
         ensures replay { IsLawful self.new.image }
         ensures delivered { HasDelivered self.new.image }
         ensures sent { EachStepRan self.new.image }
         ensures caches { All (λ s. AreValidWhereKept G.count G.floor s.caches) self.new.seats }
     {
+        self.segment_known();
         for event in events {
             let _answer: Result<_, _> = self.apply(alloc, event);
+            self.segment_known();
         }
         self.known();
     }

@@ -124,9 +124,14 @@ fn is_same_history(events: &[Event], model: &[Done], history: &[Item]) -> bool {
     model.len() == history.len()
 }
 
-/// How many of the events that happened, from the first on, say the edits of the class table one after another.
-fn same_edits<M: Mailbox>(events: &[Event], model: &[Done], image: &Image<M>) -> u32 {
-    let mut place = 0;
+/// Up to which edit of the class table the events that happened say, one after another, those behind so many edits.
+fn same_edits<M: Mailbox>(
+    events: &[Event],
+    model: &[Done],
+    before: u32,
+    image: &Image<M>,
+) -> u32 {
+    let mut place = before;
     for done in model {
         if let Done::Event(event) = *done
             && is_edit_at(events, event, image, place)
@@ -165,12 +170,13 @@ fn is_same_pending<M: Mailbox>(mailbox: &M, messages: &[Message]) -> bool {
     waiting(mailbox) == messages.len()
 }
 
-/// How a turn ended, of which the first is number 1: the newest 64 are kept.
+/// How a turn ended: the newest 64 are kept. The first is number 1, or 0 if the actor had begun one before the last checkpoint.
 fn model_outcome(kept: &ModelActor, turn: usize) -> Result<Outcome, Refusal> {
-    if turn == 0 || turn.saturating_add(64) <= kept.results.len() {
+    let number = turn.saturating_add(usize::from(kept.has_turn_0));
+    if number == 0 || number.saturating_add(64) <= kept.results.len() {
         return Err(Refusal::Expired);
     }
-    match kept.results.get(turn.saturating_sub(1)) {
+    match kept.results.get(number.saturating_sub(1)) {
         Some(outcome) => Ok(*outcome),
         None => Err(Refusal::Pending),
     }
@@ -229,14 +235,15 @@ fn actors_difference<M: Mailbox>(image: &Image<M>, actors: &[ModelActor]) -> Opt
 /// In what an image's history or edits differ from the model's.
 fn history_difference<M: Mailbox>(
     image: &Image<M>,
-    model: &[Done],
+    model: &Model,
     events: &[Event],
 ) -> Option<&'static str> {
-    if !is_same_history(events, model, history(image)) {
+    let done = model.history.as_slice();
+    if !is_same_history(events, done, history(image)) {
         return Some("histories");
     }
     let (edits, _, _) = counts(image);
-    if same_edits(events, model, image) != edits {
+    if same_edits(events, done, model.edits_before, image) != edits {
         return Some("edits");
     }
     None
@@ -254,7 +261,7 @@ fn image_difference<M: Mailbox>(
     model: &Model,
     events: &[Event],
 ) -> Option<&'static str> {
-    let first = history_difference(image, model.history.as_slice(), events);
+    let first = history_difference(image, model, events);
     if first.is_some() {
         return first;
     }

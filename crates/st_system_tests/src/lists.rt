@@ -194,6 +194,7 @@ fn random_work(dice: &mut Dice) -> Event {
         125..=130 => Event::Release(worker),
         131..=136 => Event::Forget(worker),
         137..=180 => Event::Commit(worker),
+        397..=399 => Event::Checkpoint,
         _ => Event::Local(worker),
     }
 }

@@ -1,10 +1,11 @@
 //! A model of a system, of plain lists: each event does what its definition says. Of the program it uses the plain step of an actor's
 //! own, and no call that changes an image, a mailbox or a worker. The class table of a step is that of the image. What actors do on
-//! one another is in model/acts.rt; the other events are in model/edits.rt, model/calls.rt and model/turns.rt, and what a claim
+//! one another is in model/acts.rt; the other events are in model/edits.rt, model/calls.rt, model/checkpoints.rt and model/turns.rt, and what a claim
 //! used in model/surviving.rt.
 
 mod acts;
 mod calls;
+mod checkpoints;
 mod edits;
 mod surviving;
 mod turns;
@@ -29,11 +30,13 @@ pub(crate) struct ModelActor {
     pub body: Body,
     /// The number of the last message that it sent.
     pub last: u64,
-    /// All that its mailbox accepted.
+    /// All that its mailbox accepted since the last checkpoint, and what was pending then.
     pub accepted: Vec<Message>,
     /// How many of these it has begun.
     pub begun: usize,
-    /// How its turns ended.
+    /// Whether it had begun a turn before the last checkpoint, which is turn 0.
+    pub has_turn_0: bool,
+    /// How its turns ended, from turn 0 on where there is one.
     pub results: Vec<Outcome>,
 }
 
@@ -65,9 +68,12 @@ pub(crate) struct Model {
     pub parents: Vec<ClassId>,
     /// The number of edits.
     pub edits: u32,
+    /// How many of these were made before the last checkpoint.
+    pub edits_before: u32,
     pub actors: Vec<ModelActor>,
     /// The number of the last message of each client.
     pub clients: Vec<u64>,
+    /// What happened since the last checkpoint.
     pub history: Vec<Done>,
     /// The claim of each worker, if it has one.
     pub claims: Vec<Option<ModelClaim>>,
@@ -85,6 +91,7 @@ impl Model {
             methods: Vec::new(alloc),
             parents: Vec::new(alloc),
             edits: 0,
+            edits_before: 0,
             actors: Vec::new(alloc),
             clients: vec![in alloc; 0; 2]?,
             history: Vec::new(alloc),
@@ -106,6 +113,7 @@ impl Model {
             Event::Commit(worker) => self.commit(alloc, *worker, image.version()),
             Event::Release(worker) => self.release(*worker),
             Event::Forget(worker) => self.forget(*worker),
+            Event::Checkpoint => self.checkpoint(alloc),
             call => self.call(alloc, place, call),
         }
     }

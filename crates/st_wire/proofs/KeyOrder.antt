@@ -58,6 +58,7 @@ keys_in_order (reply.Actor a) = refl
 keys_in_order (reply.Turn n) = refl
 keys_in_order reply.Closed = refl
 keys_in_order (reply.Ran quanta steps) = refl
+keys_in_order (reply.Counted posts steps) = refl
 keys_in_order (reply.Checked actors classes edits) = refl
 keys_in_order (reply.Answer value) = in_answer value
 keys_in_order (reply.Fault fault) = refl

@@ -1,8 +1,8 @@
 -- A carriage return behind the content of a string.
-use Rattle.std.proofs.Common.{◌≡◌, ℕ, ◌==◌, ◌&&◌, ◌||◌, Bool, true, false, cond, List, [], ◌∷◌, ◌++◌, nat_lt, Option, Some, None, refl, ap, ◌∙◌}
-use Rattle.std.specs.Option.{option_and_then, option_map}
-use Rattle.std.specs.Char.{is_digit, digit_value, encode_utf8}
-use Rattle.json.specs.Text.{Within, plain, after_backslash, after_u, after_high, prepend, content, code_unit, short_escape, is_high_surrogate, is_low_surrogate, surrogate_pair}
+use Rattle.std.proofs.Common.{◌≡◌, ℕ, ◌==◌, ◌&&◌, Bool, true, false, cond, List, [], ◌∷◌, Option, Some, None, refl}
+use Rattle.std.specs.Option.{option_and_then}
+use Rattle.std.specs.Char.{is_digit, encode_utf8}
+use Rattle.json.specs.Text.{Within, plain, after_backslash, after_u, after_high, prepend, content, code_unit, short_escape, is_high_surrogate, is_low_surrogate}
 use Rattle.st_wire.proofs.ReturnWords.{cr}
 
 no_last : (a b c : Bool) → (a && b && c && false) ≡ false

@@ -1,14 +1,14 @@
 -- A carriage return behind a text is white space, or stands where the text is at fault already.
-use Rattle.std.proofs.Common.{◌≡◌, ℕ, Bool, true, false, List, [], ◌∷◌, ◌++◌, Option, Some, None, refl, ap, sym, ◌∙◌, ◌+◌, ◌-◌, ◌≤◌, ◌<◌, length, take, get_or, subst, arith, zero, suc, slice_index, length-append, if◌then◌else◌}
+use Rattle.std.proofs.Common.{◌≡◌, ℕ, Bool, true, false, List, [], ◌∷◌, None, refl, ap, sym, ◌∙◌, ◌-◌, ◌<◌, length, get_or, subst, arith, zero, suc, slice_index, length-append, if◌then◌else◌}
 use Rattle.std.specs.Option.{option_and_then}
 use Rattle.std.specs.Str.{IsUtf8, is_utf8}
 use Rattle.std.proofs.lemmas.Str.{IsUtf8-from_is_utf8, is_utf8-from_IsUtf8, IsUtf8-append, IsUtf8-from_ascii, IsUtf8-take, IsCharBoundary-before_ascii}
 use Rattle.std.proofs.lemmas.List.{take-append-le, get_or-append_right}
 use Rattle.std.proofs.Math.Seq.{take-length}
-use Rattle.json.specs.Lex.{Lexeme, Class, Mode, quote, backslash, operator, space, other, between, in_word, in_string, in_escape, class, lex, lex_byte, punctuate, fresh, token, string_token}
+use Rattle.json.specs.Lex.{Class, Mode, quote, backslash, operator, space, other, between, in_word, in_string, in_escape, class, lex, lex_byte, punctuate, fresh}
 use Rattle.json.specs.Json as json
 use Rattle.serde_json.specs.Read.{read, of_json, max_depth}
-use Rattle.st_wire.specs.Commands.{ReturnsMeanNothing, command_of, command_in, value_of}
+use Rattle.st_wire.specs.Commands.{ReturnsMeanNothing, command_in, value_of}
 use Rattle.st_wire.proofs.ReturnWords.{cr, word_cr}
 use Rattle.st_wire.proofs.ReturnStrings.{content_cr}
 

@@ -9,7 +9,7 @@ use Rattle.st_classes.specs.declared.values.ActorId.{ActorId}
 use Rattle.st_classes.specs.Refusals.{Rule}
 use Rattle.st_wire.specs.declared.commands.Argument.{Argument}
 use Rattle.st_wire.specs.declared.commands.Command.{Command}
-use Rattle.st_wire.specs.declared.commands.Command.TheVariants.{Define, Method, Remove, Reparent, Actor, Post, Close, Run, Outcome, Stats}
+use Rattle.st_wire.specs.declared.commands.Command.TheVariants.{Define, Method, Remove, Reparent, Actor, Post, Close, Run, Outcome, Stats, Checkpoint}
 use Rattle.st_wire.specs.Fields.{size, text_at, texts_at, actor_at, sender_at, number_at, quanta_at, arguments_at}
 
 -- all of some keys are there
@@ -105,6 +105,9 @@ stats_in d =
     of_keys (codes "class" ∷ codes "cmd" ∷ codes "selector" ∷ []) d
     (stats_from (text_at (codes "class") d) (text_at (codes "selector") d))
 
+abbrev pub checkpoint_in : Data → Option Command
+checkpoint_in d = of_keys (codes "cmd" ∷ []) d (Some Checkpoint)
+
 -- the command of the form that `cmd` names
 abbrev pub form_in : Data → List ℕ → Option Command
 form_in d cmd =
@@ -118,7 +121,8 @@ form_in d cmd =
     else (if bytes_eq cmd (codes "run") then run_in d
     else (if bytes_eq cmd (codes "outcome") then outcome_in d
     else (if bytes_eq cmd (codes "stats") then stats_in d
-    else None)))))))))
+    else (if bytes_eq cmd (codes "checkpoint") then checkpoint_in d
+    else None))))))))))
 
 -- the command of an object, by its `cmd`
 abbrev pub command_in : Data → Option Command

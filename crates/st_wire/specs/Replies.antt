@@ -80,6 +80,8 @@ reply_data (reply.Turn n) = ok (only (codes "turn") (whole n))
 reply_data reply.Closed = ok (object no_members)
 reply_data (reply.Ran quanta steps) =
     ok (object (member (codes "quanta") (whole quanta) (member (codes "steps") (whole steps) no_members)))
+reply_data (reply.Counted posts steps) =
+    ok (object (member (codes "posts") (whole posts) (member (codes "steps") (whole steps) no_members)))
 reply_data (reply.Checked actors classes edits) =
     ok (object
     (member (codes "actors") (whole actors)

@@ -4,7 +4,7 @@ ghost use Rattle.serde_json.specs.View.{view};
 ghost use Rattle.st_classes.specs.Refusals.{Answers, first_of};
 ghost use Rattle.st_classes.specs.declared.refusals.Refusal.TheVariants.{BadCommand};
 ghost use Rattle.st_wire.specs.PartResults.{Reads};
-ghost use Rattle.st_wire.specs.Commands.{ReturnsMeanNothing, command_of, command_rules, has_just as has_just_keys, has_all as has_all_keys, command_in, define_in, method_in, remove_in, reparent_in, new_actor_in, post_in, close_in, run_in, outcome_in, stats_in};
+ghost use Rattle.st_wire.specs.Commands.{ReturnsMeanNothing, command_of, command_rules, has_just as has_just_keys, has_all as has_all_keys, command_in, define_in, method_in, remove_in, reparent_in, new_actor_in, post_in, close_in, run_in, outcome_in, stats_in, checkpoint_in};
 
 use crate::fields::{
     actor_at, arguments_at, quanta_at, sender_at, size, text_at, texts_at, whole_at,
@@ -83,6 +83,8 @@ pub enum Command {
         class: Seq<u8>,
         selector: Seq<u8>,
     },
+    /// A new beginning with the present world, and an empty history.
+    Checkpoint,
 }
 
 /// The command that a line is. BadCommand where the line is none: no UTF-8, no JSON, other keys than those of one
@@ -119,6 +121,7 @@ fn read_object(alloc: Global, object: &Value) -> Result<Command, Refusal>
         Some("run") => run(object),
         Some("outcome") => outcome(object),
         Some("stats") => stats(alloc, object),
+        Some("checkpoint") => checkpoint(object),
         _ => Err(Refusal::BadCommand),
     }
 }
@@ -260,4 +263,11 @@ fn stats(alloc: Global, object: &Value) -> Result<Command, Refusal>
         class: text_at(alloc, object, "class")?,
         selector: text_at(alloc, object, "selector")?,
     })
+}
+
+fn checkpoint(object: &Value) -> Result<Command, Refusal>
+    ensures { Reads (checkpoint_in (view object.now)) result }
+{
+    just_keys(object, &["cmd"])?;
+    Ok(Command::Checkpoint)
 }

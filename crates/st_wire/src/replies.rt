@@ -1,7 +1,7 @@
 //! Replies, and how they are written.
 ghost use Rattle.std.specs.Prelude.{◌≡◌, [], ◌∷◌, IfOk, codes, decimal};
 ghost use Rattle.json.specs.Token.{key, string, number, begin_object, end_object};
-ghost use Rattle.st_wire.specs.declared.replies.Reply.TheVariants.{Closed as ClosedReply, Ran, Checked, Answer, Fault as FaultReply, Sites, Refused};
+ghost use Rattle.st_wire.specs.declared.replies.Reply.TheVariants.{Closed as ClosedReply, Ran, Counted, Checked, Answer, Fault as FaultReply, Sites, Refused};
 ghost use Rattle.st_wire.specs.Replies.{line_of, reply_data, answered_data, state_name as name_of, site_data, site_items, refusal_fields, ok, only, whole, RepliesHaveKeysInOrder};
 ghost use Rattle.st_wire.specs.Writing.{Adds, data_tokens, items_tokens, members_tokens};
 
@@ -65,6 +65,11 @@ pub enum Reply {
         quanta: u32,
         steps: u64,
     },
+    /// How many posts and steps an image has counted at a checkpoint.
+    Counted {
+        posts: u64,
+        steps: u64,
+    },
     /// What an image file holds. The kernel's classes are counted.
     Checked {
         actors: u32,
@@ -107,6 +112,7 @@ impl Reply {
             Reply::Turn(turn) => write_number(writer, "turn", *turn),
             Reply::Closed => write_closed(writer),
             Reply::Ran { quanta, steps } => write_ran(writer, (*quanta).into(), *steps),
+            Reply::Counted { posts, steps } => write_counted(writer, *posts, *steps),
             Reply::Checked {
                 actors,
                 classes,
@@ -238,6 +244,15 @@ fn write_ran(writer: &mut Writer, quanta: u64, steps: u64) -> Result<(), AllocEr
 {
     begin_ok(writer)?;
     number_at(writer, "quanta", quanta)?;
+    number_at(writer, "steps", steps)?;
+    end_ok(writer)
+}
+
+fn write_counted(writer: &mut Writer, posts: u64, steps: u64) -> Result<(), AllocError>
+    ensures { Adds result writer.old writer.new (data_tokens (reply_data (Counted posts steps))) }
+{
+    begin_ok(writer)?;
+    number_at(writer, "posts", posts)?;
     number_at(writer, "steps", steps)?;
     end_ok(writer)
 }

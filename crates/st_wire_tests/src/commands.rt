@@ -18,6 +18,7 @@ pub(crate) enum Wanted {
     Run(u32),
     Outcome(u32, u64),
     Stats(&'static str, &'static str),
+    Checkpoint,
 }
 
 /// Lines, and the commands that they are.
@@ -59,6 +60,7 @@ const COMMANDS: &[(&str, Wanted)] = &[
         r#"{"class":"M","cmd":"stats","selector":"at:put:"}"#,
         Wanted::Stats("M", "at:put:"),
     ),
+    (r#"{"cmd":"checkpoint"}"#, Wanted::Checkpoint),
 ];
 
 const ARGUMENTS: &str =
@@ -84,6 +86,7 @@ const NO_COMMANDS: &[&str] = &[
     r#"{"cmd":"run","quanta":1000001}"#,
     r#"{"cmd":"run","quanta":1.0}"#,
     r#"{"cmd":"run","quantum":1}"#,
+    r#"{"cmd":"checkpoint","quanta":1}"#,
     r#"{"actor":4294967296,"cmd":"close"}"#,
     r#"{"actor":-0,"cmd":"close"}"#,
     r#"{"actor":0,"args":[],"cmd":"post","selector":"a","sender":65536,"seq":1}"#,
@@ -157,6 +160,7 @@ pub(crate) fn is_wanted(command: &Command, wanted: &Wanted) -> bool {
         (Command::Stats { class, selector }, Wanted::Stats(holder, name)) => {
             is(class, holder) && is(selector, name)
         },
+        (Command::Checkpoint, Wanted::Checkpoint) => true,
         _ => false,
     }
 }

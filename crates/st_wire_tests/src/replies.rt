@@ -25,6 +25,11 @@ fn writes_what_is_done(rt: HostRuntime) -> Result<(), Fail> {
         steps: 7,
     };
     assert!(rt; is_line(alloc, ran, r#"{"ok":{"quanta":1,"steps":7}}"#)?);
+    let counted = Reply::Counted {
+        posts: 2,
+        steps: 14,
+    };
+    assert!(rt; is_line(alloc, counted, r#"{"ok":{"posts":2,"steps":14}}"#)?);
     let checked = Reply::Checked {
         actors: 1,
         classes: 9,

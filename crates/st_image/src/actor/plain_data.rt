@@ -1,6 +1,7 @@
 //! Actors as plain data: made of their parts, and copied as such.
 ghost use Rattle.std.specs.Prelude.{◌≡◌, ◌≤◌, [], length, true, IfOk, OnOk};
-ghost use Rattle.st_image.specs.ActorViews.{actor_view, view_part};
+ghost use Rattle.st_image.specs.ActorViews.{actor_view, last_kept, view_anew, view_part};
+ghost use Rattle.st_image.specs.Newest.{kept_in};
 ghost use Rattle.st_image.specs.Parts.{actor_of};
 
 use crate::actor::Actor;
@@ -9,7 +10,6 @@ use crate::results::Results;
 use st_classes::seq::Seq;
 use st_mailbox::mailboxes::Mailbox;
 use st_mailbox::messages::Message;
-use st_turn::body::Phase;
 use std::alloc::{AllocError, Global};
 
 /// Puts copies of messages in an empty mailbox that has room for them.
@@ -58,6 +58,22 @@ impl<M: Mailbox> Actor<M> {
         })
     }
 
+    /// The results with which the actor begins anew.
+    pub(crate) fn last_results(&self, alloc: Global) -> Result<Results, AllocError>
+        ensures { IfOk result (λ r. kept_in r ≡ last_kept self.now) }
+    {
+        Results::of_phase(alloc, &self.body.phase)
+    }
+
+    /// The actor begins anew, with these results.
+    pub(crate) fn begin_anew(&mut self, results: Results)
+        requires { kept_in results ≡ last_kept self.old }
+        ensures { self.new ≡ view_anew self.old }
+    {
+        self.accepted = u64::from(self.mailbox.len());
+        self.results = results;
+    }
+
     /// The actor of a part, in memory of its own.
     pub(crate) fn from_part(alloc: Global, part: &ActorPart) -> Result<Actor<M>, AllocError>
         requires some { 1 ≤ part.now.capacity }
@@ -70,11 +86,7 @@ impl<M: Mailbox> Actor<M> {
         if !part.is_open {
             mailbox.close();
         }
-        let mut results = Results::new(alloc)?;
-        if let Phase::Done(outcome) = &part.body.phase {
-            results.reserve()?;
-            results.push(*outcome);
-        }
+        let results = Results::of_phase(alloc, &part.body.phase)?;
         Ok(Actor {
             class: part.class,
             mailbox,

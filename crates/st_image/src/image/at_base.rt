@@ -19,21 +19,24 @@ impl<M: Mailbox> Image<M> {
     ghost use Rattle.std.specs.Prelude.{◌≡◌, IfOk};
     ghost use Rattle.st_classes.specs.EditLists.{AllSuit};
     ghost use Rattle.st_image.specs.CompiledEdits.{AllCompiled};
+    ghost use Rattle.st_image.specs.Counts.{CanBeCounted};
     ghost use Rattle.st_image.specs.Loaded.{AreBaseActors, AreBaseSenders, loaded_image};
 
-    /// The image at a base, set as by default.
+    /// The image at a base, with the counts of posts and steps before it, set as by default.
     pub(crate) fn at_base(
         alloc: Global,
         names: Names,
         version: Version,
         parts: Vec<ActorPart>,
         clients: Vec<(u16, u64)>,
+        counts: Counts,
     ) -> Result<Image<M>, AllocError>
         requires suited { AllSuit names version }
         requires compiled { AllCompiled names version }
         requires actors { AreBaseActors names version parts.items }
         requires senders { AreBaseSenders version parts.items clients.items }
-        ensures { IfOk result (λ i. i ≡ loaded_image names version parts.items clients.items) }
+        requires counts { CanBeCounted counts }
+        ensures { IfOk result (λ i. i ≡ loaded_image names version parts.items clients.items counts) }
     {
         names.known();
         version.known();
@@ -55,7 +58,7 @@ impl<M: Mailbox> Image<M> {
             covered: 0,
             changes: Changes::new(alloc),
             counts: Counts { posts: 0, steps: 0 },
-            earlier: Earlier::none(alloc),
+            earlier: Earlier::counted(alloc, counts),
         })
     }
 }

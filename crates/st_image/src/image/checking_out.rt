@@ -11,6 +11,7 @@ impl<M: Mailbox> Image<M> {
     ghost use Rattle.std.specs.Prelude.{◌≡◌, ◌+◌, ◌-◌, ◌^◌, ◌<◌, length, slice_get, None, IfNone, IfOk, OnErr, if◌then◌else◌};
     ghost use Rattle.st_classes.specs.Refusals.{first_of};
     ghost use Rattle.st_image.specs.Images.{world};
+    ghost use Rattle.st_image.specs.ImageInvariant.{turns_open};
     ghost use Rattle.st_image.specs.Commits.{ChecksOut, HasCheckedOut, IsReleased, changed_at, checkout_rules, idle_at};
 
     /// Why a checkout is refused, if it is.
@@ -40,20 +41,22 @@ impl<M: Mailbox> Image<M> {
         }
     }
 
-    /// How often the body of an actor was changed.
+    /// How often the body of an actor was changed. Each change but the one that begins a turn takes a step, and no more than 2^63 - 1
+    /// steps are counted.
     pub(super) fn changed(&self, actor: ActorId) -> u64
         ensures count { result ≡ changed_at self.now actor.0 }
-        ensures few { result < 2 ^ 64 - 1 }
+        ensures few { result < 2 ^ 64 - 1 + turns_open (slice_get (world self.now).actors actor.0) }
     {
         self.earlier.changes(actor) + u64::from(self.changes.count(actor))
     }
 
-    /// How often the body of an actor will have been changed, once it is changed again where it is to be.
-    fn stamp_after(&self, actor: ActorId, changes: bool) -> u64
-        ensures { result ≡ changed_at self.now actor.0 + (if changes then 1 else 0) }
+    /// How often the body of an actor will have been changed after a checkout, by which an idle one begins a message.
+    fn stamp_after(&self, actor: ActorId, begins: bool) -> u64
+        requires { begins ≡ idle_at (slice_get (world self.now).actors actor.0) }
+        ensures { result ≡ changed_at self.now actor.0 + (if begins then 1 else 0) }
     {
         let changed = self.changed(actor);
-        if changes { changed + 1 } else { changed }
+        if begins { changed + 1 } else { changed }
     }
 
     /// Hands out a claim of an actor whose checkout is not refused. An error says that nothing changed.

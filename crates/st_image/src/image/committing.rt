@@ -1,5 +1,6 @@
 //! Image::commit: the steps of a claim become the actor's.
 use crate::acting::put_steps;
+use crate::counts::MOST_COUNTED;
 use crate::image::Image;
 use crate::items::Item;
 use crate::leavings::Leavings;
@@ -11,9 +12,10 @@ use st_turn::claim::Claim;
 use std::alloc::Global;
 
 impl<M: Mailbox> Image<M> {
-    ghost use Rattle.std.specs.Prelude.{◌≡◌, ◌≢◌, ◌↔◌, ◌<◌, IsTrue, None, MatchOption, IfErr, OnOk};
+    ghost use Rattle.std.specs.Prelude.{◌≡◌, ◌≢◌, ◌↔◌, ◌<◌, ◌==◌, [], ◌∷◌, if◌then◌else◌, IsTrue, None, MatchOption, IfErr, OnOk};
     ghost use Rattle.st_classes.specs.EditLists.{Begins};
-    ghost use Rattle.st_image.specs.Images.{world};
+    ghost use Rattle.st_classes.specs.Refusals.{first_of};
+    ghost use Rattle.st_image.specs.Images.{no_room, too_many_steps, world};
     ghost use Rattle.st_image.specs.Commits.{Commits, CommitAllowed, CommitRefused, HasCommitted, IsAsBefore, IsUnchanged, KnowsBody, RefusesCommit, Survives, act_site, changed_at, steps_of};
 
     /// Whether the body of an actor was changed as often as the stamp of a claim says.
@@ -48,14 +50,34 @@ impl<M: Mailbox> Image<M> {
         })
     }
 
-    /// Why the history has no place for what a commit adds, if it has none.
+    /// How many items the commit of so many steps adds to the history: none for no steps.
+    fn items_to_commit(steps: u32) -> u32
+        ensures items { result ≡ (if steps == 0 then 0 else 1) }
+        ensures few { result < 3 }
+    {
+        if steps == 0 { 0 } else { 1 }
+    }
+
+    /// Why the history has no place for so many items more, or the count of steps none for so many steps, if so.
+    fn steps_room_refusal(&self, items: u32, steps: u32) -> Option<Refusal>
+        requires { items < 3 }
+        ensures { result ≡ first_of (no_room self.now items ∷ too_many_steps self.now steps ∷ []) }
+    {
+        let counted = self.counted().steps;
+        if self.room_refusal(items).is_some() || MOST_COUNTED - counted < u64::from(steps) {
+            return Some(Refusal::HistoryFull);
+        }
+        None
+    }
+
+    /// Why the history has no place for what a commit adds, or the count of steps none, if so.
     fn full_refusal(&self, claim: &Claim, steps: u32) -> Option<Refusal>
         requires survives { Survives self.now claim.now }
         requires unchanged { IsUnchanged self.now claim.now }
         requires steps { steps ≡ steps_of claim.now }
         ensures { MatchOption result (CommitAllowed self.now claim.now) (λ e. CommitRefused self.now claim.now e) }
     {
-        self.room_refusal(if steps == 0 { 0 } else { 1 })
+        self.steps_room_refusal(Self::items_to_commit(steps), steps)
     }
 
     /// How many steps the commit of a claim is: the image takes one more, where it is next.
@@ -213,8 +235,9 @@ impl<M: Mailbox> Image<M> {
     ///
     /// Refusals, in this order: `Stale` where the claim's edits do not begin those of the class table, or where an edit since the
     /// checkout touched a selector that the steps used: that of the first message, if it was dispatched, or of a send, super sends
-    /// among them; `Changed` where the actor is not there or has another body than the claim began with; either spends the claim. Then `HistoryFull`. Memory can run out only
-    /// where none of these applies. Either of the last two hands the claim back, and nothing changes.
+    /// among them; `Changed` where the actor is not there or has another body than the claim began with; either spends the claim. Then
+    /// `HistoryFull`, also where more than 2^63 - 1 steps would be counted. Memory can run out only where none of these applies. Either of
+    /// the last two hands the claim back, and nothing changes.
     pub fn commit(&mut self, alloc: Global, claim: Claim) -> Result<u32, (Refusal, Option<Claim>)>
         ensures { Commits self.old claim result self.new }
     {

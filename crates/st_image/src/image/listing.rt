@@ -6,6 +6,7 @@ use std::alloc::{AllocError, Global};
 
 impl<M: Mailbox> Image<M> {
     ghost use Rattle.std.specs.Prelude.{◌≡◌, IfOk};
+    ghost use Rattle.st_image.specs.Counts.{CanBeCounted};
     ghost use Rattle.st_image.specs.Images.{counts_of, world};
 
     /// The clients that have sent a message, rising by their numbers, each with the number of its last message, which
@@ -16,9 +17,11 @@ impl<M: Mailbox> Image<M> {
         self.clients.list(alloc)
     }
 
-    /// How many messages of clients were accepted, and how many steps were taken, since the image was new or loaded.
+    /// How many messages of clients were accepted, and how many steps were taken, since the image was new, and before it was loaded.
+    /// Neither is more than 2^63 - 1. Checkpoints leave them.
     pub fn counted(&self) -> Counts
-        ensures { result ≡ counts_of self.now }
+        ensures counts { result ≡ counts_of self.now }
+        ensures few { CanBeCounted result }
     {
         let earlier = self.earlier.counts();
         Counts {

@@ -1,17 +1,18 @@
-//! Image::part: an actor as plain data.
+//! Image::part and parts: actors as plain data, and the world as one that an image can begin with.
 use crate::actor_part::ActorPart;
 use crate::image::Image;
 use st_classes::refusals::Refusal;
 use st_classes::values::ActorId;
 use st_mailbox::mailboxes::Mailbox;
-use std::alloc::Global;
+use std::alloc::{AllocError, Global};
 
 impl<M: Mailbox> Image<M> {
-    ghost use Rattle.std.specs.Prelude.{◌≡◌, Some, slice_get};
+    ghost use Rattle.std.specs.Prelude.{◌≡◌, Some, IfOk, map, slice_get};
     ghost use Rattle.std.specs.Option.{option_map};
     ghost use Rattle.st_classes.specs.Refusals.{first_of};
     ghost use Rattle.st_image.specs.Calls.{AnswersExactly};
     ghost use Rattle.st_image.specs.Images.{world};
+    ghost use Rattle.st_image.specs.Loaded.{AreBaseActors, AreBaseSenders};
     ghost use Rattle.st_image.specs.Parts.{part_of, part_rules};
 
     /// An actor as plain data, in memory of its own: its class, its mailbox with what is pending, its body, and the number of the
@@ -26,5 +27,29 @@ impl<M: Mailbox> Image<M> {
             Ok(part) => Ok(part),
             Err(_) => Err(Refusal::NoMemory),
         }
+    }
+
+    /// All actors as plain data, in memory of their own.
+    pub fn parts(&self, alloc: Global) -> Result<Vec<ActorPart>, AllocError>
+        ensures { IfOk result (λ parts. parts.items ≡ map part_of (world self.now).actors) }
+    {
+        let mut parts = Vec::new(alloc);
+        for actor in 0..self.actors() {
+            let Ok(part) = self.part(alloc, ActorId(actor)) else {
+                return Err(AllocError);
+            };
+            parts.push(part)?;
+        }
+        Ok(parts)
+    }
+
+    /// An image can begin with the present world: the parts of the actors are those of the actors of a base, and the numbers of the
+    /// senders hold together.
+    pub fn can_be_base(&self)
+        ensures actors { AreBaseActors self.now.names (world self.now).edits (map part_of (world self.now).actors) }
+        ensures senders { AreBaseSenders (world self.now).edits (map part_of (world self.now).actors) (world self.now).clients }
+    {
+        self.known();
+        self.delivered();
     }
 }

@@ -1,5 +1,6 @@
 //! Image::post: a message of a client.
 use crate::acting::post_refusal;
+use crate::counts::MOST_COUNTED;
 use crate::image::Image;
 use crate::items::Item;
 use st_classes::refusals::Refusal;
@@ -9,11 +10,21 @@ use st_mailbox::messages::{Message, Sender};
 use std::alloc::Global;
 
 impl<M: Mailbox> Image<M> {
-    ghost use Rattle.std.specs.Prelude.{◌≡◌, ◌<◌, length, IfNone};
+    ghost use Rattle.std.specs.Prelude.{◌≡◌, ◌<◌, [], ◌∷◌, length, IfNone};
     ghost use Rattle.st_classes.specs.Refusals.{first_of};
     ghost use Rattle.st_image.specs.Calls.{Posts};
-    ghost use Rattle.st_image.specs.Images.{image_post_rules, world};
+    ghost use Rattle.st_image.specs.Images.{image_post_rules, no_room, too_many_posts, world};
     ghost use Rattle.st_image.specs.PostRules.{IsClients, from_client};
+
+    /// Why a post more has no place in the history or in the count of posts, if it has none.
+    fn post_room_refusal(&self) -> Option<Refusal>
+        ensures { result ≡ first_of (no_room self.now 1 ∷ too_many_posts self.now ∷ []) }
+    {
+        if self.room_refusal(1).is_some() || self.counted().posts >= MOST_COUNTED {
+            return Some(Refusal::HistoryFull);
+        }
+        None
+    }
 
     /// Why a message is refused, if it is.
     fn post_refusal(&self, actor: ActorId, message: &Message) -> Option<Refusal>
@@ -30,7 +41,7 @@ impl<M: Mailbox> Image<M> {
             message,
         ) {
             Some(refusal) => Some(refusal),
-            None => self.room_refusal(1),
+            None => self.post_room_refusal(),
         }
     }
 
@@ -73,7 +84,8 @@ impl<M: Mailbox> Image<M> {
     ///
     /// Refusals, in this order: `UnknownActor`; `BadArguments` where the selector isn't there or takes another number of
     /// arguments, or an argument is a local or names nothing; `Old` where the number is not above the client's last one; `Closed`;
-    /// `Full`; `HistoryFull`. Memory can run out only where none of these applies. A refused call changes nothing.
+    /// `Full`; `HistoryFull`, also where 2^63 - 1 posts were counted. Memory can run out only where none of these applies. A refused
+    /// call changes nothing.
     pub fn post(
         &mut self,
         alloc: Global,

@@ -1,8 +1,10 @@
 //! Loader::finish: the image of what was loaded.
 ghost use Rattle.std.specs.Prelude.{◌≡◌, ◌≤◌, length, Decides, IfOk};
+ghost use Rattle.st_image.specs.Counts.{CanBeCounted};
 ghost use Rattle.st_image.specs.Loaded.{AreBaseActors, AreBaseSenders, Finishes};
 
 use crate::actor_part::ActorPart;
+use crate::counts::Counts;
 use crate::fitting::actors_fit;
 use crate::image::Image;
 use crate::loader::Loader;
@@ -26,7 +28,7 @@ fn are_base_actors(names: &Names, version: &Version, parts: &[ActorPart]) -> boo
 
 impl Loader {
     /// The image whose base has the names and the class table that were loaded, these actors, and these clients with the numbers of
-    /// their last messages. It is set as by default, and its history is empty.
+    /// their last messages, and which goes on from these counts of posts and steps. It is set as by default, and its history is empty.
     ///
     /// Refusals, in this order: `BadImage` of the actors where there are more than 65,536, one is none of a world with these names,
     /// this table and so many actors, or an actor that sent a message is not there; `BadImage` of the senders where clients do not rise, a client's last number is 0, the
@@ -36,8 +38,10 @@ impl Loader {
         alloc: Global,
         parts: Vec<ActorPart>,
         clients: Vec<(u16, u64)>,
+        counts: Counts,
     ) -> Result<Image<M>, Refusal>
-        ensures { Finishes self.names self.edits parts.items clients.items result }
+        requires { CanBeCounted counts }
+        ensures { Finishes self.names self.edits parts.items clients.items counts result }
     {
         self.known();
         let Loader { names, version } = self;
@@ -55,7 +59,7 @@ impl Loader {
             }
             Err(_) => return Err(Refusal::NoMemory),
         }
-        match Image::at_base(alloc, names, version, parts, clients) {
+        match Image::at_base(alloc, names, version, parts, clients, counts) {
             Ok(image) => Ok(image),
             Err(_) => Err(Refusal::NoMemory),
         }

@@ -11,7 +11,7 @@ use st_mailbox::mailboxes::Mailbox;
 use std::alloc::Global;
 
 impl<M: Mailbox, G: Guard> System<M, G> {
-    ghost use Rattle.st_system.specs.declared.events.Event.TheVariants.{Intern as InternOf, Define as DefineOf, Install as InstallOf, Remove as RemoveOf, Reparent as ReparentOf, Create as CreateOf, Post as PostOf, Close as CloseOf};
+    ghost use Rattle.st_system.specs.declared.events.Event.TheVariants.{Intern as InternOf, Define as DefineOf, Install as InstallOf, Remove as RemoveOf, Reparent as ReparentOf, Create as CreateOf, Post as PostOf, Close as CloseOf, Checkpoint as CheckpointOf};
     ghost use Rattle.st_system.specs.Acts.{Acts};
     ghost use Rattle.st_system.specs.Others.{LeavesOthers};
     ghost use Rattle.st_system.specs.Schedules.{schedule};
@@ -110,6 +110,14 @@ impl<M: Mailbox, G: Guard> System<M, G> {
         ensures others { LeavesOthers (CloseOf actor) self.old.seats self.new.seats }
     {
         calls::close(&mut self.image, actor)?;
+        Ok(Answer::Done)
+    }
+
+    pub(super) fn checkpoint(&mut self, alloc: Global) -> Result<Answer, Refusal>
+        ensures acts { Acts (schedule self.old) CheckpointOf result (schedule self.new) }
+        ensures others { LeavesOthers CheckpointOf self.old.seats self.new.seats }
+    {
+        calls::checkpoint(alloc, &mut self.image)?;
         Ok(Answer::Done)
     }
 }

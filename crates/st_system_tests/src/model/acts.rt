@@ -116,6 +116,7 @@ impl Model {
             last: 0,
             accepted: Vec::new(alloc),
             begun: 0,
+            has_turn_0: false,
             results: Vec::new(alloc),
         })?;
         Ok(ActorId(number))

@@ -21,6 +21,7 @@ returns-clause-text g c =
     let sent : All HasSent (world i).clients = clients_have_sent _ (world i).clients c.known.ensures.standing.clients in
     record {
       actors = c.in_ok-tell_actors.ensures.text;
+      counts = c.counted.ensures.few;
       edits = c.in_ok-edit_texts.ensures.text;
       names = c.in_ok-name_texts.ensures.text;
       senders = rw (c.from_vec.ensures, c.in_ok-senders.ensures) sent;

@@ -1,6 +1,7 @@
-use Rattle.std.proofs.Common.{◌≡◌, ◌+◌, length, vec_len}
+use Rattle.std.proofs.Common.{◌≡◌, ◌+◌, ◌≤◌, length, vec_len}
 use Rattle.std.specs.List.{sum_by}
 use Rattle.st_pool.specs.Done.{Done}
+use Rattle.st_pool.specs.Settled.{gone}
 use Rattle.st_pool.proofs.books.gather_callers.Given as goal
 
 -- what was taken in and what is left is all
@@ -10,6 +11,8 @@ invariant-loop-share g l =
       books : (l.posts.total ≡ l.fn.posts.total) × (l.edits.total ≡ l.fn.edits.total);
       posted : l.posted_sum + sum_by (λ (d : Done). length d.receipts) l.callers.items ≡ sum_by (λ (d : Done). length d.receipts) l.fn.callers.items;
       edited : l.edited_sum + sum_by (λ (d : Done). d.edits) l.callers.items ≡ sum_by (λ (d : Done). d.edits) l.fn.callers.items;
+      gone : l.gone_sum + sum_by (gone l.emptied) l.callers.items ≡ sum_by (gone l.emptied) l.fn.callers.items;
+      few : l.gone_sum ≤ l.posted_sum;
       amounts : (l.posts_left.amount ≡ l.posted_sum) × (l.edits_left.amount ≡ l.edited_sum);
       parts : (l.posts_left.parts + vec_len l.callers ≡ l.fn.posts_left.parts + vec_len l.fn.callers) × (l.edits_left.parts + vec_len l.callers ≡ l.fn.edits_left.parts + vec_len l.fn.callers);
     }

@@ -17,4 +17,4 @@ pub returns-clause-later : goal.returns-clause-later
 returns-clause-later g c = checks_out_later c.args.image.now c.checkout-answer.new.self c.args.actor c.checkout-answer.result c.known.ensures c.known-2.ensures c.checkout-answer.ensures
 
 pub returns-clause-grows : goal.returns-clause-grows
-returns-clause-grows g c = checks_out_grow c.args.image.now c.checkout-answer.new.self c.args.actor c.checkout-answer.result c.checkout-answer.ensures
+returns-clause-grows g c = checks_out_grow c.args.image.now c.checkout-answer.new.self c.args.actor c.checkout-answer.result c.known.ensures c.known-2.ensures c.checkout-answer.ensures

@@ -6,4 +6,4 @@ pub returns-clause-later : goal.returns-clause-later
 returns-clause-later g c = closes_later c.args.image.now c.close-answer.new.self c.args.actor c.close-answer.result c.known.ensures c.known-2.ensures c.close-answer.ensures
 
 pub returns-clause-grows : goal.returns-clause-grows
-returns-clause-grows g c = closes_grow c.args.image.now c.close-answer.new.self c.args.actor c.close-answer.result c.close-answer.ensures
+returns-clause-grows g c = closes_grow c.args.image.now c.close-answer.new.self c.args.actor c.close-answer.result c.known.ensures c.known-2.ensures c.close-answer.ensures

@@ -6,4 +6,4 @@ pub returns-clause-later : goal.returns-clause-later
 returns-clause-later g c = creates_later c.args.image.now c.create-answer.new.self c.args.class c.create-answer.result c.known.ensures c.known-2.ensures c.create-answer.ensures
 
 pub returns-clause-grows : goal.returns-clause-grows
-returns-clause-grows g c = creates_grow c.args.image.now c.create-answer.new.self c.args.class c.create-answer.result c.create-answer.ensures
+returns-clause-grows g c = creates_grow c.args.image.now c.create-answer.new.self c.args.class c.create-answer.result c.known.ensures c.known-2.ensures c.create-answer.ensures

@@ -6,4 +6,4 @@ pub returns-clause-later : goal.returns-clause-later
 returns-clause-later g c = defines_later c.args.image.now c.define-answer.new.self c.args.name.now c.args.parent c.args.slots c.define-answer.result c.known.ensures c.known-2.ensures c.define-answer.ensures
 
 pub returns-clause-grows : goal.returns-clause-grows
-returns-clause-grows g c = defines_grow c.args.image.now c.define-answer.new.self c.args.name.now c.args.parent c.args.slots c.define-answer.result c.define-answer.ensures
+returns-clause-grows g c = defines_grow c.args.image.now c.define-answer.new.self c.args.name.now c.args.parent c.args.slots c.define-answer.result c.known.ensures c.known-2.ensures c.define-answer.ensures

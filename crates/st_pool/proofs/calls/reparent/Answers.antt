@@ -6,4 +6,4 @@ pub returns-clause-later : goal.returns-clause-later
 returns-clause-later g c = reparents_later c.args.image.now c.reparent-answer.new.self c.args.class c.args.parent c.reparent-answer.result c.known.ensures c.known-2.ensures c.reparent-answer.ensures
 
 pub returns-clause-grows : goal.returns-clause-grows
-returns-clause-grows g c = reparents_grow c.args.image.now c.reparent-answer.new.self c.args.class c.args.parent c.reparent-answer.result c.reparent-answer.ensures
+returns-clause-grows g c = reparents_grow c.args.image.now c.reparent-answer.new.self c.args.class c.args.parent c.reparent-answer.result c.known.ensures c.known-2.ensures c.reparent-answer.ensures

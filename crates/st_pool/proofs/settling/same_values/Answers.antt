@@ -1,4 +1,4 @@
-use Rattle.std.proofs.Common.{rules, ◌≡◌, ◌↔◌, IsTrue, Bool}
+use Rattle.std.proofs.Common.{rules}
 use Rattle.std.proofs.lemmas.Slice.Eq.{slice_eq-Decides}
 use Rattle.st_classes.specs.declared.values.Value.{Value}
 use Rattle.st_pool.proofs.settling.same_values.Goals as goal

@@ -2,7 +2,7 @@ use Rattle.std.proofs.Common.{◌≡◌, List, All, arith, sym, subst, ◌∙◌
 use Rattle.st_image.specs.declared.edit_text.EditText.{EditText}
 use Rattle.st_image.specs.Loading.{edit_text, edit_texts}
 use Rattle.st_file.specs.Tellable.{EditIsText}
-use Rattle.st_file.proofs.OneMore.{all_told, told_more}
+use Rattle.st_image.proofs.OneMore.{all_told, told_more}
 use Rattle.st_file.proofs.TableTexts.{edits_are_text}
 use Rattle.st_file.proofs.saving.tables.edit_texts.Goals as goal
 

@@ -1,6 +1,6 @@
 use Rattle.std.proofs.Common.{◌≡◌, List, ℕ, All, arith, drop, sym, subst, ◌∙◌}
 use Rattle.st_file.specs.Tellable.{IsText}
-use Rattle.st_file.proofs.OneMore.{all_copied, copied_more}
+use Rattle.st_image.proofs.OneMore.{all_copied, copied_more}
 use Rattle.st_file.proofs.TableTexts.{names_are_text}
 use Rattle.st_file.proofs.saving.tables.name_texts.Goals as goal
 

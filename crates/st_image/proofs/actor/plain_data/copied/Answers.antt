@@ -1,4 +1,4 @@
-use Rattle.std.proofs.Common.{arith, ◌≡◌, ◌++◌, ◌∷◌, [], ℕ, List, take, Some, slice_get, ap, sym, ◌∙◌, add-one}
+use Rattle.std.proofs.Common.{◌≡◌, ◌++◌, ◌∷◌, [], ℕ, List, take, Some, slice_get, ap, sym, ◌∙◌, add-one}
 use Rattle.std.specs.Option.{option_copied}
 use Rattle.st_mailbox.specs.declared.messages.Message.{Message}
 use Rattle.st_classes.proofs.LawLists.{take_at_place}

@@ -1,5 +1,4 @@
 use Rattle.std.proofs.Common.{◌≡◌, take}
-use Rattle.st_mailbox.specs.Mailboxes.{BoxView}
 use Rattle.st_image.proofs.actor.plain_data.copied.Given as goal
 
 abbrev pub invariant-messages : goal.invariant-messages

@@ -1,4 +1,4 @@
-use Rattle.std.proofs.Common.{arith, ◌≡◌, ◌<◌, ◌++◌, ◌∷◌, [], length, take, None, Some, Ok, ap, sym, ◌∙◌, subst}
+use Rattle.std.proofs.Common.{arith, ◌≡◌, ◌<◌, ◌++◌, ◌∷◌, [], length, take, None, Some, ap, sym, ◌∙◌}
 use Rattle.std.proofs.lemmas.List.{length-take-le, take_all}
 use Rattle.st_mailbox.specs.Mailboxes.{BoxView, box_refusal}
 use Rattle.st_image.proofs.Filling.{has_place, holding, holds_more, holds_none}

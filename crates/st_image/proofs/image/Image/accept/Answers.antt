@@ -5,7 +5,7 @@ use Rattle.st_image.specs.declared.items.Item.TheVariants.{Posted}
 use Rattle.st_image.specs.Images.{ImageView, image_post_rules}
 use Rattle.st_image.specs.Clients.{number_of}
 use Rattle.st_image.proofs.ClientNumbers.{kept_post}
-use Rattle.st_image.proofs.Posting.{IsPosted, posted, seen, standing_of}
+use Rattle.st_image.proofs.Posting.{IsPosted, posted, posts_room, seen, standing_of}
 use Rattle.st_image.proofs.Acts.{kept_is, out_same}
 use Rattle.st_image.proofs.Sends.{sends_other}
 use Rattle.st_image.proofs.CountingChanges.{counts_other}
@@ -19,7 +19,7 @@ invariant_of-self-2 g c =
     let items : c.push.new.self.items ≡ i.history.items ++ Posted c.args.actor c.args.message ∷ [] = grind (arith, common_steps) in
     let p : IsPosted i.base i.names i.token c.deliver-place.new.self.kept (i.history.items ++ Posted c.args.actor c.args.message ∷ []) i.edits_made i.settings c.args.actor c.deliver-place.result = posted i.base i.names i.token i.actors.kept c.deliver-place.new.self.kept i.history.items i.edits_made i.settings (standing_of i.earlier i.next_from i.actors.out i.tallies) c.deliver-place.result c.args.actor c.args.message c.self.invariant.image allowed c.requires (kept_is _ _ c.deliver-place.ensures.message) c.deliver-place.ensures.count in
     let set : (s : ℕ) → number_of c.set.new.self s ≡ cond (s == c.in-Client.client) c.args.message.seq (number_of i.clients s) = λ s. c.set.ensures s ∙ ap (λ (j : ℕ). cond (s == c.in-Client.client) c.args.message.seq j) (c.make_room.ensures.same s) in
-    rw items (record { image = p.image; numbers_of_clients = kept_post i.clients c.set.new.self i.base.clients i.history.items c.args.actor c.args.message c.in-Client.client c.in-Client.is set c.self.invariant.numbers_of_clients; sends = sends_other i.base i.names i.token i.actors.kept i.history.items i.edits_made i.settings i.tallies (Posted c.args.actor c.args.message) c.self.invariant.image c.self.invariant.sends refl; places = c.self.invariant.places; counts = counts_other i.changes i.history.items (Posted c.args.actor c.args.message) (λ a. refl) c.self.invariant.counts; totals = items_posted i.counts i.history.items c.args.actor c.args.message c.self.invariant.totals; compiled = c.self.invariant.compiled })
+    rw items (record { image = p.image; numbers_of_clients = kept_post i.clients c.set.new.self i.base.clients i.history.items c.args.actor c.args.message c.in-Client.client c.in-Client.is set c.self.invariant.numbers_of_clients; sends = sends_other i.base i.names i.token i.actors.kept i.history.items i.edits_made i.settings i.tallies (Posted c.args.actor c.args.message) c.self.invariant.image c.self.invariant.sends refl; places = c.self.invariant.places; counts = counts_other i.changes i.history.items (Posted c.args.actor c.args.message) (λ a. refl) c.self.invariant.counts; totals = items_posted i.counts i.earlier i.history.items c.args.actor c.args.message (posts_room (seen i.base i.names i.history.items i.settings (standing_of i.earlier i.next_from i.actors.out i.tallies)) c.args.actor c.args.message allowed) c.self.invariant.totals; compiled = c.self.invariant.compiled; before = c.self.invariant.before })
 
 pub returns : goal.returns
 returns g c =

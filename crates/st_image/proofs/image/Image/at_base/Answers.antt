@@ -1,6 +1,6 @@
 use Rattle.std.proofs.Common.{arith, ◌≡◌, ℕ, [], List, length, refl, ap, sym, ◌∙◌, subst}
 use Rattle.std.specs.Prelude.{All}
-use Rattle.st_image.specs.Worlds.{World, client_last}
+use Rattle.st_image.specs.Worlds.{client_last}
 use Rattle.st_image.specs.Clients.{number_of}
 use Rattle.st_image.specs.Parts.{FitsMailbox, world_of_parts}
 use Rattle.st_image.specs.ActorViews.{ActorsView}
@@ -11,6 +11,7 @@ use Rattle.st_image.proofs.Acts.{kept_is}
 use Rattle.st_image.proofs.Bases.{at_base_is, default, fit_mailboxes, loaded_by, none_out}
 use Rattle.st_image.proofs.Sends.{sends_new}
 use Rattle.st_image.proofs.Covering.{covers_none}
+use Rattle.st_image.proofs.ChangeBounds.{fits_loaded}
 use Rattle.st_image.proofs.image.Image.at_base.Goals as goal
 
 pub from_parts-requires-clause-fit : goal.from_parts-requires-clause-fit
@@ -22,18 +23,19 @@ invariant_of-result g c =
     let edits : List Edit = c.args.version in
     let parts : List ActorPart = c.args.parts.items in
     let clients : List (ℕ × ℕ) = c.args.clients.items in
-    rw (c.new.ensures, c.in_ok-table.ensures, c.in_ok-token.ensures, kept_is _ _ c.in_ok-actors.ensures, c.as_slice.ensures.value, c.new-2.ensures.items, c.new-3.ensures, c.new-4.ensures) (record {
+    rw (c.new.ensures, c.in_ok-table.ensures, c.in_ok-token.ensures, kept_is _ _ c.in_ok-actors.ensures, c.as_slice.ensures.value, c.new-2.ensures.items, c.new-3.ensures, c.new-4.ensures, c.counted.ensures) (record {
       image = at_base_is names edits parts clients c.known.ensures c.known-2.ensures.lawful c.requires.suited c.known-2.ensures.sound c.requires.actors c.requires.senders;
       numbers_of_clients = λ s. subst (λ (ps : List (ℕ × ℕ)). client_last s ps ≡ number_of c.in_ok-numbers.numbers s) c.as_slice-2.ensures.value (c.in_ok-numbers.ensures s);
       sends = sends_new names (world_of_parts edits parts clients) default;
       places = covers_none [] edits;
       counts = λ a. refl;
-      totals = record { counts = refl; few_posts = omega arith; few_steps = omega arith };
+      totals = record { counts = refl; few_posts = omega (arith, c.requires.counts.posts); few_steps = omega (arith, c.requires.counts.steps) };
       compiled = c.requires.compiled;
+      before = fits_loaded c.args.counts (world_of_parts edits parts clients);
     })
 
 pub returns : goal.returns
 returns g c =
     let base : c.new.result ≡ world_of_parts c.args.version c.args.parts.items c.args.clients.items = c.new.ensures ∙ ap (λ (es : List Edit). world_of_parts es c.args.parts.items c.args.clients.items) (c.in_ok-table.ensures ∙ c.in_ok-token.ensures) in
     let out : trimmed c.in_ok-actors.actors.out ≡ [] = ap (λ (v : ActorsView). trimmed v.out) c.in_ok-actors.ensures ∙ none_out (length c.as_slice.result.now) in
-    loaded_by c.args.names c.args.version c.args.parts.items c.args.clients.items c.new.result c.new-2.result.items c.in_ok-actors.actors.out c.new-3.result c.none.result base c.new-2.ensures.items out c.new-3.ensures c.none.ensures
+    loaded_by c.args.names c.args.version c.args.parts.items c.args.clients.items c.new.result c.new-2.result.items c.in_ok-actors.actors.out c.new-3.result c.counted.result c.args.counts base c.new-2.ensures.items out c.new-3.ensures c.counted.ensures

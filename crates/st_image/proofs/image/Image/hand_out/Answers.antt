@@ -64,11 +64,11 @@ invariant_of-self-2 g c =
       | then-begins+in_ok-reserve w ↦ (
           let out : IsOut i.base i.names i.token (change_at view_checked_out c.args.actor.0 i.actors.kept) (i.history.items ++ begun_items true c.args.actor) i.edits_made i.settings c.args.actor (view_checked_out k.0).body = outs i.base i.names i.token i.actors.kept i.history.items i.edits_made i.settings beside c.args.actor k.0 true c.self.invariant.image allowed k.1 (sym phase ∙ w.if-begins.true) in
           let items : w.push.new.self.items ≡ i.history.items ++ Begun c.args.actor ∷ [] = grind (arith, common_steps) in
-          rw (w.self-inside-is, items, put) (record { image = out.image; numbers_of_clients = kept_other i.clients i.base.clients i.history.items (Begun c.args.actor) (λ qs. refl) c.self.invariant.numbers_of_clients; sends = sends_other i.base i.names i.token i.actors.kept i.history.items i.edits_made i.settings i.tallies (Begun c.args.actor) c.self.invariant.image c.self.invariant.sends refl; places = c.self.invariant.places; counts = counts_one i.changes c.make_room.new.self w.raise.new.self i.history.items (Begun c.args.actor) c.args.actor.0 (λ a. refl) c.make_room.ensures.same w.raise.ensures c.self.invariant.counts; totals = items_other i.counts i.history.items (Begun c.args.actor) refl refl c.self.invariant.totals; compiled = c.self.invariant.compiled })
+          rw (w.self-inside-is, items, put) (record { image = out.image; numbers_of_clients = kept_other i.clients i.base.clients i.history.items (Begun c.args.actor) (λ qs. refl) c.self.invariant.numbers_of_clients; sends = sends_other i.base i.names i.token i.actors.kept i.history.items i.edits_made i.settings i.tallies (Begun c.args.actor) c.self.invariant.image c.self.invariant.sends refl; places = c.self.invariant.places; counts = counts_one i.changes c.make_room.new.self w.raise.new.self i.history.items (Begun c.args.actor) c.args.actor.0 (λ a. refl) c.make_room.ensures.same w.raise.ensures c.self.invariant.counts; totals = items_other i.counts i.earlier i.history.items (Begun c.args.actor) refl refl c.self.invariant.totals; compiled = c.self.invariant.compiled; before = c.self.invariant.before })
           )
       | else-begins w ↦ (
           let out : IsOut i.base i.names i.token (change_at view_checked_out c.args.actor.0 i.actors.kept) (i.history.items ++ begun_items false c.args.actor) i.edits_made i.settings c.args.actor (view_checked_out k.0).body = outs i.base i.names i.token i.actors.kept i.history.items i.edits_made i.settings beside c.args.actor k.0 false c.self.invariant.image allowed k.1 (sym phase ∙ w.if-begins.false) in
-          rw (w.self-inside-is, put) (record { image = subst (λ (x : List Item). IsImage i.base i.names i.token (change_at view_checked_out c.args.actor.0 i.actors.kept) x i.edits_made i.settings) (append-nil i.history.items) out.image; numbers_of_clients = c.self.invariant.numbers_of_clients; sends = c.self.invariant.sends; places = c.self.invariant.places; counts = counts_same i.changes c.make_room.new.self i.history.items c.make_room.ensures.same c.self.invariant.counts; totals = c.self.invariant.totals; compiled = c.self.invariant.compiled })
+          rw (w.self-inside-is, put) (record { image = subst (λ (x : List Item). IsImage i.base i.names i.token (change_at view_checked_out c.args.actor.0 i.actors.kept) x i.edits_made i.settings) (append-nil i.history.items) out.image; numbers_of_clients = c.self.invariant.numbers_of_clients; sends = c.self.invariant.sends; places = c.self.invariant.places; counts = counts_same i.changes c.make_room.new.self i.history.items c.make_room.ensures.same c.self.invariant.counts; totals = c.self.invariant.totals; compiled = c.self.invariant.compiled; before = c.self.invariant.before })
           )
     ]
 

@@ -21,4 +21,5 @@ returns g c =
       numbers = k.numbers;
       few_items = k.few_items;
       few_actors = omega (arith, count, c.len.ensures.few);
+      counted = record { posts = c.self.invariant.totals.few_posts; steps = c.self.invariant.totals.few_steps };
     })

@@ -1,4 +1,4 @@
-use Rattle.std.proofs.Common.{length, ◌≡◌, ◌==◌, ◌+◌, ◌^◌, cond, ℕ, ◌<◌, refl, sym, ap, subst, slice_get, ◌∙◌, ◌++◌, [], ◌∷◌, false, Some, List, Option, arith}
+use Rattle.std.proofs.Common.{length, ◌≡◌, ◌==◌, ◌+◌, cond, ℕ, ◌<◌, ◌≤◌, refl, sym, ap, subst, slice_get, ◌∙◌, ◌++◌, [], ◌∷◌, false, Some, List, Option, arith}
 use Rattle.std.proofs.lemmas.Grind.{common_steps}
 use Rattle.st_classes.specs.declared.values.ActorId.{ActorId}
 use Rattle.st_classes.specs.declared.keys.SiteId.{SiteId}
@@ -10,6 +10,7 @@ use Rattle.st_turn.proofs.ClaimsLater.{claims_survive}
 use Rattle.st_turn.specs.Idle.{is_idle}
 use Rattle.st_image.specs.Worlds.{World, change, change_at}
 use Rattle.st_image.specs.Replay.{with_body}
+use Rattle.st_image.specs.Counts.{most_counted, ran_of, weigh}
 use Rattle.st_image.specs.Images.{ImageView, Standing, world_of}
 use Rattle.st_image.specs.ActorViews.{ActorView, actor_view, view_after_steps}
 use Rattle.st_image.specs.ActResults.{TakesOuter, constants_of}
@@ -23,12 +24,12 @@ use Rattle.st_image.specs.declared.items.Item.TheVariants.{Ran}
 use Rattle.st_image.proofs.Posting.{seen, standing_of}
 use Rattle.st_image.proofs.Showing.{kept_at}
 use Rattle.st_image.proofs.Acts.{kept_is, out_same, some_kept}
-use Rattle.st_image.proofs.Committing.{HasTaken, MayCommit, has_taken, items_are, may_commit}
+use Rattle.st_image.proofs.Committing.{HasTaken, MayCommit, has_taken, items_are, may_commit, steps_room}
 use Rattle.st_image.proofs.CountingOut.{counts_same_out}
 use Rattle.st_image.proofs.ClientNumbers.{kept_other}
 use Rattle.st_image.proofs.CountingChanges.{counts_one}
 use Rattle.st_image.proofs.Covering.{covers_kept, has_places}
-use Rattle.st_image.proofs.CountingItems.{few_steps_of, items_ran}
+use Rattle.st_image.proofs.CountingItems.{items_ran}
 use Rattle.st_image.proofs.image.Image.take_steps.Goals as goal
 
 pub put_steps-requires-clause-busy : goal.put_steps-requires-clause-busy
@@ -83,7 +84,7 @@ invariant_of-self-in-Ok-put_steps g c =
     let pushed : c.push.new.self.items ≡ i.history.items ++ Ran c.actor-actor.result c.args.steps ∷ [] = grind (arith, common_steps) in
     let items : c.push.new.self.items ≡ i.history.items ++ Ran d.actor c.args.steps ∷ [] = pushed ∙ ap (λ (b : ActorId). i.history.items ++ Ran b c.args.steps ∷ []) c.actor-actor.ensures in
     let taken : HasTaken i.base i.names i.token c.put_steps.new.actors.kept i.history.items i.edits_made i.settings c.count.new.self d.actor c.args.steps = has_taken i.base i.names i.token i.actors.kept c.put_steps.new.actors.kept i.history.items i.edits_made i.settings beside i.tallies c.count.new.self d c.args.steps c.in-Ok-put_steps.field-0 c.self.invariant.image c.self.invariant.sends c.known.ensures allowed c.requires.steps c.requires.some may takes c.in-Ok-put_steps.ensures.grown tallied in
-    rw (items, kept_is _ _ c.release.ensures, c.from.ensures) (record { image = taken.image; numbers_of_clients = kept_other i.clients i.base.clients i.history.items (Ran d.actor c.args.steps) (λ qs. refl) c.self.invariant.numbers_of_clients; sends = taken.sends; places = covers_kept c.cover.new.self c.count.new.self c.cover.new.covered i.token c.count.ensures.keeps (subst (Covers c.cover.new.self c.cover.new.covered) c.shown-version.ensures c.cover.ensures.covers); counts = counts_one i.changes c.make_room.new.self c.raise.new.self i.history.items (Ran d.actor c.args.steps) d.actor.0 (λ a. refl) c.make_room.ensures.same (subst (λ (b : ActorId). (a : ℕ) → change_count c.raise.new.self a ≡ change_count c.make_room.new.self a + cond (a == b.0) 1 0) c.actor-actor.ensures c.raise.ensures) c.self.invariant.counts; totals = items_ran i.counts i.history.items d.actor c.args.steps (subst (λ (n : ℕ). n < 2 ^ 32) (sym c.requires.steps) (few_steps_of d c.known.ensures.few)) c.self.invariant.totals; compiled = c.self.invariant.compiled })
+    rw (items, kept_is _ _ c.release.ensures, c.from.ensures) (record { image = taken.image; numbers_of_clients = kept_other i.clients i.base.clients i.history.items (Ran d.actor c.args.steps) (λ qs. refl) c.self.invariant.numbers_of_clients; sends = taken.sends; places = covers_kept c.cover.new.self c.count.new.self c.cover.new.covered i.token c.count.ensures.keeps (subst (Covers c.cover.new.self c.cover.new.covered) c.shown-version.ensures c.cover.ensures.covers); counts = counts_one i.changes c.make_room.new.self c.raise.new.self i.history.items (Ran d.actor c.args.steps) d.actor.0 (λ a. refl) c.make_room.ensures.same (subst (λ (b : ActorId). (a : ℕ) → change_count c.raise.new.self a ≡ change_count c.make_room.new.self a + cond (a == b.0) 1 0) c.actor-actor.ensures c.raise.ensures) c.self.invariant.counts; totals = items_ran i.counts i.earlier i.history.items d.actor c.args.steps (subst (λ (n : ℕ). i.earlier.steps + weigh ran_of i.history.items + n ≤ most_counted) (sym c.requires.steps) (steps_room (seen i.base i.names i.history.items i.settings beside) d allowed.room)) c.self.invariant.totals; compiled = c.self.invariant.compiled; before = c.self.invariant.before })
 
 pub returns-in-Ok-put_steps-clause-ok : goal.returns-in-Ok-put_steps-clause-ok
 returns-in-Ok-put_steps-clause-ok g c =

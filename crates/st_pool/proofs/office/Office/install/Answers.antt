@@ -1,6 +1,6 @@
 use Rattle.std.specs.Prelude.{is_ok}
 use Rattle.std.proofs.Common.{subst}
-use Rattle.st_image.specs.Calls.{Defines, InstallsIn}
+use Rattle.st_image.specs.Calls.{InstallsIn}
 use Rattle.st_pool.specs.Done.{OfficeView}
 use Rattle.st_pool.specs.Books.{counted}
 use Rattle.st_pool.proofs.Weights.{kept_edited}
@@ -11,6 +11,7 @@ pub invariant_of-self : goal.invariant_of-self
 invariant_of-self g c = (
   kept_edited g.K.Naming.start c.self.inside.image c.install-answer.new.image c.self.inside.books c.edit.new.self (counted (is_ok c.install-answer.result)) c.self.invariant.0 c.install-answer.ensures.grows c.edit.ensures.books,
   front_later c.self.inside.front c.self.inside.image c.install-answer.new.image c.install-answer.ensures.later c.self.invariant.1,
+  c.self.invariant.2,
 )
 
 pub returns-clause-installs : goal.returns-clause-installs

@@ -53,7 +53,7 @@ result_fits refs edits objects (Start s args) h = All-nil (λ (o : Outcome). Fit
 result_fits refs edits objects (Frames fs) h = All-nil (λ (o : Outcome). FitsPhase refs edits objects (Done o))
 result_fits refs edits objects (Done o) h = All-cons (λ (p : Outcome). FitsPhase refs edits objects (Done p)) o [] h (All-nil (λ (p : Outcome). FitsPhase refs edits objects (Done p)))
 
-rebased_fits : (names : List (List ℕ)) (edits : List Edit) (actors : ℕ) (b : WorldActor) → IsWorldActor names edits actors b → IsWorldActor names edits actors (rebased b)
+pub rebased_fits : (names : List (List ℕ)) (edits : List Edit) (actors : ℕ) (b : WorldActor) → IsWorldActor names edits actors b → IsWorldActor names edits actors (rebased b)
 rebased_fits names edits actors b h = record {
   fits = h.fits;
   itself = h.itself;

@@ -1,0 +1,58 @@
+//! Image::checkpoint: the present world becomes the one that the image begins with.
+use crate::base::Base;
+use crate::changes::Changes;
+use crate::counts::Counts;
+use crate::earlier::Earlier;
+use crate::image::Image;
+use crate::tallies::Tallies;
+use st_mailbox::mailboxes::Mailbox;
+use std::alloc::{AllocError, Global};
+
+impl<M: Mailbox> Image<M> {
+    ghost use Rattle.std.specs.Prelude.{◌≡◌, ℕ, IfOk, OnOk, OnErr};
+    ghost use Rattle.st_image.specs.Changes.{change_count};
+    ghost use Rattle.st_image.specs.Checkpoints.{BeginsAnew};
+    ghost use Rattle.st_image.specs.Commits.{changed_at};
+    ghost use Rattle.st_image.specs.Images.{counts_of, edits_made};
+
+    /// All that was counted until now.
+    fn counted_so_far(&self, alloc: Global) -> Result<Earlier, AllocError>
+        ensures changes { IfOk result (λ e. (a : ℕ) → change_count e.changes a ≡ changed_at self.now a) }
+        ensures edits { IfOk result (λ e. e.edits ≡ edits_made self.now) }
+        ensures posts { IfOk result (λ e. e.posts ≡ (counts_of self.now).posts) }
+        ensures steps { IfOk result (λ e. e.steps ≡ (counts_of self.now).steps) }
+    {
+        self.token.shown().known();
+        let counts = self.counted();
+        let edits = self.earlier.edits() + self.edits_made;
+        self.earlier.with(alloc, &self.changes, edits, counts)
+    }
+
+    /// The present world becomes the one that the image begins with, and the history is emptied. How turns ended and the statistics
+    /// are forgotten. Messages that are pending are the turns 1 and on, and a turn that an actor is in, or behind, is turn 0. Senders'
+    /// numbers, the edits, the count of edits of the run, the place from which the next ready actor is looked for, the posts and
+    /// steps that are counted, and the claims that are out all stay.
+    ///
+    /// It takes time and memory as the actors' bodies and pending messages are large. An error says that nothing changed.
+    pub fn checkpoint(&mut self, alloc: Global) -> Result<(), AllocError>
+        ensures ok { OnOk result (BeginsAnew self.old self.new) }
+        ensures err { OnErr result (self.new ≡ self.old) }
+    {
+        self.can_be_base();
+        let parts = self.parts(alloc)?;
+        let clients = self.clients(alloc)?;
+        let table = self.token.again()?;
+        let results = self.actors.last_results(alloc)?;
+        let earlier = self.counted_so_far(alloc)?;
+        self.actors.begin_anew(results);
+        self.base = Base::new(table, parts, clients);
+        self.history = Vec::new(alloc);
+        self.edits_made = 0;
+        self.tallies = Tallies::new(alloc);
+        self.covered = 0;
+        self.changes = Changes::new(alloc);
+        self.counts = Counts { posts: 0, steps: 0 };
+        self.earlier = earlier;
+        Ok(())
+    }
+}

@@ -1,0 +1,27 @@
+-- Checkpoints of what lies under the lock.
+use Rattle.std.specs.Prelude.{◌≡◌, ◌+◌, List, [], ◌∷◌, length, Result, OnErr, nat_lt}
+use Rattle.st_classes.specs.declared.refusals.Refusal.{Refusal}
+use Rattle.st_classes.specs.declared.refusals.Refusal.TheVariants.{HistoryFull}
+use Rattle.st_classes.specs.Refusals.{Rule, first_of}
+use Rattle.st_image.specs.declared.counts.Counts.{Counts}
+use Rattle.st_image.specs.Calls.{AnswersExactly}
+use Rattle.st_image.specs.Checkpoints.{BeginsAnew}
+use Rattle.st_image.specs.Counts.{most_counted}
+use Rattle.st_image.specs.Images.{counts_of}
+use Rattle.st_pool.specs.Done.{OfficeView}
+
+-- the refusals of a checkpoint: no more items are emptied than places are counted for
+abbrev pub checkpoint_rules : OfficeView → List Rule
+checkpoint_rules o = (nat_lt most_counted (o.emptied + length o.image.history), HistoryFull) ∷ []
+
+-- The image begins anew, and the answer is what it has counted. The items of its history are emptied, and the books stay.
+pub record HasCheckpointed (o : OfficeView) (c : Counts) (p : OfficeView) : Type 0 where
+  pub image : BeginsAnew o.image p.image
+  pub counts : c ≡ counts_of p.image
+  pub emptied : p.emptied ≡ o.emptied + length o.image.history
+  pub books : p.books ≡ o.books
+
+-- a checkpoint is made; a refused one changes nothing
+abbrev pub Checkpoints : OfficeView → Result Counts Refusal → OfficeView → Type 0
+Checkpoints o result p = AnswersExactly (first_of (checkpoint_rules o)) result (λ c. HasCheckpointed o c p)
+    × OnErr result (p ≡ o)

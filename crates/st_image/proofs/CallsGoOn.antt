@@ -4,7 +4,7 @@ use Rattle.std.specs.Prelude.{OnErr, OnOk}
 use Rattle.st_classes.specs.declared.values.ActorId.{ActorId}
 use Rattle.st_classes.specs.declared.values.ClassId.{ClassId}
 use Rattle.st_classes.specs.declared.values.Selector.{Selector}
-use Rattle.st_classes.specs.declared.edits.Edit.TheVariants.{Define, Install, Remove}
+use Rattle.st_classes.specs.declared.edits.Edit.TheVariants.{Define, Install, Remove, Reparent}
 use Rattle.st_classes.specs.declared.refusals.Refusal.{Refusal}
 use Rattle.st_classes.specs.declared.refusals.Refusal.TheVariants.{Stale, Changed, HistoryFull, NoMemory, TooMany}
 use Rattle.st_classes.specs.declared.refusals.Limited.TheVariants.{Names, Edits}
@@ -12,8 +12,8 @@ use Rattle.st_classes.specs.Names.{interned}
 use Rattle.st_turn.specs.Claims.{ClaimView}
 use Rattle.st_mailbox.specs.declared.messages.Message.{Message}
 use Rattle.st_image.specs.declared.items.Item.TheVariants.{Begun, Closed, Created, Edited, Posted}
-use Rattle.st_image.specs.Images.{ImageView, accepted_by, appended, close_rules, create_rules, image_define_rules, image_post_rules, image_remove_rules, world}
-use Rattle.st_image.specs.Calls.{Closes, Creates, Defines, InstallsIn, Posts, Removes}
+use Rattle.st_image.specs.Images.{ImageView, accepted_by, appended, close_rules, create_rules, image_define_rules, image_post_rules, image_remove_rules, image_reparent_rules, world}
+use Rattle.st_image.specs.Calls.{Closes, Creates, Defines, InstallsIn, Posts, Removes, Reparents}
 use Rattle.st_image.specs.Installs.{LeavesNames}
 use Rattle.st_image.specs.Commits.{ChecksOut, Commits, HasCheckedOut, RefusesCommit, idle_at, items_of, with_out}
 use Rattle.st_image.proofs.GrowingEdits.{GoesOn, goes_added, goes_from, goes_named}
@@ -83,6 +83,9 @@ defines_goes i j name parent slots r (inr h) = goes_added (image_define_rules i 
 
 pub removes_goes : (i j : ImageView) (c : ClassId) (s : Selector) (r : Result ℕ Refusal) → Removes i c s r j → GoesOn i j
 removes_goes i j c s r h = goes_added (image_remove_rules i c s) i j (Edited (Remove c s)) (λ k. length (world k).edits) r h
+
+pub reparents_goes : (i j : ImageView) (c p : ClassId) (r : Result ℕ Refusal) → Reparents i c p r j → GoesOn i j
+reparents_goes i j c p r h = goes_added (image_reparent_rules i c p) i j (Edited (Reparent c p)) (λ k. length (world k).edits) r h
 
 pub creates_goes : (i j : ImageView) (c : ClassId) (r : Result ActorId Refusal) → Creates i c r j → GoesOn i j
 creates_goes i j c r h = goes_added (create_rules i c) i j (Created c) (λ k. record { 0 = length (world i).actors }) r h

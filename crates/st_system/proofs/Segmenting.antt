@@ -12,10 +12,10 @@ use Rattle.st_image.specs.Images.{ImageView, world}
 use Rattle.st_image.specs.Checkpoints.{BeginsAnew, MakesCheckpoint}
 use Rattle.st_image.specs.PostRules.{from_client}
 use Rattle.st_image.proofs.GrowingEdits.{GoesOn, goes_from}
-use Rattle.st_image.proofs.CallsGoOn.{checks_out_goes, closes_goes, commits_goes, creates_goes, defines_goes, installs_goes, interns_goes, out_goes, posts_goes, removes_goes}
+use Rattle.st_image.proofs.CallsGoOn.{checks_out_goes, closes_goes, commits_goes, creates_goes, defines_goes, installs_goes, interns_goes, out_goes, posts_goes, removes_goes, reparents_goes}
 use Rattle.st_system.specs.declared.events.Answer.{Answer}
 use Rattle.st_system.specs.declared.events.Event.{Event}
-use Rattle.st_system.specs.declared.events.Event.TheVariants.{Intern, Define, Install, Remove, Create, Post, Close, Checkpoint, Checkout, Local, Commit, Release, Forget}
+use Rattle.st_system.specs.declared.events.Event.TheVariants.{Intern, Define, Install, Remove, Reparent, Create, Post, Close, Checkpoint, Checkout, Local, Commit, Release, Forget}
 use Rattle.st_system.specs.Schedules.{BareClaim, Schedule, with_sends}
 use Rattle.st_system.specs.ImageEvents.{Interns}
 use Rattle.st_system.specs.ClaimEvents.{AtWorker, CommitsClaim, KeepsClaim, OfClaim, ReleasesClaim, StepsClaim, TakesClaim}
@@ -71,6 +71,7 @@ event_moves S T (Intern text) r h = inl (interns_by S.image T.image text h.0 h.2
 event_moves S T (Define name parent slots) r h = inl (defines_goes S.image T.image name parent slots h.0 h.2)
 event_moves S T (Install c source) r h = inl (installs_goes S.image T.image c source h.0 h.2)
 event_moves S T (Remove c s) r h = inl (removes_goes S.image T.image c s h.0 h.2)
+event_moves S T (Reparent c p) r h = inl (reparents_goes S.image T.image c p h.0 h.2)
 event_moves S T (Create c) r h = inl (creates_goes S.image T.image c h.0 h.2)
 event_moves S T (Post sender seq a s args) r (inl h) = same S T h.1
 event_moves S T (Post sender seq a s args) r (inr h) = inl (posts_goes S.image T.image a (from_client sender seq s args) h.0 h.2)

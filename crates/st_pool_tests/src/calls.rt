@@ -83,6 +83,15 @@ pub fn create<K: Naming, R: Wait>(
     caller.create(rt, alloc, class)
 }
 
+/// How many messages of clients were accepted, read in the hold of a checkpoint.
+pub fn checkpoint<K: Naming, R: Wait>(
+    rt: &R,
+    alloc: Global,
+    caller: &mut Caller<'_, K>,
+) -> Result<u64, Refusal> {
+    Ok(caller.checkpoint(rt, alloc)?.posts)
+}
+
 pub fn close<K: Naming, R: Wait>(
     rt: &R,
     caller: &mut Caller<'_, K>,

@@ -1,5 +1,6 @@
-//! Four callers, each on a thread, post to one actor.
+//! Four callers, each on a thread, post to one actor. A fifth may make checkpoints meanwhile.
 use crate::calls::*;
+use crate::doors::pause;
 use crate::plays::totals;
 use crate::pools::{Caller, Image, Stage};
 use crate::scenes::Scene;
@@ -18,19 +19,41 @@ use std::time::Clock;
 /// How many messages each caller posts.
 const EACH: u64 = 100;
 
-/// Posts numbers 1 and on of a sender, and says whether all were accepted, each behind the one before.
+/// The thread that makes checkpoints is the fifth.
+const FIFTH: u16 = 5;
+
+/// Posts numbers 1 and on of a sender, and says whether all were accepted, each behind the one before, or where a checkpoint has begun
+/// the numbers of turns anew.
 fn post_all<K: Naming, R: Wait>(
     rt: &R,
     alloc: Global,
     caller: &mut Caller<'_, K>,
     sender: u16,
+    are_anew: bool,
 ) -> bool {
     let mut last = 0;
     for number in 0..EACH {
         match post_of(rt, alloc, caller, sender, number + 1, FIRST, "a") {
-            Ok(turn) if turn > last => last = turn,
+            Ok(turn) if turn > last || are_anew => last = turn,
             _ => return false,
         }
+    }
+    true
+}
+
+/// Makes ten checkpoints, and says whether none was refused and the posts that they count never fall.
+fn make_checkpoints<K: Naming, R: Wait + Clock>(
+    rt: &R,
+    alloc: Global,
+    caller: &mut Caller<'_, K>,
+) -> bool {
+    let mut last = 0;
+    for _ in 0..10 {
+        match checkpoint(rt, alloc, caller) {
+            Ok(posts) if posts >= last => last = posts,
+            _ => return false,
+        }
+        pause(rt, 1);
     }
     true
 }
@@ -47,15 +70,35 @@ fn has_receipts<K: Naming>(share: &CallerShare<K>, sender: u16) -> bool {
     number == EACH
 }
 
+/// What the thread of a caller does, and whether it sees what it must.
+fn has_done<K: Naming, R: Wait + Clock>(
+    rt: &R,
+    alloc: Global,
+    scene: Scene,
+    caller: &mut Caller<'_, K>,
+    sender: u16,
+) -> bool {
+    if sender == FIFTH {
+        make_checkpoints(rt, alloc, caller)
+    } else {
+        post_all(rt, alloc, caller, sender, scene == Scene::Checkpoints)
+    }
+}
+
 /// The thread of a caller.
-fn post_on_thread<K: Naming, R: Wait>(rt: &R, alloc: Global, stage: &Stage<K>, sender: u16) {
+fn call_on_thread<K: Naming, R: Wait + Clock>(
+    rt: &R,
+    alloc: Global,
+    stage: &Stage<K>,
+    sender: u16,
+) {
     let Ok(mut caller) = stage.shared.caller(rt, alloc) else {
         stage.marks.note_wrong();
         return;
     };
-    let are_posted = post_all(rt, alloc, &mut caller, sender);
+    let is_done = has_done(rt, alloc, stage.scene, &mut caller, sender);
     let share = caller.end();
-    if !are_posted || !has_receipts(&share, sender) {
+    if !is_done || sender != FIFTH && !has_receipts(&share, sender) {
         stage.marks.note_wrong();
     }
     hand_back(rt, stage, share);
@@ -71,16 +114,17 @@ pub fn hand_back<K: Naming, R: Wait>(rt: &R, stage: &Stage<K>, share: CallerShar
     }
 }
 
-/// Lets four callers post, and waits for them.
-fn post_together<K: Naming + Send + Sync, R: Threads + Wait + Sync>(
+/// Lets callers call, and waits for them.
+fn call_together<K: Naming + Send + Sync, R: Threads + Wait + Clock + Sync>(
     rt: &R,
     alloc: Global,
     stage: &Stage<K>,
+    callers: u16,
 ) {
     thread::scope(thread::scope_env(), rt, |scope| {
-        for sender in 1..5 {
-            let posts = scope.spawn(move || post_on_thread(rt, alloc, stage, sender));
-            if posts.is_err() {
+        for sender in 0..callers {
+            let calls = scope.spawn(move || call_on_thread(rt, alloc, stage, sender + 1));
+            if calls.is_err() {
                 stage.marks.note_wrong();
             }
         }
@@ -128,8 +172,37 @@ pub fn crowd<K: Naming + Send + Sync, R: Threads + Wait + Clock + Sync>(
     if !make_actor(rt, alloc, caller, "a ^3 + 4 * 2") {
         return false;
     }
-    post_together(rt, alloc, stage);
+    call_together(rt, alloc, stage, 4);
     sees_order(rt, caller) && answers(rt, caller, FIRST, 400, 14)
+}
+
+/// The same while checkpoints are made. A message that is posted behind the last of them runs behind all others.
+pub fn among_checkpoints<K: Naming + Send + Sync, R: Threads + Wait + Clock + Sync>(
+    rt: &R,
+    alloc: Global,
+    stage: &Stage<K>,
+    caller: &mut Caller<'_, K>,
+) -> bool {
+    if !make_actor(rt, alloc, caller, "a ^3 + 4 * 2") {
+        return false;
+    }
+    call_together(rt, alloc, stage, FIFTH);
+    match post_of(rt, alloc, caller, FIFTH, 1, FIRST, "a") {
+        Ok(turn) => answers(rt, caller, FIRST, turn, 14),
+        Err(_) => false,
+    }
+}
+
+#[test]
+fn checkpoints_are_made_among_callers(rt: HostRuntime) -> Result<(), Fail> {
+    // each turn has seven steps
+    let wanted = Totals {
+        posts: 401,
+        edits: 2,
+        steps: 2807,
+    };
+    assert!(rt; totals(&rt, rt.alloc(), Scene::Checkpoints) == Some(Ok(wanted)));
+    Ok(())
 }
 
 #[test]

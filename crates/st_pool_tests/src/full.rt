@@ -116,6 +116,36 @@ pub fn late_wait<K: Naming, R: Wait + Clock>(
     is_called && rests_after(rt, marks, 2)
 }
 
+/// As before; but a checkpoint makes room, and a worker begins the quantum once more, in what is turn 0 then.
+pub fn room_again<K: Naming, R: Wait + Clock>(
+    rt: &R,
+    alloc: Global,
+    caller: &mut Caller<'_, K>,
+    marks: &Marks,
+) -> bool {
+    make_actor(rt, alloc, caller, "go ^1")
+        && post(rt, alloc, caller, 1, FIRST, "go") == Ok(1)
+        && rests_after(rt, marks, 1)
+        && is_refused(rt, alloc, caller, Call::Close)
+        && rests_after(rt, marks, 2)
+        && checkpoint(rt, alloc, caller) == Ok(1)
+        && answers(rt, caller, FIRST, 0, 1)
+        && post(rt, alloc, caller, 2, FIRST, "go") == Ok(1)
+        && answers(rt, caller, FIRST, 1, 1)
+}
+
+#[test]
+fn a_checkpoint_makes_room(rt: HostRuntime) -> Result<(), Fail> {
+    // each turn has three steps
+    let wanted = Totals {
+        posts: 2,
+        edits: 2,
+        steps: 6,
+    };
+    assert!(rt; totals(&rt, rt.alloc(), Scene::RoomAgain) == Some(Ok(wanted)));
+    Ok(())
+}
+
 #[test]
 fn workers_wait_where_the_history_is_full(rt: HostRuntime) -> Result<(), Fail> {
     let wanted = Totals {

@@ -4,10 +4,10 @@ ghost use Rattle.st_pool.specs.Counts.{amounts};
 
 use crate::by_callers::{closing, not_understood, numbers};
 use crate::calls::{FIRST, close};
-use crate::crowd::{crowd, hand_back};
+use crate::crowd::{among_checkpoints, crowd, hand_back};
 use crate::doors::{Door, Marks, TURNS, pause};
 use crate::edits::{reparented, unused_selector, used_selector};
-use crate::full::{at_checkout, at_commit, late_wait};
+use crate::full::{at_checkout, at_commit, late_wait, room_again};
 use crate::many::many_callers;
 use crate::overlap::overlap;
 use crate::pools::{Caller, Image, Shared, Stage, new_image, new_worker, no_shares};
@@ -100,6 +100,7 @@ fn act<K: Naming + Send + Sync, R: Threads + Wait + Clock + Sync>(
         Scene::FullAtCheckout => at_checkout(rt, alloc, caller, marks),
         Scene::FullAtCommit => at_commit(rt, alloc, caller, marks),
         Scene::LateWait => late_wait(rt, alloc, caller, marks),
+        Scene::RoomAgain => room_again(rt, alloc, caller, marks),
         Scene::Rest => rest(rt),
         Scene::Stopping => stopping(rt, alloc, caller, marks),
         Scene::Endless => endless(rt, alloc, caller, marks),
@@ -108,6 +109,7 @@ fn act<K: Naming + Send + Sync, R: Threads + Wait + Clock + Sync>(
         Scene::Waking => waking(rt, alloc, caller),
         Scene::WakingByCommit => waking_by_commit(rt, alloc, caller, marks),
         Scene::Crowd => crowd(rt, alloc, stage, caller),
+        Scene::Checkpoints => among_checkpoints(rt, alloc, stage, caller),
         Scene::Refused => calls_alone(rt, alloc, caller),
     }
 }

@@ -35,6 +35,9 @@ Ok(5) = reparent
 Ok(0) = close
 Err(Closed) = post 3 tag
 Err(Closed) = close
+Err(Pending) = outcome
+Ok(2) = checkpoint
+Err(Old { last: 2 }) = post 2 tag
 Err(Pending) = outcome";
 
 /// How many items, edits and actors an image has.
@@ -107,6 +110,7 @@ fn act<K: Naming, R: Wait>(
         "post" => post_line(rt, alloc, caller, rest),
         "intern" => Ok(u64::from(caller.intern(rt, alloc, rest.as_bytes())?.0)),
         "sites" => sites(rt, alloc, caller, rest),
+        "checkpoint" => checkpoint(rt, alloc, caller),
         "close" => {
             close(rt, caller, FIRST)?;
             Ok(0)

@@ -26,6 +26,8 @@ pub enum Scene {
     FullAtCommit,
     /// The same, and a caller calls before the worker waits.
     LateWait,
+    /// The same, and a checkpoint makes room.
+    RoomAgain,
     /// Nobody asks anything.
     Rest,
     /// The workers are told to stop while one has a claim.
@@ -42,6 +44,8 @@ pub enum Scene {
     WakingByCommit,
     /// Four callers post to one actor.
     Crowd,
+    /// The same, and a fifth makes checkpoints meanwhile.
+    Checkpoints,
     /// Calls of a caller alone, each of which may find no memory.
     Refused,
 }
@@ -97,12 +101,12 @@ impl Scene {
 
     pub fn settings(self) -> Settings {
         let capacity = match self {
-            Scene::Crowd => 1024,
+            Scene::Crowd | Scene::Checkpoints => 1024,
             _ => 64,
         };
         let history = match self {
             Scene::FullAtCheckout => 4,
-            Scene::FullAtCommit | Scene::LateWait => 5,
+            Scene::FullAtCommit | Scene::LateWait | Scene::RoomAgain => 5,
             _ => 1_000_000,
         };
         Settings { capacity, history }

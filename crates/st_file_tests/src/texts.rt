@@ -23,7 +23,7 @@ pub(crate) const LOOPING: &str =
 
 /// An actor of a class that was first under A and is under B.
 pub(crate) const MOVED: &str =
-    r#"{"actors":[{"body":{"objects":[{"class":"C","slots":[]}],"phase":"fresh"},"capacity":64,"class":"C","last":0,"open":true,"pending":[]}],"edits":[{"define":{"name":"A","slots":[],"super":"Object"}},{"install":{"class":"A","source":"who ^1"}},{"define":{"name":"B","slots":[],"super":"Object"}},{"install":{"class":"B","source":"who ^2"}},{"define":{"name":"C","slots":[],"super":"A"}},{"install":{"class":"C","source":"go ^self who"}},{"reparent":{"class":"C","super":"B"}}],"format":1,"names":["who","go"],"senders":[]}"#;
+    r#"{"actors":[{"body":{"objects":[{"class":"C","slots":[]}],"phase":"fresh"},"capacity":64,"class":"C","last":0,"open":true,"pending":[]}],"edits":[{"define":{"name":"A","slots":[],"super":"Object"}},{"install":{"class":"A","source":"who ^1"}},{"define":{"name":"B","slots":[],"super":"Object"}},{"install":{"class":"B","source":"who ^2"}},{"define":{"name":"C","slots":[],"super":"A"}},{"install":{"class":"C","source":"go ^self who"}},{"reparent":{"class":"C","super":"B"}}],"format":2,"names":["who","go"],"posts":0,"senders":[],"steps":0}"#;
 
 /// All kinds of values and of phases, an actor that is closed, and one that has sent.
 pub(crate) const VARIED: &str =

@@ -100,6 +100,16 @@ def many_classes():
     return lines
 
 
+def moved_classes():
+    """A class with 1,000 below it, on chains of 31, goes from one superclass to another and back."""
+    lines = plain([define("P"), define("Q"), define("T0")] + [define("T%d" % n, above="T%d" % (n - 1)) for n in range(1, 30)])
+    lines += plain([define("L%d" % n, above="T29") for n in range(970)])
+    for number in range(1000):
+        above = "Q" if number % 2 else "P"
+        lines.append(("a reparent above 1,000 classes", line_of(**{"class": "T0", "super": above}, cmd="reparent")))
+    return lines
+
+
 def large_bodies():
     """An actor with 1,024 objects of 64 variables, or 128 frames of 64 temporaries."""
     slots = ["s%d" % n for n in range(64)]
@@ -186,4 +196,4 @@ def many_sites():
     return lines
 
 
-TRIALS = [all_sources, odd_lines, many_classes, deep_classes, long_lists, large_bodies, many_actors, full_mailboxes, alike_names, meeting, many_items, many_sites]
+TRIALS = [all_sources, odd_lines, many_classes, moved_classes, deep_classes, long_lists, large_bodies, many_actors, full_mailboxes, alike_names, meeting, many_items, many_sites]

@@ -8,6 +8,10 @@ from .sources import LETTERS, numbered_names, sources
 CLASS = [define("M", ["x"]), actor("M")]
 
 
+CHECKPOINT = "a checkpoint of 65,536 actors"
+EMPTIED = "a checkpoint that empties 195,000 items"
+
+
 def plain(lines):
     return [(None, line) for line in lines]
 
@@ -131,6 +135,7 @@ def many_actors():
     for number in range(0, 65536, 64):
         lines.append(("a post to one of 65,536 actors", post("a", number + 1, to=number)))
     lines += [("a quantum among 65,536 actors", RUN)] * 200
+    lines.append((CHECKPOINT, line_of(cmd="checkpoint")))
     return lines
 
 
@@ -179,6 +184,7 @@ def many_items():
     for number in range(1, 65000):
         lines.append(("a post of a new sender", post("isNil", 1, sender=number)))
         lines.append(("a quantum of a history that grows", RUN))
+    lines.append((EMPTIED, line_of(cmd="checkpoint")))
     return lines
 
 

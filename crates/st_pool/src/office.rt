@@ -462,8 +462,8 @@ impl<K: Naming, M: Mailbox> Office<K, M> {
         self.sleepers = self.sleepers.wrapping_sub(1);
     }
 
-    /// Whether a worker may be asleep.
-    pub(crate) fn has_sleepers(&self) -> bool {
-        self.sleepers != 0
+    /// Whether an actor is ready while a worker may be asleep.
+    pub(crate) fn wants_help(&self) -> bool {
+        self.sleepers != 0 && self.image.next_ready().is_some()
     }
 }

@@ -62,7 +62,7 @@ fn next_work<K: Naming, M: Mailbox, R: Wait>(
 }
 
 /// Commits the steps of a quantum, and answers what the worker does next, both in one hold. A commit readies at most one actor more
-/// than this worker can take next, so one other worker is woken, if one sleeps.
+/// than this worker takes next, so one other worker is woken, where one sleeps and an actor is ready.
 fn turn_over<K: Naming, M: Mailbox, R: Wait>(
     rt: &R,
     alloc: Global,
@@ -75,9 +75,9 @@ fn turn_over<K: Naming, M: Mailbox, R: Wait>(
     let mut leavings = Leavings::none();
     let mut office = shared.enter(rt);
     let (answer, work) = office.turn_over(alloc, share, held, is_starved, &mut leavings);
-    let has_sleepers = office.has_sleepers();
+    let wants_help = office.wants_help();
     drop(office);
-    if answer.is_ok() && has_sleepers {
+    if answer.is_ok() && wants_help {
         shared.moved.notify_one();
     }
     work
@@ -109,7 +109,7 @@ fn take_quantum<G: Guard, K: Naming, M: Mailbox, T: Gate, R: Wait>(
 ///
 /// A claim that is refused by `Stale` or `Changed` is dropped, and the worker goes on. Where nothing is ready, where memory ran out
 /// or where the history is full, it sleeps until another call may have changed that: an accepted post, an edit, a new actor or a close
-/// (refused ones too), a commit of steps, or the stop. A refused post, `intern`, `outcome`, `stats` and `look` wake nobody.
+/// (refused ones too), a checkpoint, a commit of steps behind which another actor is ready, or the stop. A refused post, `intern`, `outcome`, `stats` and `look` wake nobody.
 pub fn worker_loop<G: Guard, K: Naming, M: Mailbox, T: Gate, R: Wait>(
     rt: &R,
     alloc: Global,

@@ -14,6 +14,7 @@ use crate::handlers::{Handler, reply_to};
 use crate::unread::{Cut, Unread};
 use crate::writing::write_reply;
 use st_classes::refusals::Refusal;
+use st_wire::line_readers::LineReader;
 use st_wire::replies::Reply;
 use st_wire::streams::{Input, Output};
 use std::alloc::Global;
@@ -38,6 +39,7 @@ fn tell<O: Output>(alloc: Global, output: &mut O, last: Refusal) -> Result<bool,
 /// Answers a line, and says that it did.
 fn answer<H: Handler, O: Output>(
     handler: &mut H,
+    reader: &mut LineReader,
     alloc: Global,
     output: &mut O,
     line: &[u8],
@@ -48,7 +50,7 @@ fn answer<H: Handler, O: Output>(
     ensures failures { O.failures output.new ≡ failures_after (end_of result) (O.failures output.old) }
     ensures unflushed { O.flushes output.new ≡ O.flushes output.old }
 {
-    let reply = reply_to(handler, alloc, line);
+    let reply = reply_to(handler, reader, alloc, line);
     match write_reply(alloc, output, &reply) {
         Ok(()) => Ok(true),
         Err(refusal) => Err(refusal),
@@ -58,6 +60,7 @@ fn answer<H: Handler, O: Output>(
 /// Answers what was cut, and says whether it was a line.
 fn serve<H: Handler, O: Output>(
     handler: &mut H,
+    reader: &mut LineReader,
     alloc: Global,
     output: &mut O,
     cut: Cut,
@@ -68,7 +71,7 @@ fn serve<H: Handler, O: Output>(
     ensures unflushed { O.flushes output.new ≡ O.flushes output.old }
 {
     match cut {
-        Cut::Line(text) => answer(handler, alloc, output, text.as_bytes()),
+        Cut::Line(text) => answer(handler, reader, alloc, output, text.as_bytes()),
         Cut::Partial => Ok(false),
         Cut::TooLong => tell(alloc, output, Refusal::TooLong),
         Cut::NoText => tell(alloc, output, Refusal::BadCommand),
@@ -79,6 +82,7 @@ fn serve<H: Handler, O: Output>(
 /// Answers the next line, and says whether there was one.
 fn answer_next<H: Handler, O: Output>(
     handler: &mut H,
+    reader: &mut LineReader,
     alloc: Global,
     output: &mut O,
     unread: &mut Unread,
@@ -91,12 +95,13 @@ fn answer_next<H: Handler, O: Output>(
     ensures unflushed { O.flushes output.new ≡ O.flushes output.old }
 {
     let cut = unread.take();
-    serve(handler, alloc, output, cut)
+    serve(handler, reader, alloc, output, cut)
 }
 
 /// Answers all whole lines, and says how many there were.
 fn answer_whole<H: Handler, O: Output>(
     handler: &mut H,
+    reader: &mut LineReader,
     alloc: Global,
     output: &mut O,
     unread: &mut Unread,
@@ -111,7 +116,7 @@ fn answer_whole<H: Handler, O: Output>(
     let most = unread.len();
     let mut count = 0;
     'lines: loop {
-        match answer_next(handler, alloc, output, unread) {
+        match answer_next(handler, reader, alloc, output, unread) {
             Ok(true) => {
                 prove!(count < most);
                 count += 1;
@@ -125,6 +130,7 @@ fn answer_whole<H: Handler, O: Output>(
 /// Answers the last line, where the input has ended and no whole line is left, and says whether there was one.
 pub(crate) fn answer_last<H: Handler, O: Output>(
     handler: &mut H,
+    reader: &mut LineReader,
     alloc: Global,
     output: &mut O,
     unread: &mut Unread,
@@ -136,7 +142,7 @@ pub(crate) fn answer_last<H: Handler, O: Output>(
     ensures unflushed { O.flushes output.new ≡ O.flushes output.old }
 {
     let cut = unread.take_last();
-    serve(handler, alloc, output, cut)
+    serve(handler, reader, alloc, output, cut)
 }
 
 /// Hands on what has been written, reads the next piece of the input and puts it behind the bytes that are unread. It is empty
@@ -175,6 +181,7 @@ fn read_piece<I: Input, O: Output>(
 /// Reads the next piece of the input, and answers all whole lines. It says how many there were, or nothing at the end.
 pub(crate) fn take_turn<H: Handler, I: Input, O: Output>(
     handler: &mut H,
+    reader: &mut LineReader,
     alloc: Global,
     input: &mut I,
     output: &mut O,
@@ -194,7 +201,7 @@ pub(crate) fn take_turn<H: Handler, I: Input, O: Output>(
 {
     match read_piece(input, output, unread, buffer) {
         Ok(0) => Ok(None),
-        Ok(_) => match answer_whole(handler, alloc, output, unread) {
+        Ok(_) => match answer_whole(handler, reader, alloc, output, unread) {
             Ok(count) => Ok(Some(count)),
             Err(refusal) => Err(refusal),
         },

@@ -3,7 +3,8 @@ ghost use Rattle.st_wire.specs.declared.commands.Command.{Command as CommandOf};
 ghost use Rattle.st_wire.specs.declared.replies.Reply.{Reply as ReplyOf};
 ghost use Rattle.st_session.specs.Sessions.{Replies};
 
-use st_wire::commands::{Command, read_command};
+use st_wire::commands::Command;
+use st_wire::line_readers::LineReader;
 use st_wire::replies::Reply;
 use std::alloc::Global;
 
@@ -18,10 +19,15 @@ pub trait Handler {
 }
 
 /// The reply to a line. One that is no command is BadCommand.
-pub(crate) fn reply_to<H: Handler>(handler: &mut H, alloc: Global, line: &[u8]) -> Reply
+pub(crate) fn reply_to<H: Handler>(
+    handler: &mut H,
+    reader: &mut LineReader,
+    alloc: Global,
+    line: &[u8],
+) -> Reply
     ensures { Replies H.answers handler.old line.now result handler.new }
 {
-    match read_command(alloc, line) {
+    match reader.read(alloc, line) {
         Ok(command) => handler.reply(alloc, command),
         Err(refusal) => Reply::Refused(refusal),
     }

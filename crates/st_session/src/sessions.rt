@@ -9,6 +9,7 @@ use crate::answering::{PIECE, answer_last, take_turn};
 use crate::handlers::Handler;
 use crate::unread::Unread;
 use st_classes::refusals::Refusal;
+use st_wire::line_readers::LineReader;
 use st_wire::streams::{Input, Output};
 use std::alloc::Global;
 
@@ -36,13 +37,22 @@ pub fn session<H: Handler, I: Input, O: Output>(
     ensures flushes { FlushesAsOftenAsReads (2 ^ 32) (I.reads input.old) (I.reads input.new) (O.flushes output.old) (O.flushes output.new) result }
     ensures failures { O.failures output.new ≡ failures_after (end_of result) (O.failures output.old) }
 {
+    let mut reader = LineReader::new(alloc);
     let mut unread = Unread::new(alloc);
     let mut buffer = [0u8; PIECE];
     let mut lines = 0;
     for reads in 0..READS {
-        match take_turn(handler, alloc, input, output, &mut unread, &mut buffer) {
+        match take_turn(
+            handler,
+            &mut reader,
+            alloc,
+            input,
+            output,
+            &mut unread,
+            &mut buffer,
+        ) {
             Ok(Some(count)) => lines += count,
-            Ok(None) => match answer_last(handler, alloc, output, &mut unread) {
+            Ok(None) => match answer_last(handler, &mut reader, alloc, output, &mut unread) {
                 Ok(is_line) => return Ok(lines + u64::from(is_line)),
                 Err(refusal) => return Err(refusal),
             },

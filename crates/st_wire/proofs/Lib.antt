@@ -7,3 +7,6 @@ pub mod KeyOrder
 pub mod ReturnWords
 pub mod ReturnStrings
 pub mod Returns
+pub mod Fronts
+pub mod FoundParts
+pub mod NumberTexts

@@ -1,5 +1,7 @@
 pub mod PartResults
 pub mod Fields
+pub mod Tokens
+pub mod Found
 pub mod Commands
 pub mod Names
 pub mod Replies

@@ -7,6 +7,7 @@ use std::alloc::Global;
 use std::test::*;
 
 /// What a command is to be. Of lists it says how long they are.
+#[derive(Drop)]
 pub(crate) enum Wanted {
     Define(&'static str, &'static str, usize),
     Method(&'static str, &'static str),

@@ -5,6 +5,8 @@
 #[cfg(test)]
 mod commands;
 #[cfg(test)]
+mod line_readers;
+#[cfg(test)]
 mod refused;
 #[cfg(test)]
 mod replies;

@@ -4,6 +4,7 @@ use crate::commands::{commands, is_wanted, no_commands, read};
 use crate::replies::two_sites;
 use st_classes::refusals::Refusal;
 use st_wire::commands::Command;
+use st_wire::line_readers::LineReader;
 use st_wire::replies::{Reply, reply_text};
 use std::alloc::{AllocError, Global};
 use std::test::*;
@@ -31,6 +32,30 @@ fn is_bad(alloc: Global, line: &str) -> bool {
 fn lines_are_refused(rt: HostRuntime) -> Result<(), Fail> {
     for line in no_commands() {
         assert!(rt; is_bad(rt.alloc(), line), "{line}");
+    }
+    Ok(())
+}
+
+fn kept_again(alloc: Global, reader: &mut LineReader, line: &str) -> Result<Command, Refusal> {
+    match reader.read(alloc, line.as_bytes()) {
+        Err(Refusal::NoMemory) => reader.read(alloc, line.as_bytes()),
+        answer => answer,
+    }
+}
+
+#[test]
+fn lines_are_read_by_one_reader(rt: HostRuntime) -> Result<(), Fail> {
+    let alloc = rt.alloc();
+    let mut reader = LineReader::new(alloc);
+    for (line, wanted) in commands() {
+        assert!(rt;
+            is_wanted(&kept_again(alloc, &mut reader, line)?, wanted),
+            "{line}"
+        );
+    }
+    for line in no_commands() {
+        let answer = kept_again(alloc, &mut reader, line);
+        assert!(rt; matches!(answer, Err(Refusal::BadCommand)), "{line}");
     }
     Ok(())
 }

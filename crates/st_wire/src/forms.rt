@@ -1,0 +1,106 @@
+//! The commands of what was found at the keys of a line's object.
+ghost use Rattle.std.specs.Prelude.{◌≡◌, ◌≤◌, Some, IfOk, IfSome};
+ghost use Rattle.st_wire.specs.Commands.{close_in, command_in, outcome_in, post_in, run_in};
+ghost use Rattle.st_wire.specs.Found.{IsOfForm};
+
+use crate::commands::{Command, DEFAULT_QUANTA};
+use crate::found::Found;
+use crate::tokens::{Miss, actor_of, copied};
+use std::alloc::Global;
+
+/// The command of what was found, if it is one that is read here.
+pub(crate) fn command_of(alloc: Global, found: Found<'_>) -> Result<Command, Miss>
+    ensures { IfOk result (IsOfForm command_in found.entry) }
+{
+    match found.cmd {
+        Some("post") => post(alloc, found),
+        Some("run") => run(found),
+        Some("outcome") => outcome(found),
+        Some("close") => close(found),
+        _ => Err(Miss::Undecided),
+    }
+}
+
+fn post(alloc: Global, found: Found<'_>) -> Result<Command, Miss>
+    ensures { IfOk result (IsOfForm post_in found.entry) }
+{
+    let (6, Some(actor), Some(_), Some(selector), Some(sender), Some(seq)) = (
+        found.count,
+        found.actor,
+        found.cmd,
+        found.selector,
+        found.sender,
+        found.seq,
+    ) else {
+        return Err(Miss::Undecided);
+    };
+    let Some(args) = found.args else {
+        return Err(Miss::Undecided);
+    };
+    if sender > 65_535 {
+        return Err(Miss::Undecided);
+    }
+    Ok(Command::Post {
+        actor: actor_of(actor)?,
+        args,
+        selector: copied(alloc, selector)?,
+        sender: sender as u16,
+        seq,
+    })
+}
+
+fn close(found: Found<'_>) -> Result<Command, Miss>
+    ensures { IfOk result (IsOfForm close_in found.entry) }
+{
+    let Found {
+        count: 2,
+        actor: Some(actor),
+        cmd: Some(_),
+        ..
+    } = found
+    else {
+        return Err(Miss::Undecided);
+    };
+    Ok(Command::Close {
+        actor: actor_of(actor)?,
+    })
+}
+
+fn run(found: Found<'_>) -> Result<Command, Miss>
+    ensures { IfOk result (IsOfForm run_in found.entry) }
+{
+    let quanta = match found {
+        Found {
+            count: 1,
+            cmd: Some(_),
+            ..
+        } => DEFAULT_QUANTA,
+        Found {
+            count: 2,
+            cmd: Some(_),
+            quanta: Some(quanta),
+            ..
+        } if 1 <= quanta && quanta <= 1_000_000 => quanta as u32,
+        _ => return Err(Miss::Undecided),
+    };
+    Ok(Command::Run { quanta })
+}
+
+fn outcome(found: Found<'_>) -> Result<Command, Miss>
+    ensures { IfOk result (IsOfForm outcome_in found.entry) }
+{
+    let Found {
+        count: 3,
+        actor: Some(actor),
+        cmd: Some(_),
+        turn: Some(turn),
+        ..
+    } = found
+    else {
+        return Err(Miss::Undecided);
+    };
+    Ok(Command::Outcome {
+        actor: actor_of(actor)?,
+        turn,
+    })
+}

@@ -1,0 +1,92 @@
+//! What stands at the keys of a line's object.
+ghost use Rattle.std.specs.Prelude.{◌≡◌, ◌+◌, ◌<◌, ◌≤◌, length, None, Some, OnOk, IfOk, IfSome};
+ghost use Rattle.serde_json.specs.Data.{Data, Members, no_members, put};
+ghost use Rattle.st_wire.specs.Found.{IsFoundIn};
+ghost use Rattle.st_wire.specs.Tokens.{BeginsWith, BeginsWithMembers};
+
+use crate::commands::Argument;
+use crate::tokens::{Miss, read_arguments, read_text, read_whole};
+use json::Reader;
+use st_classes::seq::Seq;
+use std::alloc::Global;
+
+/// The most keys of a command.
+const MOST_KEYS: usize = 6;
+
+/// What was found at the keys of a line's object, and how many keys there are.
+#[derive(Drop)]
+pub(crate) struct Found<'a> {
+    pub(crate) count: usize,
+    pub(crate) actor: Option<u64>,
+    pub(crate) args: Option<Seq<Argument>>,
+    pub(crate) cmd: Option<&'a str>,
+    pub(crate) quanta: Option<u64>,
+    pub(crate) selector: Option<&'a str>,
+    pub(crate) sender: Option<u64>,
+    pub(crate) seq: Option<u64>,
+    pub(crate) turn: Option<u64>,
+}
+
+/// Keeps what was found at a key, unless the key was there before.
+fn keep<T: Drop>(place: &mut Option<T>, part: T) -> Result<(), Miss>
+    ensures { OnOk result ((place.old ≡ None) × (place.new ≡ Some part)) }
+{
+    if place.is_some() {
+        return Err(Miss::Undecided);
+    }
+    *place = Some(part);
+    Ok(())
+}
+
+impl<'a> Found<'a> {
+    /// Nothing yet.
+    fn new() -> Found<'a>
+        ensures { IsFoundIn result no_members }
+    {
+        Found {
+            count: 0,
+            actor: None,
+            args: None,
+            cmd: None,
+            quanta: None,
+            selector: None,
+            sender: None,
+            seq: None,
+            turn: None,
+        }
+    }
+
+    /// Reads what stands at a key.
+    fn read(&mut self, alloc: Global, reader: &mut Reader<'a>, key: &str) -> Result<(), Miss>
+        ensures read { OnOk result ((d : Data) × BeginsWith 126 reader.old d reader.new
+            × ((ms : Members) → IsFoundIn self.old ms → IsFoundIn self.new (put key.now d ms))) }
+        ensures shorter { OnOk result (length reader.new < length reader.old) }
+    {
+        if self.count >= MOST_KEYS {
+            return Err(Miss::Undecided);
+        }
+        self.count += 1;
+        match key {
+            "actor" => keep(&mut self.actor, read_whole(reader)?),
+            "args" => keep(&mut self.args, read_arguments(alloc, reader)?),
+            "cmd" => keep(&mut self.cmd, read_text(reader)?),
+            "quanta" => keep(&mut self.quanta, read_whole(reader)?),
+            "selector" => keep(&mut self.selector, read_text(reader)?),
+            "sender" => keep(&mut self.sender, read_whole(reader)?),
+            "seq" => keep(&mut self.seq, read_whole(reader)?),
+            "turn" => keep(&mut self.turn, read_whole(reader)?),
+            _ => Err(Miss::Undecided),
+        }
+    }
+
+    /// Reads the members of an object behind its opening brace.
+    pub(crate) fn read_all(alloc: Global, reader: &mut Reader<'a>) -> Result<Found<'a>, Miss>
+        ensures { IfOk result (λ found. (ms : Members) × BeginsWithMembers 126 reader.old ms reader.new × IsFoundIn found ms) }
+    {
+        let mut found = Found::new();
+        'members: while let Some(key) = reader.next_key()? {
+            found.read(alloc, reader, key)?;
+        }
+        Ok(found)
+    }
+}

@@ -23,7 +23,7 @@ use Rattle.st_image.specs.CompiledEdits.{AllCompiled}
 use Rattle.st_image.specs.declared.counts.Counts.{Counts}
 use Rattle.st_image.specs.ActorViews.{ActorView, Shows}
 use Rattle.st_image.specs.ActResults.{constants_of}
-use Rattle.st_image.specs.declared.tallies.Tally.{Tally}
+use Rattle.st_turn.specs.declared.tally.Tally.{Tally}
 use Rattle.st_image.specs.Tallies.{CountsSends, Covers}
 
 -- the history leads from the base to the world that is kept, and all numbers are within their limits

@@ -12,7 +12,7 @@ use Rattle.st_classes.specs.EditRules.{is_value_class, define_rules, remove_rule
 use Rattle.st_mailbox.specs.declared.messages.Message.{Message}
 use Rattle.st_image.specs.declared.items.Item.{Item}
 use Rattle.st_image.specs.declared.settings.Settings.{Settings}
-use Rattle.st_image.specs.declared.tallies.Tally.{Tally}
+use Rattle.st_turn.specs.declared.tally.Tally.{Tally}
 use Rattle.st_image.specs.Worlds.{Constants, World, WorldActor, start, is_capacity}
 use Rattle.st_image.specs.PostRules.{post_rules}
 use Rattle.st_image.specs.Replay.{replay}

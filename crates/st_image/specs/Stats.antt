@@ -15,10 +15,11 @@ use Rattle.st_classes.specs.Refusals.{Rule}
 use Rattle.st_classes.specs.Classes.{is_class}
 use Rattle.st_classes.specs.EditLists.{method_at}
 use Rattle.st_classes.specs.Walks.{own}
-use Rattle.st_image.specs.declared.tallies.Tally.{Tally}
+use Rattle.st_turn.specs.declared.tally.Tally.{Tally}
 use Rattle.st_image.specs.declared.tallies.SiteStats.{SiteStats}
 use Rattle.st_image.specs.Images.{ImageView, constants, world}
-use Rattle.st_image.specs.Tallies.{CountsSends, sends_of, tally_at}
+use Rattle.st_turn.specs.Tallies.{sends_of}
+use Rattle.st_image.specs.Tallies.{CountsSends, tally_at}
 
 -- the user's method among those that a class can have
 abbrev pub user_method : Option Found → Option MethodId

@@ -9,7 +9,7 @@ use Rattle.st_sites.specs.declared.site.SiteState.TheVariants.{Empty, Mono, Poly
 use Rattle.st_image.specs.declared.tallies.SiteStats.{SiteStats}
 use Rattle.st_image.specs.Images.{ImageView, world}
 use Rattle.st_image.specs.Calls.{AnswersExactly}
-use Rattle.st_image.specs.Tallies.{sends_of}
+use Rattle.st_turn.specs.Tallies.{sends_of}
 use Rattle.st_image.specs.Stats.{installed_own, method_stats, stats_rules}
 use Rattle.st_wire.specs.declared.replies.SiteReport.{SiteReport}
 use Rattle.st_wire.specs.declared.replies.SiteState.{SiteState as Shown}

@@ -23,6 +23,8 @@ mod rows;
 #[cfg(test)]
 mod sends;
 #[cfg(test)]
+mod sums;
+#[cfg(test)]
 mod trials;
 #[cfg(test)]
 mod workers;

@@ -4,7 +4,7 @@ ghost use Rattle.std.specs.Option.{option_copied};
 ghost use Rattle.st_image.specs.Stats.{stats_with};
 
 use crate::image::Image;
-use crate::tallies::{SiteStats, Tally};
+use crate::tallies::SiteStats;
 use st_classes::counted_rows::{ClassRows, CountedRows};
 use st_classes::instructions::Instruction;
 use st_classes::kernel::Found;
@@ -13,6 +13,7 @@ use st_classes::methods::Method;
 use st_classes::refusals::Refusal;
 use st_classes::values::{ClassId, MethodId, Selector};
 use st_mailbox::mailboxes::Mailbox;
+use st_turn::tally::Tally;
 use std::alloc::{AllocError, Global};
 
 /// What is told of a send with a tally.

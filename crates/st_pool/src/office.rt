@@ -3,7 +3,7 @@ ghost use Rattle.std.specs.Prelude.{◌≡◌};
 ghost use Rattle.std.specs.Option.{IfSome};
 ghost use Rattle.st_classes.specs.declared.refusals.Refusal.TheVariants as refusals;
 ghost use Rattle.st_classes.specs.declared.refusals.Limited.TheVariants as limits;
-ghost use Rattle.st_pool.specs.Done.{looks_on};
+ghost use Rattle.st_pool.specs.Done.{takes_more as takes_more_of};
 ghost use Rattle.st_pool.specs.Seen.{Ends, MayFollow};
 
 use crate::books::{Blanks, Books, PARTS};
@@ -88,9 +88,10 @@ fn has_steps(answer: &Result<u32, Refusal>) -> bool {
     }
 }
 
-/// Whether a worker looks for work in the hold of its commit: its claim is spent, and what it committed did not end for want of memory.
-fn goes_on(answer: &Result<u32, Refusal>, is_starved: bool) -> bool
-    ensures { result ≡ looks_on is_starved answer.now }
+/// Whether a worker takes more work in the hold of its commit. It does not where its claim was handed back, nor where memory ran out in
+/// a quantum that was committed.
+fn takes_more(answer: &Result<u32, Refusal>, is_starved: bool) -> bool
+    ensures { result ≡ takes_more_of is_starved answer.now }
 {
     match answer {
         Ok(_) => !is_starved,
@@ -419,8 +420,7 @@ impl<K: Naming, M: Mailbox> Office<K, M> {
         answer
     }
 
-    /// Commits a claim for a worker, and finds what the worker does next. It is to wait where its claim was handed back, and where its
-    /// quantum ended for want of memory and was committed.
+    /// Commits a claim for a worker, and finds what the worker does next, where it takes more work. Else it is to wait.
     pub(crate) fn turn_over(
         &mut self,
         alloc: Global,
@@ -436,7 +436,7 @@ impl<K: Naming, M: Mailbox> Office<K, M> {
         ensures within { K.start.steps + mine.old ≤ (amounts self.old.image).steps }
     {
         let answer = self.commit(alloc, mine, held, leavings);
-        if !goes_on(&answer, is_starved) {
+        if !takes_more(&answer, is_starved) {
             return (answer, Work::Wait(self.moves));
         }
         let work = self.work(alloc, mine);

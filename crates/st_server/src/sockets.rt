@@ -35,7 +35,7 @@ use std::sync::{Mutex, Wait};
 use std::thread;
 use std::thread::{JoinHandle, Scope, Threads};
 
-/// The steps of a quantum: the most there may be, since each quantum takes the lock twice and is an item of the history.
+/// The steps of a quantum: the most there may be, since each quantum takes the lock once and is an item of the history.
 const QUANTUM: u32 = 1024;
 
 /// The most sessions at once.

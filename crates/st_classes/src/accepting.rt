@@ -200,10 +200,14 @@ impl Version {
     {
         self.kept();
         let depth = usize::from(self.depth(at));
+        let moved = usize::from(self.depth(class));
+        if depth < moved {
+            return depth;
+        }
         if !self.is_above(class, at) {
             return depth;
         }
-        depth - usize::from(self.depth(class)) + usize::from(self.depth(parent)) + 1
+        depth - moved + usize::from(self.depth(parent)) + 1
     }
 
     /// Whether some class would have too long a chain once a class is under a new superclass, which is not below it.
@@ -214,6 +218,9 @@ impl Version {
         ensures { result ≡ has_too_deep (reparented (classes self.now) class.0 parent) }
     {
         self.kept();
+        if self.depth(parent) < self.depth(class) {
+            return false;
+        }
         for number in 0..self.classes() {
             let at = ClassId(number as u16);
             if self.depth_after(at, class, parent) > limits::CHAIN {

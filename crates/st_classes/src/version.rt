@@ -40,7 +40,7 @@ use std::sync::Arc;
 pub struct Version {
     edits: Vec<SharedEdit>,
     rows: ClassRows,
-    /// How deep each class stands. Tables with the same classes under the same superclasses share it.
+    /// How deep each class stands: the number of classes on its chain. The table after an install or a removal shares it.
     depths: Arc<Depths>,
     /// The classes by name. Tables that define the same classes share it.
     named: Arc<ClassIndex>,

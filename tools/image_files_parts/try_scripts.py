@@ -3,12 +3,12 @@
 import json
 import os
 import re
-from itertools import repeat
+from itertools import chain, repeat
 
 from inspect_parts.try_common import EXAMPLES, FILES, TOP, read
 
 from .program import same, settings
-from .sessions import Cut, command_of
+from .sessions import MOST_STEPS, Cut, Kept, command_of
 
 # The pages with sessions, in blocks of lines behind `> ` with their replies. What stands behind the fence are options.
 PAGES = ("GUIDE.md", "PROTOCOL.md")
@@ -53,27 +53,79 @@ def line_by_line(program):
 
 
 CHECKPOINT = b'{"cmd":"checkpoint"}'
+# A worked script begins with its settings: the quantum, the room of mailboxes, and that of the history, which the program does not offer.
+WORKED = re.compile(r"^(?:const TEXT.*\")?(\d+) (\d+) 1000000 (.*)\n((?:\{.*\n?)+)", re.MULTILINE)
+
+
+def worked_scripts():
+    """The scripts of the crate of worked scripts, as all_scripts has them. A reply stands below each line."""
+    folder = os.path.join(TOP, "crates", "st_rows", "src", "scripts")
+    for name in sorted(os.listdir(folder)):
+        for quantum, capacity, says, text in WORKED.findall(read(os.path.join(folder, name)).decode()):
+            yield f"{name}: {says}", [line.encode() for line in text.splitlines()[::2]], int(quantum), int(capacity)
+
+
+class Anew(Kept):
+    """An image that has a checkpoint behind each line. `begun` says for each actor how many turns it had begun before the last one."""
+
+    def checkpoint(self, command):
+        self.begun = [self.earlier(actor.number) + actor.accepted - len(actor.pending) for actor in self.actors]
+        return super().checkpoint(command)
+
+    def renumbered(self, command):
+        """The command with the number that its turn has now; as it is, where its turn is forgotten."""
+        if "turn" not in command:
+            return command
+        turn = command["turn"] - self.earlier(command["actor"])
+        return {**command, "turn": turn} if turn >= 0 else command
+
+
+def renumbered(lines, whole, quantum, capacity):
+    """The lines with the numbers that turns have where there is a checkpoint behind each line, and the replies, by the second
+    implementation, to each line and to each checkpoint. `whole` are the replies without checkpoints."""
+    image = Anew(quantum, capacity)
+    for line, reply in zip(lines, whole):
+        asked, told = command_of(line), json.loads(reply)
+        if told.get("error") != "BadCommand":
+            command = image.renumbered(asked)
+            line, asked = (line, asked) if command == asked else (json.dumps(command).encode(), command)
+        yield line, image.take(asked, told), image.checkpoint({})
 
 
 def with_checkpoints(program):
-    """A checkpoint behind each line leaves the file that is saved as it is without, and the replies but for what it forgets."""
+    """A checkpoint behind each line leaves the file that is saved as it is without, and the replies but for what it forgets: how
+    turns ended, their numbers, and counts of call sites. Where the second implementation runs the script too, it says which numbers
+    the turns have, how those ended that are kept, and what each checkpoint has counted."""
     count = made = 0
-    for name, lines, quantum, capacity in all_scripts():
+    for name, lines, quantum, capacity in chain(all_scripts(), worked_scripts()):
         count += 1
         made += len(lines)
         options = settings(quantum, capacity)
         here = program.within(str(count))
         plain, often = here.at("plain"), here.at("often")
         wanted = here.replies(name, plain, lines, options)
-        found = here.replies(name, often, [it for line in lines for it in (line, CHECKPOINT)], options)
-        for line, one, other in zip(lines, wanted, found[::2]):
-            same(f"{name}: {line}", told(line, other), told(line, one))
+        if steps_of(wanted) > MOST_STEPS:
+            asked = [(line, None, None) for line in lines]
+        else:
+            asked = list(renumbered(lines, wanted, quantum, capacity))
+        found = here.replies(name, often, [it for line, _, _ in asked for it in (line, CHECKPOINT)], options)
+        for line, one, other, counted, (_, reply, counts) in zip(lines, wanted, found[::2], found[1::2], asked):
+            same(f"{name}: {line}", kept(line, other), kept(line, one))
+            if reply is not None and command_of(line)["cmd"] != "stats":
+                same(f"{name}: {line}, behind a checkpoint", json.loads(other), reply)
+            if counts is not None:
+                same(f"{name}: the checkpoint behind {line}", json.loads(counted), counts)
         same(f"{name}: what is saved", read(often), read(plain))
     return f"{count} scripts, {made} checkpoints"
 
 
-def told(line, reply):
-    """A reply without what a checkpoint forgets: how turns ended, their numbers, and counts of call sites."""
+def steps_of(replies):
+    """How many steps the runs of a script took."""
+    return sum(it["ok"].get("steps", 0) for it in map(json.loads, replies) if "ok" in it)
+
+
+def kept(line, reply):
+    """A reply without what a checkpoint forgets."""
     if command_of(line)["cmd"] == "outcome":
         return None
     reply = json.loads(reply)

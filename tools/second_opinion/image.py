@@ -1,7 +1,7 @@
 """The image: what each command of a script answers."""
 
 from .classes import Classes, Refused
-from .language import BadSource, MOST_ACTORS, MOST_RESULTS, arguments_of, is_selector
+from .language import BadSource, MOST_ACTORS, MOST_COUNTED, MOST_RESULTS, arguments_of, is_selector
 from .machine import Actor
 from .values import NIL, Value, boolean
 
@@ -92,6 +92,8 @@ class Image:
         refused = self.refusal(number)
         if refused:
             return {"error": refused}
+        if self.posts >= MOST_COUNTED:
+            return {"error": "HistoryFull"}
         self.deliver(number, selector, [self.value(argument) for argument in arguments])
         self.numbers[sender] = seq
         self.posts += 1
@@ -146,7 +148,10 @@ class Image:
             if actor is None:
                 break
             taken += 1
-            steps += self.take_quantum(actor)
+            count = self.take_quantum(actor)
+            if count is None:
+                return {"error": "HistoryFull"}
+            steps += count
             if self.patience is not None and steps > self.patience:
                 raise TooManySteps
         return {"ok": {"quanta": taken, "steps": steps}}
@@ -160,9 +165,11 @@ class Image:
 
     def take_quantum(self, actor):
         """The steps that a quantum took: as many as it may, fewer if the turn ends or comes to an outer step. That
-        step it takes too, and ends then."""
+        step it takes too, and ends then. None where the image cannot count so many more: then the turn has begun, and that is all."""
         if not actor.in_turn():
             actor.begin()
+        if self.steps + self.quantum >= MOST_COUNTED and self.passes(actor):
+            return None
         steps = 0
         while steps < self.quantum and actor.in_turn() and not actor.at_outer_step():
             actor.step()
@@ -174,6 +181,17 @@ class Image:
             self.ready.discard(actor.number)
         self.steps += steps
         return steps
+
+    def passes(self, actor):
+        """Whether the steps of the actor's next quantum are more than can be counted. The actor stays as it is."""
+        before, steps = actor.body(), self.steps
+        for _ in range(self.quantum):
+            if actor.in_turn() and not actor.at_outer_step():
+                actor.step()
+                steps += 1
+        steps += actor.at_outer_step()
+        actor.message, actor.objects, actor.frames, actor.results = before
+        return steps > MOST_COUNTED
 
     def checkpoint(self, command):
         """Turns are numbered from here on: 0 is the one that an actor is in, or else the last that it ended."""

@@ -16,6 +16,8 @@ MOST_FRAMES = 128
 MOST_OBJECTS = 1024
 MOST_ACTORS = 65536
 MOST_RESULTS = 64
+# Posts of clients, and steps.
+MOST_COUNTED = 2**63 - 1
 
 RESERVED = ("self", "super", "nil", "true", "false", "thisActor")
 

@@ -23,7 +23,7 @@ TIMES, MORE_TIMES = 2, 3
 # A line over so many bytes ends its session, so none is asked.
 LONGEST = 8192
 # Lines that are known to take longer, each with what it took when it was last looked at. docs/SECURITY.md says why.
-KNOWN = {trials.MEETING: 70, trials.NEW_MEETING: 10, trials.VARIABLES: 12}
+KNOWN = {trials.MEETING: 70, trials.NEW_MEETING: 10, trials.VARIABLES: 12, trials.CHECKPOINT: 70}
 
 
 def arguments():

@@ -8,6 +8,10 @@ from .sources import LETTERS, numbered_names, sources
 CLASS = [define("M", ["x"]), actor("M")]
 
 
+CHECKPOINT = "a checkpoint of 65,536 actors"
+EMPTIED = "a checkpoint that empties 195,000 items"
+
+
 def plain(lines):
     return [(None, line) for line in lines]
 
@@ -100,6 +104,16 @@ def many_classes():
     return lines
 
 
+def moved_classes():
+    """A class with 1,000 below it, on chains of 31, goes from one superclass to another and back."""
+    lines = plain([define("P"), define("Q"), define("T0")] + [define("T%d" % n, above="T%d" % (n - 1)) for n in range(1, 30)])
+    lines += plain([define("L%d" % n, above="T29") for n in range(970)])
+    for number in range(1000):
+        above = "Q" if number % 2 else "P"
+        lines.append(("a reparent above 1,000 classes", line_of(**{"class": "T0", "super": above}, cmd="reparent")))
+    return lines
+
+
 def large_bodies():
     """An actor with 1,024 objects of 64 variables, or 128 frames of 64 temporaries."""
     slots = ["s%d" % n for n in range(64)]
@@ -121,6 +135,7 @@ def many_actors():
     for number in range(0, 65536, 64):
         lines.append(("a post to one of 65,536 actors", post("a", number + 1, to=number)))
     lines += [("a quantum among 65,536 actors", RUN)] * 200
+    lines.append((CHECKPOINT, line_of(cmd="checkpoint")))
     return lines
 
 
@@ -169,6 +184,7 @@ def many_items():
     for number in range(1, 65000):
         lines.append(("a post of a new sender", post("isNil", 1, sender=number)))
         lines.append(("a quantum of a history that grows", RUN))
+    lines.append((EMPTIED, line_of(cmd="checkpoint")))
     return lines
 
 
@@ -186,4 +202,4 @@ def many_sites():
     return lines
 
 
-TRIALS = [all_sources, odd_lines, many_classes, deep_classes, long_lists, large_bodies, many_actors, full_mailboxes, alike_names, meeting, many_items, many_sites]
+TRIALS = [all_sources, odd_lines, many_classes, moved_classes, deep_classes, long_lists, large_bodies, many_actors, full_mailboxes, alike_names, meeting, many_items, many_sites]

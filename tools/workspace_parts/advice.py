@@ -36,7 +36,7 @@ REFUSALS = {
     "SlotsDiffer": "{super} has other variables than the class above {class} has now, inherited ones counted, and objects keep theirs; "
     "take a class with the same ones",
     "Stale": "a method that this used was edited meanwhile, and this was not done; try again",
-    "TooDeep": "the chain of classes above {class} would be over 64 long; take a class nearer to Object",
+    "TooDeep": "a chain of classes would be over 64 long; take a class nearer to Object",
     "TooLong": "this is too long for one line to the program, 8,192 bytes; make it shorter",
     "TooMany": "there would be too many {what}; start anew with :restart",
     "UnknownActor": "there is no {actor}; :actors lists those there are",
@@ -110,7 +110,7 @@ class Words(dict):
         if "selector" in command:
             self["name"] = command["selector"]
         if command["cmd"] == "define":
-            is_above = reply["error"] in ("UnknownClass", "KernelClass", "TooDeep")
+            is_above = reply["error"] in ("UnknownClass", "KernelClass")
             self["class"] = command["super" if is_above else "name"]
             self["name"] = bad_name(command)
         if command["cmd"] == "reparent" and reply["error"] == "KernelClass" and command["class"] not in KERNEL:

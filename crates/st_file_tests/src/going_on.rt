@@ -119,7 +119,10 @@ fn a_checkpoint_is_nothing_to_a_file(rt: HostRuntime) -> Result<(), Fail> {
 "#;
     let without = session_of(alloc, PENDING.as_bytes(), post)?;
     let with = session_of(alloc, PENDING.as_bytes(), checkpoint)?;
-    assert!(rt; with.replies.as_slice() == b"{\"ok\":{\"turn\":2}}\n{\"ok\":{\"posts\":2,\"steps\":0}}\n".as_slice());
+    assert!(rt;
+        with.replies.as_slice()
+            == b"{\"ok\":{\"turn\":2}}\n{\"ok\":{\"posts\":2,\"steps\":0}}\n".as_slice()
+    );
     assert!(rt; with.file.as_slice() == without.file.as_slice());
     Ok(())
 }

@@ -1,5 +1,5 @@
 //! Texts that are refused by a place, once something in them is changed.
-use crate::texts::{LOOPING, MOVED, PENDING, VARIED, refused, PENDING_BEFORE};
+use crate::texts::{LOOPING, MOVED, PENDING, PENDING_BEFORE, VARIED, refused};
 use st_classes::refusals::{ImagePlace, Refusal};
 use std::alloc::{AllocError, Global};
 use std::test::*;

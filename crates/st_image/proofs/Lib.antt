@@ -58,6 +58,7 @@ pub mod Alls
 pub mod LoadedNames
 pub mod LoadedOnce
 pub mod LoadingAll
+pub mod Leaving
 pub mod ClassPlaces
 pub mod Reloading
 pub mod SenderNumbers

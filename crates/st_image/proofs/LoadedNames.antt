@@ -30,7 +30,7 @@ use Rattle.st_classes.specs.MethodSuits.{suits}
 use Rattle.st_classes.specs.declared.refusals.ImagePlace.TheVariants as place
 use Rattle.st_classes.proofs.LawGrowing.{all_suit_more_names}
 use Rattle.st_image.proofs.CompiledEdits.{all_grown}
-use Rattle.st_image.specs.Loading.{HoldsLoader, LoaderView, LoadsName, InstallsTree, InstallsFrom, Nowhere, OnlyNames, AnswersTree, AnswersEdit, names_refusal}
+use Rattle.st_image.specs.Loading.{HoldsLoader, LoaderView, LoadsName, InstallsTree, InstallsFrom, Nowhere, AnswersTree, AnswersEdit, names_refusal}
 
 -- ---- names
 
@@ -152,13 +152,6 @@ pub grown_holds : (names after : List (List ℕ)) (edits : List Edit) → (more 
 grown_holds names after edits g h = record {
   suited = subst (λ (ns : List (List ℕ)). AllSuit ns edits) (sym g.1) (all_suit_more_names names g.0 edits h.suited);
   compiled = all_grown names after edits g h.compiled;
-}
-
-pub only_grown : (l : LoaderView) (names after : List (List ℕ)) (edits : List Edit) → record { names = names; edits = edits } ≡ l → (more : List (List ℕ)) × (after ≡ names ++ more) → OnlyNames l (record { names = after; edits = edits })
-only_grown l names after edits is g = record {
-  more = g.0;
-  names = g.1 ∙ ap (λ (v : LoaderView). v.names ++ g.0) is;
-  edits = ap (λ (v : LoaderView). v.edits) is;
 }
 
 -- a name is answered

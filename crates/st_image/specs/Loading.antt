@@ -1,5 +1,5 @@
 -- How the names and the class table of a file grow, name by name and edit by edit.
-use Rattle.std.specs.Prelude.{◌≡◌, ◌⊎◌, ℕ, List, [], ◌∷◌, ◌++◌, false, Some, None, Result, Ok, Err, drop, map, slice_get, unwrap_or}
+use Rattle.std.specs.Prelude.{◌≡◌, ◌⊎◌, ℕ, List, [], ◌∷◌, ◌++◌, false, Some, None, Result, Ok, Err, drop, length, map, slice_get, unwrap_or}
 use Rattle.st_classes.specs.declared.values.ClassId.{ClassId}
 use Rattle.st_classes.specs.declared.values.Selector.{Selector}
 use Rattle.st_classes.specs.declared.edits.Edit.{Edit}
@@ -18,11 +18,12 @@ use Rattle.st_classes.specs.EditRules.{edit_rules}
 use Rattle.st_reader.specs.Syntax.{Method}
 use Rattle.st_reader.specs.Spelling.{Spells}
 use Rattle.st_compile.specs.CompiledMethod.{IsCompiled}
-use Rattle.st_compile.specs.CompileRules.{method_rules}
-use Rattle.st_compile.specs.NeededNames.{interned_all, needed_texts}
+use Rattle.st_compile.specs.CompileRules.{code_rules, method_rules}
+use Rattle.st_compile.specs.NeededNames.{InternsFirst, interned_all, needed_texts}
 use Rattle.st_image.specs.declared.edit_text.EditText.{EditText}
 use Rattle.st_image.specs.declared.edit_text.EditText.TheVariants as text
 use Rattle.st_image.specs.CompiledEdits.{AllCompiled}
+use Rattle.st_image.specs.Installs.{InternsAll}
 
 -- names, and a list of edits
 pub record LoaderView : Type 0 where
@@ -125,12 +126,6 @@ abbrev pub AnswersName : LoaderView → List ℕ → LoaderView → Result (Unit
 AnswersName old name new (Ok _) = LoadsName old name new
 AnswersName old name new (Err e) = (new ≡ old) × ((e ≡ NoMemory) ⊎ ((e ≡ BadImage place.Names) × Nowhere (LoadsName old name)))
 
--- only names were added
-pub record OnlyNames (old new : LoaderView) : Type 0 where
-  pub more : List (List ℕ)
-  pub names : new.names ≡ old.names ++ more
-  pub edits : new.edits ≡ old.edits
-
 -- want of memory as it is, and any other refusal of an edit as that of the file's edits
 abbrev pub edits_refusal : Refusal → Refusal
 edits_refusal NoMemory = NoMemory
@@ -140,6 +135,37 @@ edits_refusal _ = BadImage place.Edits
 abbrev pub names_refusal : Refusal → Refusal
 names_refusal NoMemory = NoMemory
 names_refusal _ = BadImage place.Names
+
+-- ---- what a refused edit leaves
+
+-- a method that the source spells, with code in the class of the name
+pub record HasCode (l : LoaderView) (class source : List ℕ) (method : Method) : Type 0 where
+  pub holder : ClassId
+  pub named : class_named l.edits class ≡ Some holder
+  pub spelled : Spells method source
+  pub accepted : first_of (code_rules l.edits holder method) ≡ None
+
+-- only names were added, of such a method: the first ones that it needs, or all
+pub record AddsNeeded (Interned : List (List ℕ) → List (List ℕ) → List (List ℕ) → Type 0)
+    (l : LoaderView) (class source : List ℕ) (m : LoaderView) : Type 0 where
+  pub method : Method
+  pub coded : HasCode l class source method
+  pub interned : Interned l.names (needed_texts method) m.names
+  pub only : m ≡ record l { names = m.names }
+
+-- what a refused install leaves: where memory ran out, no names, or the first ones of such a method; else no names where
+-- there is no such method, the first ones where they fill the table, or all
+abbrev pub LeavesInstall : LoaderView → List ℕ → List ℕ → Refusal → LoaderView → Type 0
+LeavesInstall l class source NoMemory m = (m ≡ l) ⊎ AddsNeeded InternsFirst l class source m
+LeavesInstall l class source e m =
+    ((m ≡ l) × ((method : Method) → HasCode l class source method → ⊥))
+    ⊎ (AddsNeeded InternsFirst l class source m × (length m.names ≡ 8192))
+    ⊎ AddsNeeded InternsAll l class source m
+
+-- what a refused edit leaves, by its kind
+abbrev pub LeavesEdit : LoaderView → EditText → Refusal → LoaderView → Type 0
+LeavesEdit l (text.Install class source) e m = LeavesInstall l class source e m
+LeavesEdit l edit e m = m ≡ l
 
 -- ---- tables told as texts
 

@@ -217,7 +217,7 @@ impl<M: Mailbox> Image<M> {
         self.known();
     }
 
-    /// All that happened, in order.
+    /// All that happened since the image was made or loaded, or since its last checkpoint, in order.
     pub fn history(&self) -> &[Item]
         ensures { result.now ≡ self.now.history }
     {
@@ -259,8 +259,8 @@ impl<M: Mailbox> Image<M> {
         self.names.intern(alloc, text)
     }
 
-    /// How a turn of an actor ended. Turns are numbered from 1, as the actor's accepted messages are; turn 0 is the one with which
-    /// the actor began, in a turn or behind one.
+    /// How a turn of an actor ended. Turns are numbered as the actor's messages are: those that were pending when the image was loaded
+    /// or had its last checkpoint from 1, and then those accepted since. Turn 0 is the one that the actor was in at that time, or behind.
     ///
     /// Refusals, in this order: `UnknownActor`; `Expired` for turn 0 where the actor began with none, and for a turn whose result
     /// is no longer among the newest 64; `Pending` where the turn has not ended, or there is none.

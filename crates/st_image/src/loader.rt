@@ -81,15 +81,16 @@ impl Model for Loader {
 }
 
 impl Loader {
-    ghost use Rattle.std.specs.Prelude.{◌≡◌, ◌++◌, [], ◌∷◌, true, IfOk, OnOk, OnErr};
-    ghost use Rattle.st_classes.specs.Classes.{is_class};
+    ghost use Rattle.std.specs.Prelude.{◌≡◌, ◌++◌, ℕ, List, [], ◌∷◌, true, Some, IfOk, IfErr, OnOk, OnErr};
+    ghost use Rattle.st_classes.specs.declared.refusals.Refusal.{Refusal as RefusalOf};
+    ghost use Rattle.st_classes.specs.Classes.{class_named, is_class};
     ghost use Rattle.st_compile.specs.CompiledMethod.{IsCompiled};
-    ghost use Rattle.st_compile.specs.CompileRules.{method_rules};
-    ghost use Rattle.st_compile.specs.NeededNames.{interned_all, needed_texts};
+    ghost use Rattle.st_compile.specs.CompileRules.{code_rules, method_rules};
+    ghost use Rattle.st_compile.specs.NeededNames.{InternsFirst, IsFull, interned_all, needed_texts};
     ghost use Rattle.st_classes.specs.EditRules.{edit_rules};
     ghost use Rattle.st_classes.specs.MethodSuits.{edit_suits};
     ghost use Rattle.st_classes.specs.Refusals.{first_of, Answers};
-    ghost use Rattle.st_image.specs.Loading.{AnswersEdit, AnswersName, AnswersTree, InstallsFrom, LoadsDefine, LoadsRemove, LoadsReparent, LoadsEdit, OnlyNames};
+    ghost use Rattle.st_image.specs.Loading.{AnswersEdit, AnswersName, AnswersTree, InstallsFrom, LeavesEdit, LeavesInstall, LoadsDefine, LoadsRemove, LoadsReparent, LoadsEdit};
     ghost use Rattle.st_classes.specs.Kernel.{kernel_selectors};
     ghost use Rattle.st_classes.specs.Names.{AreNames};
     ghost use Rattle.st_classes.specs.EditLists.{AllSuit, AllSound, AreLawful};
@@ -149,10 +150,12 @@ impl Loader {
     /// Puts an edit last. An install's source is read and compiled, and the names that its code needs are put last too.
     ///
     /// `BadImage`, at the edits, says that an image would refuse the edit for another cause than the limits of a run or of the
-    /// history. Else the only refusal is `NoMemory`. A refused edit adds names at most.
+    /// history. Else the only refusal is `NoMemory`. A refused edit changes nothing, except that an install whose source has code
+    /// in its class may add names that this code needs: where the names are too many, those that fitted; for want of memory, some of
+    /// the first or all of them; for any other cause, all.
     pub fn edit(&mut self, alloc: Global, edit: &EditText) -> Result<(), Refusal>
         ensures answers { AnswersEdit (LoadsEdit self.old edit.now) self.new result }
-        ensures refused { OnErr result (OnlyNames self.old self.new) }
+        ensures refused { IfErr result (λ e. LeavesEdit self.old edit.now e self.new) }
     {
         match edit {
             EditText::Define {
@@ -193,7 +196,7 @@ impl Loader {
         slots: &Seq<Seq<u8>>,
     ) -> Result<(), Refusal>
         ensures answers { AnswersEdit (LoadsDefine self.old name.now parent.now slots.now) self.new result }
-        ensures refused { OnErr result (OnlyNames self.old self.new) }
+        ensures refused { OnErr result (self.new ≡ self.old) }
     {
         let Some(parent) = self.version.class_named(parent) else {
             return Err(EDITS);
@@ -217,7 +220,7 @@ impl Loader {
 
     fn install(&mut self, alloc: Global, class: &[u8], source: &[u8]) -> Result<(), Refusal>
         ensures answers { AnswersEdit (InstallsFrom self.old class.now source.now) self.new result }
-        ensures refused { OnErr result (OnlyNames self.old self.new) }
+        ensures refused { IfErr result (λ e. LeavesInstall self.old class.now source.now e self.new) }
     {
         let Some(class) = self.version.class_named(class) else {
             return Err(EDITS);
@@ -240,7 +243,10 @@ impl Loader {
         ensures answers { Answers (first_of (method_rules self.old.names self.old.edits class tree.now.syntax)) result
             (λ m. IsCompiled self.new.names self.old.edits class tree.now.syntax tree.now.source m) }
         ensures names { OnOk result (self.new.names ≡ interned_all self.old.names (needed_texts tree.now.syntax)) }
-        ensures only { OnlyNames self.old self.new }
+        ensures some { InternsFirst self.old.names (needed_texts tree.now.syntax) self.new.names }
+        ensures only { self.new ≡ record self.old { names = self.new.names } }
+        ensures full { IfErr result (λ e. IsFull self.new.names e) }
+        ensures untouched { (e : RefusalOf) → first_of (code_rules self.old.edits class tree.now.syntax) ≡ Some e → self.new ≡ self.old }
     {
         compile(alloc, tree, class, &self.version, &mut self.names)
     }
@@ -254,7 +260,7 @@ impl Loader {
     ) -> Result<(), Refusal>
         requires { is_class self.old.edits class ≡ true }
         ensures answers { AnswersTree self.old class tree.now.syntax tree.now.source self.new result }
-        ensures refused { OnErr result (OnlyNames self.old self.new) }
+        ensures refused { (name : List ℕ) → class_named self.old.edits name ≡ Some class → IfErr result (λ e. LeavesInstall self.old name tree.now.source e self.new) }
     {
         tree.known();
         let method = match self.compiled(alloc, tree, class) {
@@ -269,7 +275,7 @@ impl Loader {
 
     fn remove(&mut self, alloc: Global, class: &[u8], selector: &[u8]) -> Result<(), Refusal>
         ensures answers { AnswersEdit (LoadsRemove self.old class.now selector.now) self.new result }
-        ensures refused { OnErr result (OnlyNames self.old self.new) }
+        ensures refused { OnErr result (self.new ≡ self.old) }
     {
         let Some(class) = self.version.class_named(class) else {
             return Err(EDITS);
@@ -285,7 +291,7 @@ impl Loader {
 
     fn reparent(&mut self, alloc: Global, class: &[u8], parent: &[u8]) -> Result<(), Refusal>
         ensures answers { AnswersEdit (LoadsReparent self.old class.now parent.now) self.new result }
-        ensures refused { OnErr result (OnlyNames self.old self.new) }
+        ensures refused { OnErr result (self.new ≡ self.old) }
     {
         let Some(class) = self.version.class_named(class) else {
             return Err(EDITS);

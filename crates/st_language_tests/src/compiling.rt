@@ -25,12 +25,16 @@ pub(crate) fn kernel_names(alloc: Global) -> Result<Names, AllocError> {
     Names::kernel(alloc)
 }
 
-/// The tree of a source, on the heap as class tables are.
-pub(crate) fn read(alloc: Global, source: &str) -> Result<Box<MethodTree>, Refusal> {
-    match Box::new(alloc, read_method(alloc, source.as_bytes())?) {
+fn boxed(alloc: Global, tree: MethodTree) -> Result<Box<MethodTree>, Refusal> {
+    match Box::new(alloc, tree) {
         Ok(tree) => Ok(tree),
         Err(_) => Err(Refusal::NoMemory),
     }
+}
+
+/// The tree of a source, on the heap as class tables are.
+pub(crate) fn read(alloc: Global, source: &str) -> Result<Box<MethodTree>, Refusal> {
+    boxed(alloc, read_method(alloc, source.as_bytes())?)
 }
 
 /// What a tree in Counter is compiled to.
@@ -57,9 +61,9 @@ fn compiled(alloc: Global, source: &str, names: &mut Names) -> Result<Box<Method
 }
 
 /// What a source in Counter is compiled to, the first that has other names than the kernel's.
-fn compiled_first(alloc: Global, source: &str) -> Result<Box<Method>, Fail> {
+fn compiled_first(alloc: Global, source: &str) -> Result<Box<Method>, Refusal> {
     let mut names = kernel_names(alloc)?;
-    Ok(compiled(alloc, source, &mut names)?)
+    compiled(alloc, source, &mut names)
 }
 
 /// The depth and the instruction of each place of a method's code, a line each.
@@ -73,7 +77,7 @@ pub(crate) fn listing(alloc: Global, method: &Method) -> Result<String, AllocErr
 }
 
 /// Whether the source in the first line of a sample is compiled to what the others list.
-fn is_listed(alloc: Global, sample: &str) -> Result<bool, Fail> {
+fn is_listed(alloc: Global, sample: &str) -> Result<bool, Refusal> {
     let Some((source, code)) = sample.split_once('\n') else {
         return Ok(false);
     };
@@ -112,14 +116,17 @@ fn source_with_parts() -> &'static str {
     "at: i put: x | t | t := self foo: #bar. ^t + i"
 }
 
-#[test]
-fn parts(rt: HostRuntime) -> Result<(), Fail> {
-    let mut names = kernel_names(rt.alloc())?;
+/// Whether the method of `at:put:` has its parts, and the table its names.
+fn has_parts_and_names(alloc: Global) -> Result<(bool, bool), Refusal> {
+    let mut names = kernel_names(alloc)?;
     let source = source_with_parts();
-    let method = compiled(rt.alloc(), source, &mut names)?;
-    assert!(rt; are_parts(&method, source));
-    assert!(rt; has_its_names(&names));
-    Ok(())
+    let method = compiled(alloc, source, &mut names)?;
+    Ok((are_parts(&method, source), has_its_names(&names)))
+}
+
+#[test]
+fn parts(rt: HostRuntime) {
+    assert!(rt; has_parts_and_names(rt.alloc()) == Ok((true, true)));
 }
 
 /// The keywords of a method's pattern.
@@ -152,20 +159,20 @@ fn keywords_of_a_pattern(rt: HostRuntime) -> Result<(), Fail> {
 }
 
 /// `m ^1+(1+( ..`: so many brackets, and as many operands and one.
-fn deep(alloc: Global, brackets: usize) -> Result<String, Fail> {
+fn deep(alloc: Global, brackets: usize) -> Result<String, AllocError> {
     let open = "1+(".repeat(alloc, brackets)?;
     let closed = ")".repeat(alloc, brackets)?;
-    Ok(format!(in alloc; "m ^{open}1{closed}")?)
+    format!(in alloc; "m ^{open}1{closed}")
 }
 
 /// So many statements, which are twice as many instructions and two.
-fn long(alloc: Global, statements: usize) -> Result<String, Fail> {
+fn long(alloc: Global, statements: usize) -> Result<String, AllocError> {
     let statements = "1. ".repeat(alloc, statements)?;
-    Ok(format!(in alloc; "m {statements}")?)
+    format!(in alloc; "m {statements}")
 }
 
 /// How many instructions a source is compiled to.
-fn instructions(alloc: Global, source: &str) -> Result<usize, Fail> {
+fn instructions(alloc: Global, source: &str) -> Result<usize, Refusal> {
     Ok(compiled_first(alloc, source)?.code().len())
 }
 

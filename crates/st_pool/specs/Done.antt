@@ -1,8 +1,8 @@
 -- What a caller has done, and how it stands in an image.
-use Rattle.std.specs.Prelude.{◌≡◌, ◌⊎◌, ℕ, ◌+◌, ◌-◌, ◌<◌, ◌≤◌, List, [], ◌∷◌, ◌++◌, false, Option, None, Some, Result, Ok, Err, MatchResult, length, slice_get}
+use Rattle.std.specs.Prelude.{◌≡◌, ◌⊎◌, ℕ, ◌+◌, ◌-◌, ◌<◌, ◌≤◌, List, [], ◌∷◌, ◌++◌, Bool, true, false, not, Option, None, Some, Result, Ok, Err, MatchBool, MatchResult, length, slice_get}
 use Rattle.st_classes.specs.declared.values.ActorId.{ActorId}
 use Rattle.st_classes.specs.declared.refusals.Refusal.{Refusal}
-use Rattle.st_classes.specs.declared.refusals.Refusal.TheVariants.{NoMemory}
+use Rattle.st_classes.specs.declared.refusals.Refusal.TheVariants.{HistoryFull, NoMemory}
 use Rattle.st_mailbox.specs.declared.messages.Message.{Message}
 use Rattle.st_turn.specs.Claims.{ClaimView}
 use Rattle.st_image.specs.declared.items.Item.{Item}
@@ -76,6 +76,21 @@ ReleasesBack i (Some c) j = IsReleased i c.actor j
 abbrev pub Settles : ImageView → ClaimView → Result ℕ Refusal → ImageView → Type 0
 Settles i c (Ok n) j = Commits i c (Ok n) j
 Settles i c (Err e) j = (back : Option ClaimView) × (k : ImageView) × Commits i c (Err (e, back)) k × ReleasesBack k back j
+
+-- A worker goes on in the hold of its commit where its claim is spent: it was committed, and memory did not run out in its quantum; or
+-- it is Stale or Changed
+abbrev pub looks_on : Bool → Result ℕ Refusal → Bool
+looks_on starved (Ok n) = not starved
+looks_on starved (Err HistoryFull) = false
+looks_on starved (Err NoMemory) = false
+looks_on starved (Err e) = true
+
+-- A hold at the end of a quantum. First the claim is settled; in the image that this leaves the worker finds what is next, where it goes
+-- on. Else it is to wait, and nothing else has changed
+pub record TurnsOver (i : ImageView) (c : ClaimView) (starved : Bool) (result : Result ℕ Refusal) (work : Work ClaimView) (j : ImageView) : Type 0 where
+  pub between : ImageView
+  pub settles : Settles i c result between
+  pub next : MatchBool (looks_on starved result) (Takes between work j) ((moves : ℕ) × (work ≡ Wait moves) × (j ≡ between))
 
 -- the steps that were committed
 abbrev pub committed : Result ℕ Refusal → ℕ

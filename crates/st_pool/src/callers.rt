@@ -82,8 +82,9 @@ impl<'a, K: Naming, M: Mailbox> Caller<'a, K, M> {
         office.intern(alloc, text)
     }
 
-    /// Posts a message of a client, and answers the number of its turn: its place, from 1, among all that the actor's mailbox
-    /// accepted. Where it is accepted a receipt goes last; its room and its copy of the arguments are made before the lock is taken.
+    /// Posts a message of a client, and answers the number of its turn: its place, from 1, among what waited in the actor's mailbox at
+    /// the last checkpoint and what it accepted since. Where it is accepted a receipt goes last; its room and its copy of the arguments
+    /// are made before the lock is taken.
     ///
     /// It is refused, with the first that applies, by `UnknownActor`, `BadArguments`, `Old`, `Closed`, `Full` and `HistoryFull`, and
     /// by `NoMemory` where memory ran out. One worker that waits is woken where it is accepted.

@@ -1,7 +1,7 @@
 //! One image that threads share.
 //!
 //! The image lies under one lock, beside books of what has been done to it ([`shared::Shared`]). Callers post and edit, by one hold
-//! of the lock a call ([`callers::Caller`]). Workers hold it twice a quantum, and take the steps without it
+//! of the lock a call ([`callers::Caller`]). Workers hold it once a quantum, and take the steps without it
 //! ([`workers::worker_loop`]). Whoever looks sees an image that is the replay of its history, and that has at least what he has
 //! done. In the end all hand back their shares, and what they have done together is what the history has ([`settling::settle`]).
 #![tactic(auto)]

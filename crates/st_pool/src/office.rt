@@ -3,6 +3,7 @@ ghost use Rattle.std.specs.Prelude.{◌≡◌};
 ghost use Rattle.std.specs.Option.{IfSome};
 ghost use Rattle.st_classes.specs.declared.refusals.Refusal.TheVariants as refusals;
 ghost use Rattle.st_classes.specs.declared.refusals.Limited.TheVariants as limits;
+ghost use Rattle.st_pool.specs.Done.{looks_on};
 ghost use Rattle.st_pool.specs.Seen.{Ends, MayFollow};
 
 use crate::books::{Blanks, Books, PARTS};
@@ -87,6 +88,17 @@ fn has_steps(answer: &Result<u32, Refusal>) -> bool {
     }
 }
 
+/// Whether a worker looks for work in the hold of its commit: its claim is spent, and what it committed did not end for want of memory.
+fn goes_on(answer: &Result<u32, Refusal>, is_starved: bool) -> bool
+    ensures { result ≡ looks_on is_starved answer.now }
+{
+    match answer {
+        Ok(_) => !is_starved,
+        Err(Refusal::HistoryFull) | Err(Refusal::NoMemory) => false,
+        Err(_) => true,
+    }
+}
+
 impl<K: Naming, M: Mailbox> Office<K, M> {
     ghost use Rattle.std.specs.Prelude.{◌≡◌, ◌+◌, ◌<◌, ◌≤◌, ◌^◌, length, OnOk, OnErr, IfOk, IfErr, is_ok};
     ghost use Rattle.st_image.specs.Calls.{Closes, Creates, Defines, InstallsIn, Posts as PostsMessage, Removes, Reparents};
@@ -97,7 +109,7 @@ impl<K: Naming, M: Mailbox> Office<K, M> {
     ghost use Rattle.st_pool.specs.Books.{counted, no_books};
     ghost use Rattle.st_pool.specs.Checkpointed.{Checkpoints};
     ghost use Rattle.st_pool.specs.Counts.{amounts};
-    ghost use Rattle.st_pool.specs.Done.{HasAtLeast, Settles, Takes, committed, nothing_done};
+    ghost use Rattle.st_pool.specs.Done.{HasAtLeast, Settles, Takes, TurnsOver, committed, nothing_done};
 
     /// The image with empty books.
     pub(crate) fn new(image: Image<M>, blanks: Blanks, opened: Opened) -> Office<K, M>
@@ -385,7 +397,7 @@ impl<K: Naming, M: Mailbox> Office<K, M> {
     }
 
     /// Commits a claim for a worker, and releases it where it is handed back.
-    pub(crate) fn commit(
+    fn commit(
         &mut self,
         alloc: Global,
         mine: &mut WorkerShare<K>,
@@ -407,6 +419,30 @@ impl<K: Naming, M: Mailbox> Office<K, M> {
         answer
     }
 
+    /// Commits a claim for a worker, and finds what the worker does next. It is to wait where its claim was handed back, and where its
+    /// quantum ended for want of memory and was committed.
+    pub(crate) fn turn_over(
+        &mut self,
+        alloc: Global,
+        mine: &mut WorkerShare<K>,
+        held: Held<K>,
+        is_starved: bool,
+        leavings: &mut Leavings,
+    ) -> (Result<u32, Refusal>, Work<Held<K>>)
+        ensures turns { TurnsOver self.old.image held is_starved result.0 result.1 self.new.image }
+        ensures books { self.new.books ≡ record self.old.books { steps = self.old.books.steps + committed result.0 } }
+        ensures emptied { self.new.emptied ≡ self.old.emptied }
+        ensures share { mine.new ≡ mine.old + committed result.0 }
+        ensures within { K.start.steps + mine.old ≤ (amounts self.old.image).steps }
+    {
+        let answer = self.commit(alloc, mine, held, leavings);
+        if !goes_on(&answer, is_starved) {
+            return (answer, Work::Wait(self.moves));
+        }
+        let work = self.work(alloc, mine);
+        (answer, work)
+    }
+
     /// Whether nothing has moved since, and the workers are to go on.
     pub(crate) fn rests(&self, seen: u64) -> bool {
         self.moves == seen && !self.is_stopped
@@ -426,13 +462,8 @@ impl<K: Naming, M: Mailbox> Office<K, M> {
         self.sleepers = self.sleepers.wrapping_sub(1);
     }
 
-    /// Whether a worker may be asleep.
-    pub(crate) fn has_sleepers(&self) -> bool {
-        self.sleepers != 0
-    }
-
-    /// How often something has moved.
-    pub(crate) fn moves(&self) -> u64 {
-        self.moves
+    /// Whether an actor is ready while a worker may be asleep.
+    pub(crate) fn wants_help(&self) -> bool {
+        self.sleepers != 0 && self.image.next_ready().is_some()
     }
 }

@@ -1,7 +1,8 @@
 //! Workers: who lets ready actors take their quanta.
 //!
-//! A worker holds the lock twice for a quantum: to find the next ready actor and check it out, and to commit. Between them it takes
-//! the steps on its own claim, with its own caches, and holds no lock.
+//! A worker holds the lock once for a quantum: it commits the steps that it took, finds the next ready actor and checks it out. Between
+//! two holds it takes the steps on its own claim, with its own caches. What it does first, and after a wait, it finds in a hold of its
+//! own.
 ghost use Rattle.std.specs.Prelude.{◌≡◌, ◌≤◌, IfErr};
 ghost use Rattle.st_classes.specs.declared.refusals.Refusal.TheVariants as refusals;
 ghost use Rattle.st_classes.specs.declared.refusals.Limited.TheVariants as limits;
@@ -26,7 +27,7 @@ pub trait Gate {
     /// After the checkout, before the first step. The worker is named by the number that its loop was given.
     fn before(&mut self, worker: u32, claim: &Claim);
 
-    /// After the commit was answered.
+    /// After the commit was answered. The worker may have its next claim by then.
     fn after(&mut self, worker: u32);
 }
 
@@ -50,7 +51,7 @@ fn wait_past<K: Naming, M: Mailbox, R: Wait>(rt: &R, shared: &Shared<K, M>, seen
     behind.get_up();
 }
 
-/// What a worker does next.
+/// What a worker does first, or after a wait.
 fn next_work<K: Naming, M: Mailbox, R: Wait>(
     rt: &R,
     alloc: Global,
@@ -60,36 +61,29 @@ fn next_work<K: Naming, M: Mailbox, R: Wait>(
     shared.enter(rt).work(alloc, share)
 }
 
-/// Commits the steps of a quantum, and answers after how many moves the worker is to wait: `None` where it goes on at once. A commit
-/// readies at most one actor more than this worker can take next, so one other worker is woken, if one sleeps.
-fn commit<K: Naming, M: Mailbox, R: Wait>(
+/// Commits the steps of a quantum, and answers what the worker does next, both in one hold. A commit readies at most one actor more
+/// than this worker takes next, so one other worker is woken, where one sleeps and an actor is ready.
+fn turn_over<K: Naming, M: Mailbox, R: Wait>(
     rt: &R,
     alloc: Global,
     shared: &Shared<K, M>,
     share: &mut WorkerShare<K>,
     held: Held<K>,
     is_starved: bool,
-) -> Option<u64> {
+) -> Work<Held<K>> {
     // What is left of the commit is let go behind the hold.
     let mut leavings = Leavings::none();
     let mut office = shared.enter(rt);
-    let answer = office.commit(alloc, share, held, &mut leavings);
-    let moves = office.moves();
-    let has_sleepers = office.has_sleepers();
+    let (answer, work) = office.turn_over(alloc, share, held, is_starved, &mut leavings);
+    let wants_help = office.wants_help();
     drop(office);
-    match answer {
-        Ok(_) => {
-            if has_sleepers {
-                shared.moved.notify_one();
-            }
-            is_starved.then_some(moves)
-        }
-        Err(Refusal::HistoryFull) | Err(Refusal::NoMemory) => Some(moves),
-        Err(_) => None,
+    if answer.is_ok() && wants_help {
+        shared.moved.notify_one();
     }
+    work
 }
 
-/// Lets a claim take its quantum, and answers after how many moves the worker is to wait.
+/// Lets a claim take its quantum, and answers what the worker does next.
 fn take_quantum<G: Guard, K: Naming, M: Mailbox, T: Gate, R: Wait>(
     rt: &R,
     alloc: Global,
@@ -100,12 +94,12 @@ fn take_quantum<G: Guard, K: Naming, M: Mailbox, T: Gate, R: Wait>(
     quantum: u32,
     number: u32,
     gate: &mut T,
-) -> Option<u64> {
+) -> Work<Held<K>> {
     gate.before(number, held.claim());
     let is_starved = hand.run(alloc, &mut held, quantum).is_err();
-    let waits = commit(rt, alloc, shared, share, held, is_starved);
+    let work = turn_over(rt, alloc, shared, share, held, is_starved);
     gate.after(number);
-    waits
+    work
 }
 
 /// Lets ready actors take quanta of at most so many steps, from 1 to 1,024, until the workers are told to stop. The quantum that a
@@ -115,7 +109,7 @@ fn take_quantum<G: Guard, K: Naming, M: Mailbox, T: Gate, R: Wait>(
 ///
 /// A claim that is refused by `Stale` or `Changed` is dropped, and the worker goes on. Where nothing is ready, where memory ran out
 /// or where the history is full, it sleeps until another call may have changed that: an accepted post, an edit, a new actor or a close
-/// (refused ones too), a commit of steps, or the stop. A refused post, `intern`, `outcome`, `stats` and `look` wake nobody.
+/// (refused ones too), a checkpoint, a commit of steps behind which another actor is ready, or the stop. A refused post, `intern`, `outcome`, `stats` and `look` wake nobody.
 pub fn worker_loop<G: Guard, K: Naming, M: Mailbox, T: Gate, R: Wait>(
     rt: &R,
     alloc: Global,
@@ -130,19 +124,18 @@ pub fn worker_loop<G: Guard, K: Naming, M: Mailbox, T: Gate, R: Wait>(
 {
     let mut share = shared.enter(rt).employ()?;
     let mut hand = Hand::new(worker);
+    let mut work = next_work(rt, alloc, shared, &mut share);
     for _ in rt.forever() {
-        match next_work(rt, alloc, shared, &mut share) {
+        work = match work {
             Work::Stop => break,
-            Work::Wait(seen) => wait_past(rt, shared, seen),
-            Work::Turn(held) => {
-                let waits = take_quantum(
-                    rt, alloc, shared, &mut share, &mut hand, held, quantum, number, gate,
-                );
-                if let Some(seen) = waits {
-                    wait_past(rt, shared, seen);
-                }
+            Work::Wait(seen) => {
+                wait_past(rt, shared, seen);
+                next_work(rt, alloc, shared, &mut share)
             }
-        }
+            Work::Turn(held) => take_quantum(
+                rt, alloc, shared, &mut share, &mut hand, held, quantum, number, gate,
+            ),
+        };
     }
     Ok(share)
 }

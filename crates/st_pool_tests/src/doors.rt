@@ -62,6 +62,11 @@ impl Marks {
         self.gone.load(Ordering::SeqCst) >= wanted
     }
 
+    /// Whether each claim that the workers got was taken to the end of its quantum.
+    pub fn are_paired(&self) -> bool {
+        self.claims() == self.ended.load(Ordering::SeqCst)
+    }
+
     pub fn note_wrong(&self) {
         self.wrong.store(1, Ordering::SeqCst);
     }

@@ -199,7 +199,7 @@ fn leave_out<K: Naming>(shares: &mut Shares<K>, missing: Missing) {
 
 /// What settling answers, where all was as it must be before.
 fn settled<K: Naming>(stage: Stage<K>, missing: Missing) -> Option<Result<Totals, Refusal>> {
-    let is_wrong = stage.marks.is_wrong();
+    let is_wrong = stage.marks.is_wrong() || !stage.marks.are_paired();
     let Stage { shared, shares, .. } = stage;
     let mut shares = shares.into_inner();
     leave_out(&mut shares, missing);

@@ -189,6 +189,13 @@ fn a_checkpoint_is_nothing_to_claims(rt: HostRuntime) -> Result<(), Fail> {
     let answers = two_commits_behind_a_checkpoint(rt.alloc())?;
     assert!(rt; answers == [Ok(3), Err(Refusal::Changed)]);
     let answers = commits_round_a_checkpoint(rt.alloc())?;
-    assert!(rt; answers == [Ok(3), Err(Refusal::Changed), Err(Refusal::Stale { version: 4 })]);
+    assert!(rt;
+        answers
+            == [
+                Ok(3),
+                Err(Refusal::Changed),
+                Err(Refusal::Stale { version: 4 })
+            ]
+    );
     Ok(())
 }

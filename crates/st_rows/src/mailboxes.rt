@@ -312,6 +312,13 @@ fn posts_round_a_checkpoint(alloc: Global) -> Result<[Result<u64, Refusal>; 3], 
 #[test]
 fn a_checkpoint_makes_room(rt: HostRuntime) -> Result<(), Fail> {
     let answers = posts_round_a_checkpoint(rt.alloc())?;
-    assert!(rt; answers == [Err(Refusal::HistoryFull), Ok(1), Err(Refusal::Old { last: 1 })]);
+    assert!(rt;
+        answers
+            == [
+                Err(Refusal::HistoryFull),
+                Ok(1),
+                Err(Refusal::Old { last: 1 })
+            ]
+    );
     Ok(())
 }

@@ -67,7 +67,7 @@ pub enum Answer {
     Version(u32),
     /// The number of the new actor.
     Created(ActorId),
-    /// The place of the message among those that its actor accepted, from 1.
+    /// The number of the message's turn: its place, from 1, among those pending at the last checkpoint and those accepted since.
     Position(u64),
     /// It is done.
     Done,

@@ -5,19 +5,15 @@ use crate::workers::*;
 use st_classes::edits::Edit;
 use st_classes::refusals::Refusal;
 use st_classes::values::ActorId;
-use st_guard::global_guard::GlobalGuard;
 use st_guard::guard::Guard;
-use st_guard::switch_guard::SwitchGuard;
 use st_image::image::Image;
 use st_image::items::Item;
-use st_mailbox::list_box::ListBox;
 use st_mailbox::mailboxes::Mailbox;
 use st_mailbox::messages::{Message, Sender};
-use st_mailbox::ring_box::RingBox;
 use st_system::events::Event;
 use st_system::system::System;
 use st_turn::body::Outcome;
-use std::alloc::Global;
+use std::alloc::{AllocError, Global};
 use std::test::*;
 
 /// How many names there are: the kernel's, and those of lists.
@@ -125,12 +121,7 @@ fn is_same_history(events: &[Event], model: &[Done], history: &[Item]) -> bool {
 }
 
 /// Up to which edit of the class table the events that happened say, one after another, those behind so many edits.
-fn same_edits<M: Mailbox>(
-    events: &[Event],
-    model: &[Done],
-    before: u32,
-    image: &Image<M>,
-) -> u32 {
+fn same_edits<M: Mailbox>(events: &[Event], model: &[Done], before: u32, image: &Image<M>) -> u32 {
     let mut place = before;
     for done in model {
         if let Done::Event(event) = *done
@@ -192,31 +183,45 @@ fn is_same_outcomes<M: Mailbox>(image: &Image<M>, actor: ActorId, kept: &ModelAc
     true
 }
 
+/// In what a mailbox differs.
+fn mailbox_difference<M: Mailbox>(mailbox: &M, kept: &ModelActor) -> Option<&'static str> {
+    if !is_same_pending(mailbox, kept.pending()) {
+        Some("pending messages")
+    } else if is_open(mailbox) != kept.is_open {
+        Some("flags")
+    } else {
+        None
+    }
+}
+
+/// In what an actor differs beside its body and its mailbox.
+fn record_difference<M: Mailbox>(
+    image: &Image<M>,
+    actor: ActorId,
+    kept: &ModelActor,
+) -> Option<&'static str> {
+    if class_and_last(image, actor) != (Some(kept.class), Some(kept.last)) {
+        Some("classes or numbers")
+    } else if !is_same_outcomes(image, actor, kept) {
+        Some("outcomes")
+    } else {
+        None
+    }
+}
+
 /// In what an actor differs.
 fn actor_difference<M: Mailbox>(
     image: &Image<M>,
     actor: ActorId,
     kept: &ModelActor,
 ) -> Option<&'static str> {
-    let (Some(body), Some(mailbox)) = (body(image, actor), mailbox(image, actor)) else {
-        return Some("actors");
-    };
-    if !is_same_body(body, &kept.body) {
-        return Some("bodies");
+    match (body(image, actor), mailbox(image, actor)) {
+        (Some(body), Some(mailbox)) if is_same_body(body, &kept.body) => {
+            mailbox_difference(mailbox, kept).or(record_difference(image, actor, kept))
+        }
+        (Some(_), Some(_)) => Some("bodies"),
+        _ => Some("actors"),
     }
-    if !is_same_pending(mailbox, kept.pending()) {
-        return Some("pending messages");
-    }
-    if is_open(mailbox) != kept.is_open {
-        return Some("flags");
-    }
-    if class_and_last(image, actor) != (Some(kept.class), Some(kept.last)) {
-        return Some("classes or numbers");
-    }
-    if !is_same_outcomes(image, actor, kept) {
-        return Some("outcomes");
-    }
-    None
 }
 
 /// In what some actor differs.
@@ -290,6 +295,21 @@ fn first_difference<M: Mailbox, G: Guard>(
     ))
 }
 
+/// A model is put on the heap as systems are.
+fn new_model(alloc: Global) -> Result<Box<Model>, AllocError> {
+    Ok(Box::new(alloc, Model::new(alloc, 3)?)?)
+}
+
+/// The same for a new model.
+fn difference_from_model<M: Mailbox, G: Guard>(
+    alloc: Global,
+    system: &mut System<M, G>,
+    events: &[Event],
+) -> Result<Option<(usize, &'static str)>, AllocError> {
+    let mut model = new_model(alloc)?;
+    Ok(first_difference(alloc, system, &mut model, events))
+}
+
 /// The same for the list of a seed.
 fn difference_beside<M: Mailbox, G: Guard>(
     alloc: Global,
@@ -297,8 +317,7 @@ fn difference_beside<M: Mailbox, G: Guard>(
     seed: u64,
 ) -> Result<Option<(usize, &'static str)>, Refusal> {
     let events = random_list(alloc, seed, 600)?;
-    let mut model = Model::new(alloc, 3)?;
-    Ok(first_difference(alloc, system, &mut model, events.as_slice()))
+    Ok(difference_from_model(alloc, system, events.as_slice())?)
 }
 
 /// The same of a new system, whose mailboxes are queues for three messages.
@@ -306,21 +325,13 @@ fn difference_of_queues(
     alloc: Global,
     seed: u64,
 ) -> Result<Option<(usize, &'static str)>, Refusal> {
-    let mut system: Box<System<ListBox, GlobalGuard>> = new_system(
-        alloc,
-        3,
-        global_workers(alloc)?,
-    )?;
+    let mut system = new_queues(alloc)?;
     difference_beside(alloc, &mut system, seed)
 }
 
 /// The same of a new system, whose mailboxes are rings for three messages.
 fn difference_of_rings(alloc: Global, seed: u64) -> Result<Option<(usize, &'static str)>, Refusal> {
-    let mut system: Box<System<RingBox, SwitchGuard>> = new_system(
-        alloc,
-        3,
-        switch_workers(alloc)?,
-    )?;
+    let mut system = new_rings(alloc)?;
     difference_beside(alloc, &mut system, seed)
 }
 

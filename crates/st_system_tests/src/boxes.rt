@@ -5,14 +5,10 @@ use crate::rounds::{BUSY, events_of_rounds};
 use crate::workers::*;
 use st_classes::refusals::Refusal;
 use st_classes::values::{ActorId, ClassId, Selector};
-use st_guard::global_guard::GlobalGuard;
 use st_guard::guard::Guard;
-use st_guard::switch_guard::SwitchGuard;
 use st_image::image::Image;
 use st_image::items::Item;
-use st_mailbox::list_box::ListBox;
 use st_mailbox::mailboxes::Mailbox;
-use st_mailbox::ring_box::RingBox;
 use st_system::events::Event;
 use st_system::system::System;
 use std::alloc::Global;
@@ -169,16 +165,8 @@ fn difference_of_boxes(
     alloc: Global,
     events: &[Event],
 ) -> Result<Option<(usize, &'static str)>, Refusal> {
-    let mut queues: Box<System<ListBox, GlobalGuard>> = new_system(
-        alloc,
-        3,
-        global_workers(alloc)?,
-    )?;
-    let mut rings: Box<System<RingBox, SwitchGuard>> = new_system(
-        alloc,
-        3,
-        switch_workers(alloc)?,
-    )?;
+    let mut queues = new_queues(alloc)?;
+    let mut rings = new_rings(alloc)?;
     Ok(first_difference(alloc, &mut queues, &mut rings, events))
 }
 
@@ -193,11 +181,7 @@ fn begun(items: &[Item], actor: ActorId) -> usize {
 /// What a list does to the rings of three places: how many of its events are refused as `Full`, how many as `Closed`, and how many
 /// messages the busy actor begins.
 fn work_of(alloc: Global, events: &[Event]) -> Result<(u32, u32, usize), Refusal> {
-    let mut system: Box<System<RingBox, SwitchGuard>> = new_system(
-        alloc,
-        3,
-        switch_workers(alloc)?,
-    )?;
+    let mut system = new_rings(alloc)?;
     let (mut full, mut closed) = (0u32, 0u32);
     for event in events {
         match apply(alloc, &mut system, event) {
@@ -209,13 +193,18 @@ fn work_of(alloc: Global, events: &[Event]) -> Result<(u32, u32, usize), Refusal
     Ok((full, closed, begun(history(image(&system)), BUSY)))
 }
 
+/// How many events the list has, the first difference, and what the list does.
+type Both = (usize, Option<(usize, &'static str)>, (u32, u32, usize));
+
+fn of_rounds(alloc: Global) -> Result<Both, Refusal> {
+    let events = events_of_rounds(alloc)?;
+    let difference = difference_of_boxes(alloc, &events)?;
+    let work = work_of(alloc, &events)?;
+    Ok((events.len(), difference, work))
+}
+
 /// 33 messages go through a ring of three places, which is eleven times round.
 #[test]
-fn both_boxes(rt: HostRuntime) -> Result<(), Fail> {
-    let alloc = rt.alloc();
-    let events = events_of_rounds(alloc)?;
-    assert_eq!(rt; events.len(), 200);
-    assert_eq!(rt; difference_of_boxes(alloc, &events)?, None);
-    assert_eq!(rt; work_of(alloc, &events)?, (10, 4, 33));
-    Ok(())
+fn both_boxes(rt: HostRuntime) {
+    assert_eq!(rt; of_rounds(rt.alloc()), Ok((200, None, (10, 4, 33))));
 }

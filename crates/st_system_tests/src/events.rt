@@ -121,14 +121,26 @@ fn full_history() -> Rows {
     FULL_HISTORY
 }
 
+/// A new system with a history of at most so many items, whose actor has a message.
+fn posted(alloc: Global, history: u32) -> Result<Box<TwoWorkers>, Refusal> {
+    let mut system = new_system(alloc, history)?;
+    if is_posted(alloc, &mut system)? {
+        Ok(system)
+    } else {
+        Err(Refusal::BadArguments)
+    }
+}
+
+/// The place of the first event that does not answer as it has to, and how many items there are behind all.
+fn after(alloc: Global, rows: Rows) -> Result<(Option<usize>, usize), Refusal> {
+    let mut system = posted(alloc, MOST)?;
+    let wrong = first_wrong(alloc, &mut system, rows);
+    Ok((wrong, items(&system)))
+}
+
 #[test]
-fn refuses_misplaced_events(rt: HostRuntime) -> Result<(), Fail> {
-    let alloc = rt.alloc();
-    let mut system = new_system(alloc, MOST)?;
-    assert!(rt; is_posted(alloc, &mut system)?);
-    assert_eq!(rt; first_wrong(alloc, &mut system, misplaced()), None);
-    assert!(rt; items(&system) == 6);
-    Ok(())
+fn refuses_misplaced_events(rt: HostRuntime) {
+    assert_eq!(rt; after(rt.alloc(), misplaced()), Ok((None, 6)));
 }
 
 /// Whether the history ends with one run of three steps, and has no other.
@@ -136,16 +148,18 @@ fn has_run_three(system: &TwoWorkers) -> bool {
     items(system) == 7 && ends_with_a_run(system, 3)
 }
 
+/// The same of one of two claims, and then of a claim of no steps, each with whether there is one run of three steps.
+fn after_two_claims(alloc: Global) -> Result<(Option<usize>, bool, Option<usize>, bool), Refusal> {
+    let mut system = posted(alloc, MOST)?;
+    let two = first_wrong(alloc, &mut system, two_claims());
+    let has_run = has_run_three(&system);
+    let none = first_wrong(alloc, &mut system, no_steps());
+    Ok((two, has_run, none, has_run_three(&system)))
+}
+
 #[test]
-fn commits_one_of_two_claims(rt: HostRuntime) -> Result<(), Fail> {
-    let alloc = rt.alloc();
-    let mut system = new_system(alloc, MOST)?;
-    assert!(rt; is_posted(alloc, &mut system)?);
-    assert_eq!(rt; first_wrong(alloc, &mut system, two_claims()), None);
-    assert!(rt; has_run_three(&system));
-    assert_eq!(rt; first_wrong(alloc, &mut system, no_steps()), None);
-    assert!(rt; has_run_three(&system));
-    Ok(())
+fn commits_one_of_two_claims(rt: HostRuntime) {
+    assert_eq!(rt; after_two_claims(rt.alloc()), Ok((None, true, None, true)));
 }
 
 /// Whether the events behind a claim of three steps and an install answer as they have to, and leave so many items.
@@ -156,17 +170,11 @@ fn is_answered(
     rows: Rows,
     wanted: usize,
 ) -> Result<bool, Refusal> {
-    let mut system = new_system(alloc, MOST)?;
-    let Ok(true) = is_posted(alloc, &mut system) else {
-        return Ok(false);
-    };
-    let stepped = first_wrong(alloc, &mut system, three_steps());
-    let installed = install(alloc, &mut system, class, source);
-    let wrong = first_wrong(alloc, &mut system, rows);
+    let mut system = posted(alloc, MOST)?;
     Ok(
-        stepped.is_none()
-            && installed == Ok(Answer::Version(4))
-            && wrong.is_none()
+        first_wrong(alloc, &mut system, three_steps()).is_none()
+            && install(alloc, &mut system, class, source) == Ok(Answer::Version(4))
+            && first_wrong(alloc, &mut system, rows).is_none()
             && items(&system) == wanted,
     )
 }
@@ -174,65 +182,72 @@ fn is_answered(
 /// The second of two claims is refused, and so is one after an edit of a message that its steps sent, or of the one for messages
 /// that are not understood; one after an edit of another message is committed.
 #[test]
-fn by_events(rt: HostRuntime) -> Result<(), Fail> {
+fn by_events(rt: HostRuntime) {
     let alloc = rt.alloc();
-    let mut system = new_system(alloc, MOST)?;
-    assert!(rt; is_posted(alloc, &mut system)?);
-    assert_eq!(rt; first_wrong(alloc, &mut system, two_claims()), None);
-    for (class, source) in [(SMALL_INTEGER, "tag ^2"), (A, "doesNotUnderstand: s ^s")] {
-        assert!(rt;
-            is_answered(alloc, class, source, stale_claim(), 7)?,
-            "{source}"
-        );
-    }
-    assert!(rt; is_answered(alloc, A, "bump ^0", surviving_claim(), 8)?);
-    Ok(())
+    let unheard = "doesNotUnderstand: s ^s";
+    assert_eq!(rt; after(alloc, two_claims()), Ok((None, 7)));
+    assert!(rt; is_answered(alloc, SMALL_INTEGER, "tag ^2", stale_claim(), 7) == Ok(true));
+    assert!(rt; is_answered(alloc, A, unheard, stale_claim(), 7) == Ok(true));
+    assert!(rt; is_answered(alloc, A, "bump ^0", surviving_claim(), 8) == Ok(true));
 }
 
 /// Whether a claim of so many rows of steps commits so after class A got the superclass again that it has.
 fn is_answered_after_reparent(alloc: Global, rows: Rows, wanted: usize) -> Result<bool, Refusal> {
-    let mut system = new_system(alloc, MOST)?;
-    let Ok(true) = is_posted(alloc, &mut system) else {
-        return Ok(false);
-    };
-    let stepped = first_wrong(alloc, &mut system, three_steps());
-    let reparented = reparent(alloc, &mut system, A, OBJECT);
-    let wrong = first_wrong(alloc, &mut system, rows);
+    let mut system = posted(alloc, MOST)?;
     Ok(
-        stepped.is_none()
-            && reparented == Ok(Answer::Version(4))
-            && wrong.is_none()
+        first_wrong(alloc, &mut system, three_steps()).is_none()
+            && reparent(alloc, &mut system, A, OBJECT) == Ok(Answer::Version(4))
+            && first_wrong(alloc, &mut system, rows).is_none()
             && items(&system) == wanted,
     )
 }
 
-/// A reparent touches every selector, though it leaves the class where it was: a claim that used one is refused. Another superclass
-/// of Object, and a superclass that is the kernel's, are none.
-#[test]
-fn a_reparent_touches_every_selector(rt: HostRuntime) -> Result<(), Fail> {
-    let alloc = rt.alloc();
-    assert!(rt; is_answered_after_reparent(alloc, stale_claim(), 7)?);
-    let mut system = new_system(alloc, MOST)?;
-    assert!(rt; is_posted(alloc, &mut system)?);
-    for (class, parent) in [(OBJECT, OBJECT), (SMALL_INTEGER, A), (A, SMALL_INTEGER)] {
-        let answer = reparent(alloc, &mut system, class, parent);
-        assert!(rt; answer == Err(Refusal::KernelClass));
+/// Reparents that are refused, and how: another superclass of Object, and a superclass that is the kernel's, are none.
+const REPARENTS: &[(ClassId, ClassId, Refusal)] = &[
+    (OBJECT, OBJECT, Refusal::KernelClass),
+    (SMALL_INTEGER, A, Refusal::KernelClass),
+    (A, SMALL_INTEGER, Refusal::KernelClass),
+    (A, A, Refusal::Cycle),
+    (A, NOWHERE, Refusal::UnknownClass),
+];
+
+fn reparents() -> &'static [(ClassId, ClassId, Refusal)] {
+    REPARENTS
+}
+
+/// The place, from 0, of the first of these that is answered otherwise.
+fn first_reparented(alloc: Global, system: &mut TwoWorkers) -> Option<usize> {
+    for (place, (class, parent, refusal)) in reparents().iter().enumerate() {
+        if reparent(alloc, system, *class, *parent) != Err(*refusal) {
+            return Some(place);
+        }
     }
-    assert!(rt; reparent(alloc, &mut system, A, A) == Err(Refusal::Cycle));
-    assert!(rt; reparent(alloc, &mut system, A, NOWHERE) == Err(Refusal::UnknownClass));
-    assert!(rt; items(&system) == 5);
-    Ok(())
+    None
+}
+
+fn after_reparents(alloc: Global) -> Result<(Option<usize>, usize), Refusal> {
+    let mut system = posted(alloc, MOST)?;
+    let wrong = first_reparented(alloc, &mut system);
+    Ok((wrong, items(&system)))
+}
+
+/// A reparent touches every selector, though it leaves the class where it was: a claim that used one is refused.
+#[test]
+fn a_reparent_touches_every_selector(rt: HostRuntime) {
+    assert!(rt; is_answered_after_reparent(rt.alloc(), stale_claim(), 7) == Ok(true));
+    assert_eq!(rt; after_reparents(rt.alloc()), Ok((None, 5)));
+}
+
+fn after_full_history(alloc: Global) -> Result<(Option<usize>, usize, bool), Refusal> {
+    let mut system = posted(alloc, 6)?;
+    let wrong = first_wrong(alloc, &mut system, full_history());
+    Ok((wrong, items(&system), ends_with_a_beginning(&system)))
 }
 
 /// A history of six items has no place for the steps that follow the beginning of a turn.
 #[test]
-fn hands_claims_back(rt: HostRuntime) -> Result<(), Fail> {
-    let alloc = rt.alloc();
-    let mut system = new_system(alloc, 6)?;
-    assert!(rt; is_posted(alloc, &mut system)?);
-    assert_eq!(rt; first_wrong(alloc, &mut system, full_history()), None);
-    assert!(rt; items(&system) == 6 && ends_with_a_beginning(&system));
-    Ok(())
+fn hands_claims_back(rt: HostRuntime) {
+    assert_eq!(rt; after_full_history(rt.alloc()), Ok((None, 6, true)));
 }
 
 /// Commits a claim, and tries again where memory was refused.
@@ -243,16 +258,21 @@ fn commit(alloc: Global, system: &mut TwoWorkers) -> Answered {
     }
 }
 
+/// Whether three steps are committed, in one run.
+fn commits_three(alloc: Global) -> Result<bool, Refusal> {
+    let mut system = posted(alloc, MOST)?;
+    Ok(
+        first_wrong(alloc, &mut system, three_steps()).is_none()
+            && commit(alloc, &mut system) == THREE
+            && has_run_three(&system),
+    )
+}
+
 /// A commit for which memory was refused can be tried again. Memory is refused where this test is run with an allocation that
 /// fails, by `rt try --test --fail-alloc N`.
 #[test]
 fn commits_when_tried_again(rt: HostRuntime) -> Result<(), Fail> {
-    let alloc = rt.alloc();
-    let mut system = new_system(alloc, MOST)?;
-    assert!(rt; is_posted(alloc, &mut system)?);
-    assert_eq!(rt; first_wrong(alloc, &mut system, three_steps()), None);
-    assert!(rt; commit(alloc, &mut system) == THREE);
-    assert!(rt; has_run_three(&system));
+    assert!(rt; commits_three(rt.alloc())?);
     Ok(())
 }
 
@@ -294,28 +314,35 @@ fn run_all(alloc: Global, system: &mut TwoWorkers, work: &[Work]) -> Result<(), 
     Ok(())
 }
 
-/// A run goes on after a refused event.
-#[test]
-fn runs_events(rt: HostRuntime) -> Result<(), Fail> {
-    let alloc = rt.alloc();
-    let mut system = new_system(alloc, MOST)?;
-    assert!(rt; is_posted(alloc, &mut system)?);
+/// How many workers and items there are behind a run, and whether it ends with a run of two steps.
+fn after_run(alloc: Global) -> Result<(usize, usize, bool), Refusal> {
+    let mut system = posted(alloc, MOST)?;
     run_all(alloc, &mut system, RUN)?;
     known(&system);
-    assert!(rt; workers(&system) == 2);
-    assert!(rt; items(&system) == 7 && ends_with_a_run(&system, 2));
-    Ok(())
+    Ok((
+        workers(&system),
+        items(&system),
+        ends_with_a_run(&system, 2),
+    ))
+}
+
+/// A run goes on after a refused event.
+#[test]
+fn runs_events(rt: HostRuntime) {
+    assert_eq!(rt; after_run(rt.alloc()), Ok((2, 7, true)));
+}
+
+/// Whether the message is posted again between two turns, and how its first sends were found in both.
+fn after_two_turns(alloc: Global) -> Result<(bool, Option<(u64, u64, u64)>), Refusal> {
+    let mut system = posted(alloc, MOST)?;
+    run_all(alloc, &mut system, TURN)?;
+    let is_posted = is_posted_again(alloc, &mut system);
+    run_all(alloc, &mut system, TURN)?;
+    Ok((is_posted, first_site_of_go(alloc, &system)))
 }
 
 /// What was found in a run is found at its site in the next one.
 #[test]
-fn runs_keep_what_they_found(rt: HostRuntime) -> Result<(), Fail> {
-    let alloc = rt.alloc();
-    let mut system = new_system(alloc, MOST)?;
-    assert!(rt; is_posted(alloc, &mut system)?);
-    run_all(alloc, &mut system, TURN)?;
-    assert!(rt; is_posted_again(alloc, &mut system));
-    run_all(alloc, &mut system, TURN)?;
-    assert!(rt; first_site_of_go(alloc, &system) == Some((1, 0, 1)));
-    Ok(())
+fn runs_keep_what_they_found(rt: HostRuntime) {
+    assert_eq!(rt; after_two_turns(rt.alloc()), Ok((true, Some((1, 0, 1)))));
 }

@@ -11,8 +11,10 @@ use st_guard::switch_guard::SwitchGuard;
 use st_image::image::Image;
 use st_image::items::Item;
 use st_image::settings::Settings;
+use st_mailbox::list_box::ListBox;
 use st_mailbox::mailboxes::Mailbox;
 use st_mailbox::messages::Message;
+use st_mailbox::ring_box::RingBox;
 use st_system::events::{Answer, Event};
 use st_system::system::System;
 use st_turn::body::{Body, Outcome};
@@ -23,7 +25,7 @@ use std::alloc::{AllocError, Global};
 pub(crate) type Answered = Result<Answer, Refusal>;
 
 /// Workers whose caches are emptied by every edit.
-pub(crate) fn global_workers(alloc: Global) -> Result<Vec<Worker<GlobalGuard>>, AllocError> {
+fn global_workers(alloc: Global) -> Result<Vec<Worker<GlobalGuard>>, AllocError> {
     let mut workers = Vec::new(alloc);
     for _ in 0..3 {
         workers.push(Worker::new(Caches::new(alloc, GlobalGuard::new())?))?;
@@ -32,7 +34,7 @@ pub(crate) fn global_workers(alloc: Global) -> Result<Vec<Worker<GlobalGuard>>, 
 }
 
 /// Workers whose caches keep, over an edit, what it does not touch.
-pub(crate) fn switch_workers(alloc: Global) -> Result<Vec<Worker<SwitchGuard>>, AllocError> {
+fn switch_workers(alloc: Global) -> Result<Vec<Worker<SwitchGuard>>, AllocError> {
     let mut workers = Vec::new(alloc);
     for _ in 0..3 {
         workers.push(Worker::new(Caches::new(alloc, SwitchGuard::new(alloc))?))?;
@@ -70,13 +72,23 @@ fn system_of<M: Mailbox, G: Guard>(
 }
 
 /// A system of such an image.
-pub(crate) fn new_system<M: Mailbox, G: Guard>(
+fn new_system<M: Mailbox, G: Guard>(
     alloc: Global,
     capacity: u32,
     workers: Vec<Worker<G>>,
 ) -> Result<Box<System<M, G>>, Refusal> {
     let image = new_image(alloc, capacity)?;
     Ok(system_of(alloc, Box::into_inner(image), workers)?)
+}
+
+/// A new system whose mailboxes are queues for three messages.
+pub(crate) fn new_queues(alloc: Global) -> Result<Box<System<ListBox, GlobalGuard>>, Refusal> {
+    new_system(alloc, 3, global_workers(alloc)?)
+}
+
+/// A new system whose mailboxes are rings for three messages.
+pub(crate) fn new_rings(alloc: Global) -> Result<Box<System<RingBox, SwitchGuard>>, Refusal> {
+    new_system(alloc, 3, switch_workers(alloc)?)
 }
 
 pub(crate) fn apply<M: Mailbox, G: Guard>(

@@ -79,8 +79,8 @@ impl<M: Mailbox> Image<M> {
         Ok(place)
     }
 
-    /// Puts a client's message, with the client's own number for it, last in the mailbox of an actor. The answer is its place
-    /// among the messages that the actor accepted, from 1, which is also the number of its turn.
+    /// Puts a client's message, with the client's own number for it, last in the mailbox of an actor. The answer is its place, from 1,
+    /// among the messages that were pending at the last checkpoint and those accepted since, which is also the number of its turn.
     ///
     /// Refusals, in this order: `UnknownActor`; `BadArguments` where the selector isn't there or takes another number of
     /// arguments, or an argument is a local or names nothing; `Old` where the number is not above the client's last one; `Closed`;

@@ -116,9 +116,9 @@ impl<M: Mailbox> Image<M> {
         let _tallies = &self.tallies;
     }
 
-    /// What was counted of the call sites of the method that a class has of its own for a selector, in the order of its code: the
-    /// committed sends, how their targets were found, and the state of the site after the last that used a worker's caches. The
-    /// sends of a site are below 2^64.
+    /// What was counted since the last checkpoint of the call sites of the method that a class has of its own for a selector, in the
+    /// order of its code: the committed sends, how their targets were found, and the state of the site after the last that used a
+    /// worker's caches. The sends of a site are below 2^64.
     ///
     /// Refusals, in this order: `UnknownClass`; `NoSuchMethod` where the class has no method of its own for the selector, or one of
     /// the kernel's. Memory can run out only where neither applies.

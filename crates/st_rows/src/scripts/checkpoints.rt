@@ -5,7 +5,8 @@ pub(crate) fn text() -> &'static str {
     TEXT
 }
 
-const TEXT: &str = r#"256 64 1000000 After a checkpoint the turn that ended is turn 0, a client's numbers go on, and so do the counts.
+const TEXT: &str =
+    r#"256 64 1000000 After a checkpoint the turn that ended is turn 0, a client's numbers go on, and so do the counts.
 {"cmd":"define","name":"M","slots":[],"super":"Object"}
 {"ok":{"version":1}}
 {"class":"M","cmd":"method","source":"a ^3 + 4 * 2"}

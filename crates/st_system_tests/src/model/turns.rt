@@ -157,6 +157,12 @@ impl Model {
         Ok(start_of(alloc, claim)?)
     }
 
+    /// A worker, who is there, has a claim from here on.
+    fn keep(&mut self, worker: u32, claim: ModelClaim) -> Answered {
+        *self.claim(worker)? = Some(claim);
+        Ok(Answer::Done)
+    }
+
     pub(super) fn check_out<M: Mailbox>(
         &mut self,
         alloc: Global,
@@ -169,8 +175,7 @@ impl Model {
         }
         self.begin(alloc, actor)?;
         let claim = self.hand_out(alloc, actor, image)?;
-        *self.claim(worker)? = Some(claim);
-        Ok(Answer::Done)
+        self.keep(worker, claim)
     }
 
     pub(super) fn step(&mut self, alloc: Global, worker: u32) -> Answered {

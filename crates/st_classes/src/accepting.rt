@@ -10,7 +10,6 @@ ghost use Rattle.st_classes.specs.Selectors.{is_slot_name as slot_name};
 ghost use Rattle.st_classes.specs.EditRules.{
   is_among as among,
   is_kernel_class as kernel_class,
-  is_value_class as closed,
   has_too_deep,
   has_twice as twice,
   are_names as names,
@@ -23,7 +22,7 @@ ghost use Rattle.st_classes.specs.EditRules.{
 };
 
 use crate::edits::Edit;
-use crate::kernel::{Found, KERNEL_CLASSES, kernel_at};
+use crate::kernel::{Found, KERNEL_CLASSES, is_value_class, kernel_at};
 use crate::limits;
 use crate::refusals::{Limited, Refusal};
 use crate::same::same_texts;
@@ -31,13 +30,6 @@ use crate::selectors::{is_class_name, is_slot_name};
 use crate::seq::Seq;
 use crate::values::{ClassId, Selector};
 use crate::version::Version;
-
-/// Whether a class can have no subclasses: one of the kernel's, Object aside.
-fn is_closed(class: ClassId) -> bool
-    ensures { result ≡ closed class }
-{
-    1 <= class.0 && class.0 < KERNEL_CLASSES
-}
 
 /// Whether a class is the kernel's.
 fn is_kernel(class: ClassId) -> bool
@@ -116,7 +108,7 @@ impl Version {
         if !are_names(name, added) {
             return Some(Refusal::BadName);
         }
-        if is_closed(parent) {
+        if is_value_class(parent) {
             return Some(Refusal::KernelClass);
         }
         if self.class_named(name).is_some() {
@@ -240,7 +232,7 @@ impl Version {
         if !self.is_class(parent) {
             return Some(Refusal::UnknownClass);
         }
-        if is_kernel(class) || is_closed(parent) {
+        if is_kernel(class) || is_value_class(parent) {
             return Some(Refusal::KernelClass);
         }
         if self.is_above(class, parent) {

@@ -30,7 +30,7 @@ use crate::earlier::Earlier;
 use crate::items::Item;
 use crate::settings::Settings;
 use crate::tallies::Tallies;
-use st_classes::kernel::KERNEL_CLASSES;
+use st_classes::kernel::is_value_class;
 use st_classes::limits::ACTORS;
 use st_classes::names::Names;
 use st_classes::refusals::{Limited, Refusal};
@@ -349,7 +349,7 @@ impl<M: Mailbox> Image<M> {
         if u32::from(class.0) >= self.version().classes() {
             return Some(Refusal::UnknownClass);
         }
-        if 1 <= class.0 && class.0 < KERNEL_CLASSES {
+        if is_value_class(class) {
             return Some(Refusal::KernelClass);
         }
         if self.actors.len() >= ACTORS {

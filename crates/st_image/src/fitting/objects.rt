@@ -7,7 +7,7 @@ ghost use Rattle.st_image.specs.WorldInvariant.{given};
 
 use crate::fitting::values::are_there;
 use st_classes::kernel::{
-    ACTOR_REF, CLASS, FALSE, KERNEL_CLASSES, SMALL_INTEGER, SYMBOL, TRUE, UNDEFINED_OBJECT,
+    ACTOR_REF, CLASS, FALSE, SMALL_INTEGER, SYMBOL, TRUE, UNDEFINED_OBJECT, is_value_class,
 };
 use st_classes::names::Names;
 use st_classes::seq::Seq;
@@ -19,7 +19,7 @@ use st_turn::body::Object;
 fn has_instances(version: &Version, class: ClassId) -> bool
     ensures { result ≡ instances version.now class }
 {
-    version.is_class(class) && !(1 <= class.0 && class.0 < KERNEL_CLASSES)
+    version.is_class(class) && !is_value_class(class)
 }
 
 /// The instance variables of a class; none where it is no class.

@@ -54,7 +54,7 @@ object_method s =
     else (if s == 4 then Some DoesNotUnderstand
     else None))))
 
--- those of SmallInteger
+-- SmallInteger's
 abbrev pub integer_method : ℕ → Option Kernel
 integer_method s =
     if s == 5 then Some Add
@@ -68,7 +68,7 @@ integer_method s =
     else (if s == 13 then Some GreaterOrEqual
     else None))))))))
 
--- those of True and False
+-- those of True and of False
 abbrev pub boolean_method : ℕ → Option Kernel
 boolean_method s = if s == 14 then Some Not else (if s == 15 then Some And else None)
 
@@ -85,7 +85,7 @@ actor_method s =
 abbrev pub class_method : ℕ → Option Kernel
 class_method s = if s == 20 then Some New else (if s == 21 then Some NewActor else None)
 
--- the kernel's method in a class for a selector
+-- the kernel's method of a class for a selector
 abbrev pub kernel_method : ClassId → Selector → Option Kernel
 kernel_method c s =
     if c.0 == 0 then object_method s.0

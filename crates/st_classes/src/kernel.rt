@@ -28,7 +28,7 @@ pub const ACTOR_REF: ClassId = ClassId(6);
 /// The class of classes.
 pub const CLASS: ClassId = ClassId(7);
 
-/// The number of kernel classes. The user's begin with it.
+/// The number of kernel classes, and so the number of the user's first class.
 pub const KERNEL_CLASSES: u16 = 8;
 
 /// The selector `doesNotUnderstand:`.
@@ -83,7 +83,7 @@ pub enum Kernel {
     NewActor,
 }
 
-/// A method that a class has of its own.
+/// A class's own method.
 #[derive(Clone, Copy, PartialEq, Eq, Debug)]
 pub enum Found {
     User(MethodId),
@@ -97,7 +97,7 @@ pub enum Target {
     Run(MethodId),
     /// A method of the kernel.
     Primitive(Kernel),
-    /// No method was found. The user's method for `doesNotUnderstand:` runs; where there is none, Object's own does.
+    /// No method was found. The user's method for `doesNotUnderstand:` runs; without one, Object's own does.
     Missing(Option<MethodId>),
 }
 
@@ -168,7 +168,7 @@ fn class_kernel(selector: Selector) -> Option<Kernel>
     }
 }
 
-/// The kernel's method in a class for a selector.
+/// The kernel's method of a class for a selector.
 #[inline(always)]
 pub fn kernel_at(class: ClassId, selector: Selector) -> Option<Kernel>
     ensures { result ≡ kernel_method class selector }

@@ -12,7 +12,7 @@ use st_classes::seq::Seq;
 use st_classes::values::ActorId;
 use std::alloc::{AllocError, Global};
 
-/// The number of keys of an object, and 0 for another value.
+/// The number of keys of an object. It is 0 for any other value.
 pub(crate) fn size(object: &Value) -> usize
     ensures { result ≡ spec.size (view object.now) }
 {
@@ -56,7 +56,7 @@ pub(crate) fn arguments_at(
     }
 }
 
-/// A whole number in a range, with both ends in it.
+/// A whole number from `least` to `most`, both included.
 pub(crate) fn whole_at(object: &Value, key: &str, least: u64, most: u64) -> Result<u64, Refusal>
     ensures read { Reads (spec.whole_at key.now least most (view object.now)) result }
     ensures within { IfOk result (λ n. n ≤ most) }

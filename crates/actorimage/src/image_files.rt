@@ -78,7 +78,8 @@ fn beside(alloc: Global, path: &str) -> Result<String, Refusal> {
     Ok(beside)
 }
 
-/// Writes an image to a new file beside an old one, gives it the old one's permissions if that works, and moves it into the old one's place.
+/// Writes an image to a new file beside an old one, gives it the old one's permissions if that works, and moves it into the old
+/// one's place.
 fn replace_file<R: Files>(rt: &R, alloc: Global, path: &str, image: &Image) -> Result<(), Refusal> {
     let new = beside(alloc, path)?;
     if let Err(refusal) = write_file(rt, alloc, new.as_str(), image) {

@@ -56,7 +56,7 @@ classes_from cs (e ∷ es) = classes_from (classes_after cs e) es
 abbrev pub classes : List Edit → List ClassDef
 classes edits = classes_from kernel_classes edits
 
--- the number of classes, the kernel's eight counted
+-- the number of classes, including the kernel's eight
 abbrev pub class_count : List Edit → ℕ
 class_count edits = length (classes edits)
 

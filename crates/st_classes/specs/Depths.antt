@@ -14,7 +14,7 @@ pub record AreDepths (edits : List Edit) (depths : List ℕ) : Type 0 where
   pub long : length depths ≡ class_count edits
   pub each : (n depth : ℕ) → slice_get depths n ≡ Some depth → length (chain edits (class n)) ≡ depth
 
--- a chain of classes is complete: a longer bound yields no more
+-- a chain of classes is complete: a larger bound gives no more classes
 abbrev pub IsWhole : List ClassDef → Option ClassId → List ClassId → Type 0
 IsWhole cs o xs = (more : ℕ) → chain_of cs (length xs + more) o ≡ xs
 

@@ -81,7 +81,6 @@ impl SharedEdit {
         })
     }
 
-    /// The edit.
     #[inline]
     pub fn edit(&self) -> &Edit
         ensures { result.now ≡ self.now }

@@ -7,7 +7,7 @@ use crate::values::{ClassId, MethodId, Selector};
 /// The root of the classes.
 pub const OBJECT: ClassId = ClassId(0);
 
-/// Integers of 64 bits.
+/// The class of integers of 64 bits.
 pub const SMALL_INTEGER: ClassId = ClassId(1);
 
 /// The class of `true`.
@@ -22,7 +22,7 @@ pub const UNDEFINED_OBJECT: ClassId = ClassId(4);
 /// The class of symbols.
 pub const SYMBOL: ClassId = ClassId(5);
 
-/// References to actors.
+/// The class of references to actors.
 pub const ACTOR_REF: ClassId = ClassId(6);
 
 /// The class of classes.

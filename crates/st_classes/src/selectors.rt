@@ -79,7 +79,7 @@ pub fn begins_upper(text: &[u8]) -> bool
     }
 }
 
-/// Whether a text is an identifier that begins with a capital.
+/// Whether a text is an identifier that starts with a capital.
 pub fn is_class_name(text: &[u8]) -> bool
     ensures { result ≡ class_name text.now }
 {

@@ -33,7 +33,6 @@ impl<T> Seq<T> {
         items
     }
 
-    /// The items.
     #[inline(always)]
     pub fn as_slice(&self) -> &[T]
         ensures { result.now ≡ self.now }

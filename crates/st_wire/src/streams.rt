@@ -2,7 +2,7 @@
 //!
 //! A device may fail. It counts its failures, so that a caller can show that it answered each one. It counts reads, so that a
 //! caller can show that it gives up after many, and flushes. [`Reader`] and [`Writer`] are devices over std's readers and writers,
-//! as standard input and output, files and sockets. [`MemoryInput`] and [`MemoryOutput`] are bytes in memory.
+//! such as standard input and output, files and sockets. [`MemoryInput`] and [`MemoryOutput`] are bytes in memory.
 ghost use Rattle.std.specs.Prelude.{◌≡◌, ◌≤◌, ◌<◌, ℕ, List, Option, length, take, IfOk, OnOk, OnErr};
 ghost use Rattle.std.specs.Io.{ReadsAtMost, WritesAtMost};
 ghost use Rattle.std.specs.Io.KnownBytes.{Appends, Keeps, ReadConsumes, WriteAppends};

@@ -38,7 +38,7 @@ impl<T: Drop> From<AllocFailed<T>> for Miss {
     }
 }
 
-/// A whole number.
+/// Reads a whole number.
 #[tactic(auto, using(crate::proofs::Fronts::number_first))]
 pub(crate) fn read_whole(reader: &mut Reader<'_>) -> Result<u64, Miss>
     ensures read { IfOk result (λ n. (depth : ℕ) → BeginsWith depth reader.old (number (unsigned n)) reader.new) }
@@ -53,7 +53,7 @@ pub(crate) fn read_whole(reader: &mut Reader<'_>) -> Result<u64, Miss>
     }
 }
 
-/// A text.
+/// Reads a text.
 #[tactic(auto, using(crate::proofs::Fronts::string_first))]
 pub(crate) fn read_text<'a>(reader: &mut Reader<'a>) -> Result<&'a str, Miss>
     ensures read { IfOk result (λ s. (depth : ℕ) → BeginsWith depth reader.old (string s.now) reader.new) }

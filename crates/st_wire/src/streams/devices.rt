@@ -62,7 +62,7 @@ fn flush_of<W: io::Write>(writer: &mut W) -> Result<(), WriteFailed>
     Err(WriteFailed)
 }
 
-/// A device over a reader of std, as standard input, a file or a socket. What it has left to give is known if std knows it.
+/// A device over a reader of std, such as standard input, a file or a socket. What it has left to give is known if std knows it.
 ///
 /// A read that a signal interrupts is not a failure and not counted apart: it is tried again within the same read, as std's own
 /// `read_to_end` does. Only a read that is interrupted 2^64 - 1 times is a failure. Every other error is a failure.
@@ -105,7 +105,7 @@ impl<R: io::Read> Input for Reader<R> {
     }
 }
 
-/// A device over a writer of std, as standard output, a file or a socket. What has been written is known if std knows it.
+/// A device over a writer of std, such as standard output, a file or a socket. What has been written is known if std knows it.
 ///
 /// A write that a signal interrupts is not a failure: it is tried again. Only a write that is interrupted 2^64 - 1 times is a
 /// failure. Every other error is a failure, and so is a write that takes no byte. A buffered writer fails when its buffer cannot be

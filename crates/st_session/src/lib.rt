@@ -1,7 +1,7 @@
 //! Sessions: each line of an input is a command, and gets a reply as it comes.
 //!
 //! [`sessions::session`] reads an input, and writes the reply of a [`handlers::Handler`] to the command of each line to an output.
-//! The replies depend on the bytes alone, not on how reads split them. [`lines`] says what a line is.
+//! What is written depends on the bytes alone, not on how reads split them. [`lines`] says what a line is.
 #![tactic(auto)]
 
 mod answering;

@@ -178,7 +178,6 @@ impl MethodTree {
         &self.syntax.body
     }
 
-    /// The source.
     pub fn source(&self) -> &[u8]
         ensures { result.now ≡ self.now.source }
     {

@@ -39,7 +39,7 @@ pub struct Expression {
 }
 
 impl Expression {
-    /// An expression of which nothing has been read.
+    /// A new expression. Nothing of it has been read.
     pub fn new() -> Self {
         Expression {
             sent: Sent::Nothing,

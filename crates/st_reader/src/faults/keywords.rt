@@ -73,7 +73,7 @@ pub struct Keywords {
 }
 
 impl Keywords {
-    /// A message of which the first keyword was read.
+    /// A message with its first keyword.
     pub fn new(receiver: Term, selector: Selector) -> Self {
         Keywords {
             receiver,

@@ -27,7 +27,7 @@ pub struct Level {
 }
 
 impl Level {
-    /// A level of which only the opening bracket was read.
+    /// A new level, after its opening bracket.
     pub fn new(bracket: Bracket) -> Self {
         Level {
             bracket,

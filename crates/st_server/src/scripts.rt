@@ -64,11 +64,11 @@ fn run_script<I: Input, O: Output>(
 /// Runs the commands of an input on an image. The reply to each line is written before any input is read beyond the piece with that
 /// line.
 ///
-/// Answers the image, and how many lines there were or why the session ended. Nothing is read or written after BadArguments, if a
-/// setting is out of its range, or NoMemory, if there is none for the worker's caches. TooLong or BadCommand: a line is over 8,192
-/// bytes or not UTF-8; the line gets this refusal as its reply. ReadFault: a read failed, or 2^32 reads did not reach the end.
-/// WriteFault: a write or a flush failed. NoMemory: there was none for a line, a reply or the next bytes; the lines before are
-/// answered.
+/// Answers the image, and how many lines there were or why the session ended. BadArguments: a setting is out of its range; nothing
+/// is read or written. NoMemory: there was none for the worker's caches, and nothing is read or written; or none for a line, a
+/// reply or the next bytes, and the lines before are answered. TooLong or BadCommand: a line is over 8,192 bytes or not UTF-8; it
+/// gets this refusal as its reply. ReadFault: a read failed, or 2^32 reads did not reach the end. WriteFault: a write or a flush
+/// failed.
 pub fn script_on<I: Input, O: Output>(
     alloc: Global,
     input: &mut I,

@@ -31,7 +31,7 @@ use crate::seq::Seq;
 use crate::values::{ClassId, Selector};
 use crate::version::Version;
 
-/// Whether a class is the kernel's.
+/// Whether a class is a kernel class.
 fn is_kernel(class: ClassId) -> bool
     ensures { result ≡ kernel_class class }
 {
@@ -57,7 +57,7 @@ fn is_among(text: &[u8], texts: &[Seq<u8>]) -> bool
     texts.iter().any(|other| text == other.as_slice())
 }
 
-/// Whether a text stands twice in a list.
+/// Whether a text occurs twice in a list.
 fn has_twice(texts: &[Seq<u8>]) -> bool
     ensures { result ≡ twice texts.now }
 {
@@ -71,7 +71,7 @@ fn has_twice(texts: &[Seq<u8>]) -> bool
     false
 }
 
-/// Whether a text stands twice in two lists, one behind the other.
+/// Whether a text occurs twice in the concatenation of two lists.
 fn has_clash(front: &[Seq<u8>], back: &[Seq<u8>]) -> bool
     ensures { result ≡ twice (front.now ++ back.now) }
 {
@@ -86,7 +86,7 @@ fn has_clash(front: &[Seq<u8>], back: &[Seq<u8>]) -> bool
 }
 
 impl Version {
-    /// The refusal of an edit that would be one too many.
+    /// The refusal of one edit too many.
     fn full(&self) -> Option<Refusal>
         ensures { result ≡ first_of (too_many_edits self.now ∷ []) }
     {
@@ -174,7 +174,7 @@ impl Version {
         }
     }
 
-    /// Whether a superclass has the instance variables that a class inherits.
+    /// Whether a superclass has exactly the instance variables that a class inherits.
     fn fits_under(&self, class: ClassId, parent: ClassId) -> bool
         requires { is_class self.now parent ≡ true }
         ensures { result ≡ pointwise bytes_eq (slots self.now parent) (inherited self.now class) }
@@ -182,7 +182,7 @@ impl Version {
         same_texts(self.slots(parent), self.inherited(class))
     }
 
-    /// How deep a class stands once another is under a new superclass, which is not below that one.
+    /// The depth of the class `at` once `class` has the superclass `parent`, which is not `class` and not below it.
     pub(crate) fn depth_after(&self, at: ClassId, class: ClassId, parent: ClassId) -> usize
         requires at { is_class self.now at ≡ true }
         requires class { is_class self.now class ≡ true }
@@ -202,7 +202,7 @@ impl Version {
         depth - moved + usize::from(self.depth(parent)) + 1
     }
 
-    /// Whether some class would have too long a chain once a class is under a new superclass, which is not below it.
+    /// Whether some chain would be too long once `class` has the superclass `parent`, which is not `class` and not below it.
     fn is_too_deep(&self, class: ClassId, parent: ClassId) -> bool
         requires class { is_class self.now class ≡ true }
         requires parent { is_class self.now parent ≡ true }
@@ -222,7 +222,7 @@ impl Version {
         false
     }
 
-    /// The refusal of another superclass.
+    /// The refusal of a new superclass.
     fn reparent_refusal(&self, class: ClassId, parent: ClassId) -> Option<Refusal>
         ensures { result ≡ first_of (reparent_rules self.now class parent) }
     {

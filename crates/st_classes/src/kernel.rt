@@ -8,7 +8,7 @@ use crate::values::{ClassId, MethodId, Selector};
 /// The root of the classes.
 pub const OBJECT: ClassId = ClassId(0);
 
-/// Integers of 64 bits.
+/// The class of integers of 64 bits.
 pub const SMALL_INTEGER: ClassId = ClassId(1);
 
 /// The class of `true`.
@@ -23,13 +23,13 @@ pub const UNDEFINED_OBJECT: ClassId = ClassId(4);
 /// The class of symbols.
 pub const SYMBOL: ClassId = ClassId(5);
 
-/// References to actors.
+/// The class of references to actors.
 pub const ACTOR_REF: ClassId = ClassId(6);
 
 /// The class of classes.
 pub const CLASS: ClassId = ClassId(7);
 
-/// The number of kernel classes. The user's begin with it.
+/// The number of kernel classes, and so the number of the user's first class.
 pub const KERNEL_CLASSES: u16 = 8;
 
 // The kernel's selectors are the first names of every name table, in this order.
@@ -157,7 +157,7 @@ pub enum Kernel {
     NewActor,
 }
 
-/// A method that a class has of its own.
+/// A class's own method.
 #[derive(Clone, Copy, PartialEq, Eq, Debug)]
 pub enum Found {
     User(MethodId),
@@ -171,7 +171,7 @@ pub enum Target {
     Run(MethodId),
     /// A method of the kernel.
     Primitive(Kernel),
-    /// No method was found. The user's method for `doesNotUnderstand:` runs; where there is none, Object's own does.
+    /// No method was found. The user's method for `doesNotUnderstand:` runs; without one, Object's own does.
     Missing(Option<MethodId>),
 }
 
@@ -242,7 +242,7 @@ fn class_kernel(selector: Selector) -> Option<Kernel>
     }
 }
 
-/// The kernel's method in a class for a selector.
+/// The kernel's method of a class for a selector.
 #[inline(always)]
 pub fn kernel_at(class: ClassId, selector: Selector) -> Option<Kernel>
     ensures { result ≡ kernel_method class selector }

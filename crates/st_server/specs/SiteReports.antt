@@ -35,12 +35,12 @@ site_report names s = record {
   walk = s.tally.by_walk;
 }
 
--- the sites of the method that a class has of its own for a selector are reported, in the order of its code
+-- the reports of the sites of a class's own method for a selector, in the order of its code
 abbrev pub StatesOf : ImageView → ClassId → Selector → Result (List SiteReport) Refusal → Type 0
 StatesOf i c s result = AnswersExactly (first_of (stats_rules i c s)) result
     (λ reports. reports ≡ map (site_report i.names) (method_stats i (installed_own (world i).edits c s)))
 
--- the same for the selector that a text names
+-- the same, for the selector that a text names
 abbrev pub StatesNamed : ImageView → List ℕ → ClassId → Result (List SiteReport) Refusal → Type 0
 StatesNamed i text c result = MatchResult (found_selector i.names text)
     (λ s. StatesOf i c s result)

@@ -44,7 +44,7 @@ one_at f key d = option_and_then f (get key d)
 
 -- ---- values
 
--- `{"ref":n}`, `{"sym":"at:put:"}`, `{"class":"Counter"}` or `{"local":n}`, by which of these keys is there
+-- `{"ref":n}`, `{"sym":"at:put:"}`, `{"class":"Counter"}` or `{"local":n}`, by the first of these keys that it has
 abbrev pub named_by : Data → Option Data → Option Data → Option Data → Option ValueText
 named_by d (Some r) sym class = option_map Actor (actor_at (codes "ref") d)
 named_by d None (Some s) class = option_map Symbol (text_at (codes "sym") d)
@@ -145,7 +145,7 @@ abbrev pub start_in : Data → Option PhaseText
 start_in d = of_keys (codes "args" ∷ codes "selector" ∷ []) d
     (start_from (values_at (codes "args") d) (text_at (codes "selector") d))
 
--- `{"start":..}`, `{"frames":..}`, `{"answer":..}` or `{"fault":..}`, by which of these keys is there
+-- `{"start":..}`, `{"frames":..}`, `{"answer":..}` or `{"fault":..}`, by the first of these keys that it has
 abbrev pub turn_by : Data → Option Data → Option Data → Option Data → Option PhaseText
 turn_by d (Some s) frames answer = start_in s
 turn_by d None (Some f) answer = option_map phase.Frames (list_at frame_in (codes "frames") d)
@@ -233,7 +233,7 @@ abbrev pub reparent_in : Data → Option EditText
 reparent_in d = of_keys (codes "class" ∷ codes "super" ∷ []) d
     (reparent_from (text_at (codes "class") d) (text_at (codes "super") d))
 
--- `{"define":..}`, `{"install":..}`, `{"remove":..}` or `{"reparent":..}`, by which of these keys is there
+-- `{"define":..}`, `{"install":..}`, `{"remove":..}` or `{"reparent":..}`, by the first of these keys that it has
 abbrev pub edit_by : Data → Option Data → Option Data → Option Data → Option EditText
 edit_by d (Some e) install remove = define_in e
 edit_by d None (Some e) remove = install_in e

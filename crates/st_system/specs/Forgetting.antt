@@ -5,7 +5,7 @@ use Rattle.st_system.specs.declared.events.Event.{Event}
 use Rattle.st_system.specs.declared.events.Event.TheVariants.{Forget}
 use Rattle.st_system.specs.Seats.{HaveNothing, SeatView}
 
--- after a worker that is there forgets, its caches have nothing
+-- if there is a worker that forgets, its caches have nothing afterwards
 abbrev pub HasForgotten : {G : Type 0} → Event → List (SeatView G) → Type 0
 HasForgotten (Forget w) seats = IfSome (slice_get seats w) (λ s. HaveNothing s.caches)
 HasForgotten e seats = Unit {0}

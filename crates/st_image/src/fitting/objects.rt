@@ -88,7 +88,7 @@ pub(super) fn objects_fit(names: &Names, version: &Version, actors: u32, objects
     true
 }
 
-/// The class of a value; Object where it names an object that is not there.
+/// The class of a value; Object if it names an object that does not exist.
 pub(super) fn class_of(objects: &[Object], value: Value) -> ClassId
     ensures { result ≡ class_in objects.now value }
 {

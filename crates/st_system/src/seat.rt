@@ -120,7 +120,7 @@ impl<G: Guard> Seat<G> {
         Ok(Answer::Done)
     }
 
-    /// Takes one step of the claim. The image isn't asked.
+    /// Takes one step of the claim. The image is not asked.
     pub(crate) fn step(&mut self, alloc: Global) -> Result<Answer, Refusal>
         ensures acts { (image : ImageView) → OfClaim StepsClaim image (claim_of self.old) result image (claim_of self.new) }
         ensures whole { StepsSeat G.count G.floor G.raises self.old self.old.claim result self.new }

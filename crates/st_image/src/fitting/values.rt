@@ -28,7 +28,7 @@ pub(super) fn is_there(
     }
 }
 
-/// Whether what each of some values names is.
+/// Whether what each of the values names exists.
 pub(super) fn are_there(
     names: &Names,
     version: &Version,

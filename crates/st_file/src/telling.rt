@@ -1,4 +1,4 @@
-//! From what an image file says to a JSON value.
+//! Turns what an image file says into a JSON value.
 ghost use Rattle.std.specs.Prelude.{◌≡◌, ◌≤◌, ℕ, suc, true, false, IfOk, All, Option, Some, codes};
 ghost use Rattle.serde_json.specs.Data.{Data, boolean, object, no_members, member, depth};
 ghost use Rattle.serde_json.specs.View.{view};
@@ -21,7 +21,7 @@ use st_mailbox::messages::Sender;
 use st_wire::names::fault_name;
 use std::alloc::{AllocError, Global};
 
-/// The JSON value that says this: what is read of it is this again. Only want of memory is an error.
+/// Makes the JSON value of a file's texts. It is read as these texts again. Fails only if memory runs out.
 pub fn image_data(alloc: Global, text: ImageText) -> Result<Value, AllocError>
     requires { ImageIsText text }
     ensures read { IfOk result (λ v. shapes.image_in (view v) ≡ Some text) }
@@ -32,21 +32,21 @@ pub fn image_data(alloc: Global, text: ImageText) -> Result<Value, AllocError>
     text.tell(alloc)
 }
 
-/// What a JSON value can say.
+/// A type that can be written as a JSON value.
 trait Telling: Drop {
     ghost use Rattle.std.specs.Prelude.{ℕ, Option, IfOk};
     ghost use Rattle.serde_json.specs.Data.{Data};
 
-    /// How it is read again.
+    /// How it is read back.
     ghost form: { Data → Option Self };
 
-    /// How deep its values nest at most.
+    /// How deep its values can nest.
     ghost deep: { ℕ };
 
-    /// Its texts can be told.
+    /// It can be written: its texts are UTF-8 and its numbers are in range.
     ghost is_text: { Self → Type 0 };
 
-    /// The JSON value that says this.
+    /// Makes its JSON value.
     fn tell(self, alloc: Global) -> Result<Value, AllocError>
         requires { is_text self }
         ensures { IfOk result (λ v. Says form deep self (view v)) };
@@ -64,7 +64,7 @@ impl Telling for Seq<u8> {
     }
 }
 
-/// A list of such.
+/// Makes an array of the parts.
 fn list<T: Telling>(alloc: Global, parts: Seq<T>) -> Result<Value, AllocError>
     requires { All T.is_text parts }
     ensures { IfOk result (λ v. Says (shapes.list_in T.form) (suc T.deep) parts (view v)) }
@@ -258,7 +258,7 @@ impl Telling for ActorText {
     }
 }
 
-/// The object of an actor.
+/// The JSON object of an actor.
 fn actor(
     alloc: Global,
     body: Value,
@@ -411,7 +411,7 @@ impl Telling for ImageText {
     }
 }
 
-/// The object of an image.
+/// The JSON object of an image.
 fn image(
     alloc: Global,
     actors: Value,

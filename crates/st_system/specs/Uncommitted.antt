@@ -32,8 +32,8 @@ checkouts (Checkout w a ∷ es) = checkouts es + 1
 checkouts (_ ∷ es) = checkouts es
 
 -- At most this many turns have begun, and nothing else has happened: their beginnings are appended to the history, and the base, the
--- names, the settings and the statistics are the same. It is left open from where the next ready actor is looked for, how many claims
--- are out, and what was counted before the base.
+-- names, the settings, the statistics and what was counted before the base are the same. It is left open from where the next ready
+-- actor is looked for, and how many claims are out.
 pub record OnlyBegins (most : ℕ) (i j : ImageView) : Type 0 where
   pub begun : List ActorId
   pub few : length begun ≤ most
@@ -42,6 +42,7 @@ pub record OnlyBegins (most : ℕ) (i j : ImageView) : Type 0 where
   pub names : j.names ≡ i.names
   pub settings : settings_of j ≡ settings_of i
   pub tallies : j.standing.tallies ≡ i.standing.tallies
+  pub earlier : j.standing.earlier ≡ i.standing.earlier
 
 -- Without checkouts and commits, workers change nothing of the image but how many claims are out. A checkout begins one turn at most.
 -- So without commits the events of workers leave only turns that were begun, at most one for each checkout.

@@ -68,10 +68,12 @@ fn save_at<R: Files>(
     path: Option<&str>,
     image: Image,
 ) -> Result<(), Refusal> {
-    match path {
+    let saved = match path {
         Some(path) => save_file(rt, alloc, path, &image),
         None => Ok(()),
-    }
+    };
+    drop(image);
+    saved
 }
 
 /// Runs a script on a new image or on the image of a file. That file then gets the image, unless the session is refused.
@@ -138,7 +140,13 @@ fn serve_over<R: Threads + Wait + Net + Files + Sync>(
     faults: &Faults<Refusal>,
     image: Image,
 ) -> Result<Served, Refusal> {
-    let (listener, file) = bind(rt, options.socket)?;
+    let (listener, file) = match bind(rt, options.socket) {
+        Ok(bound) => bound,
+        Err(refusal) => {
+            drop(image);
+            return Err(refusal);
+        }
+    };
     let result = serve_image(
         rt,
         alloc,

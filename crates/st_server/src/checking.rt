@@ -59,7 +59,10 @@ pub fn check_on<I: Input, O: Output>(
 {
     let loaded: Result<Image, Refusal> = load::<Mailbox, I>(alloc, input);
     let status = status_of(&loaded);
-    match write_reply(alloc, output, &reply_of(&loaded)) {
+    let reply = reply_of(&loaded);
+    let written = write_reply(alloc, output, &reply);
+    drop((loaded, reply));
+    match written {
         Ok(()) => Ok(status),
         Err(refusal) => Err(refusal),
     }

@@ -380,12 +380,15 @@ pub fn serve_image<R: Threads + Wait + Sync>(
     ensures refused { IfErr result (λ e. (e ≡ refusals.BadArguments) ⊎ (e ≡ refusals.NoMemory) ⊎ (e ≡ refusals.Changed)) }
 {
     if !is_served(workers, sessions) {
+        drop(image);
         return Err(Refusal::BadArguments);
     }
     let Some(quantum) = Quantum::new(QUANTUM) else {
+        drop(image);
         return Err(Refusal::BadArguments);
     };
     let Ok(workers) = new_workers(alloc, workers) else {
+        drop(image);
         return Err(Refusal::NoMemory);
     };
     serve::<Brand, R>(
@@ -423,6 +426,7 @@ pub fn serve_on<R: Threads + Wait + Sync>(
         fault,
     } = serve_image(rt, alloc, listener, faults, workers, sessions, image)?;
     image.known();
+    drop(image);
     match fault {
         Some(refusal) => Err(refusal),
         None => Ok(totals),

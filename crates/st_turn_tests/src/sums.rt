@@ -94,12 +94,7 @@ fn stats(alloc: Global, image: &Image, selector: Selector) -> Result<Vec<SiteSta
 }
 
 /// Whether two images tell the same of the sites of a method, where they have it.
-fn tell_the_same(
-    alloc: Global,
-    one: &Image,
-    other: &Image,
-    selector: Selector,
-) -> bool {
+fn tell_the_same(alloc: Global, one: &Image, other: &Image, selector: Selector) -> bool {
     let told = stats(alloc, one, selector);
     let again = stats(alloc, other, selector);
     match (told, again) {

@@ -16,6 +16,7 @@ pub mod files;
 pub mod images;
 mod inputs;
 mod loading;
+mod objects;
 mod part_texts;
 mod reading;
 mod resolving;

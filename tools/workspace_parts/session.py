@@ -144,7 +144,9 @@ class Session:
         except Refused as refused:
             if not self.loading or refused.reply["error"] != "ClassExists":
                 raise
-            if found.name in self.known.classes and not self.is_as_before(found):
+            if self.is_as_before(found):
+                return
+            if found.name in self.known.classes:
                 raise
             self.loading[-1].there += 1
             return

@@ -377,7 +377,8 @@ class Image:
         return _received(told["answer"])
 
     def wait(self, turn: Turn, seconds: float = 60.0, pause: float = 0.001) -> Value:
-        """As `answer`, but asks again while the turn is pending, for so many seconds."""
+        """As `answer`, but asks again while the turn is pending, for so many seconds. Behind a checkpoint or a restart its number is
+        that of another message, whose answer is given then."""
         until = time.monotonic() + seconds
         while True:
             try:

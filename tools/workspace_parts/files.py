@@ -16,17 +16,19 @@ IMAGE = '{"actors":['
 
 @dataclass
 class Loading:
-    """A file that is being loaded, and the line at which it is."""
+    """A file that is being loaded, the line at which it is, and how many of its classes the served image had already."""
 
     name: str
     real: str
     line: int = 0
+    there: int = 0
 
     def __str__(self):
         return f"{self.name}, line {self.line}:"
 
 
 def load(session, rest):
+    """Whether all of a file was done."""
     if not rest:
         raise Wrong("write the name of a file after it, as in  :load counter.st")
     path = os.path.expanduser(rest)
@@ -42,15 +44,20 @@ def load(session, rest):
         raise Wrong(f"{rest} cannot be read ({error.strerror})") from None
     if lines[0].startswith(IMAGE):
         raise Wrong(f"{rest} is an image, and no definitions; start a workspace on it with  tools/workspace --image {rest}")
-    session.loading.append(Loading(rest, real))
+    loading = Loading(rest, real)
+    session.loading.append(loading)
     try:
         done = load_lines(session, lines)
     finally:
         session.loading.pop()
+    done["Definition"] -= loading.there
     said = [count(done[kind], thing) for kind, thing in (("Definition", "class"), ("Method", "method")) if done[kind]]
     if done["refused"]:
         said.append(f"{done['refused']} refused")
+    if loading.there:
+        said.append(f"{count(loading.there, 'class')} there already")
     session.say(f"{rest}: " + (", ".join(said) or "no definitions"))
+    return not done["refused"]
 
 
 def load_lines(session, lines):

@@ -142,9 +142,14 @@ class Session:
         try:
             version = self.turns.ask(command)["version"]
         except Refused as refused:
-            if self.loading and self.is_as_before(found) and refused.reply["error"] == "ClassExists":
+            if not self.loading or refused.reply["error"] != "ClassExists":
+                raise
+            if self.is_as_before(found):
                 return
-            raise
+            if found.name in self.known.classes:
+                raise
+            self.loading[-1].there += 1
+            return
         self.known.define(found.name, found.parent, found.slots)
         if not self.loading:
             self.say(f"class {found.name}, version {version}")

@@ -1,6 +1,6 @@
 use Rattle.std.proofs.Common.{arith, rules, sym, subst, ◌≡◌, ◌++◌, ◌∷◌, [], List}
 use Rattle.st_turn.specs.declared.sums.SiteSum.{SiteSum}
-use Rattle.st_turn.specs.Tallies.{AddsSend, IsLastOf, no_sum, no_tally, sum_of}
+use Rattle.st_turn.specs.Tallies.{AddsSend, IsLastOf, no_tally, sum_of}
 use Rattle.st_turn.proofs.Summing.{sent_pushed, sent_to_sum, sum_within}
 use Rattle.st_turn.proofs.sums.add.Goals as goal
 

@@ -26,6 +26,9 @@ def classes(session, rest):
 
 def methods(session, rest):
     known = session.known.classes
+    if METHOD.fullmatch(rest):
+        session.tell(method(known, *method_of(session, rest)))
+        return
     if rest and rest not in known and session.image.is_served:
         raise Wrong(f"no method of {rest} was written in this session, and no command lists what others did{near(rest, known)}")
     if rest and rest not in known:
@@ -33,6 +36,14 @@ def methods(session, rest):
     found = [known[rest]] if rest else known.values()
     lines = [line for it in found for line in it.method_lines() if line.strip()]
     tell_list(session, lines, "no method was written yet" + (f" in {rest}" if rest else ""))
+
+
+def method(known, class_name, selector):
+    """The lines of one method."""
+    source = known[class_name].methods.get(selector) if class_name in known else None
+    if not source:
+        raise Wrong(f"no method {selector} of {class_name} is known here; :methods lists those that are")
+    return f"{class_name} >> {source}".split("\n")
 
 
 def remove(session, rest):
@@ -74,11 +85,15 @@ def actors(session, rest):
     for number, actor in sorted(known.actors.items()):
         names = [name for name, value in known.names.items() if value == {"ref": number}]
         rows.append([number, ", ".join(names), actor.class_name or "not told", "closed" if actor.is_closed else ""])
-    if session.image.is_served:
-        session.tell(table(rows) if known.actors else ["in this session no actor was seen yet; name one as in  c := actor 0"])
-        session.say(f"the image has {count(session.turns.count_actors(), 'actor')}, numbered from 0")
+    in_image = session.turns.count_actors()
+    if known.actors:
+        session.tell(table(rows))
+    elif session.image.is_served:
+        session.say("in this session no actor was seen yet; name one as in  c := actor 0")
     else:
-        session.tell(table(rows) if known.actors else ["there is no actor yet; make one as in  c := Counter actor"])
+        session.say("there is no actor yet; make one as in  c := Counter actor")
+    if session.image.is_served or in_image > len(known.actors):
+        session.say(f"the image has {count(in_image, 'actor')}, numbered from 0")
 
 
 def names(session, rest):

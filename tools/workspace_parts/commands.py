@@ -88,7 +88,7 @@ COMMANDS = {
         Described(":checkpoint", "empties the history; turns are numbered anew, and statistics begin at 0", running.checkpoint),
         Described(":remove Counter bump", "removes a method", browsing.remove),
         Described(":classes", "lists the classes that were defined", browsing.classes),
-        Described(":methods Counter", "lists the methods of a class; alone, all methods", browsing.methods),
+        Described(":methods Counter", "lists the methods of a class; alone, all methods; as  :methods Counter bump  one", browsing.methods),
         Described(":actors", "lists the actors that were seen", browsing.actors),
         Described(":names", "lists what was named", browsing.names),
         Described(":stats Counter bump", "shows how the caches answered the sends of a method", browsing.stats),

@@ -58,7 +58,7 @@ COMMANDS = {
     "step": FOR_SCRIPT,
     "run": FOR_SCRIPT,
     "classes": "lists the classes that this session defined",
-    "methods": "lists the methods of a class that this session wrote; alone, all of them",
+    "methods": "lists the methods of a class that this session wrote; alone, all of them; as  :methods Counter bump  one",
     "actors": "lists the actors that this session saw, and tells how many there are",
     "names": "lists what this session named",
     "save": "is for a script; here the server saves its image at its end",

@@ -11,7 +11,7 @@ import tempfile
 from .try_common import COUNTER, SPIN, WORKSPACE, piped, same, shell_program
 
 
-STOPPED = "was stopped after ([0-9,]+) quanta, to save half of the history; an edit of a method that is sent, or :close, ends it"
+STOPPED = "was stopped after ([0-9,]+) quanta, to save half of the history; an edit of a method that it sends ends it, and :close ends posts without end; a loop that sends nothing goes on until :restart"
 
 
 def endless(program):

@@ -28,6 +28,7 @@ class Loading:
 
 
 def load(session, rest):
+    """Whether all that the file has was done."""
     if not rest:
         raise Wrong("write the name of a file after it, as in  :load counter.st")
     path = os.path.expanduser(rest)
@@ -52,6 +53,7 @@ def load(session, rest):
     if done["refused"]:
         said.append(f"{done['refused']} refused")
     session.say(f"{rest}: " + (", ".join(said) or "no definitions"))
+    return not done["refused"]
 
 
 def load_lines(session, lines):

@@ -99,7 +99,10 @@ class Sending:
         actor = self.receiver(receiver, place)
         if any(isinstance(argument, dict) and "local" in argument for argument in arguments):
             raise Wrong("an object of an actor's own cannot be sent to another one; send a number, a symbol or an actor", place)
-        return self.answer(self.turns.post(actor, selector, arguments)), actor
+        answer = self.answer(self.turns.post(actor, selector, arguments))
+        if selector == "class" and isinstance(answer, dict) and "class" in answer:
+            self.known.actor(actor).class_name = answer["class"]
+        return answer, actor
 
     def receiver(self, value, place=None):
         """The number of the actor that a value is."""

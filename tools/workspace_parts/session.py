@@ -233,7 +233,8 @@ class Session:
         """How the place of a fault is found."""
         name, selector = self.known.actor(turn.actor).class_name, self.turns.selectors.get(turn)
         if not name or not selector:
-            return "to find the place, see how far the methods came, as in  :stats Counter bump"
+            ask = "" if name else "; the message  class  asks an actor for its class"
+            return f"to find the place, see how far the methods came, as in  :stats Counter bump{ask}"
         for sent in (selector, "doesNotUnderstand:"):
             if self.known.holder(name, sent):
                 return f"to find the place:  :stats {self.known.holder(name, sent)} {sent}"

@@ -1,14 +1,16 @@
 """The commands that list what is known, and those on single methods."""
 
+import os
 import re
 
+from . import image_file, learning
 from .known import near
 from .values import count, show, table
 from .wrong import Wrong
 
 
 # What is said below a list of a served image.
-OF_SESSION = "this is what this session typed; no command lists what others did"
+OF_SESSION = "this is what this session typed{}; no command lists what others did"
 
 
 def tell_list(session, lines, none):
@@ -16,7 +18,8 @@ def tell_list(session, lines, none):
     if not session.image.is_served:
         session.tell(lines or [none])
     else:
-        session.tell([*lines, OF_SESSION] if lines else [f"in this session {none}"])
+        learned = "".join(f", and what {name} has" for name in session.known.learned)
+        session.tell([*lines, OF_SESSION.format(learned)] if lines else [f"in this session {none}"])
 
 
 def classes(session, rest):
@@ -36,6 +39,19 @@ def methods(session, rest):
     found = [known[rest]] if rest else known.values()
     lines = [line for it in found for line in it.method_lines() if line.strip()]
     tell_list(session, lines, "no method was written yet" + (f" in {rest}" if rest else ""))
+
+
+def learn(session, rest):
+    if not session.image.is_served:
+        raise Wrong("this workspace knows its image, which is its own; :methods lists what is in it")
+    if not rest:
+        raise Wrong("write the name of the server's image file after it, as in  :learn shop.image")
+    image = image_file.read(os.path.expanduser(rest))
+    if not image:
+        raise Wrong(f"{rest} cannot be read (No such file or directory)")
+    learning.add(image, session.known)
+    session.known.learned.append(rest)
+    session.say(f"{rest}: {learning.contents(image)}, as they were saved last")
 
 
 def method(known, class_name, selector):

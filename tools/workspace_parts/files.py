@@ -99,7 +99,7 @@ def sources(session, rest):
     lines = [it.written() for it in defined]
     lines += [line for it in known for line in it.method_lines()]
     write(rest, lines)
-    of_session = " of this session" if session.image.is_served else ""
+    of_session = " that this session knows" if session.image.is_served else ""
     methods = count(sum(len(it.methods) for it in known), "method")
     session.say(f"{rest}: {count(len(defined), 'class')}, {methods}{of_session}")
 

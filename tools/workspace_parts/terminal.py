@@ -164,7 +164,7 @@ def words(known, before, text):
 
 
 def command_words(known, name, given, text):
-    if name in ("load", "save", "sources", "log"):
+    if name in ("learn", "load", "save", "sources", "log"):
         return files(text)
     if name in ("methods", "stats", "remove"):
         return [*known.classes] if not given else own_selectors(known, given[0])

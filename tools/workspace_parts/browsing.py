@@ -3,6 +3,8 @@
 import os
 import re
 
+from second_opinion.language import KERNEL_SELECTORS
+
 from . import image_file, learning
 from .known import near
 from .values import count, show, table
@@ -39,6 +41,8 @@ def methods(session, rest):
     found = [known[rest]] if rest else known.values()
     lines = [line for it in found for line in it.method_lines() if line.strip()]
     tell_list(session, lines, "no method was written yet" + (f" in {rest}" if rest else ""))
+    if rest in KERNEL_SELECTORS:
+        session.say(f"{rest} has of the kernel:  {' '.join(KERNEL_SELECTORS[rest])}")
 
 
 def learn(session, rest):

@@ -179,4 +179,33 @@ def broken_off(program):
         same(typed(program, folder, [":actors"])[0][0].partition(", 1 turn")[0], f"{NAME}: 1 class, 1 method, 1 actor")
 
 
-TRIALS = (goes_on, as_typed, middle_of_turn, refused, no_place, linked, at_signals, program_is_killed, broken_off)
+ADD = os.path.join(TOP, "tools", "add-variable")
+
+
+def further_variables(program):
+    """A class has further variables, behind its own in the objects of the classes below it too, also in the middle of a turn."""
+    with tempfile.TemporaryDirectory() as folder:
+        lines = ["A : Object | a |", "A >> a  ^a", "B : A | b |", "B >> a: x b: y  a := x. b := y", "B >> sum  ^self a * 10 + b"]
+        lines += ["B >> work  [self sum < 100] whileTrue: [b := b + 1]. ^self sum", "b := B actor. b a: 3 b: 4", "a := A actor"]
+        typed(program, folder, [*lines, ":post b work", ":step"], "--quantum", "50")
+        was = content(folder)
+        for given, status, said in (
+            (["A", "c"], 0, "job.image: A : Object | a c |, 2 objects"),
+            (["A", "x"], 1, "job.image stays as it is: edits: edits[3].install.source: DuplicateName"),
+            (["A", "a"], 1, "job.image stays as it is: edits: edits[0].define"),
+            (["Object", "c"], 1, "job.image has no class Object that was defined"),
+            (["C", "c"], 1, "job.image has no class C that was defined"),
+        ):
+            with open(os.path.join(folder, NAME), "wb") as file:
+                file.write(was)
+            ended = subprocess.run([sys.executable, ADD, NAME, *given], cwd=folder, capture_output=True, text=True)
+            same((ended.returncode, said in ended.stdout + ended.stderr), (status, True))
+            same(content(folder) == was, status != 0)
+        subprocess.run([sys.executable, ADD, NAME, "A", "c", "d"], cwd=folder, capture_output=True, check=True)
+        lines = [":classes", "b := actor 0", ":run", "A >> d  d isNil ifTrue: [d := 0]. d := d + 1. ^d", "b d. b d. b d", "b sum"]
+        wanted = [f"{NAME}: 2 classes, 4 methods, 2 actors, 1 turn to run", "A : Object | a c d |", "B : A | b |", "actor 0"]
+        found = typed(program, folder, lines)[0]
+        same((found[:4], found[5:]), (wanted, ["turn 0 of actor 0 answers 100", "3", "100"]))
+
+
+TRIALS = (further_variables, goes_on, as_typed, middle_of_turn, refused, no_place, linked, at_signals, program_is_killed, broken_off)

@@ -180,6 +180,7 @@ def broken_off(program):
 
 
 ADD = os.path.join(TOP, "tools", "add-variable")
+END = os.path.join(TOP, "tools", "end-turn")
 
 
 def further_variables(program):
@@ -208,4 +209,20 @@ def further_variables(program):
         same((found[:4], found[5:]), (wanted, ["turn 0 of actor 0 answers 100", "3", "100"]))
 
 
-TRIALS = (further_variables, goes_on, as_typed, middle_of_turn, refused, no_place, linked, at_signals, program_is_killed, broken_off)
+def ended_turn(program):
+    """A turn that no edit ends is ended in the file, and the next message is done."""
+    with tempfile.TemporaryDirectory() as folder:
+        lines = ["C : Object", "C >> loop  [true] whileTrue: [nil]", "C >> seven  ^7", "c := C actor", ":post c loop", ":post c seven"]
+        typed(program, folder, [*lines, ":step 3"])
+        for number, status, said in (
+            ("0", 0, "job.image: the turn of actor 0 has ended with nil; 1 of its messages wait\n"),
+            ("0", 1, "tools/end-turn: actor 0 of job.image is in no turn\n"),
+            ("1", 1, "tools/end-turn: job.image has no actor 1\n"),
+        ):
+            ended = subprocess.run([sys.executable, END, NAME, number], cwd=folder, capture_output=True, text=True)
+            same((ended.returncode, ended.stdout + ended.stderr), (status, said))
+        found = typed(program, folder, ["c := actor 0", ":turn 0 of c", ":run"])[0]
+        same(found[2:], ["turn 0 of actor 0 answers nil", "1 quantum, 3 steps", "turn 1 of actor 0 answers 7"])
+
+
+TRIALS = (further_variables, ended_turn, goes_on, as_typed, middle_of_turn, refused, no_place, linked, at_signals, program_is_killed, broken_off)

@@ -5,6 +5,7 @@ from collections import Counter
 from dataclasses import dataclass
 
 from .cutting import entries
+from .entries import Command, Definition, form
 from .values import count
 from .wrong import Wrong
 
@@ -63,13 +64,37 @@ def load(session, rest):
 def load_lines(session, lines):
     """How many entries there were of each kind."""
     done = Counter()
-    for entry in entries(lines):
+    for entry in classes_first(entries(lines), session.known):
         session.loading[-1].line = entry.line
         if session.breaks.asked or session.is_over or done["refused"] == MOST_REFUSED:
             session.say(f"{session.loading[-1]} not done from here on")
             break
         done[session.do(entry.text)] += 1
     return done
+
+
+def classes_first(found, known):
+    """The entries with the definitions of new classes before the others, so that a method may name a class which is defined below.
+    No entry goes over a command."""
+    classes, others, names = [], [], set()
+    for entry in found:
+        kind = kind_of(entry.text)
+        if isinstance(kind, Command):
+            yield from [*classes, *others, entry]
+            classes, others, names = [], [], set()
+        elif isinstance(kind, Definition) and kind.name not in names and kind.name not in known.classes:
+            names.add(kind.name)
+            classes.append(entry)
+        else:
+            others.append(entry)
+    yield from [*classes, *others]
+
+
+def kind_of(text):
+    try:
+        return form(text)
+    except Wrong:
+        return None
 
 
 def sources(session, rest):
@@ -79,7 +104,7 @@ def sources(session, rest):
     lines = [it.written() for it in defined]
     lines += [line for it in known for line in it.method_lines()]
     write(rest, lines)
-    of_session = " of this session" if session.image.is_served else ""
+    of_session = " that this session knows" if session.image.is_served else ""
     methods = count(sum(len(it.methods) for it in known), "method")
     session.say(f"{rest}: {count(len(defined), 'class')}, {methods}{of_session}")
 

@@ -2,6 +2,7 @@
 
 import json
 import os
+import socket
 import subprocess
 import sys
 import tempfile
@@ -149,8 +150,14 @@ def no_server(program):
         ):
             ended = typed(folder, [], *options)
             same((ended.stdout, ended.stderr.decode(), ended.returncode), (b"", f"tools/workspace: {wanted}\n", 1))
-        with open(os.path.join(folder, "socket"), "w", encoding="utf-8"):
+        path = os.path.join(folder, "socket")
+        with open(path, "w", encoding="utf-8"):
             pass
+        found = typed(folder, []).stderr.decode()
+        same(found.startswith("tools/workspace: socket is no socket, and stays; "), True)
+        os.remove(path)
+        with socket.socket(socket.AF_UNIX) as left:
+            left.bind(path)
         found = typed(folder, []).stderr.decode()
         same(found, "tools/workspace: " + NOTHING.replace("start a", "remove what is there, and start a") + "\n")
     ended = piped(program, [], "--sender", "1")

@@ -275,13 +275,14 @@ impl Readable for ActorText {
         ) {
             return Err(SHAPE);
         }
+        // The numbers come first and the body last. So little is let go where a part is refused, which keeps the proof short.
         Ok(ActorText {
-            body: one_at(alloc, value, "body")?,
             capacity: number_at(value, "capacity")?,
-            class: text_at(alloc, value, "class")?,
             last: number_at(value, "last")?,
             is_open: one_at(alloc, value, "open")?,
+            class: text_at(alloc, value, "class")?,
             pending: list_at(alloc, value, "pending")?,
+            body: one_at(alloc, value, "body")?,
         })
     }
 }

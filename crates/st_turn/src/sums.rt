@@ -1,9 +1,8 @@
 //! The sends of a claim, summed by their call sites.
-ghost use Rattle.std.specs.Prelude.{◌≡◌, ◌<◌, ◌+◌, ◌^◌, [], IsTrue, length, slice_set};
+ghost use Rattle.std.specs.Prelude.{◌≡◌, ◌<◌, ◌≤◌, ◌+◌, ◌^◌, [], IsTrue, length, slice_set, take};
 ghost use Rattle.std.specs.List.{slice_index_or};
 ghost use Rattle.std.specs.Option.{IfSome};
-ghost use Rattle.st_classes.specs.declared.keys.SiteId.{SiteId as SiteIdOf};
-ghost use Rattle.st_turn.specs.Tallies.{AddsSend, AreSums, IsLastOf, after_sums, no_sum, no_tally, sends_of, sum_of, with_sent};
+ghost use Rattle.st_turn.specs.Tallies.{AddsSend, AreSums, IsLastOf, no_sum, sends_of, sum_of, with_sent};
 
 use crate::claim::Sent;
 use crate::tally::Tally;
@@ -55,25 +54,40 @@ fn place_of(sums: &[SiteSum], site: SiteId) -> Option<usize>
 
 /// Adds a send to the sum at a place.
 #[inline]
-fn add_at(sums: &mut Vec<SiteSum>, place: usize, sent: &Sent)
-    requires place { place < length sums.old.items }
-    requires few { sends_of (slice_index_or sums.old.items place no_sum).tally + 1 < 2 ^ 64 }
-    ensures { sums.new.items ≡ slice_set sums.old.items place (with_sent sent.now (slice_index_or sums.old.items place no_sum)) }
+fn add_at(sums: &mut [SiteSum], place: usize, sent: &Sent)
+    requires place { place < length sums.old }
+    requires few { sends_of (slice_index_or sums.old place no_sum).tally + 1 < 2 ^ 64 }
+    ensures { sums.new ≡ slice_set sums.old place (with_sent sent.now (slice_index_or sums.old place no_sum)) }
 {
     let sum = &mut sums[place];
     sum.tally.add_send(sent.how, sent.state);
 }
 
-/// Adds a send to the sum of its site. It says no where that would be a site too many, or there is no memory for it.
-#[inline]
-fn add(sums: &mut Vec<SiteSum>, sent: &Sent) -> bool
-    requires { (id : SiteIdOf) → sends_of (after_sums id sums.old.items no_tally) + 1 < 2 ^ 64 }
+/// Adds sends to the sums of their sites, from a place on and one after the other, as long as their sites have sums. The answer is the
+/// place of the first one whose site has none. The sums are a slice here, whose place in memory stays in registers.
+fn add_known(sums: &mut [SiteSum], sends: &[Sent], from: usize) -> usize
+    requires from { from ≤ length sends.now }
+    requires sums { AreSums sums.old (take from sends.now) }
+    ensures onward { from ≤ result }
+    ensures within { result ≤ length sends.now }
+    ensures sums { AreSums sums.new (take result sends.now) }
+{
+    let mut at = from;
+    'sends: while at < sends.len() {
+        let sent = &sends[at];
+        let Some(place) = place_of(sums, sent.site) else {
+            return at;
+        };
+        add_at(sums, place, sent);
+        at += 1;
+    }
+    at
+}
+
+/// Puts the sum of a send last. It says no where that would be a site too many, or there is no memory for it.
+fn add_site(sums: &mut Vec<SiteSum>, sent: &Sent) -> bool
     ensures { IsTrue result → AddsSend sent.now sums.old.items sums.new.items }
 {
-    if let Some(place) = place_of(sums.as_slice(), sent.site) {
-        add_at(sums, place, sent);
-        return true;
-    }
     if sums.len() == MOST_SITES {
         return false;
     }
@@ -85,10 +99,12 @@ fn add_each(sums: &mut Vec<SiteSum>, sends: &[Sent]) -> bool
     requires { sums.old.items ≡ [] }
     ensures { IsTrue result → AreSums sums.new.items sends.now }
 {
-    for sent in sends {
-        if !add(sums, sent) {
+    let mut at = add_known(sums.as_mut_slice(), sends, 0);
+    'sites: while at < sends.len() {
+        if !add_site(sums, &sends[at]) {
             return false;
         }
+        at = add_known(sums.as_mut_slice(), sends, at + 1);
     }
     true
 }

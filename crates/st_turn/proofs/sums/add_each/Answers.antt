@@ -1,19 +1,15 @@
-use Rattle.std.proofs.Common.{arith, sym, subst, ◌≤◌, length, take, List, []}
-use Rattle.std.proofs.lemmas.List.{length-take-le}
+use Rattle.std.proofs.Common.{arith, sym, subst, take, List, ◌+◌}
 use Rattle.st_turn.specs.declared.sums.SiteSum.{SiteSum}
 use Rattle.st_turn.specs.Tallies.{AreSums}
-use Rattle.st_turn.proofs.Summing.{no_sums, sums_few, sums_more}
+use Rattle.st_turn.proofs.Summing.{sums_more}
 use Rattle.st_turn.proofs.sums.add_each.Goals as goal
 
-pub loop-sent-init : goal.loop-sent-init
-loop-sent-init c = subst (λ (ms : List SiteSum). AreSums ms []) (sym c.requires) no_sums
-
-pub add-requires : goal.add-requires
-add-requires c = λ id.
-    let i = c.loop-sent.sent-index in
+pub add_known-at-requires-in-sites-clause-sums : goal.add_known-at-requires-in-sites-clause-sums
+add_known-at-requires-in-sites-clause-sums c =
     let ss = c.args.sends.now in
-    let here : i ≤ length ss = omega (arith, c.loop-sent-test.true) in
-    omega (arith, c.loop-sent-test.true, length-take-le i ss here, sums_few c.loop-sent.sums.items (take i ss) id c.loop-sent.invariant)
+    let i = c.sites.at in
+    let more : AreSums c.add_site.new.sums.items (take (i + 1) ss) = sums_more c.sites.sums.items c.add_site.new.sums.items ss i _ c.sites-test.true c.sites.invariant.sums (c.add_site.ensures c.if-not-add_site.false) in
+    subst (λ (ms : List SiteSum). AreSums ms (take (i + 1) ss)) (sym c.as_mut_slice-in-sites.ensures.value) more
 
-pub loop-sent-preserved : goal.loop-sent-preserved
-loop-sent-preserved c = sums_more c.loop-sent.sums.items c.add.new.sums.items c.args.sends.now c.loop-sent.sent-index _ c.loop-sent-test.true c.loop-sent.invariant (c.add.ensures c.if-not-add.false)
+pub sites-smaller : goal.sites-smaller
+sites-smaller c = omega (arith, c.sites-test.true, c.add_known-at-in-sites.ensures.onward, c.add_known-at-in-sites.ensures.within)

@@ -22,7 +22,7 @@ const LOOKS: usize = 100;
 
 /// How often it looks at long intervals then, before it sleeps for the lock. A sleep takes far more than a hold, and a thread that was
 /// woken for the lock may find it held again; then it is left to that thread alone, and all others that look for it sleep as well.
-const LONG_LOOKS: usize = 1000;
+const LONG_LOOKS: usize = 250;
 
 /// How many pauses there are between two looks at a short interval, and at a long one.
 const PAUSES: usize = 4;

@@ -166,9 +166,15 @@ fn is_led_without(
     Ok(difference_again(alloc, system, &other).is_none())
 }
 
+/// Whether a system stands where all events lead. It is looked at twice, since memory may be refused where they lead to it.
+fn is_led_by_all(alloc: Global, system: &Rings, events: &[Event]) -> Result<bool, Refusal> {
+    let all = events.len();
+    Ok(is_led_without(alloc, system, events, all)? || is_led_without(alloc, system, events, all)?)
+}
+
 /// Whether a system stands where all events lead, or all but one.
 fn is_led(alloc: Global, system: &Rings, events: &[Event]) -> Result<bool, Refusal> {
-    if is_led_without(alloc, system, events, events.len())? {
+    if is_led_by_all(alloc, system, events)? {
         return Ok(true);
     }
     for without in 0..events.len() {

@@ -252,21 +252,43 @@ pub(crate) fn post_with(
     image.post(alloc, 1, seq, actor, selector, Seq::from_vec(args))
 }
 
-/// Commits a claim, or puts it where it is said.
+/// The place of a claim, on the heap.
+pub(crate) fn no_claim(alloc: Global) -> Result<Box<Option<Claim>>, AllocError> {
+    Ok(Box::new(alloc, None)?)
+}
+
+/// Checks an actor out. To put the claim in its place takes no memory.
+pub(crate) fn checkout_to(
+    alloc: Global,
+    image: &mut Image,
+    actor: ActorId,
+    place: &mut Option<Claim>,
+) -> Result<(), Refusal> {
+    *place = Some(image.checkout(alloc, actor)?);
+    Ok(())
+}
+
+/// Commits the claim of a place, or puts it there again.
 pub(crate) fn commit_or_keep(
     alloc: Global,
     image: &mut Image,
-    claim: Box<Claim>,
-    kept: &mut Option<Box<Claim>>,
+    place: &mut Option<Claim>,
 ) -> Result<u32, Refusal> {
-    match image.commit(alloc, Box::into_inner(claim)) {
+    let claim = place.take().ok_or(Refusal::NothingToDo)?;
+    match image.commit(alloc, claim) {
         Ok(steps) => Ok(steps),
-        Err((refusal, Some(claim))) => {
-            *kept = Some(boxed_claim(alloc, claim)?);
+        Err((refusal, claim)) => {
+            *place = claim;
             Err(refusal)
         }
-        Err((refusal, None)) => Err(refusal),
     }
+}
+
+/// Gives the claim of a place back.
+pub(crate) fn release_from(image: &mut Image, place: &mut Option<Claim>) -> Result<(), Refusal> {
+    let claim = place.take().ok_or(Refusal::NothingToDo)?;
+    image.release(claim);
+    Ok(())
 }
 
 /// What an image has counted.

@@ -10,11 +10,11 @@ use st_turn::claim::Claim;
 use std::alloc::{AllocError, Global};
 use std::test::*;
 
-/// An image, the claim that is out, and a worker.
+/// An image, the claim that is out, and a worker. The place of the claim is made first, so that it takes no memory to keep one.
 #[derive(Drop)]
 struct Trial {
     image: Box<Image>,
-    claim: Option<Box<Claim>>,
+    claim: Box<Option<Claim>>,
     worker: Box<Worker>,
 }
 
@@ -210,15 +210,15 @@ fn act(alloc: Global, image: &mut Image, word: &str, rest: &str) -> Result<u64, 
     }
 }
 
-/// Checks an actor out.
+/// Checks an actor out, and keeps the claim.
 fn check_out(alloc: Global, trial: &mut Trial, actor: ActorId) -> Result<u64, Refusal> {
-    trial.claim = Some(checkout(alloc, &mut trial.image, actor)?);
+    checkout_to(alloc, &mut trial.image, actor, &mut trial.claim)?;
     Ok(0)
 }
 
 /// Takes the steps of the claim up to an act or the end of the turn, and says how many the claim has.
 fn take(alloc: Global, trial: &mut Trial) -> Result<u64, Refusal> {
-    match &mut trial.claim {
+    match &mut *trial.claim {
         Some(claim) => {
             let _stop = walk(alloc, &mut trial.worker, claim, 100)?;
             Ok(u64::from(claim.steps()))
@@ -228,23 +228,13 @@ fn take(alloc: Global, trial: &mut Trial) -> Result<u64, Refusal> {
 }
 
 fn commit_it(alloc: Global, trial: &mut Trial) -> Result<u64, Refusal> {
-    match trial.claim.take() {
-        Some(claim) => {
-            let steps = commit_or_keep(alloc, &mut trial.image, claim, &mut trial.claim)?;
-            Ok(u64::from(steps))
-        }
-        None => Err(Refusal::NothingToDo),
-    }
+    let steps = commit_or_keep(alloc, &mut trial.image, &mut trial.claim)?;
+    Ok(u64::from(steps))
 }
 
 fn release_it(trial: &mut Trial) -> Result<u64, Refusal> {
-    match trial.claim.take() {
-        Some(claim) => {
-            release(&mut trial.image, claim);
-            Ok(0)
-        }
-        None => Err(Refusal::NothingToDo),
-    }
+    release_from(&mut trial.image, &mut trial.claim)?;
+    Ok(0)
 }
 
 /// What a call answers.
@@ -339,7 +329,7 @@ fn wrong_line<'a>(
 fn new_trial(alloc: Global) -> Result<Trial, Refusal> {
     Ok(Trial {
         image: image_of_classes(alloc)?,
-        claim: None,
+        claim: no_claim(alloc)?,
         worker: new_worker(alloc)?,
     })
 }

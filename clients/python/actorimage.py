@@ -179,8 +179,17 @@ def _sent(value: Value) -> Any:
     if isinstance(value, Actor):
         return {"ref": value.number}
     if value is None or isinstance(value, int):
-        return value
-    raise TypeError(f"{value!r} cannot be an argument")
+        if value is None or -(2**63) <= value < 2**63:
+            return value
+        raise ValueError(f"{value} cannot be an argument: integers have 64 bits")
+    hint = f"; a symbol is Symbol({value!r})" if isinstance(value, str) else ""
+    raise TypeError(f"{value!r} cannot be an argument{hint}")
+
+
+def _number(actor: Actor) -> int:
+    if not isinstance(actor, Actor):
+        raise TypeError(f"{actor!r} is no actor; write Actor(0) for actor 0")
+    return actor.number
 
 
 def _received(value: Any) -> Value:
@@ -345,7 +354,7 @@ class Image:
 
     def close(self, actor: Actor) -> None:
         """Closes an actor's mailbox: it accepts nothing more, and what it holds is still begun."""
-        self.ask({"cmd": "close", "actor": actor.number})
+        self.ask({"cmd": "close", "actor": _number(actor)})
 
     def sender(self, number: int, last: Optional[int] = None) -> Sender:
         """A sender of messages, 0 to 65,535. The image is asked for the last number that it has of it, unless `last` is given."""
@@ -377,7 +386,8 @@ class Image:
         return _received(told["answer"])
 
     def wait(self, turn: Turn, seconds: float = 60.0, pause: float = 0.001) -> Value:
-        """As `answer`, but asks again while the turn is pending, for so many seconds."""
+        """As `answer`, but asks again while the turn is pending, for so many seconds. Behind a checkpoint or a restart its number is
+        that of another message, whose answer is given then."""
         until = time.monotonic() + seconds
         while True:
             try:
@@ -409,7 +419,7 @@ class Sender:
 
     def _post(self, actor: Actor, selector: str, args: Sequence[Value], seq: int) -> Reply:
         given = [_sent(it) for it in args]
-        return {"cmd": "post", "actor": actor.number, "selector": selector, "args": given, "sender": self.number, "seq": seq}
+        return {"cmd": "post", "actor": _number(actor), "selector": selector, "args": given, "sender": self.number, "seq": seq}
 
     def post(self, actor: Actor, selector: str, *args: Value) -> Turn:
         """Posts a message. Gives its turn."""

@@ -77,7 +77,7 @@ def arguments():
     parser.add_argument("--sites", action="store_true", help="show the call sites of each method")
     parser.add_argument("--once", action="store_true", help="print one frame")
     parser.add_argument("--try", dest="program", metavar="PROGRAM", help="run the tool's own trials")
-    found = parser.parse_args()
+    found = parser.parse_intermixed_args()
     if (found.socket is None) == (found.program is None):
         parser.error("give the path of a server's SOCKET, or --try alone")
     if not 0.05 <= found.seconds <= 3600:

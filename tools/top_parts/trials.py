@@ -182,7 +182,7 @@ def commands_are_taken(program):
         none, said = run("socket", "--once", cwd=folder), "tools/top: no server listens at socket (No such file or directory)\n"
         same((none.stdout, none.stderr, none.returncode), ("", said, 1))
         with Server(program, folder, "--workers", "1"):
-            once = run("socket", "Object.foo", "--once", "--seconds", "0.1", cwd=folder)
+            once = run("socket", "--once", "--seconds", "0.1", "Object.foo", cwd=folder)
             lines = once.stdout.splitlines()
             same((len(lines), lines[1], lines[4], once.returncode),
                  (6, "turns: 0 a second, of 0 actors; faults: none", "Object >> foo  NoSuchMethod", 0))

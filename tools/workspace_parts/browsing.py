@@ -1,14 +1,18 @@
 """The commands that list what is known, and those on single methods."""
 
+import os
 import re
 
+from second_opinion.language import KERNEL_SELECTORS
+
+from . import image_file, learning
 from .known import near
 from .values import count, show, table
 from .wrong import Wrong
 
 
 # What is said below a list of a served image.
-OF_SESSION = "this is what this session typed; no command lists what others did"
+OF_SESSION = "this is what this session typed{}; no command lists what others did"
 
 
 def tell_list(session, lines, none):
@@ -16,7 +20,8 @@ def tell_list(session, lines, none):
     if not session.image.is_served:
         session.tell(lines or [none])
     else:
-        session.tell([*lines, OF_SESSION] if lines else [f"in this session {none}"])
+        learned = "".join(f", and what {name} has" for name in session.known.learned)
+        session.tell([*lines, OF_SESSION.format(learned)] if lines else [f"in this session {none}"])
 
 
 def classes(session, rest):
@@ -26,6 +31,9 @@ def classes(session, rest):
 
 def methods(session, rest):
     known = session.known.classes
+    if METHOD.fullmatch(rest):
+        session.tell(method(known, *method_of(session, rest)))
+        return
     if rest and rest not in known and session.image.is_served:
         raise Wrong(f"no method of {rest} was written in this session, and no command lists what others did{near(rest, known)}")
     if rest and rest not in known:
@@ -33,6 +41,29 @@ def methods(session, rest):
     found = [known[rest]] if rest else known.values()
     lines = [line for it in found for line in it.method_lines() if line.strip()]
     tell_list(session, lines, "no method was written yet" + (f" in {rest}" if rest else ""))
+    if rest in KERNEL_SELECTORS:
+        session.say(f"{rest} has of the kernel:  {' '.join(KERNEL_SELECTORS[rest])}")
+
+
+def learn(session, rest):
+    if not session.image.is_served:
+        raise Wrong("this workspace knows its image, which is its own; :methods lists what is in it")
+    if not rest:
+        raise Wrong("write the name of the server's image file after it, as in  :learn shop.image")
+    image = image_file.read(os.path.expanduser(rest))
+    if not image:
+        raise Wrong(f"{rest} cannot be read (No such file or directory)")
+    learning.add(image, session.known)
+    session.known.learned.append(rest)
+    session.say(f"{rest}: {learning.contents(image)}, as they were saved last")
+
+
+def method(known, class_name, selector):
+    """The lines of one method."""
+    source = known[class_name].methods.get(selector) if class_name in known else None
+    if not source:
+        raise Wrong(f"no method {selector} of {class_name} is known here; :methods lists those that are")
+    return f"{class_name} >> {source}".split("\n")
 
 
 def remove(session, rest):
@@ -74,11 +105,15 @@ def actors(session, rest):
     for number, actor in sorted(known.actors.items()):
         names = [name for name, value in known.names.items() if value == {"ref": number}]
         rows.append([number, ", ".join(names), actor.class_name or "not told", "closed" if actor.is_closed else ""])
-    if session.image.is_served:
-        session.tell(table(rows) if known.actors else ["in this session no actor was seen yet; name one as in  c := actor 0"])
-        session.say(f"the image has {count(session.turns.count_actors(), 'actor')}, numbered from 0")
+    in_image = session.turns.count_actors()
+    if known.actors:
+        session.tell(table(rows))
+    elif session.image.is_served:
+        session.say("in this session no actor was seen yet; name one as in  c := actor 0")
     else:
-        session.tell(table(rows) if known.actors else ["there is no actor yet; make one as in  c := Counter actor"])
+        session.say("there is no actor yet; make one as in  c := Counter actor")
+    if session.image.is_served or in_image > len(known.actors):
+        session.say(f"the image has {count(in_image, 'actor')}, numbered from 0")
 
 
 def names(session, rest):

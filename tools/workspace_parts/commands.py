@@ -13,7 +13,9 @@ c := Counter actor                 makes an actor, and names it
 c start. c bump                    sends messages, and shows the last answer
 A line that begins with two spaces goes on with the one before. At a terminal the prompt is blank while a bracket is open,
 and after the name of a method alone; an empty line or Ctrl-D ends that, so a method that is typed has no empty line inside.
-Tab completes names, and after Counter >> whole methods. Ctrl-C breaks a long run off, and its turn stays where it was.
+What is pasted is taken as a file is, once Enter is typed behind it. Counter >> bump alone, and an empty line, show a method
+that is there. Tab completes names, and after Counter >> whole methods; the keys of the cursor bring back what was typed.
+Ctrl-C breaks a long run off, and its turn stays where it was.
 """.splitlines()
 
 
@@ -86,10 +88,11 @@ COMMANDS = {
         Described(":checkpoint", "empties the history; turns are numbered anew, and statistics begin at 0", running.checkpoint),
         Described(":remove Counter bump", "removes a method", browsing.remove),
         Described(":classes", "lists the classes that were defined", browsing.classes),
-        Described(":methods Counter", "lists the methods of a class; alone, all methods", browsing.methods),
+        Described(":methods Counter", "lists the methods of a class; alone, all methods; as  :methods Counter bump  one", browsing.methods),
         Described(":actors", "lists the actors that were seen", browsing.actors),
         Described(":names", "lists what was named", browsing.names),
         Described(":stats Counter bump", "shows how the caches answered the sends of a method", browsing.stats),
+        Described(":learn FILE", "is for a served image", browsing.learn),
         Described(":load FILE", "does what a file has: definitions, messages, comments", files.load),
         Described(":save FILE", "writes the image to a file now; alone, to that of --image", saving.save),
         Described(":sources FILE", "writes all classes and methods to a file, for :load", files.sources),

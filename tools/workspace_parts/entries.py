@@ -14,6 +14,8 @@ METHOD = re.compile(r"\s*([A-Z][A-Za-z0-9]*)\s*>>")
 META = re.compile(r"\s*[A-Z][A-Za-z0-9]*\s+class\s*>>")
 COMMAND = re.compile(r"\s*:(?!=)([A-Za-z]*)\s*")
 JSON = re.compile(r'\s*\{\s*"')
+# Chunks, and Tonel.
+FILED_OUT = re.compile(r"\s*(!|(Class|Extension|Trait)\s*\{|\{\s*#)")
 BEGINNINGS = (COMMAND, META, METHOD, CLASS)
 METHOD_BELOW = re.compile(r"\n[ \t]*[A-Z][A-Za-z0-9]*([ \t]+class)?[ \t]*>>")
 
@@ -80,6 +82,8 @@ def form(text):
         return None
     if JSON.match(text):
         raise Wrong("lines of JSON go to ./actorimage script, not here; see :log")
+    if FILED_OUT.match(plain):
+        raise Wrong("files of other Smalltalks are not read; a class is written  Counter : Object | count |  and a method  Counter >> bump")
     command = COMMAND.match(plain)
     if command:
         return Command(command[1], text[command.end() :].strip(), command.end())

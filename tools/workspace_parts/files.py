@@ -5,6 +5,7 @@ from collections import Counter
 from dataclasses import dataclass
 
 from .cutting import entries
+from .entries import Command, Definition, form
 from .values import count
 from .wrong import Wrong
 
@@ -16,17 +17,19 @@ IMAGE = '{"actors":['
 
 @dataclass
 class Loading:
-    """A file that is being loaded, and the line at which it is."""
+    """A file that is being loaded, the line at which it is, and how many of its classes the served image had already."""
 
     name: str
     real: str
     line: int = 0
+    there: int = 0
 
     def __str__(self):
         return f"{self.name}, line {self.line}:"
 
 
 def load(session, rest):
+    """Whether all of a file was done."""
     if not rest:
         raise Wrong("write the name of a file after it, as in  :load counter.st")
     path = os.path.expanduser(rest)
@@ -42,27 +45,56 @@ def load(session, rest):
         raise Wrong(f"{rest} cannot be read ({error.strerror})") from None
     if lines[0].startswith(IMAGE):
         raise Wrong(f"{rest} is an image, and no definitions; start a workspace on it with  tools/workspace --image {rest}")
-    session.loading.append(Loading(rest, real))
+    loading = Loading(rest, real)
+    session.loading.append(loading)
     try:
         done = load_lines(session, lines)
     finally:
         session.loading.pop()
+    done["Definition"] -= loading.there
     said = [count(done[kind], thing) for kind, thing in (("Definition", "class"), ("Method", "method")) if done[kind]]
     if done["refused"]:
         said.append(f"{done['refused']} refused")
+    if loading.there:
+        said.append(f"{count(loading.there, 'class')} there already")
     session.say(f"{rest}: " + (", ".join(said) or "no definitions"))
+    return not done["refused"]
 
 
 def load_lines(session, lines):
     """How many entries there were of each kind."""
     done = Counter()
-    for entry in entries(lines):
+    for entry in classes_first(entries(lines), session.known):
         session.loading[-1].line = entry.line
         if session.breaks.asked or session.is_over or done["refused"] == MOST_REFUSED:
             session.say(f"{session.loading[-1]} not done from here on")
             break
         done[session.do(entry.text)] += 1
     return done
+
+
+def classes_first(found, known):
+    """The entries with the definitions of new classes before the others, so that a method may name a class which is defined below.
+    No entry goes over a command."""
+    classes, others, names = [], [], set()
+    for entry in found:
+        kind = kind_of(entry.text)
+        if isinstance(kind, Command):
+            yield from [*classes, *others, entry]
+            classes, others, names = [], [], set()
+        elif isinstance(kind, Definition) and kind.name not in names and kind.name not in known.classes:
+            names.add(kind.name)
+            classes.append(entry)
+        else:
+            others.append(entry)
+    yield from [*classes, *others]
+
+
+def kind_of(text):
+    try:
+        return form(text)
+    except Wrong:
+        return None
 
 
 def sources(session, rest):
@@ -72,7 +104,7 @@ def sources(session, rest):
     lines = [it.written() for it in defined]
     lines += [line for it in known for line in it.method_lines()]
     write(rest, lines)
-    of_session = " of this session" if session.image.is_served else ""
+    of_session = " that this session knows" if session.image.is_served else ""
     methods = count(sum(len(it.methods) for it in known), "method")
     session.say(f"{rest}: {count(len(defined), 'class')}, {methods}{of_session}")
 

@@ -46,6 +46,10 @@ def no_token(text, place):
     if character == "_":
         in_name = text[place - 1 : place].isalnum() or after.isalnum()
         return "no name has a _ in it; take it out" if in_name else "assignments are written :="
+    if character == "!":
+        return "there is no !=; write  (a = b) not" if after == "=" else "there is no !; write  a not"
+    if character == "%":
+        return "there is no %; what is left of a division is  a \\\\ b"
     shown = character if character.isprintable() else f"the character {ord(character)}"
     return f"{shown} has no meaning here; take it out"
 

@@ -34,11 +34,14 @@ class KnownActor:
 
 
 class Known:
+    """`learned` are the image files that were read to know more of a served image."""
+
     def __init__(self):
         self.classes = {name: KnownClass(name, "Object", []) for name in KERNEL}
         self.classes["Object"].parent = None
         self.actors = {}
         self.names = {}
+        self.learned = []
 
     def define(self, name, parent, slots):
         self.classes[name] = KnownClass(name, parent, slots)

@@ -9,7 +9,8 @@ starts one.
 
 The FILEs are loaded first. Then lines are read from standard input; at a terminal `:help` lists what can be typed. If
 standard input is no terminal, each line is printed after `> ` before what it gives, and a line that begins with two spaces
-or more goes on with the one before.
+or more goes on with the one before. The status is 1 then where something of a FILE was refused; a class that a served image had
+already is not.
 """
 
 import argparse
@@ -99,9 +100,10 @@ def talk(session):
 
 
 def load(session, name):
+    """Whether all of a file was done."""
     try:
         with session.breaks:
-            files.load(session, name)
+            return files.load(session, name)
     except Wrong as wrong:
         raise Ended(wrong.sentence) from None
 
@@ -111,13 +113,14 @@ def work(session, names):
     if is_terminal:
         session.say(WELCOME)
     saving.begin(session)
-    for name in names:
-        load(session, name)
+    are_whole = [load(session, name) for name in names]
     if is_terminal:
         talk(session)
     else:
         transcript(session)
         saving.end(session)
+        if not all(are_whole):
+            sys.exit(1)
 
 
 def end_at_signals():

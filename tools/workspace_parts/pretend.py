@@ -10,7 +10,10 @@ import sys
 import time
 
 # What moves the cursor or sets a mode says nothing to a reader.
-CONTROL = re.compile(r"\x1b\[[?0-9;]*[A-Za-z]")
+CONTROL = re.compile(r"\x1b\[\?2004l\r?|\x1b\[[?0-9;]*[A-Za-z]")
+# Whether the terminal is to say what is pasted, and how it says it.
+PASTES = re.compile(r"\x1b\[\?2004([hl])")
+PASTED = "\x1b[200~{}\x1b[201~"
 
 
 class Terminal:
@@ -23,9 +26,14 @@ class Terminal:
         )
         os.close(theirs)
         self.shown = ""
+        self.says_pastes = False
 
     def type(self, text):
         os.write(self.ours, text.encode())
+
+    def paste(self, text):
+        """Pastes a text as a terminal does, and types a newline behind it."""
+        self.type((PASTED.format(text) if self.says_pastes else text) + "\n")
 
     def interrupt(self):
         """Ctrl-C."""
@@ -59,7 +67,10 @@ class Terminal:
             data = b""
         if not data:
             raise AssertionError(f"the workspace has ended after {self.shown!r}")
-        return CONTROL.sub("", data.decode(errors="replace")).replace("\r\n", "\n")
+        text = data.decode(errors="replace")
+        for mode in PASTES.findall(text):
+            self.says_pastes = mode == "h"
+        return CONTROL.sub("", text).replace("\r\n", "\n")
 
     def ask(self, line):
         """What a typed line gives, up to the next prompt."""

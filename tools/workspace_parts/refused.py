@@ -1,7 +1,7 @@
 """What is said of a refused command: its sentence in advice.py, and what the workspace knows besides."""
 
 from . import advice
-from .known import near
+from .known import KERNEL, near
 from .sources import bad_source
 from .turns import Turn
 
@@ -22,6 +22,8 @@ def unknown_class(command, reply, known, image):
     given += [it["class"] for it in command.get("args", []) if isinstance(it, dict) and "class" in it]
     unknown = [name for name in given if name and name not in known.classes]
     name = " or ".join(unknown if image.is_served else unknown[:1]) or "this"
+    if unknown and name[0].islower():
+        return f"{reply['error']}: no class is named {name}; the name of a class begins with a capital" + near(name, known.classes)
     return advice.refusal({**command, "class": name, "super": name}, reply, image.advice) + near(name, known.classes)
 
 
@@ -37,5 +39,17 @@ def pending(command, reply, known, turns):
     return None if turn in turns.waiting else f"{reply['error']}: {turn} has not ended; perhaps its message was never posted"
 
 
+def class_exists(command, reply, known, turns):
+    name, old = command["name"], known.classes.get(command["name"])
+    if name in KERNEL:
+        return f"{reply['error']}: {name} is a class of the kernel, and stays as it is; take another name"
+    if old and (old.parent, old.slots) == (command["super"], command["slots"]):
+        return f"{reply['error']}: this class is there already, with these variables, and nothing is to be done"
+    return old and f"{reply['error']}: there is already  {old.written()}  {STAYS}"
+
+
+STAYS = "and its variables stay; name just these to put it under another class, and further ones in a class below it"
+
+
 # What is known for certain where nobody else edits and posts.
-OF_SCRIPT = {"NoSuchMethod": no_such_method, "Pending": pending}
+OF_SCRIPT = {"ClassExists": class_exists, "NoSuchMethod": no_such_method, "Pending": pending}

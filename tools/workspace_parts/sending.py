@@ -99,7 +99,10 @@ class Sending:
         actor = self.receiver(receiver, place)
         if any(isinstance(argument, dict) and "local" in argument for argument in arguments):
             raise Wrong("an object of an actor's own cannot be sent to another one; send a number, a symbol or an actor", place)
-        return self.answer(self.turns.post(actor, selector, arguments)), actor
+        answer = self.answer(self.turns.post(actor, selector, arguments))
+        if selector == "class" and isinstance(answer, dict) and "class" in answer:
+            self.known.actor(actor).class_name = answer["class"]
+        return answer, actor
 
     def receiver(self, value, place=None):
         """The number of the actor that a value is."""
@@ -126,8 +129,20 @@ class Sending:
         if selector == "removeSelector:" and isinstance(arguments[0], dict) and "sym" in arguments[0]:
             self.session.remove(name, arguments[0]["sym"])
             return {"class": name}
-        only = f"a class only makes actors here, as in  c := {name} actor"
-        raise Wrong(f"{only}; other messages to a class go into a method", place)
+        raise Wrong(asked_of_class(name, selector, arguments), place)
+
+
+def asked_of_class(name, selector, arguments):
+    """What is said of a message to a class that is not done here."""
+    if selector in ("selectors", "methods", "methodDict", "browse"):
+        return f":methods {name}  lists its methods"
+    if selector in ("sourceCodeAt:", "compiledMethodAt:", ">>") and isinstance(arguments[0], dict) and "sym" in arguments[0]:
+        return f":methods {name} {arguments[0]['sym']}  shows the method"
+    if selector in ("superclass", "subclasses", "instVarNames"):
+        return ":classes  lists the classes, with those above them and their variables"
+    if selector == "superclass:" and isinstance(arguments[0], dict) and "class" in arguments[0]:
+        return f"it is put under another class as  {name} : {arguments[0]['class']}  with its variables behind it"
+    return f"a class only makes actors here, as in  c := {name} actor; other messages to a class go into a method"
 
 
 def names_in(expression):

@@ -38,6 +38,7 @@ This image is served to many, and the server's workers run the actors: a message
 :post does not wait; its turn is told of with a later answer, and :turn asks for it. Ctrl-C stops the waiting, and the turn goes on.
 A session can see what it typed itself (:classes, :methods, :names, :sources, Tab), and can ask the image how a turn of any actor
 ended (:turn 3 of actor 0), how many actors there are (:actors), and how often a method's sends were done (:stats Counter bump).
+:learn FILE takes note of what the server's image file has, for :classes, :methods and Tab.
 It cannot see who else is connected, what classes, methods and names others typed, which messages wait, or when a turn ends that it
 does not ask for. Edits of others take effect here at the next send, and are not told. c := actor 0 names any actor by its number.
 Where the connection breaks, the next entry at a terminal connects again, asks for the last message of this sender that the image
@@ -58,9 +59,10 @@ COMMANDS = {
     "step": FOR_SCRIPT,
     "run": FOR_SCRIPT,
     "classes": "lists the classes that this session defined",
-    "methods": "lists the methods of a class that this session wrote; alone, all of them",
+    "methods": "lists the methods of a class that this session wrote; alone, all of them; as  :methods Counter bump  one",
     "actors": "lists the actors that this session saw, and tells how many there are",
     "names": "lists what this session named",
+    "learn": "takes note of the classes and methods of the server's image file, as they were saved last",
     "save": "is for a script; here the server saves its image at its end",
     "sources": "writes the classes and methods of this session to a file, for :load",
     "restart": "is for a script; here the image is the server's",

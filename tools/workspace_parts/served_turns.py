@@ -68,20 +68,3 @@ class ServedTurns(Turns):
         counted = self.ask({"cmd": "checkpoint"})
         self.waiting, self.ends, self.selectors = [], {}, {}
         return counted
-
-    def has_actor(self, number):
-        try:
-            self.ask_for(number)
-        except Refused as refused:
-            if refused.reply["error"] != "UnknownActor":
-                raise
-            return False
-        return True
-
-    def count_actors(self):
-        """How many actors the image has: they are numbered from 0, and none is ever taken away."""
-        least, most = 0, 65_536
-        while least < most:
-            middle = (least + most) // 2
-            least, most = (middle + 1, most) if self.has_actor(middle) else (least, middle)
-        return least

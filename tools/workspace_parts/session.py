@@ -7,9 +7,10 @@ from .learning import learn
 from .log import Log
 from .refused import lines as refused_lines
 from .sending import Sending
+from .shown import shown
 from .sources import marked
 from .statements import read_statements
-from .tokens import pattern
+from .tokens import has_body, pattern
 from .values import show
 from .wrong import Faulted, Refused, Stopped, Wrong
 
@@ -18,14 +19,14 @@ OFFER = "a tenth of the history is left;  :checkpoint  empties it, and all goes 
 
 class Session:
     """`say` takes each line that is told. `loading` are the files that are being loaded, `why` is what `:why` says, and `told`
-    is where in the log the last entry begins."""
+    is where in the log the last entry begins. `is_by_hand` says that a person types at a terminal."""
 
     command_names = tuple(commands.COMMANDS)
 
     def __init__(self, image, breaks, say):
         self.image, self.breaks = image, breaks
         self.say = say
-        self.is_over = False
+        self.is_over = self.is_by_hand = False
         self.loading = []
         self.start()
 
@@ -142,9 +143,14 @@ class Session:
         try:
             version = self.turns.ask(command)["version"]
         except Refused as refused:
-            if self.loading and self.is_as_before(found) and refused.reply["error"] == "ClassExists":
+            if not self.loading or refused.reply["error"] != "ClassExists":
+                raise
+            if self.is_as_before(found):
                 return
-            raise
+            if found.name in self.known.classes:
+                raise
+            self.loading[-1].there += 1
+            return
         self.known.define(found.name, found.parent, found.slots)
         if not self.loading:
             self.say(f"class {found.name}, version {version}")
@@ -173,8 +179,19 @@ class Session:
         stands = holder and holder.methods.get(selector) == found.source and not self.image.is_served
         if self.loading and stands:
             return
+        if self.is_by_hand and not self.loading and not has_body(found.source) and self.has_method(found.holder, selector):
+            self.tell(shown(found, selector, holder))
+            return
         self.turns.ask({"cmd": "method", "class": found.holder, "source": found.source})
         self.known.install(found.holder, selector, found.source)
+
+    def has_method(self, class_name, selector):
+        """Whether a class has a method of its own, whoever wrote it."""
+        try:
+            self.turns.ask({"cmd": "stats", "class": class_name, "selector": selector})
+        except Refused:
+            return False
+        return True
 
     def remove(self, class_name, selector):
         self.turns.ask({"cmd": "remove", "class": class_name, "selector": selector})
@@ -221,7 +238,8 @@ class Session:
         """How the place of a fault is found."""
         name, selector = self.known.actor(turn.actor).class_name, self.turns.selectors.get(turn)
         if not name or not selector:
-            return "to find the place, see how far the methods came, as in  :stats Counter bump"
+            ask = "" if name else "; the message  class  asks an actor for its class"
+            return f"to find the place, see how far the methods came, as in  :stats Counter bump{ask}"
         for sent in (selector, "doesNotUnderstand:"):
             if self.known.holder(name, sent):
                 return f"to find the place:  :stats {self.known.holder(name, sent)} {sent}"

@@ -3,6 +3,7 @@
 import json
 import os
 import socket
+import stat
 
 from .connection import LONGEST_LINE, as_line
 from .wrong import Ended
@@ -92,6 +93,8 @@ def fits(command):
 
 def nothing_listens(path):
     start = f"./actorimage serve --socket {path} --workers 4"
+    if os.path.exists(path) and not stat.S_ISSOCK(os.stat(path).st_mode):
+        return f"{path} is no socket, and stays; take the path at which a server listens, or another one for a new server"
     if os.path.lexists(path):
         return f"nothing listens at {path}; remove what is there, and start a server with  {start}"
     return f"nothing listens at {path}; start a server with  {start}"

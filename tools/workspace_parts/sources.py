@@ -56,7 +56,7 @@ def bad_source(source, kind, offset, variables, classes):
     place = len(source.encode()[:offset].decode(errors="ignore"))
     found = pattern(source)
     start = 0
-    if found and kind != "BadPattern":
+    if found and kind != "BadPattern" and source[found[1] :][:1].isspace():
         start = len(source) - len(source[found[1] :].lstrip())
     sentence = Fault(source, kind, place, variables, classes).sentence()
     return marked(source, place, f"{kind}: {sentence}", start)
@@ -94,6 +94,8 @@ class Fault:
             return "super only receives messages, and no cascade; send it one, or use self"
         if self.in_temporaries():
             return "temporaries are names with a small letter first, between bars"
+        if self.before and self.before[-1].text == "return":
+            return "there is no return; an answer is written  ^3"
         if self.after_answer():
             return "nothing comes after an answer; take out the ^ or what comes after it"
         token = Token(self.token.kind, self.here, self.place, self.place + len(self.here))
@@ -125,6 +127,8 @@ class Fault:
             return "an argument begins with a small letter; take another name"
         if self.before and self.before[-1].kind in ("keyword", "binary"):
             return f"{self.stands()} where the name of an argument is expected"
+        if self.token.kind == "symbol" and not self.before:
+            return "a pattern has no #; to see a method type  :methods  with its class and its name"
         return KINDS["BadPattern"]
 
     def too_large(self):

@@ -120,7 +120,8 @@ class Parser:
     def assigned(self):
         name = self.take()
         if name.text in RESERVED or name.text[0].isupper():
-            raise Wrong(f"{name.text} cannot be given a value; a name begins with a lower-case letter", name.start)
+            why = "take another name" if name.text in RESERVED else "a name begins with a lower-case letter"
+            raise Wrong(f"{name.text} cannot be given a value; {why}", name.start)
         return name.text
 
     def cascade(self):

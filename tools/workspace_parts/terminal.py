@@ -16,31 +16,58 @@ except ImportError:
 
 HISTORY = "~/.actorimage_history"
 HISTORY_LINES = 1000
+# What stands for the end of a line in an entry of the history's file, whose entries are lines.
+BREAK = "\x1e"
 # What ends a word. A colon, a slash and their like belong to commands, selectors and names of files.
 ENDS = " \t\n()[];|^\"#,=<>"
+# Has the terminal say what is pasted, so that it comes as a whole. Python leaves this out.
+PASTES = "set enable-bracketed-paste on"
 
 
 def read_entry(read=input):
     """The lines of one entry. One that goes over several lines is ended by an empty line, or by Ctrl-D; messages are ended too
     where their brackets close."""
+    length = readline.get_current_history_length() if readline else 0
     text = read(PROMPT)
     if "\n" in text:
         return text
     text = text.removeprefix(PROMPT)
     while wants_more(text) or is_method(text) and "\n" in text:
-        line = read_more(read)
-        if not line.strip():
-            return text
-        text += "\n" + (line if line.startswith(("  ", "\t")) else "  " + line)
+        part = read_more(read)
+        if not part.strip():
+            break
+        for line in part.split("\n"):
+            text += "\n" + (line if line.startswith(("  ", "\t")) or not line.strip() else "  " + line)
+    if readline and "\n" in text:
+        keep_whole(text, length)
     return text
+
+
+def keep_whole(text, length):
+    """Makes one entry of the history of what was read over several lines; `length` is that of the history before them."""
+    for place in range(readline.get_current_history_length() - 1, length - 1, -1):
+        readline.remove_history_item(place)
+    readline.add_history(text)
 
 
 def read_more(read):
     try:
         return read(MORE)
     except EOFError:
-        print()
+        see_end()
         return ""
+
+
+def see_end():
+    """Ends the line in which the input ended. readline, which knows of pastes, would print a newline in each later line too: it keeps
+    a mark of the end, which is taken away where it can be found."""
+    print()
+    try:
+        import ctypes
+
+        ctypes.c_int.in_dll(ctypes.CDLL(readline.__file__), "rl_eof_found").value = 0
+    except (ImportError, AttributeError, OSError, ValueError):
+        pass
 
 
 def is_method(text):
@@ -52,6 +79,7 @@ def is_method(text):
 
 def talk(session):
     """Reads and does entries until the end."""
+    session.is_by_hand = True
     start_reading(session)
     try:
         while not session.is_over:
@@ -61,7 +89,7 @@ def talk(session):
                 print()
                 continue
             except EOFError:
-                print()
+                see_end()
                 return
             do_text(session, text)
     finally:
@@ -84,18 +112,30 @@ def start_reading(session):
         readline.read_history_file(os.path.expanduser(HISTORY))
     except OSError:
         pass
+    change_history(BREAK, "\n")
     readline.set_history_length(HISTORY_LINES)
     readline.set_completer_delims(ENDS)
     readline.set_completer(lambda text, state: nth(session, text, state))
-    readline.parse_and_bind("bind ^I rl_complete" if "libedit" in (readline.__doc__ or "") else "tab: complete")
+    for line in ["bind ^I rl_complete"] if "libedit" in (readline.__doc__ or "") else ["tab: complete", PASTES]:
+        readline.parse_and_bind(line)
 
 
 def keep_history():
-    if readline:
-        try:
-            readline.write_history_file(os.path.expanduser(HISTORY))
-        except OSError:
-            pass
+    if not readline:
+        return
+    change_history("\n", BREAK)
+    try:
+        readline.write_history_file(os.path.expanduser(HISTORY))
+    except OSError:
+        pass
+    change_history(BREAK, "\n")
+
+
+def change_history(old, new):
+    for place in range(readline.get_current_history_length()):
+        line = readline.get_history_item(place + 1)
+        if line and old in line:
+            readline.replace_history_item(place, line.replace(old, new))
 
 
 def nth(session, text, state):
@@ -104,8 +144,11 @@ def nth(session, text, state):
 
 
 def candidates(known, before, text):
-    """The words that a text may be the beginning of, after what is before it in the line."""
-    return [word for word in words(known, before, text) if word.startswith(text)]
+    """The words that a text may be the beginning of, after what is before it in the line. Of several that go over lines, as
+    methods do, the first lines."""
+    found = [word for word in words(known, before, text) if word.startswith(text)]
+    first = [word.split("\n")[0] for word in found]
+    return [found[first.index(text)]] if text in first else found if len(found) == 1 else first
 
 
 def words(known, before, text):
@@ -121,7 +164,7 @@ def words(known, before, text):
 
 
 def command_words(known, name, given, text):
-    if name in ("load", "save", "sources", "log"):
+    if name in ("learn", "load", "save", "sources", "log"):
         return files(text)
     if name in ("methods", "stats", "remove"):
         return [*known.classes] if not given else own_selectors(known, given[0])
@@ -131,8 +174,8 @@ def command_words(known, name, given, text):
 
 
 def sources(known, name):
-    """The methods of a class, to be edited; of one over several lines the first."""
-    return sorted(source.split("\n")[0] for source in known.classes[name].methods.values()) if name in known.classes else []
+    """The methods of a class, to be edited."""
+    return sorted(known.classes[name].methods.values()) if name in known.classes else []
 
 
 def own_selectors(known, name):

@@ -179,4 +179,50 @@ def broken_off(program):
         same(typed(program, folder, [":actors"])[0][0].partition(", 1 turn")[0], f"{NAME}: 1 class, 1 method, 1 actor")
 
 
-TRIALS = (goes_on, as_typed, middle_of_turn, refused, no_place, linked, at_signals, program_is_killed, broken_off)
+ADD = os.path.join(TOP, "tools", "add-variable")
+END = os.path.join(TOP, "tools", "end-turn")
+
+
+def further_variables(program):
+    """A class has further variables, behind its own in the objects of the classes below it too, also in the middle of a turn."""
+    with tempfile.TemporaryDirectory() as folder:
+        lines = ["A : Object | a |", "A >> a  ^a", "B : A | b |", "B >> a: x b: y  a := x. b := y", "B >> sum  ^self a * 10 + b"]
+        lines += ["B >> work  [self sum < 100] whileTrue: [b := b + 1]. ^self sum", "b := B actor. b a: 3 b: 4", "a := A actor"]
+        typed(program, folder, [*lines, ":post b work", ":step"], "--quantum", "50")
+        was = content(folder)
+        for given, status, said in (
+            (["A", "c"], 0, "job.image: A : Object | a c |, 2 objects"),
+            (["A", "x"], 1, "job.image stays as it is: edits: edits[3].install.source: DuplicateName"),
+            (["A", "a"], 1, "job.image stays as it is: edits: edits[0].define"),
+            (["Object", "c"], 1, "job.image has no class Object that was defined"),
+            (["C", "c"], 1, "job.image has no class C that was defined"),
+        ):
+            with open(os.path.join(folder, NAME), "wb") as file:
+                file.write(was)
+            ended = subprocess.run([sys.executable, ADD, NAME, *given], cwd=folder, capture_output=True, text=True)
+            same((ended.returncode, said in ended.stdout + ended.stderr), (status, True))
+            same(content(folder) == was, status != 0)
+        subprocess.run([sys.executable, ADD, NAME, "A", "c", "d"], cwd=folder, capture_output=True, check=True)
+        lines = [":classes", "b := actor 0", ":run", "A >> d  d isNil ifTrue: [d := 0]. d := d + 1. ^d", "b d. b d. b d", "b sum"]
+        wanted = [f"{NAME}: 2 classes, 4 methods, 2 actors, 1 turn to run", "A : Object | a c d |", "B : A | b |", "actor 0"]
+        found = typed(program, folder, lines)[0]
+        same((found[:4], found[5:]), (wanted, ["turn 0 of actor 0 answers 100", "3", "100"]))
+
+
+def ended_turn(program):
+    """A turn that no edit ends is ended in the file, and the next message is done."""
+    with tempfile.TemporaryDirectory() as folder:
+        lines = ["C : Object", "C >> loop  [true] whileTrue: [nil]", "C >> seven  ^7", "c := C actor", ":post c loop", ":post c seven"]
+        typed(program, folder, [*lines, ":step 3"])
+        for number, status, said in (
+            ("0", 0, "job.image: the turn of actor 0 has ended with nil; 1 of its messages wait\n"),
+            ("0", 1, "tools/end-turn: actor 0 of job.image is in no turn\n"),
+            ("1", 1, "tools/end-turn: job.image has no actor 1\n"),
+        ):
+            ended = subprocess.run([sys.executable, END, NAME, number], cwd=folder, capture_output=True, text=True)
+            same((ended.returncode, ended.stdout + ended.stderr), (status, said))
+        found = typed(program, folder, ["c := actor 0", ":turn 0 of c", ":run"])[0]
+        same(found[2:], ["turn 0 of actor 0 answers nil", "1 quantum, 3 steps", "turn 1 of actor 0 answers 7"])
+
+
+TRIALS = (further_variables, ended_turn, goes_on, as_typed, middle_of_turn, refused, no_place, linked, at_signals, program_is_killed, broken_off)

@@ -11,7 +11,7 @@ import tempfile
 from .try_common import COUNTER, SPIN, WORKSPACE, piped, same, shell_program
 
 
-STOPPED = "was stopped after ([0-9,]+) quanta, to save half of the history; an edit of a method that is sent, or :close, ends it"
+STOPPED = "was stopped after ([0-9,]+) quanta, to save half of the history; an edit of a method that it sends ends it"
 
 
 def endless(program):
@@ -25,6 +25,16 @@ def endless(program):
         stops = re.findall(STOPPED, found)
         same([int(it.replace(",", "")) // 1000 for it in stops], [249, 124, 62])
         same(found.endswith(end), True)
+
+
+def files(program):
+    """The status says whether all was done that stands in the files of the command line."""
+    with tempfile.TemporaryDirectory() as folder:
+        for text, status in (("C : Object\nC >> m  ^1\n", 0), ("C : Object\nC >> m  ^(1\n", 1)):
+            path = os.path.join(folder, "c.st")
+            with open(path, "w", encoding="utf-8") as file:
+                file.write(text)
+            same(piped(program, ["c := C actor"], path).returncode, status)
 
 
 def interrupted(program):
@@ -94,4 +104,4 @@ def too_long(program):
     same(found.endswith("actor 0\n"), True)
 
 
-TRIALS = (endless, interrupted, log, no_program, no_file, lost_program, too_long)
+TRIALS = (endless, files, interrupted, log, no_program, no_file, lost_program, too_long)

@@ -12,6 +12,7 @@ from .try_served import typed as typed_to_server
 BUMPED = [*COUNTER, "c := Counter actor", "c start. c bump"]
 FULL = f"{NAME} could not be written, for the reason above"
 ONE = "1 class, 2 methods, 1 actor"
+NO_NAME = "write the name of the server's image file after it, as in  :learn shop.image"
 
 
 def saved(program):
@@ -137,6 +138,13 @@ def of_server(program):
         told = served(program, folder, ["c := actor 0", ":turn 0 of c", "c bump", ":actors"])
         same(told[:3], ["actor 0", "turn 0 of actor 0 answers 2", "3"])
         same(told[-1], "the image has 1 actor, numbered from 0")
+        new = "Counter >> bump  ^0"
+        told = served(program, folder, [new, f":learn {NAME}", ":classes", ":methods", ":sources c.st", ":learn", ":learn c.st"])
+        last = f"this is what this session typed, and what {NAME} has; no command lists what others did"
+        same(told[:3], [f"{NAME}: {ONE}, as they were saved last", "Counter : Object | count |", last])
+        same(told[3:6], [new, "Counter >> start  count := 0", last])
+        same(told[6:8], ["c.st: 1 class, 2 methods that this session knows", NO_NAME])
+        same(told[8].startswith("c.st is refused, and stays as it is; place json"), True)
 
 
 def endless_on_server(program):

@@ -2,6 +2,7 @@
 
 import json
 import os
+import socket
 import subprocess
 import sys
 import tempfile
@@ -119,6 +120,23 @@ def same_sender(program):
         two.close()
 
 
+def loaded_again(program):
+    """A file with many classes is loaded again whole, by a workspace that did not define them; the status tells a refusal."""
+    with tempfile.TemporaryDirectory() as folder, Server(program, folder, *WORKERS):
+        def loads(*lines):
+            with open(os.path.join(folder, "all.st"), "w", encoding="utf-8") as file:
+                file.writelines(line + "\n" for line in lines)
+            found = typed(folder, [], "all.st")
+            return found.stdout.decode().splitlines(), found.returncode
+
+        lines = [line for n in range(25) for line in (f"C{n} : Object | a |", f"C{n} >> m  ^{n}")]
+        same(loads(*lines), (["all.st: 25 classes, 25 methods"], 0))
+        same(loads(*lines, "D : C0", "D >> m ^a"), (["all.st: 1 class, 26 methods, 25 classes there already"], 0))
+        said, status = loads("C1 : Object | b |", "C1 >> n  ^(b", "C1 >> m  ^30")
+        same((said[-1], status), ("all.st: 1 method, 1 refused, 1 class there already", 1))
+        same(typed(folder, ["c := C1 actor", "c m"]).stdout.decode().split("\n")[-2], "30")
+
+
 def no_server(program):
     """Where nothing listens, or options are for a script."""
     with tempfile.TemporaryDirectory() as folder:
@@ -132,8 +150,14 @@ def no_server(program):
         ):
             ended = typed(folder, [], *options)
             same((ended.stdout, ended.stderr.decode(), ended.returncode), (b"", f"tools/workspace: {wanted}\n", 1))
-        with open(os.path.join(folder, "socket"), "w", encoding="utf-8"):
+        path = os.path.join(folder, "socket")
+        with open(path, "w", encoding="utf-8"):
             pass
+        found = typed(folder, []).stderr.decode()
+        same(found.startswith("tools/workspace: socket is no socket, and stays; "), True)
+        os.remove(path)
+        with socket.socket(socket.AF_UNIX) as left:
+            left.bind(path)
         found = typed(folder, []).stderr.decode()
         same(found, "tools/workspace: " + NOTHING.replace("start a", "remove what is there, and start a") + "\n")
     ended = piped(program, [], "--sender", "1")
@@ -211,4 +235,4 @@ def older_image(program):
                 same(terminal.end(), 0)
 
 
-TRIALS = (two_workspaces, stopped_waiting, next_number, same_sender, no_server, lost_server, lost_at_terminal, older_image)
+TRIALS = (two_workspaces, stopped_waiting, next_number, same_sender, loaded_again, no_server, lost_server, lost_at_terminal, older_image)

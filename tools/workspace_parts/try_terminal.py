@@ -69,19 +69,61 @@ def keys(program):
         terminal.see("nothing is named c; make an actor of a class, as in  c := Counter actor\n> ")
 
 
+BUMP = ["Counter >> bump", "count := 7.", "^count", ""]
+
+
+def whole_methods(program):
+    """A method over several lines comes back as a whole: where its pattern alone is typed, by Tab, and from the history, also that
+    of another session."""
+    typing = Typing(program)
+    with typing as terminal:
+        typed(terminal, ["Counter : Object | count |"])
+        type_lines(terminal, BUMP)
+        typed(terminal, ["c := Counter actor"])
+        same(terminal.ask("c bump"), "7\n")
+        terminal.type("Counter >> bump\n\n")
+        text = "\nCounter >> bump\n  count := 7.\n  ^count\n"
+        terminal.see(text + "this method stays; one that does nothing is written  Counter >> bump  ^self\n> ")
+        same(terminal.ask("c bump"), "7\n")
+        type_lines(terminal, ["Counter >> rest", "^self", ""])
+        type_lines(terminal, ["Counter >> other", ""])
+        same(terminal.ask("c other"), "a Counter\n")
+        if not readline or "libedit" in readline.__doc__:
+            return
+        # The last word, count, is written over.
+        terminal.type("Counter >> bu\t" + "\x7f" * len("count") + "1\n")
+        terminal.see("1\n> ")
+        same(terminal.ask("c bump"), "1\n")
+        type_lines(terminal, [*BUMP[:2], "^8", ""])
+        same(terminal.end(), 0)
+        terminal = typing.open()
+        typed(terminal, ["Counter : Object | count |", "c := Counter actor"])
+        terminal.type("\x1b[A\x1b[A\x1b[A\n")
+        terminal.see("\n> ")
+        same(terminal.ask("c bump"), "8\n")
+
+
+def type_lines(terminal, lines):
+    for line in lines[:-1]:
+        terminal.type(line + "\n")
+        terminal.see(line + "\n  ")
+    terminal.type(lines[-1] + "\n")
+    terminal.see("\n> ")
+
+
 def pasted(program):
     """Several entries that are pasted at once, where readline takes them as a whole."""
     if getattr(readline, "_READLINE_LIBRARY_VERSION", "0") < "8.1":
         return
     with Typing(program) as terminal:
         text = "Job : Object\nJob >> work: n\n  | i |\n  i := 0.\n\n  ^i + n\n\nj := Job actor\nj work: 3"
-        terminal.type(f"\x1b[200~{text}\x1b[201~\n")
+        terminal.paste(text)
         terminal.see("j work: 3\n")
         same(terminal.see("> "), "class Job, version 1\nactor 0\n3\n> ")
         # A listing of a document, with its prompts and what was printed there.
         same(terminal.ask("> j work: 4"), "4\n")
         text = "> Job >> work: n\n    | i |\n    i := 7.\n    ^i + n\n> j work: 3\n10\n> j work: 4\n11"
-        terminal.type(f"\x1b[200~{text}\x1b[201~\n")
+        terminal.paste(text)
         terminal.see("\r11\n")
         same(terminal.see("> "), "10\n11\n> ")
 
@@ -145,4 +187,4 @@ def lives(number):
         return False
 
 
-TRIALS = (session, keys, pasted, long_run, broken_line, slow_start)
+TRIALS = (session, keys, whole_methods, pasted, long_run, broken_line, slow_start)

@@ -15,7 +15,10 @@ SLICE = 64
 HISTORY = 1_000_000
 ITEMS_OF_QUANTUM = 2
 GOES_ON = ":run or :step goes on where it was"
-ENDS_IT = "an edit of a method that is sent, or :close, ends it; :run goes on"
+ENDS_IT = (
+    "an edit of a method that it sends ends it, and :close ends posts without end; a loop that sends nothing goes on until :restart; "
+    ":run goes on"
+)
 
 
 @dataclass(frozen=True)
@@ -99,6 +102,23 @@ class Turns:
         except Refused as refused:
             if refused.reply["error"] not in ("Expired", "Pending"):
                 raise
+
+    def has_actor(self, number):
+        try:
+            self.ask_for(number)
+        except Refused as refused:
+            if refused.reply["error"] != "UnknownActor":
+                raise
+            return False
+        return True
+
+    def count_actors(self):
+        """How many actors the image has: they are numbered from 0, and none is ever taken away."""
+        least, most = 0, 65_536
+        while least < most:
+            middle = (least + most) // 2
+            least, most = (middle + 1, most) if self.has_actor(middle) else (least, middle)
+        return least
 
     def checkpoint(self):
         """Empties the history. The turns that are waited for have other numbers then. Answers what the image has counted."""

@@ -22,7 +22,9 @@ def show_object(number, known, actor):
     """An object of an actor's own. Object 0 is the actor itself; the class of another one is not told."""
     if number:
         return f"object {number} of actor {actor}"
-    name = known.actor(actor).class_name or "actor"
+    name = known.actor(actor).class_name
+    if not name:
+        return "itself"
     return ("an " if name[0] in "AEIOUaeiou" else "a ") + name
 
 

@@ -16,7 +16,7 @@ use std::alloc::Global;
 use std::fs::{self, File, Files, OpenFile};
 use std::io::{self, ErrorKind, Read};
 
-/// What stands for a file that cannot be opened.
+/// Stands for a file that cannot be opened: each read fails.
 #[derive(Drop)]
 pub struct Unreadable;
 
@@ -26,7 +26,7 @@ impl Read for Unreadable {
     }
 }
 
-/// What the input of a file has for a run: the image that is loaded, in which nothing has happened yet, or the refusal of the file.
+/// The image that a run finds in the input of a file, with an empty history, or why the file is refused.
 fn found_in<I: Input>(alloc: Global, input: &mut I) -> Result<Option<Image>, Refusal>
     ensures loaded { let before = input_view I.remaining I.failures I.reads input.old in
         let after = input_view I.remaining I.failures I.reads input.new in
@@ -37,7 +37,7 @@ fn found_in<I: Input>(alloc: Global, input: &mut I) -> Result<Option<Image>, Ref
     found_as(loaded)
 }
 
-/// The image of a file, or none where no file is asked for or none is there. `ReadFault` says that the file cannot be read, and
+/// The image of a file, or none if no path is given or no file is there. `ReadFault` says that the file cannot be read, and
 /// `BadImage` that it holds no image.
 pub fn load_file<R: Files>(
     rt: &R,
@@ -57,7 +57,7 @@ pub fn load_file<R: Files>(
     found_in(alloc, &mut Reader::new(file))
 }
 
-/// Writes the file of an image that is not there yet, and waits until it is on the disk.
+/// Creates a file, writes an image to it and waits until it is on the disk. An existing file is overwritten.
 fn write_file<R: Files>(rt: &R, alloc: Global, path: &str, image: &Image) -> Result<(), Refusal> {
     let Ok(mut file) = File::create(rt, path) else {
         return Err(Refusal::WriteFault);
@@ -69,7 +69,7 @@ fn write_file<R: Files>(rt: &R, alloc: Global, path: &str, image: &Image) -> Res
     }
 }
 
-/// The path beside a file at which its next text is written.
+/// The path of the new text of a file, before it replaces the old one.
 fn beside(alloc: Global, path: &str) -> Result<String, Refusal> {
     let mut beside = String::new(alloc);
     if beside.push_str(path).is_err() || beside.push_str(".new").is_err() {
@@ -78,7 +78,8 @@ fn beside(alloc: Global, path: &str) -> Result<String, Refusal> {
     Ok(beside)
 }
 
-/// Writes a file beside another, with the rights of the other, and puts it in the other's place.
+/// Writes an image to a new file beside an old one, gives it the old one's permissions if that works, and moves it into the old
+/// one's place.
 fn replace_file<R: Files>(rt: &R, alloc: Global, path: &str, image: &Image) -> Result<(), Refusal> {
     let new = beside(alloc, path)?;
     if let Err(refusal) = write_file(rt, alloc, new.as_str(), image) {
@@ -97,9 +98,9 @@ fn replace_file<R: Files>(rt: &R, alloc: Global, path: &str, image: &Image) -> R
     }
 }
 
-/// Saves an image to a file. The text is written beside the file and moved into its place, so that the file holds the old image or
-/// the new one, whenever the program is killed. A link leads to the file that is replaced. `WriteFault` says that the text was not
-/// written whole, and then the file is as it was.
+/// Saves an image to a file. The text is written to a new file beside it, which is then moved into its place. So the file holds the
+/// old image or the new one, whenever the program is killed. If the path is a link, the file that it leads to is replaced.
+/// `WriteFault` says that the text was not written whole or not moved. After a refusal the file is as it was.
 pub fn save_file<R: Files>(
     rt: &R,
     alloc: Global,

@@ -31,7 +31,7 @@ use std::process::ExitCode;
 use std::sync::Wait;
 use std::thread::Threads;
 
-/// The image of a file, where one is given and is there; else a new image.
+/// The image in a file, or a new image if no path is given or no file is there.
 fn first_image<R: Files + AllocGlobal>(rt: &R, path: Option<&str>) -> Result<Image, Refusal>
     ensures { IfOk result (λ i. i.history ≡ []) }
 {
@@ -40,7 +40,7 @@ fn first_image<R: Files + AllocGlobal>(rt: &R, path: Option<&str>) -> Result<Ima
     begin_with(alloc, found)
 }
 
-/// Runs the commands of standard input on an image, with the replies on standard output.
+/// Runs the commands of standard input on an image, and writes the replies to standard output.
 fn run_script<R: Input + Print + AllocGlobal>(
     rt: &R,
     options: ScriptOptions<'_>,
@@ -68,13 +68,15 @@ fn save_at<R: Files>(
     path: Option<&str>,
     image: Image,
 ) -> Result<(), Refusal> {
-    match path {
+    let saved = match path {
         Some(path) => save_file(rt, alloc, path, &image),
         None => Ok(()),
-    }
+    };
+    drop(image);
+    saved
 }
 
-/// Runs a script on a new image or on that of a file, to which the image is saved unless the session is refused.
+/// Runs a script on a new image or on the image of a file. That file then gets the image, unless the session is refused.
 fn script<R: Input + Print + Files + AllocGlobal>(
     rt: &R,
     options: ScriptOptions<'_>,
@@ -88,7 +90,7 @@ fn script<R: Input + Print + Files + AllocGlobal>(
     }
 }
 
-/// Tells on standard output what an image file holds. The answer is the status, which is 1 also where that could not be told.
+/// Writes to standard output what an image file holds. The answer is the exit status. It is 1 also if nothing could be written.
 fn check<R: Print + Files + AllocGlobal>(rt: &R, path: &str) -> u8 {
     let alloc = rt.alloc();
     let mut output = Writer::new(io::writer(rt));
@@ -112,7 +114,7 @@ fn sorted_names(alloc: Global, faults: &Faults<Refusal>) -> Result<Vec<&'static 
     Ok(names)
 }
 
-/// Tells on standard error how sessions ended that were refused, and on standard output what all have done together.
+/// Writes the refusals of sessions to standard error, and the totals to standard output.
 fn tell_end<R: Print + Eprint + AllocGlobal>(
     rt: &R,
     faults: &Faults<Refusal>,
@@ -130,7 +132,7 @@ fn tell_end<R: Print + Eprint + AllocGlobal>(
     }
 }
 
-/// Serves sessions over a socket whose file it makes, for its owner alone, and takes away in the end.
+/// Serves sessions over a socket. Its file is made for the owner alone, and removed at the end.
 fn serve_over<R: Threads + Wait + Net + Files + Sync>(
     rt: &R,
     alloc: Global,
@@ -138,7 +140,13 @@ fn serve_over<R: Threads + Wait + Net + Files + Sync>(
     faults: &Faults<Refusal>,
     image: Image,
 ) -> Result<Served, Refusal> {
-    let (listener, file) = bind(rt, options.socket)?;
+    let (listener, file) = match bind(rt, options.socket) {
+        Ok(bound) => bound,
+        Err(refusal) => {
+            drop(image);
+            return Err(refusal);
+        }
+    };
     let result = serve_image(
         rt,
         alloc,
@@ -152,8 +160,8 @@ fn serve_over<R: Threads + Wait + Net + Files + Sync>(
     result
 }
 
-/// Saves the image of a server whose sessions have ended, and tells the end. All this is done also where accepting failed, and the
-/// refusal is answered then.
+/// Saves the image of a server whose sessions have ended, and reports the end. Both are done even if accepting failed; the answer
+/// is then that refusal.
 fn end_serving<R: Files + Print + Eprint + AllocGlobal>(
     rt: &R,
     path: Option<&str>,
@@ -174,7 +182,7 @@ fn end_serving<R: Files + Print + Eprint + AllocGlobal>(
     }
 }
 
-/// Serves a new image or that of a file, to which the image is saved when all sessions have ended.
+/// Serves a new image or the image of a file. That file gets the image when all sessions have ended.
 fn serve<R: Threads + Wait + Net + Files + Print + Eprint + AllocGlobal + Sync>(
     rt: &R,
     options: ServeOptions<'_>,
@@ -195,20 +203,21 @@ fn words(rt: &HostRuntime) -> io::Result<Vec<String>> {
     Ok(words)
 }
 
-/// Writes the name of a refusal to standard error. If that cannot be written, the status still tells.
+/// Writes the name of a refusal to standard error. If that fails, the exit status still tells of it.
 fn report_refusal(rt: &HostRuntime, refusal: Refusal) -> ExitCode {
     let name = refusal_name(refusal);
     let _ = eprintln!(rt; "actorimage: {name}");
     ExitCode::from(1)
 }
 
-/// Shows why a command line was refused, or the help that it asked for. If that cannot be written, the status still tells.
+/// Shows why a command line was refused, or the help that it asked for. If that fails, the exit status still tells of it.
 fn show_error(rt: &HostRuntime, error: Error) -> ExitCode {
     let _ = error.print(rt);
     ExitCode::from(error.exit_code() as u8)
 }
 
-/// Runs what the command line asks for. The status is 0; 1 if a session, a file or a socket was refused; 2 if the command line was.
+/// Runs what the command line asks for. The exit status is 0 on success, 1 if a session, a file or a socket was refused or memory ran
+/// out, and 2 if the command line was refused.
 fn main(rt: HostRuntime) -> io::Result<ExitCode> {
     let words = match words(&rt) {
         Ok(words) => words,

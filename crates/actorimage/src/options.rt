@@ -6,12 +6,12 @@ use clap::{Arg, ArgMatches, Command, Error, value_parser};
 use st_server::settings::ScriptSettings;
 use std::alloc::{AllocError, Global};
 
-/// The options of a script that the command line gives.
+/// The options of a script.
 #[derive(Clone, Copy, PartialEq, Eq, Debug)]
 pub struct ScriptOptions<'a> {
     quantum: Option<u32>,
     capacity: Option<u32>,
-    /// The path of the image's file, where the image is kept in one.
+    /// The path of the image's file, if the image is kept in one.
     pub image: Option<&'a str>,
 }
 
@@ -22,7 +22,7 @@ impl<'a> ScriptOptions<'a> {
         image: None,
     };
 
-    /// The settings of the script. What the command line does not give is as by default, and the history always is.
+    /// The settings of the script. Options that were not given have their defaults, and the history always has.
     pub fn settings(self) -> ScriptSettings
         ensures { result ≡ record { quantum = unwrap_or self.entry.quantum 256; capacity = unwrap_or self.entry.capacity 64; history = 1000000 } }
     {
@@ -35,29 +35,29 @@ impl<'a> ScriptOptions<'a> {
     }
 }
 
-/// The options of a server that the command line gives.
+/// The options of a server.
 #[derive(Clone, Copy, PartialEq, Eq, Debug)]
 pub struct ServeOptions<'a> {
     /// The path of the socket.
     pub socket: &'a str,
     /// From 1 to 16.
     pub workers: u32,
-    /// From 1 to 1,000,000, where the server is to end.
+    /// The number of sessions after which the server ends, from 1 to 1,000,000, if it is to end.
     pub sessions: Option<u32>,
-    /// The path of the image's file, where the image is kept in one.
+    /// The path of the image's file, if the image is kept in one.
     pub image: Option<&'a str>,
 }
 
-/// What the command line asks for.
+/// What a command line asks for.
 #[derive(Clone, Copy, PartialEq, Eq, Debug)]
 pub enum Request<'a> {
     Script(ScriptOptions<'a>),
     Serve(ServeOptions<'a>),
-    /// Look at the image file of this path.
+    /// Describe the image file at this path.
     Check(&'a str),
 }
 
-/// The option of an image's file, which a script and a server have.
+/// The option for an image's file, of scripts and servers.
 fn image_option<'a>(alloc: Global) -> Arg<'a> {
     Arg::new(alloc, "image")
         .long("image")
@@ -149,7 +149,7 @@ fn serve_options<'a>(matches: &ArgMatches<'a>) -> ServeOptions<'a> {
     }
 }
 
-/// What the words of a command line ask for, or the error or the help to show.
+/// What a command line asks for, or the error or the help to show.
 pub fn parsed_request<'a>(alloc: Global, words: &'a [String]) -> Result<Request<'a>, Error> {
     let matches = program(alloc)?.try_get_matches_from(words)?;
     if let Some(serve) = matches.subcommand_matches("serve") {

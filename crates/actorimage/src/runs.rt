@@ -1,4 +1,4 @@
-//! With which image a run begins, and where it is saved.
+//! The image with which a run begins, and where it is saved.
 ghost use Rattle.std.specs.Prelude.{◌≡◌};
 ghost use Rattle.actorimage.specs.Runs as spec;
 ghost use Rattle.actorimage.specs.Runs.{BeginsWith};
@@ -8,7 +8,7 @@ use st_image::settings::Settings;
 use st_server::images::Image;
 use std::alloc::Global;
 
-/// What a file that is there has for a run: the image that was loaded from it, or why it was refused.
+/// What a run finds in a file: the image that was loaded from it, or why it was refused.
 pub fn found_as(loaded: Result<Image, Refusal>) -> Result<Option<Image>, Refusal>
     ensures { result ≡ spec.found_as loaded }
 {
@@ -18,8 +18,8 @@ pub fn found_as(loaded: Result<Image, Refusal>) -> Result<Option<Image>, Refusal
     }
 }
 
-/// The image that a run begins with, by what was found: the image of a file; or a new one, where no file is asked for or none is there.
-/// A run does not begin where the file is refused.
+/// The image with which a run begins: the one that was found in a file, or else a new one. If the file was refused, the run does
+/// not begin.
 pub fn begin_with(alloc: Global, found: Result<Option<Image>, Refusal>) -> Result<Image, Refusal>
     ensures { BeginsWith found result }
 {
@@ -30,7 +30,7 @@ pub fn begin_with(alloc: Global, found: Result<Option<Image>, Refusal>) -> Resul
     }
 }
 
-/// Where the image is saved when a run has ended: at the path that is given, if one is; but nowhere where the run was refused.
+/// Where the image is saved after a run: at the given path, if any, and nowhere if the run was refused.
 pub fn saved_at<P: Copy, T>(path: Option<P>, ended: &Result<T, Refusal>) -> Option<P>
     ensures { result ≡ spec.saved_at path ended.now }
 {

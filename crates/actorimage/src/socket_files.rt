@@ -6,10 +6,10 @@ use std::net::Net;
 use std::os::unix::fs::{MetadataExt, PermissionsExt};
 use std::os::unix::net::UnixListener;
 
-/// The rights of a socket's file: its owner reads and writes.
+/// The permissions of a socket's file: its owner can read and write.
 const OWNER_ALONE: u32 = 0o600;
 
-/// The file that a server has made for its socket: where it is, and which one it is there.
+/// The file that a server made for its socket: its path and its identity.
 #[derive(Clone, Copy)]
 pub struct SocketFile<'a> {
     path: &'a str,
@@ -17,7 +17,7 @@ pub struct SocketFile<'a> {
     number: u64,
 }
 
-/// The file that is at a path.
+/// The file at a path.
 fn found<'a, R: Files>(rt: &R, path: &'a str) -> io::Result<SocketFile<'a>> {
     let file = fs::symlink_metadata(rt, path)?;
     Ok(SocketFile {
@@ -27,14 +27,14 @@ fn found<'a, R: Files>(rt: &R, path: &'a str) -> io::Result<SocketFile<'a>> {
     })
 }
 
-/// Gives the file at a path to its owner alone.
+/// Sets the permissions of the file at a path, so that only its owner has access.
 fn kept_to_owner<'a, R: Files>(rt: &R, path: &'a str) -> io::Result<SocketFile<'a>> {
     fs::set_permissions(rt, path, Permissions::from_mode(OWNER_ALONE))?;
     found(rt, path)
 }
 
-/// Makes a socket, and its file for its owner alone. Between the two calls that do so the process's mask of rights decides who may
-/// connect. Where the rights cannot be set, there is no socket and no file.
+/// Makes a socket, and its file for the owner alone. Between the two calls for that, the process's umask decides who can connect.
+/// If the permissions cannot be set, neither the socket nor the file remains.
 pub fn bind<'a, R: Net + Files>(
     rt: &R,
     path: &'a str,
@@ -52,7 +52,7 @@ pub fn bind<'a, R: Net + Files>(
 }
 
 impl<'a> SocketFile<'a> {
-    /// Takes the file away, if it is still the one at its path.
+    /// Removes the file, if it is still the one at its path.
     pub fn remove<R: Files>(self, rt: &R) {
         let Ok(file) = found(rt, self.path) else {
             return;

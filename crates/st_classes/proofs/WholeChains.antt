@@ -229,6 +229,33 @@ not_deep_more cs n depth h d few k l = by (nat_eq k n) refl
     by true e = ap (λ (i : ℕ). is_too_deep cs (class i)) (eqb-true k n e) ∙ too_deep_is cs (class n) depth d ∙ le-ltb 64 depth few
     by false e = h k (omega (arith, l, (λ (same : k ≡ n). let t : nat_eq k n ≡ true = eq-eqb k n same in let f : ⊥ = cc in f)))
 
+-- a chain has no more classes than one looks at
+chain_few : (cs : List ClassDef) (n : ℕ) (o : Option ClassId) → length (chain_of cs n o) ≤ n
+chain_few cs zero o = omega arith
+chain_few cs (suc n) None = omega arith
+chain_few cs (suc n) (Some c) = omega (arith, chain_few cs n (parent_in cs c))
+
+-- a class is not above one that stands less deep
+pub shallow_apart : (cs : List ClassDef) (c d : ClassId) → IsForest cs → length (chain_of cs 64 (Some d)) < length (chain_of cs 64 (Some c)) → is_among (chain_of cs 64 (Some d)) c ≡ false
+shallow_apart cs c d f less = by (is_among (chain_of cs 64 (Some d)) c) refl
+  where
+    by : (b : Bool) → is_among (chain_of cs 64 (Some d)) c ≡ b → b ≡ false
+    by true e = absurd (omega (arith, less, forest_shorter cs c d f e))
+    by false e = refl
+
+-- under a superclass that stands less deep than the class, no class gets a longer chain
+pub none_deeper : (cs : List ClassDef) (c p : ClassId) → IsForest cs → c.0 < length cs → is_among (chain_of cs 64 (Some p)) c ≡ false → length (chain_of cs 64 (Some p)) < length (chain_of cs 64 (Some c)) → has_too_deep (reparented cs c.0 p) ≡ false
+none_deeper cs c p f here out less = none_deep (reparented cs c.0 p) (λ k l. by (class k) (is_among (chain_of cs 64 (Some (class k))) c) refl)
+  where
+    by : (d : ClassId) (b : Bool) → is_among (chain_of cs 64 (Some d)) c ≡ b → is_too_deep (reparented cs c.0 p) d ≡ false
+    by d true e =
+        let shorter : length (chain_of cs 64 (Some c)) ≤ length (chain_of cs 64 (Some d)) = forest_shorter cs c d f e in
+        let depth : ℕ = length (chain_of cs 64 (Some d)) - length (chain_of cs 64 (Some c)) + length (chain_of cs 64 (Some p)) + 1 in
+        too_deep_is (reparented cs c.0 p) d depth (deep_below cs c p d depth f here out e (omega (arith, shorter))) ∙ le-ltb 64 depth (omega (arith, shorter, less, chain_few cs 64 (Some d)))
+    by d false e =
+        let depth : ℕ = length (chain_of cs 64 (Some d)) in
+        too_deep_is (reparented cs c.0 p) d depth (deep_apart cs c p d f e) ∙ le-ltb 64 depth (chain_few cs 64 (Some d))
+
 -- where no class is too deep, each depth is at most 64
 pub deep_few : (cs : List ClassDef) (c : ClassId) (depth : ℕ) → has_too_deep cs ≡ false → c.0 < length cs → IsDeep cs c depth → depth ≤ 64
 deep_few cs c depth none here h = by (nat_lt 64 depth) refl

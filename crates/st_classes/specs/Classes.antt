@@ -1,4 +1,4 @@
--- The classes that a list of edits gives.
+-- The classes that a list of edits defines.
 use Rattle.std.specs.Prelude.{◌≡◌, ◌<◌, ℕ, List, [], ◌∷◌, ◌++◌, length, reverse, Bool, Option, Some, None, slice_get, zero, suc, nat_lt, option_map, option_and_then, position, codes}
 use Rattle.std.specs.List.{flat_map}
 use Rattle.std.specs.Str.{bytes_eq}
@@ -7,7 +7,7 @@ use Rattle.st_classes.specs.declared.edits.Edit.{Edit}
 use Rattle.st_classes.specs.declared.edits.Edit.TheVariants.{Define, Install, Remove, Reparent}
 use Rattle.st_classes.specs.Kernel.{class}
 
--- a class by its definition: its name, its superclass, and the instance variables that it adds
+-- a class: its name, its superclass, and the instance variables that it adds
 pub record ClassDef : Type 0 where
   pub name : List ℕ
   pub parent : Option ClassId
@@ -34,56 +34,56 @@ kernel_classes =
 abbrev pub under : ClassId → ClassDef → ClassDef
 under parent d = record { name = d.name; parent = Some parent; slots = d.slots }
 
--- the classes, of which the one at a number has another superclass
+-- the classes after the one with a given number got another superclass
 abbrev pub reparented : List ClassDef → ℕ → ClassId → List ClassDef
 reparented [] n parent = []
 reparented (d ∷ cs) zero parent = under parent d ∷ cs
 reparented (d ∷ cs) (suc n) parent = d ∷ reparented cs n parent
 
--- what an edit makes of the classes
+-- the classes after an edit
 abbrev pub classes_after : List ClassDef → Edit → List ClassDef
 classes_after cs (Define name parent slots) = cs ++ record { name = name; parent = Some parent; slots = slots } ∷ []
 classes_after cs (Install c m) = cs
 classes_after cs (Remove c s) = cs
 classes_after cs (Reparent c parent) = reparented cs c.0 parent
 
--- what edits make of the classes, one after the other
+-- the classes after a list of edits
 abbrev pub classes_from : List ClassDef → List Edit → List ClassDef
 classes_from cs [] = cs
 classes_from cs (e ∷ es) = classes_from (classes_after cs e) es
 
--- all classes, by their numbers: the kernel's, and those that the edits define
+-- all classes by number: the kernel's and those that the edits define
 abbrev pub classes : List Edit → List ClassDef
 classes edits = classes_from kernel_classes edits
 
--- the number of classes, the kernel's eight counted
+-- the number of classes, including the kernel's eight
 abbrev pub class_count : List Edit → ℕ
 class_count edits = length (classes edits)
 
--- a number is a class's
+-- whether a number is that of a class
 abbrev pub is_class : List Edit → ClassId → Bool
 is_class edits c = nat_lt c.0 (class_count edits)
 
--- the superclass of a class among some
+-- the superclass of a class in a list of classes
 abbrev pub parent_in : List ClassDef → ClassId → Option ClassId
 parent_in cs c = option_and_then (λ d. d.parent) (slice_get cs c.0)
 
--- the superclass of a class: the one that its definition or its last reparent names
+-- the superclass of a class: its definition or its last reparent names it
 abbrev pub parent : List Edit → ClassId → Option ClassId
 parent edits c = parent_in (classes edits) c
 
--- a class and those above it, at most so many
+-- a class and its superclasses, upwards, at most n of them
 abbrev pub chain_of : List ClassDef → ℕ → Option ClassId → List ClassId
 chain_of cs zero o = []
 chain_of cs (suc n) None = []
 chain_of cs (suc n) (Some c) = c ∷ chain_of cs n (parent_in cs c)
 
--- a class, its superclass, and so on to Object
+-- a class, its superclass, and so on up to Object
 abbrev pub chain : List Edit → ClassId → List ClassId
 chain edits c = chain_of (classes edits) 64 (Some c)
 
--- each superclass is a class, and the chain of a class is the class and its superclass's chain: no chain is cut off at
--- 64 classes
+-- each superclass is a class, and the chain of a class is the class followed by its superclass's chain: no chain is
+-- cut off at 64 classes
 pub record IsForest (cs : List ClassDef) : Type 0 where
   pub closed : (c p : ClassId) → parent_in cs c ≡ Some p → p.0 < length cs
   pub chains : (c p : ClassId) → parent_in cs c ≡ Some p → chain_of cs 64 (Some c) ≡ c ∷ chain_of cs 64 (Some p)
@@ -100,7 +100,7 @@ own_slots cs c = slots_in (slice_get cs c.0)
 abbrev pub slots : List Edit → ClassId → List (List ℕ)
 slots edits c = flat_map (own_slots (classes edits)) (reverse (chain edits c))
 
--- the instance variables that a class inherits: those of its superclass
+-- the instance variables that a class inherits: all of its superclass's
 abbrev pub inherited : List Edit → ClassId → List (List ℕ)
 inherited edits c = slots_of (parent edits c)
   where
@@ -112,6 +112,6 @@ inherited edits c = slots_of (parent edits c)
 abbrev pub class_name : List Edit → ClassId → Option (List ℕ)
 class_name edits c = option_map (λ d. d.name) (slice_get (classes edits) c.0)
 
--- the class of a name
+-- the class with a given name
 abbrev pub class_named : List Edit → List ℕ → Option ClassId
 class_named edits name = option_map class (position (λ d. bytes_eq name d.name) (classes edits))

@@ -1,4 +1,4 @@
--- Lists of edits that were accepted, and whose methods suit and are sound.
+-- Lists of accepted edits, and that their methods suit and are sound.
 use Rattle.std.specs.Prelude.{◌≡◌, ◌++◌, ℕ, List, true, Option, Some, None, slice_get, take, option_and_then}
 use Rattle.st_classes.specs.declared.values.ClassId.{ClassId}
 use Rattle.st_classes.specs.declared.values.MethodId.{MethodId}
@@ -10,7 +10,7 @@ use Rattle.st_classes.specs.EditRules.{edit_rules}
 use Rattle.st_classes.specs.Methods.{IsSound}
 use Rattle.st_classes.specs.MethodSuits.{suits}
 
--- one list begins another
+-- the first list is a prefix of the second
 abbrev pub Begins : List Edit → List Edit → Type 0
 Begins edits later = (rest : List Edit) × (later ≡ edits ++ rest)
 
@@ -36,13 +36,13 @@ abbrev pub AllSound : List Edit → Type 0
 AllSound edits = (place : ℕ) (c : ClassId) (m : MethodParts) →
     slice_get edits place ≡ Some (Install c m) → IsSound m
 
--- the method of an install
+-- the method of an install; other edits have none
 abbrev pub installed_method : Edit → Option MethodParts
 installed_method (Define name parent slots) = None
 installed_method (Install c m) = Some m
 installed_method (Remove c s) = None
 installed_method (Reparent c p) = None
 
--- the method that was installed at a place of the list
+-- the method that the edit at a place installed
 abbrev pub method_at : List Edit → MethodId → Option MethodParts
 method_at edits m = option_and_then installed_method (slice_get edits m.0)

@@ -23,7 +23,7 @@ is_kernel_class c = nat_lt c.0 8
 abbrev pub is_value_class : ClassId → Bool
 is_value_class c = nat_le 1 c.0 && nat_lt c.0 8
 
--- some text stands in the list twice
+-- some text occurs twice in the list
 abbrev pub has_twice : List (List ℕ) → Bool
 has_twice [] = false
 has_twice (text ∷ texts) = list_any (bytes_eq text) texts || has_twice texts
@@ -32,7 +32,7 @@ has_twice (text ∷ texts) = list_any (bytes_eq text) texts || has_twice texts
 abbrev pub are_names : List ℕ → List (List ℕ) → Bool
 are_names name slots = is_class_name name && list_all is_slot_name slots
 
--- a class table has 4,096 edits at most
+-- a class table has at most 4,096 edits
 abbrev pub too_many_edits : List Edit → Rule
 too_many_edits edits = (nat_le 4096 (length edits), TooMany Edits)
 
@@ -58,7 +58,7 @@ install_rules edits c s =
     ∷ too_many_edits edits
     ∷ []
 
--- the refusals of a removal, in their order: only a user's method that the class has of its own is removed
+-- the refusals of a removal, in their order: a class can lose only its own methods that are the user's
 abbrev pub remove_rules : List Edit → ClassId → Selector → List Rule
 remove_rules edits c s =
     (not (is_class edits c), UnknownClass)
@@ -67,20 +67,20 @@ remove_rules edits c s =
     ∷ too_many_edits edits
     ∷ []
 
--- a class is among some
+-- a class is in the list
 abbrev pub is_among : List ClassId → ClassId → Bool
 is_among cs c = list_any (λ (d : ClassId). d.0 == c.0) cs
 
--- a class has over 64 classes on its chain
+-- a class has more than 64 classes on its chain
 abbrev pub is_too_deep : List ClassDef → ClassId → Bool
 is_too_deep cs c = nat_lt 64 (length (chain_of cs 65 (Some c)))
 
--- some class has
+-- some class has more than 64 classes on its chain
 abbrev pub has_too_deep : List ClassDef → Bool
 has_too_deep cs = list_any (λ (n : ℕ). is_too_deep cs (class n)) (range_with_len 0 (length cs))
 
--- the refusals of a reparent, in their order: a class gets a superclass that has the instance variables of the old one,
--- and no class comes to have itself on its chain, or over 64 classes
+-- the refusals of a reparent, in their order: the new superclass has the old one's instance variables, the class is not
+-- on its chain, and afterwards no chain has more than 64 classes
 abbrev pub reparent_rules : List Edit → ClassId → ClassId → List Rule
 reparent_rules edits c parent =
     (not (is_class edits c), UnknownClass)

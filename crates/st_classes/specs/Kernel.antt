@@ -5,11 +5,11 @@ use Rattle.st_classes.specs.declared.values.Selector.{Selector}
 use Rattle.st_classes.specs.declared.kernel.Kernel.{Kernel}
 use Rattle.st_classes.specs.declared.kernel.Kernel.TheVariants.{Identical, Equal, ClassOf, IsNil, DoesNotUnderstand, Add, Subtract, Multiply, Quotient, Remainder, Less, Greater, LessOrEqual, GreaterOrEqual, Not, And, Post, PostWith, PostWithWith, Close, New, NewActor}
 
--- a class by its number
+-- the class with a number
 abbrev pub class : ℕ → ClassId
 class n = record { 0 = n }
 
--- a selector by its number
+-- the selector with a number
 abbrev pub selector : ℕ → Selector
 selector n = record { 0 = n }
 
@@ -54,7 +54,7 @@ object_method s =
     else (if s == 4 then Some DoesNotUnderstand
     else None))))
 
--- those of SmallInteger
+-- the kernel's methods of SmallInteger
 abbrev pub integer_method : ℕ → Option Kernel
 integer_method s =
     if s == 5 then Some Add
@@ -68,11 +68,11 @@ integer_method s =
     else (if s == 13 then Some GreaterOrEqual
     else None))))))))
 
--- those of True and False
+-- the kernel's methods of True and of False
 abbrev pub boolean_method : ℕ → Option Kernel
 boolean_method s = if s == 14 then Some Not else (if s == 15 then Some And else None)
 
--- those of ActorRef
+-- the kernel's methods of ActorRef
 abbrev pub actor_method : ℕ → Option Kernel
 actor_method s =
     if s == 16 then Some Post
@@ -81,11 +81,11 @@ actor_method s =
     else (if s == 19 then Some Close
     else None)))
 
--- those of Class
+-- the kernel's methods of Class
 abbrev pub class_method : ℕ → Option Kernel
 class_method s = if s == 20 then Some New else (if s == 21 then Some NewActor else None)
 
--- the kernel's method in a class for a selector
+-- the kernel's method of a class for a selector
 abbrev pub kernel_method : ClassId → Selector → Option Kernel
 kernel_method c s =
     if c.0 == 0 then object_method s.0

@@ -1,4 +1,4 @@
--- The name table: a list of texts, each of which is a name by its place.
+-- The name table: a list of texts, whose indexes are the numbers of the names.
 use Rattle.std.specs.Prelude.{◌≡◌, ℕ, ◌≤◌, ◌&&◌, List, [], ◌∷◌, ◌++◌, length, Bool, true, not, Some, nat_le, slice_get, take, if◌then◌else◌, map}
 use Rattle.std.specs.List.{list_any}
 use Rattle.std.specs.Str.{bytes_eq}
@@ -13,7 +13,7 @@ use Rattle.st_classes.specs.Selectors.{is_selector}
 abbrev pub is_name : List (List ℕ) → List ℕ → Bool
 is_name names text = list_any (bytes_eq text) names
 
--- the names after a text is interned: a new one goes last
+-- the names after a text is interned: a new one is appended
 abbrev pub interned : List (List ℕ) → List ℕ → List (List ℕ)
 interned names text = if is_name names text then names else names ++ text ∷ []
 
@@ -24,7 +24,7 @@ intern_rules names text =
     ∷ (not (is_name names text) && nat_le 8192 (length names), TooMany Names)
     ∷ []
 
--- what is true of every name table
+-- what holds of every name table
 pub record AreNames (names : List (List ℕ)) : Type 0 where
   pub kernel : take 22 names ≡ kernel_selectors
   pub selectors : (place : ℕ) (text : List ℕ) → slice_get names place ≡ Some text → is_selector text ≡ true

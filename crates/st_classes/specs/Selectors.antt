@@ -1,4 +1,4 @@
--- What is a name, and how many arguments a selector has.
+-- What a name is, and how many arguments a selector takes.
 use Rattle.std.specs.Prelude.{ℕ, ◌+◌, ◌==◌, ◌&&◌, ◌||◌, List, [], ◌∷◌, length, Bool, false, not, Option, Some, None, is_some, nat_le, if◌then◌else◌, codes, position, option_map}
 use Rattle.std.specs.List.{list_any, list_all}
 use Rattle.std.specs.Str.{bytes_eq}
@@ -19,25 +19,25 @@ is_digit b = nat_le 48 b && nat_le b 57
 abbrev pub is_letter : ℕ → Bool
 is_letter b = is_upper b || is_lower b
 
--- what follows the first letter of an identifier
+-- a byte after the first letter of an identifier
 abbrev pub is_letter_or_digit : ℕ → Bool
 is_letter_or_digit b = is_letter b || is_digit b
 
--- a letter and then letters and digits, at most 64
+-- a letter and then letters and digits, at most 64 bytes in all
 abbrev pub is_identifier : List ℕ → Bool
 is_identifier [] = false
 is_identifier (b ∷ bs) = is_letter b && list_all is_letter_or_digit bs && nat_le (length bs) 63
 
--- a capital stands first
+-- the first byte is a capital
 abbrev pub begins_upper : List ℕ → Bool
 begins_upper [] = false
 begins_upper (b ∷ bs) = is_upper b
 
--- an identifier with a capital first
+-- an identifier that starts with a capital
 abbrev pub is_class_name : List ℕ → Bool
 is_class_name text = is_identifier text && begins_upper text
 
--- the names that mean something else in every method
+-- the names that are reserved, because they mean something else in every method
 abbrev pub reserved_names : List (List ℕ)
 reserved_names = codes "self" ∷ codes "super" ∷ codes "nil" ∷ codes "true" ∷ codes "false" ∷ codes "thisActor" ∷ []
 
@@ -57,34 +57,34 @@ binary_characters = codes "+-*/\\<>=~&,"
 abbrev pub is_binary_character : ℕ → Bool
 is_binary_character b = list_any (λ c. c == b) binary_characters
 
--- one of the characters, or two of which the second is no minus
+-- one such character, or two if the second is not a minus
 abbrev pub is_binary : List ℕ → Bool
 is_binary (a ∷ []) = is_binary_character a
 is_binary (a ∷ b ∷ []) = is_binary_character a && is_binary_character b && not (b == 45)
 is_binary _ = false
 
--- a byte in front of the first part
+-- a byte prepended to the first part
 abbrev pub before_first_part : ℕ → List (List ℕ) → List (List ℕ)
 before_first_part b [] = (b ∷ []) ∷ []
 before_first_part b (part ∷ parts) = (b ∷ part) ∷ parts
 
--- the parts between the colons of a text
+-- the parts of a text, split at its colons
 abbrev pub parts : List ℕ → List (List ℕ)
 parts [] = [] ∷ []
 parts (b ∷ bs) = if b == 58 then [] ∷ parts bs else before_first_part b (parts bs)
 
--- how many keywords the parts of a text make: identifiers, and nothing behind the last colon
+-- the number of keywords in the parts of a text: each but the last is an identifier, and the last is empty
 abbrev pub keywords : List (List ℕ) → Option ℕ
 keywords [] = None
 keywords (part ∷ []) = if length part == 0 then Some 0 else None
 keywords (part ∷ next ∷ rest) = if is_identifier part then option_map (λ n. n + 1) (keywords (next ∷ rest)) else None
 
--- from 1 to 8 keywords
+-- the number of keywords, if it is from 1 to 8
 abbrev pub keyword_arity : Option ℕ → Option ℕ
 keyword_arity None = None
 keyword_arity (Some n) = if nat_le 1 n && nat_le n 8 then Some n else None
 
--- the number of arguments of a selector; none where the text is no selector
+-- the number of arguments of a selector; none if the text is not a selector
 abbrev pub arity_of : List ℕ → Option ℕ
 arity_of text =
     if is_identifier text then Some 0
@@ -94,6 +94,6 @@ arity_of text =
 abbrev pub is_selector : List ℕ → Bool
 is_selector text = is_some (arity_of text)
 
--- the place of a text in a list of names
+-- the index of a text in a list of names
 abbrev pub place_of : List (List ℕ) → List ℕ → Option ℕ
 place_of names text = position (bytes_eq text) names

@@ -10,7 +10,6 @@ ghost use Rattle.st_classes.specs.Selectors.{is_slot_name as slot_name};
 ghost use Rattle.st_classes.specs.EditRules.{
   is_among as among,
   is_kernel_class as kernel_class,
-  is_value_class as closed,
   has_too_deep,
   has_twice as twice,
   are_names as names,
@@ -23,7 +22,7 @@ ghost use Rattle.st_classes.specs.EditRules.{
 };
 
 use crate::edits::Edit;
-use crate::kernel::{Found, KERNEL_CLASSES, kernel_at};
+use crate::kernel::{Found, KERNEL_CLASSES, is_value_class, kernel_at};
 use crate::limits;
 use crate::refusals::{Limited, Refusal};
 use crate::same::same_texts;
@@ -32,14 +31,7 @@ use crate::seq::Seq;
 use crate::values::{ClassId, Selector};
 use crate::version::Version;
 
-/// Whether a class can have no subclasses: one of the kernel's, Object aside.
-fn is_closed(class: ClassId) -> bool
-    ensures { result ≡ closed class }
-{
-    1 <= class.0 && class.0 < KERNEL_CLASSES
-}
-
-/// Whether a class is the kernel's.
+/// Whether a class is a kernel class.
 fn is_kernel(class: ClassId) -> bool
     ensures { result ≡ kernel_class class }
 {
@@ -65,7 +57,7 @@ fn is_among(text: &[u8], texts: &[Seq<u8>]) -> bool
     texts.iter().any(|other| text == other.as_slice())
 }
 
-/// Whether a text stands twice in a list.
+/// Whether a text occurs twice in a list.
 fn has_twice(texts: &[Seq<u8>]) -> bool
     ensures { result ≡ twice texts.now }
 {
@@ -79,7 +71,7 @@ fn has_twice(texts: &[Seq<u8>]) -> bool
     false
 }
 
-/// Whether a text stands twice in two lists, one behind the other.
+/// Whether a text occurs twice in the concatenation of two lists.
 fn has_clash(front: &[Seq<u8>], back: &[Seq<u8>]) -> bool
     ensures { result ≡ twice (front.now ++ back.now) }
 {
@@ -94,7 +86,7 @@ fn has_clash(front: &[Seq<u8>], back: &[Seq<u8>]) -> bool
 }
 
 impl Version {
-    /// The refusal of an edit that would be one too many.
+    /// The refusal of one edit too many.
     fn full(&self) -> Option<Refusal>
         ensures { result ≡ first_of (too_many_edits self.now ∷ []) }
     {
@@ -116,7 +108,7 @@ impl Version {
         if !are_names(name, added) {
             return Some(Refusal::BadName);
         }
-        if is_closed(parent) {
+        if is_value_class(parent) {
             return Some(Refusal::KernelClass);
         }
         if self.class_named(name).is_some() {
@@ -182,7 +174,7 @@ impl Version {
         }
     }
 
-    /// Whether a superclass has the instance variables that a class inherits.
+    /// Whether a superclass has exactly the instance variables that a class inherits.
     fn fits_under(&self, class: ClassId, parent: ClassId) -> bool
         requires { is_class self.now parent ≡ true }
         ensures { result ≡ pointwise bytes_eq (slots self.now parent) (inherited self.now class) }
@@ -190,7 +182,7 @@ impl Version {
         same_texts(self.slots(parent), self.inherited(class))
     }
 
-    /// How deep a class stands once another is under a new superclass, which is not below that one.
+    /// The depth of the class `at` once `class` has the superclass `parent`, which is not `class` and not below it.
     pub(crate) fn depth_after(&self, at: ClassId, class: ClassId, parent: ClassId) -> usize
         requires at { is_class self.now at ≡ true }
         requires class { is_class self.now class ≡ true }
@@ -200,13 +192,17 @@ impl Version {
     {
         self.kept();
         let depth = usize::from(self.depth(at));
+        let moved = usize::from(self.depth(class));
+        if depth < moved {
+            return depth;
+        }
         if !self.is_above(class, at) {
             return depth;
         }
-        depth - usize::from(self.depth(class)) + usize::from(self.depth(parent)) + 1
+        depth - moved + usize::from(self.depth(parent)) + 1
     }
 
-    /// Whether some class would have too long a chain once a class is under a new superclass, which is not below it.
+    /// Whether some chain would be too long once `class` has the superclass `parent`, which is not `class` and not below it.
     fn is_too_deep(&self, class: ClassId, parent: ClassId) -> bool
         requires class { is_class self.now class ≡ true }
         requires parent { is_class self.now parent ≡ true }
@@ -214,6 +210,9 @@ impl Version {
         ensures { result ≡ has_too_deep (reparented (classes self.now) class.0 parent) }
     {
         self.kept();
+        if self.depth(parent) < self.depth(class) {
+            return false;
+        }
         for number in 0..self.classes() {
             let at = ClassId(number as u16);
             if self.depth_after(at, class, parent) > limits::CHAIN {
@@ -223,7 +222,7 @@ impl Version {
         false
     }
 
-    /// The refusal of another superclass.
+    /// The refusal of a new superclass.
     fn reparent_refusal(&self, class: ClassId, parent: ClassId) -> Option<Refusal>
         ensures { result ≡ first_of (reparent_rules self.now class parent) }
     {
@@ -233,7 +232,7 @@ impl Version {
         if !self.is_class(parent) {
             return Some(Refusal::UnknownClass);
         }
-        if is_kernel(class) || is_closed(parent) {
+        if is_kernel(class) || is_value_class(parent) {
             return Some(Refusal::KernelClass);
         }
         if self.is_above(class, parent) {

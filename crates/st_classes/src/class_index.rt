@@ -39,7 +39,6 @@ impl ClassIndex {
         self.classes.get(name).copied()
     }
 
-    /// A copy.
     fn again(&self) -> Result<ClassIndex, AllocError>
         ensures { IfOk result (λ copy. copy ≡ self.now) }
     {
@@ -48,7 +47,7 @@ impl ClassIndex {
         })
     }
 
-    /// Gives a name a class.
+    /// Maps a name to a class.
     pub fn put(&mut self, alloc: Global, name: &[u8], class: ClassId) -> Result<(), AllocError>
         ensures { OnOk result ((q : List ℕ) → named_in self.new q ≡ (if bytes_eq q name.now then Some class else named_in self.old q)) }
     {
@@ -57,7 +56,7 @@ impl ClassIndex {
         Ok(())
     }
 
-    /// A copy with one name more.
+    /// A copy that also maps a name to a class.
     pub fn with(&self, alloc: Global, name: &[u8], class: ClassId) -> Result<ClassIndex, AllocError>
         ensures { IfOk result (λ copy. (q : List ℕ) → named_in copy q ≡ (if bytes_eq q name.now then Some class else named_in self.now q)) }
     {

@@ -1,4 +1,4 @@
-//! Rows of classes.
+//! The row of each class.
 ghost use Rattle.std.specs.Prelude.{◌≡◌, List, ◌∷◌, ◌++◌, [], ◌<◌, length, Some, None, IfOk, OnOk, slice_set};
 ghost use Rattle.std.specs.List.{AllZip, slice_get};
 ghost use Rattle.std.specs.Option.{option_copied};
@@ -13,7 +13,7 @@ use std::alloc::{AllocError, Global};
 use std::marker::Model;
 use std::sync::Arc;
 
-/// What a class table keeps of a class.
+/// What a class table holds of one class.
 #[derive(Drop)]
 pub struct ClassRow {
     pub name: Seq<u8>,
@@ -31,7 +31,7 @@ fn copy_text(alloc: Global, text: &[u8]) -> Result<Seq<u8>, AllocError>
     Ok(Seq::from_vec(Vec::from_slice(alloc, text)?))
 }
 
-/// Puts a copy of each text behind those that are there.
+/// Appends a copy of each text.
 fn append_texts(
     alloc: Global,
     copies: &mut Vec<Seq<u8>>,
@@ -45,7 +45,7 @@ fn append_texts(
     Ok(())
 }
 
-/// A copy of the texts of two lists, one behind the other.
+/// A copy of the concatenation of two lists of texts.
 fn join_texts(
     alloc: Global,
     front: &[Seq<u8>],
@@ -71,7 +71,7 @@ impl ClassRow {
         }
     }
 
-    /// The row with the user's method for a selector, or with none for it.
+    /// The row with the user's method for a selector, or with none.
     pub fn with_method(
         &self,
         alloc: Global,
@@ -88,7 +88,7 @@ impl ClassRow {
         })
     }
 
-    /// The row of the class under another superclass.
+    /// The row with another superclass.
     pub fn moved(&self, alloc: Global, parent: ClassId) -> Result<ClassRow, AllocError>
         ensures { IfOk result (λ row. IsMoved self.now row parent) }
     {
@@ -116,7 +116,7 @@ impl ClassRow {
         })
     }
 
-    /// The row of a new class under this row's.
+    /// The row of a new class whose superclass has this row.
     pub fn under(
         &self,
         alloc: Global,
@@ -135,7 +135,7 @@ impl ClassRow {
     }
 }
 
-/// Rows by class number. The tables that have a row share it.
+/// Rows by class number. Tables share them.
 #[derive(Drop)]
 pub struct ClassRows {
     rows: Vec<Arc<ClassRow>>,
@@ -174,7 +174,7 @@ impl ClassRows {
         Some(row)
     }
 
-    /// The row of a class that is there.
+    /// The row of a class. The class must exist.
     #[inline(always)]
     pub fn of(&self, class: ClassId) -> &ClassRow
         requires { class.0 < length self.now }
@@ -183,7 +183,7 @@ impl ClassRows {
         &self.rows[class.0 as usize]
     }
 
-    /// A second table with the same rows, which it shares, and with room for one more.
+    /// A second table of the same rows, with room for one more. The rows are shared.
     pub fn again(&self, alloc: Global) -> Result<ClassRows, AllocError>
         ensures { IfOk result (λ rows. rows ≡ self.now) }
     {
@@ -194,7 +194,7 @@ impl ClassRows {
         Ok(ClassRows { rows })
     }
 
-    /// Puts a row last.
+    /// Appends a row.
     fn push(&mut self, alloc: Global, row: ClassRow) -> Result<(), AllocError>
         ensures { OnOk result (self.new ≡ self.old ++ row ∷ []) }
     {
@@ -202,7 +202,7 @@ impl ClassRows {
         Ok(())
     }
 
-    /// Puts the row of a kernel class last.
+    /// Appends the row of a kernel class.
     pub fn push_plain(
         &mut self,
         alloc: Global,
@@ -215,7 +215,7 @@ impl ClassRows {
         self.push(alloc, row)
     }
 
-    /// Puts a row in the place of a class's.
+    /// Replaces the row of a class.
     fn set(&mut self, alloc: Global, class: ClassId, row: ClassRow) -> Result<(), AllocError>
         requires { class.0 < length self.old }
         ensures { OnOk result (self.new ≡ slice_set self.old class.0 row) }
@@ -224,7 +224,7 @@ impl ClassRows {
         Ok(())
     }
 
-    /// The rows with one more.
+    /// The rows with one appended.
     pub fn with(&self, alloc: Global, row: ClassRow) -> Result<ClassRows, AllocError>
         ensures { IfOk result (λ rows. rows ≡ self.now ++ row ∷ []) }
     {
@@ -233,7 +233,7 @@ impl ClassRows {
         Ok(rows)
     }
 
-    /// The rows with another for a class.
+    /// The rows with one replaced.
     pub fn with_at(
         &self,
         alloc: Global,

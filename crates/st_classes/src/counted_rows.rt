@@ -9,22 +9,22 @@ use crate::kernel::Found;
 use crate::values::{ClassId, Selector};
 use crate::version::Version;
 
-/// The method that a class has of its own for a selector, and its superclass.
+/// The method that a class has of its own for a selector, if any, and its superclass.
 #[derive(Clone, Copy, PartialEq, Eq, Debug)]
 pub struct Row {
     pub own: Option<Found>,
     pub parent: Option<ClassId>,
 }
 
-/// The rows that a list of edits gives. How many are read is counted, in a count that goes back to 0 after 2^64 - 1.
+/// The rows of a list of edits. Reads are counted; the counter wraps to 0 after 2^64 - 1.
 pub trait ClassRows {
     /// The edits.
     ghost edits: { Self → List EditOf };
 
-    /// How many rows were read.
+    /// The number of reads.
     ghost reads: { Self → ℕ };
 
-    /// What is true of the edits and of the count.
+    /// What holds of the edits and of the counter.
     fn known(&self)
         ensures lawful { AreLawful (edits self.now) }
         ensures sound { AllSound (edits self.now) }
@@ -39,7 +39,7 @@ pub trait ClassRows {
         ensures reads { reads self.new ≡ (reads self.old + 1) % 2 ^ 64 };
 }
 
-/// The rows of a version.
+/// The rows of a version, with a counter of reads.
 #[derive(Drop)]
 pub struct CountedRows<'v> {
     version: &'v Version,
@@ -47,7 +47,7 @@ pub struct CountedRows<'v> {
 }
 
 impl<'v> CountedRows<'v> {
-    /// No row was read.
+    /// No row has been read yet.
     pub fn new(version: &'v Version) -> CountedRows<'v>
         ensures edits { result.version.now ≡ version.now }
         ensures reads { result.reads ≡ 0 }
@@ -55,7 +55,7 @@ impl<'v> CountedRows<'v> {
         CountedRows { version, reads: 0 }
     }
 
-    /// How many rows were read.
+    /// The number of reads.
     pub fn reads(&self) -> u64
         ensures { result ≡ self.now.reads }
     {

@@ -1,4 +1,4 @@
-//! How deep each class stands.
+//! The depth of each class.
 ghost use Rattle.std.specs.Prelude.{◌≡◌, ◌∷◌, ◌++◌, [], ◌<◌, IfOk, Some, length, slice_get};
 ghost use Rattle.st_classes.specs.Depths.{kernel_depths};
 
@@ -6,10 +6,10 @@ use crate::values::ClassId;
 use std::alloc::{AllocError, Global};
 use std::marker::Model;
 
-/// For each kernel class the classes on its chain: Object stands alone, and the others under it.
+/// The number of classes on the chain of each kernel class: 1 for Object, and 2 for the others.
 const KERNEL: [u8; 8] = [1, 2, 2, 2, 2, 2, 2, 2];
 
-/// For each class, by its number, the classes on its chain, itself and Object counted: 1 to 64.
+/// The number of classes on each class's chain, by class number. The class and Object count: 1 to 64.
 #[derive(Drop)]
 pub struct Depths {
     counts: Vec<u8>,
@@ -24,7 +24,7 @@ impl Model for Depths {
 }
 
 impl Depths {
-    /// Those of the kernel's classes.
+    /// The depths of the kernel's classes.
     pub fn kernel(alloc: Global) -> Result<Depths, AllocError>
         ensures { IfOk result (λ depths. depths ≡ kernel_depths) }
     {
@@ -33,14 +33,14 @@ impl Depths {
         })
     }
 
-    /// Those that a vector gives.
+    /// The depths in a vector.
     pub fn from_vec(counts: Vec<u8>) -> Depths
         ensures { result ≡ counts.items }
     {
         Depths { counts }
     }
 
-    /// The classes on the chain of a class that is there.
+    /// The number of classes on the chain of a class. The class must exist.
     #[inline(always)]
     pub fn of(&self, class: ClassId) -> u8
         requires { class.0 < length self.now }
@@ -49,7 +49,7 @@ impl Depths {
         self.counts[class.0 as usize]
     }
 
-    /// Those with that of a new class.
+    /// The depths with that of a new class appended.
     pub fn with(&self, alloc: Global, depth: u8) -> Result<Depths, AllocError>
         ensures { IfOk result (λ depths. depths ≡ self.now ++ depth ∷ []) }
     {

@@ -9,18 +9,18 @@ use std::sync::Arc;
 /// One edit.
 #[derive(Drop)]
 pub enum Edit {
-    /// A new class under another, with its own instance variables.
+    /// A new class under another, with the instance variables that it adds.
     Define {
         name: Seq<u8>,
         parent: ClassId,
         slots: Seq<Seq<u8>>,
     },
-    /// A method in a class, in place of the one that it has for the selector.
+    /// A method in a class. It replaces the class's own method for its selector.
     Install {
         class: ClassId,
         method: Method,
     },
-    /// The class has no method of its own for the selector any more.
+    /// The class loses its own method for the selector.
     Remove {
         class: ClassId,
         selector: Selector,
@@ -35,7 +35,7 @@ pub enum Edit {
 impl Edit {
     ghost use Rattle.st_classes.specs.EditLists.{IsSoundEdit};
 
-    /// What is true of every edit: the method of an install is sound.
+    /// What holds of every edit: the method of an install is sound.
     pub fn known(&self)
         ensures { IsSoundEdit self.now }
     {
@@ -63,7 +63,7 @@ impl Model for SharedEdit {
 impl SharedEdit {
     ghost use Rattle.std.specs.Prelude.{◌≡◌, IfOk};
 
-    /// An edit that may be shared from here on.
+    /// Makes an edit that can be shared.
     pub fn new(alloc: Global, edit: Edit) -> Result<SharedEdit, AllocError>
         ensures { IfOk result (λ s. s ≡ edit) }
     {
@@ -72,7 +72,7 @@ impl SharedEdit {
         })
     }
 
-    /// The same edit once more. It is not copied.
+    /// A second pointer to the edit.
     pub fn again(&self) -> Result<SharedEdit, AllocError>
         ensures { IfOk result (λ s. s ≡ self.now) }
     {
@@ -81,7 +81,6 @@ impl SharedEdit {
         })
     }
 
-    /// The edit.
     #[inline]
     pub fn edit(&self) -> &Edit
         ensures { result.now ≡ self.now }

@@ -3,21 +3,21 @@
 /// Why a turn ended without an answer.
 #[derive(Clone, Copy, PartialEq, Eq, Debug)]
 pub enum Fault {
-    /// Neither the selector nor a `doesNotUnderstand:` of the user's was found.
+    /// No method was found for the selector, and no method of the user's for `doesNotUnderstand:`.
     NotUnderstood,
-    /// The result of arithmetic has more than 64 bits.
+    /// The result of arithmetic does not fit in 64 bits.
     Overflow,
     ZeroDivide,
-    /// An argument of a kernel method is not of the kind that it takes.
+    /// A kernel method got an argument of the wrong kind.
     BadArgument,
-    /// A conditional jump met a value that is no boolean.
+    /// A conditional jump met a value that is not a boolean.
     MustBeBoolean,
-    /// A call where there are 128 frames.
+    /// A call with 128 frames open.
     StackOverflow,
-    /// A new object where the actor has 1,024.
+    /// A new object in an actor that already has 1,024.
     HeapFull,
-    /// A local object in a message to an actor.
+    /// A message to an actor has a local object as an argument.
     LocalArgument,
-    /// A new actor where the image has 65,536.
+    /// A new actor in an image that already has 65,536.
     TooManyActors,
 }

@@ -4,7 +4,7 @@ use crate::values::{Selector, Value};
 /// An instruction. Jump distances count from the next instruction.
 #[derive(Clone, Copy, PartialEq, Eq, Debug)]
 pub enum Instruction {
-    /// Pushes the literal.
+    /// Pushes a literal.
     PushLit(Value),
     /// Pushes the receiver.
     PushSelf,
@@ -14,23 +14,23 @@ pub enum Instruction {
     PushTemp(u8),
     /// Pushes an instance variable of the receiver, inherited ones first.
     PushSlot(u8),
-    /// Stores the top, which stays.
+    /// Stores the top and leaves it there.
     StoreTemp(u8),
-    /// Stores the top, which stays.
+    /// Stores the top and leaves it there.
     StoreSlot(u8),
-    /// Drops the top.
+    /// Pops the top.
     Pop,
-    /// Repeats the top.
+    /// Pushes the top again.
     Dup,
-    /// Sends a message with so many arguments to the receiver below them.
+    /// Sends a message. The number is that of its arguments; the receiver is below them.
     Send(Selector, u8),
-    /// The same, with the search beginning above the holder of the running method.
+    /// Sends likewise, but the walk begins above the holder of the running method.
     SuperSend(Selector, u8),
     Jump(i16),
-    /// Takes the top and jumps where it is false.
+    /// Pops the top and jumps if it is false.
     JumpFalse(u16),
-    /// Takes the top and jumps where it is true.
+    /// Pops the top and jumps if it is true.
     JumpTrue(u16),
-    /// Takes the top and the frame, and answers.
+    /// Pops the top and the frame, and answers the top.
     Answer,
 }

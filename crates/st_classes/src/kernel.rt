@@ -1,5 +1,6 @@
 //! The kernel's classes and methods.
 ghost use Rattle.std.specs.Prelude.{◌≡◌};
+ghost use Rattle.st_classes.specs.EditRules.{is_value_class as value_class};
 ghost use Rattle.st_classes.specs.Kernel.{kernel_method, object_method, integer_method, boolean_method, actor_method, class_method};
 
 use crate::values::{ClassId, MethodId, Selector};
@@ -7,7 +8,7 @@ use crate::values::{ClassId, MethodId, Selector};
 /// The root of the classes.
 pub const OBJECT: ClassId = ClassId(0);
 
-/// Integers of 64 bits.
+/// The class of integers of 64 bits.
 pub const SMALL_INTEGER: ClassId = ClassId(1);
 
 /// The class of `true`.
@@ -22,17 +23,90 @@ pub const UNDEFINED_OBJECT: ClassId = ClassId(4);
 /// The class of symbols.
 pub const SYMBOL: ClassId = ClassId(5);
 
-/// References to actors.
+/// The class of references to actors.
 pub const ACTOR_REF: ClassId = ClassId(6);
 
 /// The class of classes.
 pub const CLASS: ClassId = ClassId(7);
 
-/// The number of kernel classes. The user's begin with it.
+/// The number of kernel classes, and so the number of the user's first class.
 pub const KERNEL_CLASSES: u16 = 8;
+
+// The kernel's selectors are the first names of every name table, in this order.
+
+/// The selector `==`.
+pub const IDENTICAL: Selector = Selector(0);
+
+/// The selector `=`.
+pub const EQUAL: Selector = Selector(1);
+
+/// The selector `class`.
+pub const CLASS_OF: Selector = Selector(2);
+
+/// The selector `isNil`.
+pub const IS_NIL: Selector = Selector(3);
 
 /// The selector `doesNotUnderstand:`.
 pub const DOES_NOT_UNDERSTAND: Selector = Selector(4);
+
+/// The selector `+`.
+pub const ADD: Selector = Selector(5);
+
+/// The selector `-`.
+pub const SUBTRACT: Selector = Selector(6);
+
+/// The selector `*`.
+pub const MULTIPLY: Selector = Selector(7);
+
+/// The selector `//`.
+pub const QUOTIENT: Selector = Selector(8);
+
+/// The selector `\\`.
+pub const REMAINDER: Selector = Selector(9);
+
+/// The selector `<`.
+pub const LESS: Selector = Selector(10);
+
+/// The selector `>`.
+pub const GREATER: Selector = Selector(11);
+
+/// The selector `<=`.
+pub const LESS_OR_EQUAL: Selector = Selector(12);
+
+/// The selector `>=`.
+pub const GREATER_OR_EQUAL: Selector = Selector(13);
+
+/// The selector `not`.
+pub const NOT: Selector = Selector(14);
+
+/// The selector `&`.
+pub const AND: Selector = Selector(15);
+
+/// The selector `post:`.
+pub const POST: Selector = Selector(16);
+
+/// The selector `post:with:`.
+pub const POST_WITH: Selector = Selector(17);
+
+/// The selector `post:with:with:`.
+pub const POST_WITH_WITH: Selector = Selector(18);
+
+/// The selector `close`.
+pub const CLOSE: Selector = Selector(19);
+
+/// The selector `new`.
+pub const NEW: Selector = Selector(20);
+
+/// The selector `newActor`.
+pub const NEW_ACTOR: Selector = Selector(21);
+
+/// Whether a class is one of the kernel's, Object aside: its instances are values, which no message makes, and it has no subclasses.
+#[inline(always)]
+pub fn is_value_class(class: ClassId) -> bool
+    ensures { result ≡ value_class class }
+{
+    1 <= class.0 && class.0 < KERNEL_CLASSES
+}
 
 /// A method of the kernel.
 #[derive(Clone, Copy, PartialEq, Eq, Debug)]
@@ -83,7 +157,7 @@ pub enum Kernel {
     NewActor,
 }
 
-/// A method that a class has of its own.
+/// A class's own method.
 #[derive(Clone, Copy, PartialEq, Eq, Debug)]
 pub enum Found {
     User(MethodId),
@@ -97,7 +171,7 @@ pub enum Target {
     Run(MethodId),
     /// A method of the kernel.
     Primitive(Kernel),
-    /// No method was found. The user's method for `doesNotUnderstand:` runs; where there is none, Object's own does.
+    /// No method was found. The user's method for `doesNotUnderstand:` runs; without one, Object's own does.
     Missing(Option<MethodId>),
 }
 
@@ -105,12 +179,12 @@ pub enum Target {
 fn object_kernel(selector: Selector) -> Option<Kernel>
     ensures { result ≡ object_method selector.0 }
 {
-    match selector.0 {
-        0 => Some(Kernel::Identical),
-        1 => Some(Kernel::Equal),
-        2 => Some(Kernel::ClassOf),
-        3 => Some(Kernel::IsNil),
-        4 => Some(Kernel::DoesNotUnderstand),
+    match selector {
+        IDENTICAL => Some(Kernel::Identical),
+        EQUAL => Some(Kernel::Equal),
+        CLASS_OF => Some(Kernel::ClassOf),
+        IS_NIL => Some(Kernel::IsNil),
+        DOES_NOT_UNDERSTAND => Some(Kernel::DoesNotUnderstand),
         _ => None,
     }
 }
@@ -119,16 +193,16 @@ fn object_kernel(selector: Selector) -> Option<Kernel>
 fn integer_kernel(selector: Selector) -> Option<Kernel>
     ensures { result ≡ integer_method selector.0 }
 {
-    match selector.0 {
-        5 => Some(Kernel::Add),
-        6 => Some(Kernel::Subtract),
-        7 => Some(Kernel::Multiply),
-        8 => Some(Kernel::Quotient),
-        9 => Some(Kernel::Remainder),
-        10 => Some(Kernel::Less),
-        11 => Some(Kernel::Greater),
-        12 => Some(Kernel::LessOrEqual),
-        13 => Some(Kernel::GreaterOrEqual),
+    match selector {
+        ADD => Some(Kernel::Add),
+        SUBTRACT => Some(Kernel::Subtract),
+        MULTIPLY => Some(Kernel::Multiply),
+        QUOTIENT => Some(Kernel::Quotient),
+        REMAINDER => Some(Kernel::Remainder),
+        LESS => Some(Kernel::Less),
+        GREATER => Some(Kernel::Greater),
+        LESS_OR_EQUAL => Some(Kernel::LessOrEqual),
+        GREATER_OR_EQUAL => Some(Kernel::GreaterOrEqual),
         _ => None,
     }
 }
@@ -137,9 +211,9 @@ fn integer_kernel(selector: Selector) -> Option<Kernel>
 fn boolean_kernel(selector: Selector) -> Option<Kernel>
     ensures { result ≡ boolean_method selector.0 }
 {
-    match selector.0 {
-        14 => Some(Kernel::Not),
-        15 => Some(Kernel::And),
+    match selector {
+        NOT => Some(Kernel::Not),
+        AND => Some(Kernel::And),
         _ => None,
     }
 }
@@ -148,11 +222,11 @@ fn boolean_kernel(selector: Selector) -> Option<Kernel>
 fn actor_kernel(selector: Selector) -> Option<Kernel>
     ensures { result ≡ actor_method selector.0 }
 {
-    match selector.0 {
-        16 => Some(Kernel::Post),
-        17 => Some(Kernel::PostWith),
-        18 => Some(Kernel::PostWithWith),
-        19 => Some(Kernel::Close),
+    match selector {
+        POST => Some(Kernel::Post),
+        POST_WITH => Some(Kernel::PostWith),
+        POST_WITH_WITH => Some(Kernel::PostWithWith),
+        CLOSE => Some(Kernel::Close),
         _ => None,
     }
 }
@@ -161,24 +235,24 @@ fn actor_kernel(selector: Selector) -> Option<Kernel>
 fn class_kernel(selector: Selector) -> Option<Kernel>
     ensures { result ≡ class_method selector.0 }
 {
-    match selector.0 {
-        20 => Some(Kernel::New),
-        21 => Some(Kernel::NewActor),
+    match selector {
+        NEW => Some(Kernel::New),
+        NEW_ACTOR => Some(Kernel::NewActor),
         _ => None,
     }
 }
 
-/// The kernel's method in a class for a selector.
+/// The kernel's method of a class for a selector.
 #[inline(always)]
 pub fn kernel_at(class: ClassId, selector: Selector) -> Option<Kernel>
     ensures { result ≡ kernel_method class selector }
 {
-    match class.0 {
-        0 => object_kernel(selector),
-        1 => integer_kernel(selector),
-        2 | 3 => boolean_kernel(selector),
-        6 => actor_kernel(selector),
-        7 => class_kernel(selector),
+    match class {
+        OBJECT => object_kernel(selector),
+        SMALL_INTEGER => integer_kernel(selector),
+        TRUE | FALSE => boolean_kernel(selector),
+        ACTOR_REF => actor_kernel(selector),
+        CLASS => class_kernel(selector),
         _ => None,
     }
 }

@@ -1,15 +1,15 @@
 //! What a send asks the class table for.
 use crate::values::{ClassId, MethodId, Selector};
 
-/// A call site: a send, by its method and its place in the method's code.
+/// A call site: the send at a place in a method's code.
 #[derive(Clone, Copy, PartialEq, Eq, Hash, Debug)]
 pub struct SiteId {
     pub method: MethodId,
     pub place: u16,
 }
 
-/// What a message is looked up by: the class of its receiver and its selector, and for a super send the class that holds the
-/// running method, above which the walk begins.
+/// The key of a lookup: the receiver's class and the selector. A super send also has the class that holds the running method; the
+/// walk begins above that class.
 #[derive(Clone, Copy, PartialEq, Eq, Hash, Debug)]
 pub struct Key {
     pub holder: Option<ClassId>,

@@ -1,7 +1,7 @@
 //! Values, names, methods and the versioned class table: the lowest layer.
 //!
-//! A [`version::Version`] is a list of edits with the rows that they give. What it answers is what its edits say:
-//! `find` is the target of the walk up the superclass chain, and `with_edit` adds one edit or says why it is refused.
+//! A [`version::Version`] is a list of edits, with a row for each class. Its answers follow from its edits: `find` is the target of
+//! the walk up the superclass chain, and `with_edit` adds one edit or says why it is refused.
 #![tactic(auto)]
 
 mod accepting;

@@ -40,7 +40,6 @@ impl MethodMap {
         self.methods.get(&selector).copied()
     }
 
-    /// A copy.
     pub fn again(&self) -> Result<MethodMap, AllocError>
         ensures { IfOk result (λ copy. copy ≡ self.now) }
     {
@@ -49,7 +48,7 @@ impl MethodMap {
         })
     }
 
-    /// Puts a method at a selector.
+    /// Maps a selector to a method.
     fn put(&mut self, selector: Selector, method: MethodId) -> Result<(), AllocError>
         ensures { OnOk result ((s : SelectorOf) → method_for self.new s ≡ (if selector.0 == s.0 then Some method else method_for self.old s)) }
     {
@@ -57,14 +56,14 @@ impl MethodMap {
         Ok(())
     }
 
-    /// Takes away the method at a selector.
+    /// Removes the method for a selector.
     fn take(&mut self, selector: Selector)
         ensures { (s : SelectorOf) → method_for self.new s ≡ (if selector.0 == s.0 then None else method_for self.old s) }
     {
         let _ = self.methods.remove(&selector);
     }
 
-    /// A copy with a method at a selector, or with none there.
+    /// A copy that maps the selector to the method, or to none.
     pub fn with(
         &self,
         selector: Selector,

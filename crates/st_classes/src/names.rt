@@ -42,7 +42,7 @@ const KERNEL: [&[u8]; 22] = [
     b"newActor",
 ];
 
-/// Selectors and symbols by their numbers, from 0 in the order in which they were interned. A name keeps its number.
+/// Selectors and symbols by number, from 0 in the order in which they were interned. A name never changes its number.
 #[derive(Drop)]
 pub struct Names {
     texts: IndexSet<Vec<u8>>,
@@ -77,7 +77,7 @@ fn add(texts: &mut IndexSet<Vec<u8>>, alloc: Global, text: &[u8]) -> Result<(), 
     Ok(())
 }
 
-// A set of texts that are all different.
+// A set of texts, which must be pairwise different.
 fn set_of(alloc: Global, texts: &[&[u8]]) -> Result<IndexSet<Vec<u8>>, AllocError>
     requires { has_twice (map (λ t. t.now) texts.now) ≡ false }
     ensures { IfOk result (λ set. texts_of set.keys ≡ map (λ t. t.now) texts.now) }
@@ -90,7 +90,7 @@ fn set_of(alloc: Global, texts: &[&[u8]]) -> Result<IndexSet<Vec<u8>>, AllocErro
 }
 
 impl Names {
-    /// The table of the kernel's 22 selectors alone.
+    /// The table of the kernel's 22 selectors.
     pub fn kernel(alloc: Global) -> Result<Names, AllocError>
         ensures { IfOk result (λ n. n ≡ kernel_selectors) }
     {
@@ -98,18 +98,18 @@ impl Names {
         Ok(Names { texts })
     }
 
-    /// What is true of every table: its first names are the kernel's, each is a selector, no two are equal, and there are 8,192 at
-    /// most.
+    /// What holds of every table: it starts with the kernel's names, each name is a selector, all names are different, and there
+    /// are 8,192 at most.
     pub fn known(&self)
         ensures { AreNames self.now }
     {
         let _ = &self.texts;
     }
 
-    /// The number of a selector, which is put last where it isn't there yet.
+    /// The number of a selector. A text that is not in the table yet is appended.
     ///
-    /// `BadName` says that the text is no selector, and `TooMany` that it isn't there and 8,192 names are. Memory can run out only
-    /// where a name is put last. A refused call changes nothing.
+    /// `BadName` says that the text is not a selector. `TooMany` says that it is not in the table, and the table has 8,192 names.
+    /// Memory can run out only when the text is appended. A refused call changes nothing.
     pub fn intern(&mut self, alloc: Global, text: &[u8]) -> Result<Selector, Refusal>
         ensures answers { Answers (first_of (intern_rules self.old text.now)) result (λ s. slice_get self.new s.0 ≡ Some text.now) }
         ensures names { OnOk result (self.new ≡ interned self.old text.now) }

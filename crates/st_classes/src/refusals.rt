@@ -1,4 +1,4 @@
-//! Refusals, which all layers share.
+//! Refusals. All layers share them.
 ghost use Rattle.std.specs.Prelude.{◌≡◌};
 ghost use Rattle.st_classes.specs.declared.refusals.Refusal.TheVariants.{NoMemory};
 
@@ -19,7 +19,7 @@ pub enum SourceFault {
     UnknownName,
 }
 
-/// What there are too many of.
+/// What there is too much of.
 #[derive(Clone, Copy, PartialEq, Eq, Debug)]
 pub enum Limited {
     Classes,
@@ -41,7 +41,7 @@ pub enum ImagePlace {
     Senders,
 }
 
-/// Why a call is refused. A refused call changes nothing unless it says otherwise; names that it interned stay.
+/// Why a call is refused. A refused call changes nothing, unless its docs say otherwise. Names that it interned stay in the table.
 #[derive(Clone, Copy, PartialEq, Eq, Debug, Error)]
 pub enum Refusal {
     #[error("no such class")]
@@ -58,7 +58,7 @@ pub enum Refusal {
     SlotClash,
     #[error("the superclass chain is too long")]
     TooDeep,
-    /// The source of a method has no tree, or no code, within the limits. The offset is that of the byte, from 0.
+    /// The method's source has no tree, or no code within the limits. The offset is that of the byte, from 0.
     #[error("bad source at {offset}")]
     BadSource { kind: SourceFault, offset: u32 },
     #[error("no such method")]
@@ -76,7 +76,7 @@ pub enum Refusal {
     BadArguments,
     #[error("nothing to do")]
     NothingToDo,
-    /// The class table has changed under a claim. The version is the image's present number.
+    /// The class table has changed under a claim. The version is the image's current one.
     #[error("the class table is now at version {version}")]
     Stale { version: u32 },
     #[error("the actor has changed")]
@@ -101,10 +101,10 @@ pub enum Refusal {
     ReadFault,
     #[error("a write failed")]
     WriteFault,
-    /// The new superclass is the class itself, or has it on its chain.
+    /// The new superclass is the class itself, or is below it.
     #[error("a class would be above itself")]
     Cycle,
-    /// The new superclass has other instance variables than the old one, inherited ones counted.
+    /// The old and the new superclass differ in their instance variables, inherited ones included.
     #[error("the superclasses differ in their instance variables")]
     SlotsDiffer,
 }

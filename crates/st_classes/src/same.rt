@@ -1,4 +1,4 @@
-//! Whether two edits are the same, and two lists of texts. Shared edits are compared by what they say.
+//! Equality of edits and of lists of texts. Shared edits are compared by content.
 ghost use Rattle.std.specs.Prelude.{◌≡◌, Decides};
 ghost use Rattle.st_classes.specs.EditLists.{Begins};
 
@@ -33,7 +33,7 @@ fn same_code(a: &[Instruction], b: &[Instruction]) -> bool
     true
 }
 
-/// Whether two lists have the same texts.
+/// Whether two lists hold the same texts.
 pub fn same_texts(a: &[Seq<u8>], b: &[Seq<u8>]) -> bool
     ensures { Decides result (a.now ≡ b.now) }
 {
@@ -106,7 +106,7 @@ fn same_edit(a: &Edit, b: &Edit) -> bool
     }
 }
 
-/// Whether a list of edits begins another.
+/// Whether the first list of edits is a prefix of the second.
 pub fn begins(first: &[SharedEdit], all: &[SharedEdit]) -> bool
     ensures { Decides result (Begins first.now all.now) }
 {

@@ -1,4 +1,4 @@
-//! What is a name, and how many arguments a selector has.
+//! What a name is, and how many arguments a selector takes.
 ghost use Rattle.std.specs.Prelude.{◌≡◌, ◌==◌, position};
 ghost use Rattle.std.specs.List.{list_all, list_any};
 ghost use Rattle.std.specs.Str.{bytes_eq};
@@ -56,7 +56,7 @@ fn are_letters_or_digits(bytes: &[u8]) -> bool
     bytes.iter().all(|b| is_letter_or_digit(*b))
 }
 
-/// Whether a text is a letter and then letters and digits, 64 bytes at most.
+/// Whether a text is a letter and then letters and digits, at most 64 bytes in all.
 pub fn is_identifier(text: &[u8]) -> bool
     ensures { result ≡ identifier text.now }
 {
@@ -69,7 +69,7 @@ pub fn is_identifier(text: &[u8]) -> bool
     is_letter(*first) && are_letters_or_digits(rest)
 }
 
-/// Whether a capital stands first.
+/// Whether the first byte is a capital.
 pub fn begins_upper(text: &[u8]) -> bool
     ensures { result ≡ upper_first text.now }
 {
@@ -79,7 +79,7 @@ pub fn begins_upper(text: &[u8]) -> bool
     }
 }
 
-/// Whether a text is an identifier that begins with a capital.
+/// Whether a text is an identifier that starts with a capital.
 pub fn is_class_name(text: &[u8]) -> bool
     ensures { result ≡ class_name text.now }
 {
@@ -92,7 +92,7 @@ fn is_among(text: &[u8], names: &[&[u8]]) -> bool
     names.iter().any(|name| text == *name)
 }
 
-/// Whether a text is one of the names that mean something else in every method: `self`, `super`, `nil`, `true`, `false` and
+/// Whether a text is reserved, because it means something else in every method: `self`, `super`, `nil`, `true`, `false` and
 /// `thisActor`.
 pub fn is_reserved(text: &[u8]) -> bool
     ensures { result ≡ reserved text.now }
@@ -100,14 +100,14 @@ pub fn is_reserved(text: &[u8]) -> bool
     is_among(text, &RESERVED)
 }
 
-/// Whether a text can name an instance variable: an identifier with a small first letter that isn't reserved.
+/// Whether a text can name an instance variable: an identifier that starts with a lower-case letter and isn't reserved.
 pub fn is_slot_name(text: &[u8]) -> bool
     ensures { result ≡ slot_name text.now }
 {
     !begins_upper(text) && is_identifier(text) && !is_reserved(text)
 }
 
-/// Whether a byte is a character of binary selectors.
+/// Whether a byte is a character of a binary selector.
 pub fn is_binary_character(b: u8) -> bool
     ensures { result ≡ binary_character b }
 {
@@ -133,7 +133,7 @@ fn colon(text: &[u8]) -> Option<usize>
     text.iter().position(|b| *b == b':')
 }
 
-// The number of keywords, where the text is made of keywords.
+// The number of keywords, if the text consists of keywords.
 fn keyword_count(text: &[u8]) -> Option<usize>
     ensures { result ≡ keywords (parts text.now) }
 {
@@ -149,8 +149,8 @@ fn keyword_count(text: &[u8]) -> Option<usize>
     if rest.is_empty() { Some(count) } else { None }
 }
 
-/// The number of arguments of a selector: none for an identifier, one for a binary selector, and one for each keyword, of which
-/// there are 8 at most. `None` where the text is no selector.
+/// The number of arguments of a selector: 0 for an identifier, 1 for a binary selector, and one for each keyword, at most 8. `None`
+/// if the text is not a selector.
 pub fn arity_of(text: &[u8]) -> Option<u8>
     ensures { result ≡ arity text.now }
 {

@@ -1,7 +1,7 @@
 //! Lists as plain values.
 use std::marker::Model;
 
-/// A list that contracts see as its items alone, so that records and enums which hold one are compared as plain values.
+/// A list that contracts see as its items alone, so that records and enums that hold one are compared by value.
 #[derive(Drop)]
 pub struct Seq<T> {
     items: Vec<T>,
@@ -18,14 +18,14 @@ impl<T> Model for Seq<T> {
 impl<T> Seq<T> {
     ghost use Rattle.std.specs.Prelude.{◌≡◌, ◌==◌, length};
 
-    /// The list of a vector. No memory is taken.
+    /// The list of a vector's items. It takes no memory.
     pub fn from_vec(items: Vec<T>) -> Seq<T>
         ensures { result ≡ items.items }
     {
         Seq { items }
     }
 
-    /// The vector of the list. No memory is taken.
+    /// The vector of the items. It takes no memory.
     pub fn into_vec(self) -> Vec<T>
         ensures { result.items ≡ self }
     {
@@ -33,7 +33,6 @@ impl<T> Seq<T> {
         items
     }
 
-    /// The items.
     #[inline(always)]
     pub fn as_slice(&self) -> &[T]
         ensures { result.now ≡ self.now }
@@ -41,7 +40,7 @@ impl<T> Seq<T> {
         self.items.as_slice()
     }
 
-    /// How many items there are.
+    /// The number of items.
     #[inline(always)]
     pub fn len(&self) -> usize
         ensures { result ≡ length self.now }
@@ -49,7 +48,7 @@ impl<T> Seq<T> {
         self.items.len()
     }
 
-    /// Whether there are none.
+    /// Whether the list is empty.
     pub fn is_empty(&self) -> bool
         ensures { result ≡ (length self.now == 0) }
     {
@@ -60,7 +59,7 @@ impl<T> Seq<T> {
 impl<T: Copy> Seq<T> {
     ghost use Rattle.std.specs.Prelude.{◌≡◌, ◌<◌, length, slice_set};
 
-    /// Writes an item.
+    /// Replaces an item.
     #[inline(always)]
     pub fn set(&mut self, place: usize, item: T)
         requires { place < length self.old }

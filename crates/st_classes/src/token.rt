@@ -4,7 +4,7 @@ use std::alloc::{AllocError, Global};
 use std::marker::Model;
 use std::sync::Arc;
 
-/// A version that many may read at once, also while the image goes on to a later one. Contracts see its edits.
+/// A version that many can read at the same time, even while the image goes on to a later one. Contracts see its edits.
 #[derive(Drop)]
 pub struct Token {
     version: Arc<Version>,
@@ -23,7 +23,7 @@ impl Model for Token {
 impl Token {
     ghost use Rattle.std.specs.Prelude.{◌≡◌, IfOk};
 
-    /// Shares a version from here on. Where memory is refused, the version is spent.
+    /// Publishes a version, so that it can be shared. If memory runs out, the version is lost.
     pub fn publish(alloc: Global, version: Version) -> Result<Token, AllocError>
         ensures { IfOk result (λ t. t ≡ version) }
     {
@@ -32,7 +32,7 @@ impl Token {
         })
     }
 
-    /// The same version once more. It is not copied.
+    /// A second pointer to the version.
     pub fn again(&self) -> Result<Token, AllocError>
         ensures { IfOk result (λ t. t ≡ self.now) }
     {
@@ -41,7 +41,7 @@ impl Token {
         })
     }
 
-    /// The version that was published. No memory is taken.
+    /// The published version. It takes no memory.
     #[inline]
     pub fn shown(&self) -> &Version
         ensures { result.now ≡ self.now }

@@ -13,7 +13,7 @@ pub struct Selector(pub u16);
 #[derive(Clone, Copy, PartialEq, Eq, PartialOrd, Ord, Hash, Debug)]
 pub struct ActorId(pub u32);
 
-/// A method by the place, from 0, of its install in the list of edits.
+/// A method by its install's place, from 0, in the list of edits.
 #[derive(Clone, Copy, PartialEq, Eq, Hash, Debug)]
 pub struct MethodId(pub u32);
 
@@ -29,7 +29,7 @@ pub enum Value {
     Class(ClassId),
     /// A reference to an actor.
     Actor(ActorId),
-    /// An object of the actor's own, by its place in the actor's list. Object 0 is the actor itself.
+    /// An object of the running actor, by its index in the actor's list. Object 0 is the actor itself.
     Local(u32),
 }
 

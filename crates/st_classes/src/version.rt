@@ -1,4 +1,4 @@
-//! Versions of the class table: what they say, and lookup.
+//! Versions of the class table: what they hold, and lookup.
 ghost use Rattle.std.specs.Prelude.{◌≡◌, ◌≤◌, Decides, length, true};
 ghost use Rattle.std.specs.Option.{option_copied};
 ghost use Rattle.std.specs.List.{slice_get};
@@ -35,14 +35,14 @@ use crate::values::{ClassId, MethodId, Selector};
 use std::marker::Model;
 use std::sync::Arc;
 
-/// A list of edits, with the rows that they give. Contracts see the edits.
+/// A list of edits, with a row for each class. Contracts see the edits.
 #[derive(Drop)]
 pub struct Version {
     edits: Vec<SharedEdit>,
     rows: ClassRows,
-    /// How deep each class stands. Tables with the same classes under the same superclasses share it.
+    /// The depth of each class: the number of classes on its chain. Installs and removals leave it shared.
     depths: Arc<Depths>,
-    /// The classes by name. Tables that define the same classes share it.
+    /// The classes by name. Tables with the same classes share it.
     named: Arc<ClassIndex>,
 }
 
@@ -61,7 +61,7 @@ impl Model for Version {
 }
 
 impl Version {
-    /// Shows the part of the invariant that is about the edits alone.
+    /// Shows the part of the invariant that concerns the edits alone.
     #[inline(always)]
     pub(crate) fn kept(&self)
         ensures { IsKept self.now }
@@ -69,7 +69,7 @@ impl Version {
         let _ = &self.edits;
     }
 
-    /// Shows that the methods of every class table are sound.
+    /// Shows that the methods of the class table are sound.
     #[inline(always)]
     fn methods_known(&self)
         ensures { AllSound self.now }
@@ -77,7 +77,7 @@ impl Version {
         let _ = &self.edits;
     }
 
-    /// What callers may know of every class table: each edit was accepted after those before it, its methods are sound, no chain
+    /// What callers may know of every class table: each edit was accepted after those before it, all methods are sound, no chain
     /// has over 64 classes, there are at most 4,096 edits and 1,024 classes, and each class has at most 64 instance variables.
     #[inline(always)]
     pub fn known(&self)
@@ -106,14 +106,14 @@ impl Version {
         self.edits.get(place as usize).map(SharedEdit::edit)
     }
 
-    /// The edit at a place, from 0, as a pointer that can be shared.
+    /// The edit at a place, from 0, as a pointer that can be cloned.
     pub fn shared(&self, place: u32) -> Option<&SharedEdit>
         ensures { option_copied result ≡ slice_get self.now place }
     {
         self.edits.get(place as usize)
     }
 
-    /// Whether its edits begin those of another table, or are the same. The edits are compared one by one.
+    /// Whether its edits are a prefix of those of another table. They are compared one by one.
     pub fn begins(&self, later: &Version) -> bool
         ensures { Decides result (Begins self.now later.now) }
     {
@@ -143,14 +143,14 @@ impl Version {
         Some(self.rows.get(class)?.name.as_slice())
     }
 
-    /// The class of a name.
+    /// The class with a given name.
     pub fn class_named(&self, name: &[u8]) -> Option<ClassId>
         ensures { result ≡ class_named self.now name.now }
     {
         self.named.get(name)
     }
 
-    /// The superclass.
+    /// The superclass of a class.
     #[inline(always)]
     pub fn parent(&self, class: ClassId) -> Option<ClassId>
         ensures { result ≡ parent self.now class }
@@ -158,14 +158,14 @@ impl Version {
         self.rows.get(class)?.superclass
     }
 
-    /// Whether there is a class of this number.
+    /// Whether a class has this number.
     pub fn is_class(&self, class: ClassId) -> bool
         ensures { result ≡ is_class self.now class }
     {
         usize::from(class.0) < self.rows.len()
     }
 
-    /// The number of classes on a class's chain, itself and Object counted: 1 to 64.
+    /// The number of classes on a class's chain, including itself and Object: 1 to 64.
     pub(crate) fn depth(&self, class: ClassId) -> u8
         requires { is_class self.now class ≡ true }
         ensures { result ≡ length (chain self.now class) }
@@ -173,7 +173,7 @@ impl Version {
         self.depths.of(class)
     }
 
-    /// Whether a class is on the chain of another: it is that class, or stands above it.
+    /// Whether `class` is `below` itself or a superclass of it.
     pub(crate) fn is_above(&self, class: ClassId, below: ClassId) -> bool
         requires { is_class self.now below ≡ true }
         ensures { result ≡ is_among (chain self.now below) class }
@@ -199,7 +199,7 @@ impl Version {
         self.row(class).slots.as_slice()
     }
 
-    /// The method that was installed at a place of the list.
+    /// The method that the edit at a place installed, if it installed one.
     #[inline(always)]
     pub fn method(&self, id: MethodId) -> Option<&Method>
         ensures { option_copied result ≡ method_at self.now id }
@@ -210,7 +210,7 @@ impl Version {
         }
     }
 
-    /// The method that was installed at a place where there is one, found without a test.
+    /// The method that the edit at a place installed. It must have installed one.
     #[inline(always)]
     pub fn installed(&self, id: MethodId) -> &Method
         requires { (m : PartsOf) × (method_at self.now id ≡ Some m) }
@@ -222,7 +222,7 @@ impl Version {
         }
     }
 
-    /// The method that a class has of its own.
+    /// The class's own method.
     #[inline(always)]
     pub(crate) fn own(&self, class: ClassId, selector: Selector) -> Option<Found>
         requires { is_class self.now class ≡ true }
@@ -231,7 +231,7 @@ impl Version {
         self.row(class).own(class, selector)
     }
 
-    /// The first method that a walk up from the class finds.
+    /// The first method found on the walk up from the class.
     #[inline(always)]
     #[tactic(auto, using(crate::proofs::Walking::walk_here, crate::proofs::Walking::walk_ends))]
     fn walk(&self, class: ClassId, selector: Selector) -> Option<Found>
@@ -251,7 +251,7 @@ impl Version {
         }
     }
 
-    /// The user's method for `doesNotUnderstand:` that a walk finds, where it finds one.
+    /// The user's method for `doesNotUnderstand:` that a walk finds, if any.
     #[cold]
     #[inline(never)]
     fn missing(&self, class: ClassId) -> Option<MethodId>
@@ -264,7 +264,7 @@ impl Version {
         }
     }
 
-    /// What a walk found, or else the user's method for `doesNotUnderstand:`.
+    /// The target of a walk: what it found, or else the user's method for `doesNotUnderstand:`.
     #[inline(always)]
     fn or_missing(&self, class: ClassId, found: Option<Found>) -> Target
         requires { is_class self.now class ≡ true }
@@ -286,7 +286,7 @@ impl Version {
         self.or_missing(class, self.walk(class, selector))
     }
 
-    /// What a super send in a method of the holder runs, where the receiver is an instance of the class.
+    /// What a super send in a method of `holder` runs, if the receiver is an instance of `class`.
     pub fn find_super(&self, holder: ClassId, class: ClassId, selector: Selector) -> Target
         requires holder { is_class self.now holder ≡ true }
         requires class { is_class self.now class ≡ true }

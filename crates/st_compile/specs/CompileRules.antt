@@ -18,48 +18,48 @@ use Rattle.st_reader.specs.Variables.{locals_of}
 use Rattle.st_compile.specs.Scopes.{scope_of}
 use Rattle.st_compile.specs.NeededNames.{names_rule, needed_texts}
 
--- a name means something in a scope; `super` means the receiver
+-- a word's name, if it has one, means something in a scope; `super` means the receiver
 abbrev pub is_known : Scope → Word → Bool
 is_known scope (variable n) = is_some (pushed scope n.text)
 is_known scope (store n) = is_some (stored scope n.text)
 is_known scope _ = true
 
--- the place of a word's name in the source
+-- where a word's name is in the source
 abbrev pub start_of : Word → ℕ
 start_of (variable n) = n.span.start
 start_of (store n) = n.span.start
 start_of _ = 0
 
--- the least of some numbers
+-- the least of the numbers; 0 if there are none
 abbrev pub least : List ℕ → ℕ
 least [] = 0
 least (n ∷ []) = n
 least (n ∷ m ∷ ns) = min n (least (m ∷ ns))
 
--- the least of some numbers, where there are any
+-- the least of the numbers, if there are any
 abbrev pub least_of : List ℕ → Option ℕ
 least_of [] = None
 least_of (n ∷ ns) = Some (least (n ∷ ns))
 
--- the lesser of two numbers that may be there
+-- the lesser of two numbers, or the one that exists
 abbrev pub lesser : Option ℕ → Option ℕ → Option ℕ
 lesser None b = b
 lesser (Some n) None = Some n
 lesser (Some n) (Some m) = Some (min n m)
 
--- the names that mean nothing, by their places in the source
+-- the places in the source of names that mean nothing
 abbrev pub unknown : Scope → List Line → List ℕ
 unknown scope ls = map (λ l. start_of l.word) (filter (λ l. not (is_known scope l.word)) ls)
 
--- the arguments and temporaries that are named as instance variables, by their places in the source
+-- the places in the source of arguments and temporaries that have the names of instance variables
 abbrev pub clashing : List (List ℕ) → List Name → List ℕ
 clashing slots ns = map (λ n. n.span.start) (filter (λ n. list_any (bytes_eq n.text) slots) ns)
 
--- no more than 1,024 instructions, and never more than 64 operands
+-- at most 1,024 instructions, and at most 64 operands before each
 abbrev pub is_small : List Line → Bool
 is_small ls = nat_le (length ls) 1024 && list_all (λ l. nat_le l.depth 64) ls
 
--- a refusal that applies where there is one such place, and says the first
+-- a refusal that applies if there is such a place, and names the first one
 abbrev pub at_first_place : (ℕ → Refusal) → List ℕ → Rule
 at_first_place refusal places = (nat_lt 0 (length places), refusal (least places))
 
@@ -67,7 +67,7 @@ at_first_place refusal places = (nat_lt 0 (length places), refusal (least places
 abbrev pub unknown_rule : Scope → List Line → Rule
 unknown_rule scope ls = at_first_place (BadSource UnknownName) (unknown scope ls)
 
--- an argument or a temporary is named as an instance variable
+-- an argument or a temporary has the name of an instance variable
 abbrev pub clash_rule : Scope → List Name → Rule
 clash_rule scope locals = at_first_place (BadSource DuplicateName) (clashing scope.slots locals)
 
@@ -79,7 +79,7 @@ size_rule ls = (not (is_small ls), BadSource TooLarge 0)
 abbrev pub scope_rules : Scope → List Name → List Line → List Rule
 scope_rules scope locals ls = unknown_rule scope ls ∷ clash_rule scope locals ∷ size_rule ls ∷ []
 
--- the refusals of a source that has no code: those of its code in its scope
+-- the refusals of a method's code in a class, in their order
 abbrev pub code_rules : List Edit → ClassId → Method → List Rule
 code_rules edits c m = scope_rules (scope_of edits c m) (locals_of m) (method_code m)
 

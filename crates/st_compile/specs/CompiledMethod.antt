@@ -14,7 +14,7 @@ use Rattle.st_compile.specs.NameResolution.{instructions_of}
 use Rattle.st_reader.specs.Variables.{arguments_of, temporaries_of}
 use Rattle.st_compile.specs.Scopes.{pattern_selector, scope_of}
 
--- the parts of a method of the grammar in a class, by the number of its selector, its instructions and its source
+-- the parts of a method of the grammar in a class, from the number of its selector, its instructions and its source
 abbrev pub parts_of : ClassId → Method → Selector → List Instruction → List ℕ → MethodParts
 parts_of c method selector code text = record {
   holder = c;
@@ -27,8 +27,8 @@ parts_of c method selector code text = record {
   source = text;
 }
 
--- the compiled method of a method of the grammar in a class, where selectors and symbols have the numbers that these
--- names give
+-- the compiled method of a method of the grammar in a class; selectors and symbols have their numbers in the given
+-- names
 pub record IsCompiled
     (names : List (List ℕ)) (edits : List Edit) (c : ClassId)
     (method : Method) (text : List ℕ) (m : MethodParts) : Type 0 where

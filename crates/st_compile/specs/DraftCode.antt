@@ -1,9 +1,9 @@
--- Instructions in which names are texts yet, with the number of operands before each.
+-- Instructions whose names are still texts, with the number of operands before each.
 use Rattle.std.specs.Prelude.{ℕ, ℤ, List}
 use Rattle.st_classes.specs.declared.values.Value.{Value}
 use Rattle.st_reader.specs.declared.trees.Name.{Name}
 
--- an instruction in which names are texts yet
+-- an instruction whose name is still a text
 pub data Word : Type 0 where
   literal : Value → Word
   symbol : List ℕ → Word
@@ -19,7 +19,7 @@ pub data Word : Type 0 where
   jump_true : ℕ → Word
   return : Word
 
--- a word of a code, and how many operands stand before it
+-- a word, with the number of operands before it
 pub record Line : Type 0 where
   pub depth : ℕ
   pub word : Word

@@ -1,4 +1,4 @@
--- What emission says of its parts.
+-- The code of the parts of a draft.
 use Rattle.std.specs.Prelude.{ℕ, ◌+◌, List, [], ◌∷◌, ◌++◌, Bool, true, false}
 use Rattle.st_reader.specs.declared.trees.Span.{Span}
 use Rattle.st_reader.specs.declared.trees.Target.{Target}
@@ -23,7 +23,7 @@ abbrev pub arm_code : ℕ → Arm → List Line
 arm_code d (Block c) = code d (chain_view c.now)
 arm_code d (Plain v) = plain d v
 
--- a message to super
+-- the receiver is super
 abbrev pub goes_up : Alone → Bool
 goes_up Super = true
 goes_up Bracketed = false
@@ -34,7 +34,7 @@ abbrev pub dropped : ℕ → List (Expression × Span) → List Line
 dropped d [] = []
 dropped d (s ∷ ss) = code d s.0 ++ line (d + 1) drop ∷ dropped d ss
 
--- the variables that a value is stored in, the last one first
+-- a value is stored in variables, the last one first
 abbrev pub stores : ℕ → List Target → List Line
 stores d [] = []
 stores d (t ∷ ts) = stores d ts ++ line d (store t.name) ∷ []

@@ -1,4 +1,4 @@
--- Drafts of code, as lists of lines.
+-- Drafts of code, seen as lists of lines.
 use Rattle.std.specs.Prelude.{ℕ, zero, suc, pos, negsuc, List, length}
 use Rattle.std.specs.List.{flat_map}
 use Rattle.st_compile.specs.declared.words.Sent.{Sent}
@@ -18,12 +18,12 @@ abbrev pub sent_arguments : Sent → ℕ
 sent_arguments (One n arguments) = arguments
 sent_arguments (Keywords parts) = length parts.now
 
--- a jump back by so many; none goes nowhere
+-- a jump back by a number of instructions; a jump by 0 does nothing
 abbrev pub back : ℕ → Word
 back zero = jump (pos 0)
 back (suc n) = jump (negsuc n)
 
--- the word that a draft refers to
+-- the word that a draft's word stands for
 abbrev pub word_of : Drafted → Word
 word_of (Literal v) = literal v
 word_of (Symbol n) = symbol n.now.text
@@ -40,6 +40,6 @@ word_of (JumpFalse distance) = jump_false distance
 word_of (JumpTrue distance) = jump_true distance
 word_of Return = return
 
--- the line that a draft refers to
+-- the line that a draft's line stands for
 abbrev pub line_of : DraftedLine → Line
 line_of l = line l.depth (word_of l.word)

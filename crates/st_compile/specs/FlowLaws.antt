@@ -1,4 +1,4 @@
--- Ways through the instructions of an expression.
+-- Paths through the instructions of an expression.
 use Rattle.std.specs.Prelude.{◌≡◌, ℕ, ◌+◌, ◌≤◌, List, length, map, slice_get, Some}
 use Rattle.st_classes.specs.declared.instructions.Instruction.{Instruction}
 use Rattle.st_classes.specs.OperandFlow.{flow_of, FlowPath, StaysInside}
@@ -6,9 +6,9 @@ use Rattle.st_reader.specs.Syntax.{Expression, Statements}
 use Rattle.st_compile.specs.Equations.{code, statements_value}
 use Rattle.st_compile.specs.NameResolution.{Scope, instructions_of}
 
--- Each way through instructions that begins with so many operands: no instruction takes more than there are, and
--- wherever one goes there is another or the end. At the end one operand more is left, and where a way comes back to the
--- beginning, as that of a loop does after its body, there are as many as before.
+-- On each path through the instructions that begins with the given number of operands, no instruction takes more
+-- operands than there are, and each successor is an instruction or the end. A path that reaches the end has one more
+-- operand. A path that comes back to the beginning, as a loop does after its body, has as many as before.
 pub record LeavesOne (is : List Instruction) (operands : ℕ) : Type 0 where
   pub never_misses : (steps place left : ℕ) (i : Instruction)
       → FlowPath (map flow_of is) steps 0 operands place left
@@ -22,8 +22,8 @@ pub record LeavesOne (is : List Instruction) (operands : ℕ) : Type 0 where
   pub one_more : (steps left : ℕ) → FlowPath (map flow_of is) steps 0 operands (length is) left → left ≡ operands + 1
   pub as_before : (steps left : ℕ) → FlowPath (map flow_of is) steps 0 operands 0 left → left ≡ operands
 
--- Where the code of an expression has instructions in a scope, an inlined conditional's or a loop's too, they do,
--- whatever its names stand for; and so do those of the value of a block.
+-- This holds of the instructions of every expression in a scope, whatever its names mean, also of inlined
+-- conditionals and loops. It holds of the value of a block too.
 pub record CodesLeaveOne : Type 0 where
   pub expressions : (names : List (List ℕ)) (scope : Scope) (operands : ℕ) (e : Expression) (is : List Instruction)
       → instructions_of names scope (code operands e) ≡ Some is

@@ -1,4 +1,4 @@
--- Which names the code of a method needs, and how they are interned.
+-- The names that the code of a method needs, and how they are interned.
 use Rattle.std.specs.Prelude.{◌≡◌, ℕ, List, ◌∷◌, ◌++◌, length, nat_lt, fold}
 use Rattle.std.specs.List.{flat_map}
 use Rattle.st_classes.specs.declared.refusals.Refusal.{Refusal}
@@ -11,15 +11,15 @@ use Rattle.st_compile.specs.Equations.{method_code}
 use Rattle.st_compile.specs.NameResolution.{word_texts}
 use Rattle.st_compile.specs.Scopes.{pattern_selector}
 
--- the texts that a method needs numbers for: its selector, then the selectors and symbols of its code
+-- the texts for which a method needs numbers: its selector, then the selectors and symbols of its code
 abbrev pub needed_texts : Method → List (List ℕ)
 needed_texts m = pattern_selector m.pattern ∷ flat_map (λ l. word_texts l.word) (method_code m)
 
--- the names after texts are interned one after another
+-- the names after texts are interned in order
 abbrev pub interned_all : List (List ℕ) → List (List ℕ) → List (List ℕ)
 interned_all names texts = fold interned names texts
 
--- some of the texts were interned, in their order: the first ones, or all
+-- a prefix of the texts was interned, in order
 abbrev pub InternsFirst : List (List ℕ) → List (List ℕ) → List (List ℕ) → Type 0
 InternsFirst names texts after =
     (done : List (List ℕ))
@@ -27,10 +27,10 @@ InternsFirst names texts after =
     × (texts ≡ done ++ left)
     × (after ≡ interned_all names done)
 
--- if a call returns that there are too many names, the table is full
+-- if a call answers that there are too many names, the table is full
 abbrev pub IsFull : List (List ℕ) → Refusal → Type 0
 IsFull after e = e ≡ TooMany Names → length after ≡ 8192
 
--- with the new ones of the texts there would be more than 8,192 names
+-- interning the texts would make more than 8,192 names
 abbrev pub names_rule : List (List ℕ) → List (List ℕ) → Rule
 names_rule names texts = (nat_lt 8192 (length (interned_all names texts)), TooMany Names)

@@ -29,7 +29,7 @@ use st_classes::version::Version;
 use st_reader::trees::MethodTree;
 use std::alloc::{AllocError, Global};
 
-/// The scope and the draft of a method in a class, or why the class can have no code for it.
+/// The scope and the draft of a method in a class, or the first refusal of its code.
 fn checked<'t>(
     alloc: Global,
     tree: &'t MethodTree,
@@ -50,7 +50,7 @@ fn checked<'t>(
     Ok((scope, draft))
 }
 
-/// The parts of a method, by the number of its selector and its instructions, with a copy of its source.
+/// The parts of a method: the number of its selector, its instructions, and a copy of its source.
 fn parts_of(
     alloc: Global,
     tree: &MethodTree,
@@ -80,13 +80,13 @@ fn parts_of(
     })
 }
 
-/// The method of a tree in a class, which keeps a copy of the tree's source. Its selector and the selectors and symbols of its
-/// code are interned, in this order.
+/// Compiles a tree in a class. The method holds a copy of the tree's source. Its selector and the selectors and symbols of its code
+/// are interned, in this order.
 ///
-/// `BadSource` says what is wrong and where, in this order: `UnknownName` at the first name that means nothing,
-/// `DuplicateName` at the first argument or temporary that is named as an instance variable, and `TooLarge` at 0 where there are
-/// more than 1,024 instructions or more than 64 operands. No name is interned then. `TooMany` says that there is no room for all
-/// the names; those that fitted stay. Where memory runs out, none, some of the first or all of them stay.
+/// `BadSource` says what is wrong and where, in this order: `UnknownName` at the first name that means nothing; `DuplicateName` at
+/// the first argument or temporary that has the name of an instance variable; `TooLarge` at 0 if there are more than 1,024
+/// instructions or more than 64 operands. After these no name has been interned. `TooMany` says that the table has no room for all
+/// the names; those that fitted stay. If memory runs out, a prefix of the names stays: none, some or all.
 pub fn compile(
     alloc: Global,
     tree: &MethodTree,

@@ -1,4 +1,4 @@
-//! The depths of a code: the number of operands before each instruction.
+//! The depths of code: the number of operands before each instruction.
 ghost use Rattle.std.specs.Prelude.{◌≡◌, map, nat_le, true, IfOk};
 ghost use Rattle.std.specs.List.{list_all};
 ghost use Rattle.st_compile.specs.DraftViews.{line_of};
@@ -6,7 +6,7 @@ ghost use Rattle.st_compile.specs.DraftViews.{line_of};
 use crate::words::Line;
 use std::alloc::{AllocError, Global};
 
-/// The numbers of operands before the lines of a code.
+/// The depths of the lines.
 #[tactic(auto, using(crate::proofs::Mapped::depth_at))]
 pub fn depths_of(alloc: Global, lines: &[Line<'_>]) -> Result<Vec<u8>, AllocError>
     requires { list_all (λ l. nat_le l.depth 64) (map line_of lines.now) ≡ true }

@@ -1,7 +1,7 @@
-//! Emission: the code of a tree, line by line, with the depth of each.
+//! Emission: the code of a tree, line by line, with the depth of each line.
 //!
-//! Each function appends. The distance of a jump is filled in after the code that it skips. Each operand is left by a line at
-//! least, so that a depth is never above the number of lines.
+//! Each function appends. The distance of a jump is filled in after the code that it skips. Each operand comes from at least one
+//! line, so a depth never exceeds the number of lines.
 ghost use Rattle.std.specs.Prelude.{◌≡◌, ◌+◌, ◌<◌, ◌≤◌, [], ◌∷◌, ◌++◌, length, map, slice_set, IfOk, OnOk, false};
 ghost use Rattle.st_reader.specs.Syntax.{send};
 ghost use Rattle.st_reader.specs.TreeViews.{operand_view, chain_view, message_view, expression_view, statements_view, parts_of, seen_parts, further_of, seen_further, seen_sentences};
@@ -33,14 +33,14 @@ fn is_inlined(receiver: Alone, message: &Message) -> bool
     }
 }
 
-/// The code of a method in which names are texts yet.
+/// The code of a method. Its names are not resolved yet.
 #[derive(Drop)]
 pub struct Draft<'t> {
     pub lines: Vec<Line<'t>>,
 }
 
 impl<'t> Draft<'t> {
-    /// One line more.
+    /// Appends a line.
     fn put(&mut self, depth: usize, word: Word<'t>) -> Result<(), AllocError>
         ensures code { OnOk result (map line_of self.new.lines.items ≡ map line_of self.old.lines.items ++ line depth (word_of word.entry) ∷ []) }
         ensures longer { OnOk result (length self.old.lines.items + 1 ≡ length self.new.lines.items) }
@@ -49,7 +49,7 @@ impl<'t> Draft<'t> {
         Ok(())
     }
 
-    /// Another line in the place of one.
+    /// Replaces a line.
     fn patch(&mut self, place: usize, depth: usize, word: Word<'t>)
         requires { place < length self.old.lines.items }
         ensures code { map line_of self.new.lines.items ≡ slice_set (map line_of self.old.lines.items) place (line depth (word_of word.entry)) }
@@ -58,7 +58,7 @@ impl<'t> Draft<'t> {
         self.lines[place] = Line { depth, word };
     }
 
-    /// What messages go to.
+    /// The code of an operand.
     #[cycle(emit)]
     fn operand(&mut self, depth: usize, operand: &'t Operand) -> Result<(), AllocError>
         requires { depth ≤ length self.old.lines.items }
@@ -78,7 +78,7 @@ impl<'t> Draft<'t> {
         }
     }
 
-    /// An operand and its messages, one after another.
+    /// The code of an operand and of the messages that it gets in turn.
     #[cycle(emit)]
     fn chain(&mut self, depth: usize, chain: &'t Chain) -> Result<(), AllocError>
         requires { depth ≤ length self.old.lines.items }
@@ -96,7 +96,7 @@ impl<'t> Draft<'t> {
         Ok(())
     }
 
-    /// A message to a receiver whose code begins at `start`.
+    /// The code of a message. The code of its receiver is already there; it begins at `start`.
     #[tactic(auto, using(crate::proofs::EmittingChains::goes_up_is))]
     #[cycle(emit)]
     fn message(
@@ -118,7 +118,7 @@ impl<'t> Draft<'t> {
         }
     }
 
-    /// A message that is sent to the topmost of so many operands.
+    /// The code that sends a message to the topmost of `depth` operands.
     #[cycle(emit)]
     fn sent(
         &mut self,
@@ -150,7 +150,7 @@ impl<'t> Draft<'t> {
         }
     }
 
-    /// The arguments of keywords, each on those before it.
+    /// The code of the arguments of keywords. Each is pushed above those before it.
     #[cycle(emit)]
     fn arguments(&mut self, depth: usize, parts: &'t [(Name, Chain)]) -> Result<(), AllocError>
         requires { depth ≤ length self.old.lines.items }
@@ -165,8 +165,8 @@ impl<'t> Draft<'t> {
         Ok(())
     }
 
-    /// What is left to do for an inlined message after the code of its receiver, which begins at `start`. Nothing is, where no
-    /// such message is inlined.
+    /// The rest of an inlined message, after the code of its receiver, which begins at `start`. It is empty if the message is not
+    /// inlined.
     #[cycle(emit)]
     fn inlined(
         &mut self,
@@ -199,7 +199,7 @@ impl<'t> Draft<'t> {
         }
     }
 
-    /// The same for a message of one keyword.
+    /// The same for a message with one keyword.
     #[cycle(emit)]
     fn one_block(
         &mut self,
@@ -228,7 +228,7 @@ impl<'t> Draft<'t> {
         }
     }
 
-    /// One of two arms: the first where the branch isn't taken, the other where it is.
+    /// The code of two arms. The first runs if the branch is not taken, the other if it is.
     #[cycle(emit)]
     fn either(
         &mut self,
@@ -253,7 +253,7 @@ impl<'t> Draft<'t> {
         Ok(())
     }
 
-    /// A value that a block gives, or a plain one.
+    /// The code of an arm.
     #[cycle(emit)]
     fn arm(&mut self, depth: usize, arm: Arm<'t>) -> Result<(), AllocError>
         requires { depth ≤ length self.old.lines.items }
@@ -266,7 +266,7 @@ impl<'t> Draft<'t> {
         }
     }
 
-    /// The body after a condition that begins at `start`, as long as the branch isn't taken.
+    /// The body of a loop, after its condition, which begins at `start`. It is repeated until the branch is taken.
     #[cycle(emit)]
     fn repeated(
         &mut self,
@@ -292,7 +292,7 @@ impl<'t> Draft<'t> {
         Ok(())
     }
 
-    /// A message to a receiver that stays.
+    /// The code that sends a message, drops its answer and keeps the receiver.
     #[cycle(emit)]
     fn kept(&mut self, depth: usize, message: &'t Message) -> Result<(), AllocError>
         requires { depth ≤ length self.old.lines.items }
@@ -320,7 +320,7 @@ impl<'t> Draft<'t> {
         self.sent(Alone::Other, depth, &last.1)
     }
 
-    /// The topmost operand stored in variables, the last one first.
+    /// Stores the topmost operand in variables, the last one first.
     fn stores(&mut self, depth: usize, targets: &'t [Target]) -> Result<(), AllocError>
         ensures code { OnOk result (map line_of self.new.lines.items ≡ map line_of self.old.lines.items ++ stores depth targets.now) }
         ensures longer { OnOk result (length self.old.lines.items ≤ length self.new.lines.items) }
@@ -333,7 +333,7 @@ impl<'t> Draft<'t> {
         Ok(())
     }
 
-    /// The value of an expression before it is stored.
+    /// The code of an expression's value, before it is stored.
     #[cycle(emit)]
     fn value(&mut self, depth: usize, expression: &'t Expression) -> Result<(), AllocError>
         requires { depth ≤ length self.old.lines.items }
@@ -350,7 +350,7 @@ impl<'t> Draft<'t> {
         }
     }
 
-    /// The value of an expression.
+    /// The code of an expression.
     #[cycle(emit)]
     fn expression(&mut self, depth: usize, expression: &'t Expression) -> Result<(), AllocError>
         requires { depth ≤ length self.old.lines.items }
@@ -361,7 +361,7 @@ impl<'t> Draft<'t> {
         self.stores(depth + 1, expression.targets.as_slice())
     }
 
-    /// Statements whose values are dropped.
+    /// The code of statements whose values are dropped.
     #[cycle(emit)]
     fn dropped(
         &mut self,
@@ -379,7 +379,7 @@ impl<'t> Draft<'t> {
         Ok(())
     }
 
-    /// The value of the statements of a block.
+    /// The code of a block's statements. It leaves their value.
     #[cycle(emit)]
     fn statements(&mut self, depth: usize, statements: &'t Statements) -> Result<(), AllocError>
         requires { depth ≤ length self.old.lines.items }
@@ -394,7 +394,7 @@ impl<'t> Draft<'t> {
         }
     }
 
-    /// The receiver is answered.
+    /// The code that answers the receiver.
     fn answer_receiver(&mut self) -> Result<(), AllocError>
         ensures { OnOk result (map line_of self.new.lines.items ≡ map line_of self.old.lines.items ++ line 0 receiver ∷ line 1 return ∷ []) }
     {
@@ -402,7 +402,7 @@ impl<'t> Draft<'t> {
         self.put(1, Word::Return)
     }
 
-    /// The statements of a method.
+    /// The code of a method's statements.
     fn body(&mut self, statements: &'t Statements) -> Result<(), AllocError>
         ensures { OnOk result (map line_of self.new.lines.items ≡ map line_of self.old.lines.items ++ body (statements_view statements.now)) }
     {

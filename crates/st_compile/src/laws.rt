@@ -1,10 +1,9 @@
 //! Laws of the instructions of expressions.
 ghost use Rattle.st_compile.specs.FlowLaws.{CodesLeaveOne};
 
-/// Whatever its names stand for: on each way through the instructions of an expression none misses an operand, and each goes to
-/// another of them or to their end. A way that comes to the end has left one operand more, through an inlined conditional too;
-/// and where one comes back to the beginning, as a loop's does after its body, there are as many operands as before. A law,
-/// without a value.
+/// A law about the instructions of an expression, whatever its names mean. On each path through them no instruction lacks an
+/// operand, and each successor is one of them or their end. A path that reaches the end has left one more operand, also through an
+/// inlined conditional. A path that comes back to the beginning, as a loop does after its body, has as many operands as before.
 #[tactic(auto, using(crate::proofs::Leaving::codes_leave_one))]
 pub fn codes_leave_one()
     ensures { CodesLeaveOne }

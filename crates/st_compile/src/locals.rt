@@ -1,4 +1,4 @@
-//! The arguments and temporaries of a method, counted and in one list.
+//! The arguments and temporaries of a method: their number, and one list of both.
 ghost use Rattle.std.specs.Prelude.{◌≡◌, ◌≤◌, ◌++◌, ◌∷◌, [], length, OnOk, IfOk};
 ghost use Rattle.st_compile.specs.Scopes.{named};
 ghost use Rattle.st_reader.specs.Variables.{arguments_of, locals_of, temporaries_of};
@@ -18,7 +18,7 @@ pub fn argument_count(pattern: &Pattern) -> u8
     }
 }
 
-/// The number of temporaries, where there are any.
+/// The number of temporaries, 0 if none are declared.
 pub fn temporary_count(temporaries: &Option<Temporaries>) -> u8
     requires { length (temporaries_of temporaries.now) ≤ 64 }
     ensures { result ≡ length (temporaries_of temporaries.now) }

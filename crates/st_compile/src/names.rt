@@ -15,7 +15,7 @@ use st_classes::values::Selector;
 use st_reader::trees::{Chain, Name, Parameter, Pattern};
 use std::alloc::{AllocError, Global};
 
-/// The number of a text, which is interned.
+/// Interns a text and answers its number.
 pub(crate) fn number_of(alloc: Global, text: &[u8], names: &mut Names) -> Result<Selector, Refusal>
     requires { is_selector text.now ≡ true }
     ensures answers { Answers (first_of (names_rule names.old (text.now ∷ []) ∷ [])) result (λ s. place_of names.new text.now ≡ Some s.0) }
@@ -36,7 +36,7 @@ fn add_keyword(text: &mut Vec<u8>, keyword: &Name) -> Result<(), AllocError>
     Ok(())
 }
 
-/// The selector that the keywords of a message make.
+/// The selector of a keyword message: its keywords joined.
 fn joined(alloc: Global, parts: &[(Name, Chain)]) -> Result<Vec<u8>, AllocError>
     ensures { IfOk result (λ text. text.items ≡ flat_map (λ p. p.0.text) parts.now) }
 {
@@ -47,7 +47,7 @@ fn joined(alloc: Global, parts: &[(Name, Chain)]) -> Result<Vec<u8>, AllocError>
     Ok(text)
 }
 
-/// The selector that the keywords of a pattern make. The only refusal is `NoMemory`.
+/// The selector of a keyword pattern: its keywords joined. The only refusal is `NoMemory`.
 pub fn joined_pattern(alloc: Global, parameters: &[Parameter]) -> Result<Vec<u8>, Refusal>
     ensures ok { IfOk result (λ text. text.items ≡ flat_map (λ p. p.keyword.text) parameters.now) }
     ensures err { IfErr result (λ e. e ≡ Refusal.NoMemory) }
@@ -71,7 +71,7 @@ impl<'t> Sent<'t> {
         }
     }
 
-    /// The number of the selector, which is interned.
+    /// Interns the selector and answers its number.
     pub fn number(self, alloc: Global, names: &mut Names) -> Result<Selector, Refusal>
         requires { is_selector (sent_text self) ≡ true }
         ensures answers { Answers (first_of (names_rule names.old (sent_text self.entry ∷ []) ∷ [])) result (λ s. place_of names.new (sent_text self.entry) ≡ Some s.0) }
@@ -89,7 +89,7 @@ impl<'t> Sent<'t> {
     }
 }
 
-/// The number of the selector of a pattern, which is interned.
+/// Interns the selector of a pattern and answers its number.
 pub(crate) fn pattern_number(
     alloc: Global,
     pattern: &Pattern,

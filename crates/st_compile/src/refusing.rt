@@ -1,4 +1,4 @@
-//! The refusals of a draft: unknown names, clashing names, size.
+//! The refusals of a draft: unknown names, clashing names, and too much code.
 ghost use Rattle.std.specs.Prelude.{◌≡◌, [], ◌∷◌, map, nat_le};
 ghost use Rattle.std.specs.List.{list_all};
 ghost use Rattle.st_classes.specs.Refusals.{first_of};
@@ -23,7 +23,7 @@ fn lesser(one: Option<u32>, other: Option<u32>) -> Option<u32>
     }
 }
 
-/// The place of a word's name in the source.
+/// Where a word's name is in the source.
 fn start_of(word: Word<'_>) -> u32
     ensures { result ≡ start_of (word_of word.entry) }
 {
@@ -33,7 +33,7 @@ fn start_of(word: Word<'_>) -> u32
     }
 }
 
-/// The place of a line's name, if the name means nothing.
+/// Where a line's name is in the source, if the name means nothing.
 fn unknown_at(scope: &Scope<'_>, line: Line<'_>) -> Option<u32>
     requires { HasFew (scope_seen scope.now) }
     ensures { result ≡ least_of (unknown (scope_seen scope.now) (line_of line.entry ∷ [])) }
@@ -44,7 +44,7 @@ fn unknown_at(scope: &Scope<'_>, line: Line<'_>) -> Option<u32>
     Some(start_of(line.word))
 }
 
-/// The first place in the source of a name that means nothing.
+/// The first place in the source with a name that means nothing.
 #[tactic(auto, using(crate::proofs::Least::unknown_more))]
 fn first_unknown(scope: &Scope<'_>, lines: &[Line<'_>]) -> Option<u32>
     requires { HasFew (scope_seen scope.now) }
@@ -57,7 +57,7 @@ fn first_unknown(scope: &Scope<'_>, lines: &[Line<'_>]) -> Option<u32>
     least
 }
 
-/// The place of a name, if it is also the name of an instance variable.
+/// Where a name is in the source, if an instance variable has the same name.
 fn clash_at(scope: &Scope<'_>, name: &Name) -> Option<u32>
     ensures { result ≡ least_of (clashing (scope_seen scope.now).slots (name.now ∷ [])) }
 {
@@ -67,7 +67,7 @@ fn clash_at(scope: &Scope<'_>, name: &Name) -> Option<u32>
     Some(u32::from(name.span.start))
 }
 
-/// The first place of an argument or a temporary that is named as an instance variable.
+/// The first place of an argument or a temporary that has the name of an instance variable.
 #[tactic(auto, using(crate::proofs::Least::clash_more))]
 fn first_clash(scope: &Scope<'_>) -> Option<u32>
     ensures { result ≡ least_of (clashing (scope_seen scope.now).slots (named scope.now.locals.items)) }
@@ -79,7 +79,7 @@ fn first_clash(scope: &Scope<'_>) -> Option<u32>
     least
 }
 
-/// `BadSource` with `UnknownName` if a name means nothing, and the first place of one.
+/// `BadSource` with `UnknownName` at the first name that means nothing, if there is one.
 #[tactic(auto, using(crate::proofs::Least::place_rule))]
 fn unknown_name(scope: &Scope<'_>, lines: &[Line<'_>]) -> Option<Refusal>
     requires { HasFew (scope_seen scope.now) }
@@ -92,7 +92,7 @@ fn unknown_name(scope: &Scope<'_>, lines: &[Line<'_>]) -> Option<Refusal>
     })
 }
 
-/// `BadSource` with `DuplicateName` where an argument or a temporary is named as an instance variable, and the first place of one.
+/// `BadSource` with `DuplicateName` at the first argument or temporary that has the name of an instance variable, if there is one.
 #[tactic(auto, using(crate::proofs::Least::place_rule))]
 fn clashing_name(scope: &Scope<'_>) -> Option<Refusal>
     ensures { result ≡ first_of (clash_rule (scope_seen scope.now) (named scope.now.locals.items) ∷ []) }
@@ -104,14 +104,14 @@ fn clashing_name(scope: &Scope<'_>) -> Option<Refusal>
     })
 }
 
-/// Whether there are never more than 64 operands.
+/// Whether no line has more than 64 operands before it.
 fn are_shallow(lines: &[Line<'_>]) -> bool
     ensures { result ≡ list_all (λ l. nat_le l.depth 64) lines.now }
 {
     lines.iter().all(|line| line.depth <= limits::OPERANDS)
 }
 
-/// Whether there are no more than 1,024 instructions, and never more than 64 operands.
+/// Whether there are at most 1,024 instructions, and no line has more than 64 operands before it.
 #[tactic(auto, using(crate::proofs::Least::small_lines))]
 fn is_small(lines: &[Line<'_>]) -> bool
     ensures { result ≡ is_small (map line_of lines.now) }
@@ -119,7 +119,7 @@ fn is_small(lines: &[Line<'_>]) -> bool
     lines.len() <= limits::INSTRUCTIONS && are_shallow(lines)
 }
 
-/// `BadSource` with `TooLarge` and the offset 0 where a code is too large.
+/// `BadSource` with `TooLarge` and the offset 0, if the code is too large.
 fn too_large(lines: &[Line<'_>]) -> Option<Refusal>
     ensures { result ≡ first_of (size_rule (map line_of lines.now) ∷ []) }
 {

@@ -1,4 +1,4 @@
-//! Names resolved: the instructions that words stand for.
+//! Name resolution: from words to instructions.
 ghost use Rattle.std.specs.Prelude.{◌≡◌, ◌∷◌, [], ◌≤◌, map, true, Some, OnOk, OnErr, IfErr, length};
 ghost use Rattle.std.specs.List.{flat_map};
 ghost use Rattle.st_classes.specs.Refusals.{first_of, Answers};
@@ -21,7 +21,7 @@ use st_reader::trees::Pattern;
 use std::alloc::Global;
 
 impl<'t> Word<'t> {
-    /// The instruction. The selector of a message and the text of a symbol are interned.
+    /// The instruction of a word. The selector of a message and the text of a symbol are interned.
     fn instruction(
         self,
         alloc: Global,
@@ -72,7 +72,7 @@ impl<'t> Word<'t> {
     }
 }
 
-/// The instructions of a code. Its selectors and symbols are interned in their order.
+/// The instructions of a code. Its selectors and symbols are interned in code order.
 fn code_of(
     alloc: Global,
     scope: &Scope<'_>,
@@ -98,7 +98,7 @@ fn code_of(
     Ok(code)
 }
 
-/// The number of a method's selector, and the instructions of its code. The texts that need numbers are interned in this order.
+/// The number of a method's selector and the instructions of its code. The selector and then the texts of the code are interned.
 pub fn resolve(
     alloc: Global,
     pattern: &Pattern,

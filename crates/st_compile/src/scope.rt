@@ -19,7 +19,7 @@ use st_classes::version::Version;
 use st_reader::trees::{MethodTree, Name};
 use std::alloc::{AllocError, Global};
 
-/// The value of a reserved name. `super` means the receiver.
+/// The instruction for a reserved name. `super` means the receiver.
 fn reserved(text: &[u8]) -> Option<Instruction>
     ensures { result ≡ reserved text.now }
 {
@@ -38,17 +38,17 @@ fn reserved(text: &[u8]) -> Option<Instruction>
     }
 }
 
-/// The place of the first name with a text.
+/// The index of the first name with a text.
 fn place_among(names: &[&Name], text: &[u8]) -> Option<usize>
     ensures { result ≡ position (λ n. bytes_eq text.now n.now.text) names.now }
 {
     names.iter().position(|name| text == name.text.as_slice())
 }
 
-/// What the names of a method can stand for.
+/// What the names of a method can mean.
 #[derive(Drop)]
 pub struct Scope<'t> {
-    /// The classes that there are.
+    /// The class table.
     pub version: &'t Version,
     /// The instance variables of the class, inherited ones first.
     pub slots: &'t [Seq<u8>],
@@ -57,7 +57,7 @@ pub struct Scope<'t> {
 }
 
 impl<'t> Scope<'t> {
-    /// What the names of a method can stand for in a class.
+    /// The scope of a method in a class.
     pub fn of_method(
         alloc: Global,
         tree: &'t MethodTree,
@@ -79,14 +79,14 @@ impl<'t> Scope<'t> {
         })
     }
 
-    /// The place of an argument or a temporary.
+    /// The index of an argument or a temporary.
     fn local(&self, text: &[u8]) -> Option<usize>
         ensures { result ≡ place_of (scope_seen self.now).locals text.now }
     {
         place_among(self.locals.as_slice(), text)
     }
 
-    /// The place of an instance variable.
+    /// The index of an instance variable.
     fn slot(&self, text: &[u8]) -> Option<usize>
         ensures { result ≡ place_of (scope_seen self.now).slots text.now }
     {
@@ -100,7 +100,8 @@ impl<'t> Scope<'t> {
         self.slots.iter().any(|slot| text == slot.as_slice())
     }
 
-    /// What pushes the value of a name: a reserved one's, an argument's or a temporary's, an instance variable's, or a class.
+    /// The instruction that pushes the value of a name: a reserved name, else an argument or temporary, else an instance variable,
+    /// else a class.
     #[tactic(auto, using(crate::proofs::Places::place_few))]
     pub fn pushed(&self, text: &[u8]) -> Option<Instruction>
         requires { HasFew (scope_seen self.now) }
@@ -119,7 +120,7 @@ impl<'t> Scope<'t> {
         Some(Instruction::PushLit(Value::Class(class)))
     }
 
-    /// What stores in an argument or a temporary, or in an instance variable.
+    /// The instruction that stores in an argument or a temporary, or else in an instance variable.
     #[tactic(auto, using(crate::proofs::Places::place_few))]
     pub fn stored(&self, text: &[u8]) -> Option<Instruction>
         requires { HasFew (scope_seen self.now) }

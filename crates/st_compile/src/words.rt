@@ -1,4 +1,4 @@
-//! Instructions before their names have numbers.
+//! Instructions whose names are not resolved yet.
 ghost use Rattle.std.specs.Prelude.{◌≡◌};
 ghost use Rattle.st_compile.specs.Equations.{to};
 ghost use Rattle.st_compile.specs.DraftViews.{word_of, sent_text, sent_arguments};
@@ -17,7 +17,7 @@ pub enum Sent<'t> {
     Keywords(&'t [(Name, Chain)]),
 }
 
-/// An instruction in which a name is a text yet. Jump distances count from the next instruction.
+/// An instruction whose name is still a text. Jump distances count from the next instruction.
 #[derive(Clone, Copy)]
 pub enum Word<'t> {
     Literal(Value),
@@ -29,9 +29,9 @@ pub enum Word<'t> {
     Repeat,
     Message(Sent<'t>),
     SuperMessage(Sent<'t>),
-    /// So many instructions on.
+    /// Jumps forward by this many instructions.
     Jump(usize),
-    /// So many instructions back.
+    /// Jumps back by this many instructions.
     Back(usize),
     JumpFalse(usize),
     JumpTrue(usize),
@@ -39,7 +39,7 @@ pub enum Word<'t> {
 }
 
 impl<'t> Word<'t> {
-    /// A message to a receiver.
+    /// A message to a receiver, which may be `super`.
     pub fn sent(receiver: Alone, sent: Sent<'t>) -> Word<'t>
         ensures { word_of result ≡ to (goes_up receiver) (sent_text sent.entry) (sent_arguments sent.entry) }
     {
@@ -57,7 +57,7 @@ pub struct Line<'t> {
     pub word: Word<'t>,
 }
 
-/// A conditional jump by the value on which it is taken.
+/// A conditional jump, named by the value on which it is taken.
 #[derive(Clone, Copy)]
 pub enum Branch {
     IfFalse,
@@ -65,7 +65,7 @@ pub enum Branch {
 }
 
 impl Branch {
-    /// The jump over so many instructions.
+    /// The jump over this many instructions.
     pub fn over<'t>(self, distance: usize) -> Word<'t>
         ensures { word_of result ≡ branch_word self distance }
     {
@@ -76,7 +76,7 @@ impl Branch {
     }
 }
 
-/// An arm of a conditional: a block's value, or a value that no block gives.
+/// An arm of a conditional: a block, or a plain value in place of one.
 #[derive(Clone, Copy)]
 pub enum Arm<'t> {
     Block(&'t Chain),

@@ -7,6 +7,7 @@ pub mod FaultNames
 pub mod FoundAgain
 pub mod LoadedAgain
 pub mod NamedParts
+pub mod NoneLeft
 pub mod ReadSoFar
 pub mod RunningLast
 pub mod SpelledTexts

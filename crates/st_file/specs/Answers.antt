@@ -4,7 +4,7 @@ use Rattle.st_classes.specs.declared.refusals.Refusal.{Refusal}
 use Rattle.st_classes.specs.declared.refusals.Refusal.TheVariants.{BadImage, NoMemory}
 use Rattle.st_classes.specs.declared.refusals.ImagePlace.{ImagePlace}
 
--- what is there; a refusal of this place where nothing is; or NoMemory in place of any answer
+-- the part that is there; or `BadImage` with this place, if nothing is there; or `NoMemory`, whatever is there
 abbrev pub Finds : {T : Type 0} → ImagePlace → Option T → Result T Refusal → Type 0
 Finds p there (Ok part) = there ≡ Some part
 Finds p there (Err refusal) = (refusal ≡ NoMemory) ⊎ ((refusal ≡ BadImage p) × (there ≡ None))

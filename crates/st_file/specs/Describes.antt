@@ -1,4 +1,4 @@
--- Image documents: what a JSON value describes, and what is wrong of one that describes nothing.
+-- Image documents: what a JSON value describes, and what is wrong with one that describes nothing.
 use Rattle.std.specs.Prelude.{◌≡◌, ◌⊎◌, ℕ, List, [], Some, None, Result, Ok, Err}
 use Rattle.serde_json.specs.Data.{Data}
 use Rattle.st_classes.specs.declared.refusals.Refusal.{Refusal}
@@ -27,20 +27,20 @@ kernel_table = record { names = kernel_selectors; edits = [] }
 abbrev pub HasShape : Data → ImageText → Type 0
 HasShape v t = image_in v ≡ Some t
 
--- its names go behind the kernel's
+-- its names load, in order, after the kernel's
 abbrev pub HasNames : ImageText → LoaderView → Type 0
 HasNames t named = LoadsAll LoadsName kernel_table t.names named
 
--- its edits are made one after the other
+-- its edits load, in order, with these names
 abbrev pub HasEdits : ImageText → LoaderView → LoaderView → Type 0
 HasEdits t named loaded = LoadsAll LoadsEdit named t.edits loaded
 
--- its actors are actors of a world with these names and this class table
+-- its actors are those of a world with these names and this class table
 pub record HasActors (t : ImageText) (loaded : LoaderView) (parts : List ActorPart) : Type 0 where
   pub meant : actors_meant loaded.names loaded.edits t.actors ≡ Some parts
   pub fit : AreBaseActors loaded.names loaded.edits parts
 
--- the numbers of its senders hold together
+-- the numbers of its senders are consistent
 abbrev pub HasSenderNumbers : ImageText → LoaderView → List ActorPart → Type 0
 HasSenderNumbers t loaded parts = AreBaseSenders loaded.edits parts t.senders
 
@@ -61,7 +61,7 @@ pub record Describes (v : Data) (names : List (List ℕ)) (w : World) (counts : 
   pub world_is : w ≡ world_of_parts loaded.edits parts text.senders
   pub counts_are : counts ≡ text.counts
 
--- at the first of these places where something is wrong of a value, in this order: shape, names, edits, actors, senders
+-- p is the first place where something is wrong with the value, in this order: shape, names, edits, actors, senders
 abbrev pub IsWrongAt : ImagePlace → Data → Type 0
 IsWrongAt place.Json v = ⊥
 IsWrongAt place.Shape v = image_in v ≡ None
@@ -77,18 +77,18 @@ IsWrongAt place.Senders v = (t : ImageText) × (named : LoaderView) × (loaded :
 
 -- ---- answers
 
--- the image at the world that the value describes, with its names and its counts; or what is wrong of the value; or memory ran out
+-- the image at the world that the value describes, with its names and its counts; or what is wrong with the value; or memory ran out
 abbrev pub LoadsImage : Data → Result ImageView Refusal → Type 0
 LoadsImage v (Ok i) = Describes v i.names i.base (counts_of i) × (i ≡ image_at i.names i.base (counts_of i))
 LoadsImage v (Err e) = (e ≡ NoMemory) ⊎ ((p : ImagePlace) × (e ≡ BadImage p) × IsWrongAt p v)
 
--- a value describes one world, with one list of names and one count of posts and of steps
+-- a value describes at most one world, one list of names and one pair of counts
 abbrev pub DescribesOne : Type 0
 DescribesOne = (v : Data) (names other_names : List (List ℕ)) (w u : World) (counts other_counts : Counts)
     → Describes v names w counts → Describes v other_names u other_counts
     → (names ≡ other_names) × (w ≡ u) × (counts ≡ other_counts)
 
--- a value of which something is wrong describes no world
+-- a value with something wrong describes no world
 abbrev pub WrongDescribesNone : Type 0
 WrongDescribesNone = (p : ImagePlace) (v : Data) (names : List (List ℕ)) (w : World) (counts : Counts)
     → IsWrongAt p v → Describes v names w counts → ⊥

@@ -10,7 +10,7 @@ use Rattle.st_wire.specs.Streams.{InputView}
 use Rattle.st_file.specs.Describes.{LoadsImage}
 use Rattle.st_file.specs.Inputs.{GivesAll, StopsShort}
 
--- a text without the newline at its end, where it has one
+-- a text without the newline at its end, if it has one
 abbrev pub without_newline : List ℕ → List ℕ
 without_newline [] = []
 without_newline (b ∷ []) = if b == 10 then [] else b ∷ []
@@ -20,13 +20,13 @@ without_newline (b ∷ c ∷ bs) = b ∷ without_newline (c ∷ bs)
 abbrev pub document_of : List ℕ → Option Data
 document_of text = value_of (without_newline text)
 
--- the text is JSON, and its value is loaded; or it is none; or memory ran out
+-- the text is JSON, and its value is loaded; or the text is not JSON; or memory ran out
 abbrev pub LoadsText : List ℕ → Result ImageView Refusal → Type 0
 LoadsText text result = ((v : Data) × (document_of text ≡ Some v) × LoadsImage v result)
     ⊎ ((document_of text ≡ None) × (result ≡ Err (BadImage place.Json)))
     ⊎ (result ≡ Err NoMemory)
 
--- an input was read to its end, and its text is loaded; or it was not read to its end, and the refusal says why
+-- the input was read to its end, and its text is loaded; or it was not, and the refusal says why
 abbrev pub LoadsFile : InputView → InputView → Result ImageView Refusal → Type 0
 LoadsFile before after result = ((text : List ℕ) × GivesAll before after text × LoadsText text result)
     ⊎ ((e : Refusal) × (result ≡ Err e) × StopsShort before after e)

@@ -6,6 +6,7 @@ pub mod Inputs
 pub mod Layers
 pub mod Meanings
 pub mod Named
+pub mod Objects
 pub mod Saving
 pub mod Says
 pub mod Shapes

@@ -1,4 +1,4 @@
--- What the texts of a file mean, for names and a class table.
+-- What the texts of a file mean, by names and a class table.
 use Rattle.std.specs.Prelude.{ℕ, ◌^◌, List, [], ◌∷◌, Option, Some, None, option_map, option_and_then, nat_lt, if◌then◌else◌}
 use Rattle.st_classes.specs.declared.values.ClassId.{ClassId}
 use Rattle.st_classes.specs.declared.values.MethodId.{MethodId}
@@ -30,22 +30,22 @@ use Rattle.st_file.specs.declared.texts.ActorText.{ActorText}
 
 -- ---- lists and numbers
 
--- what each item means
+-- what each item means, if all of them mean something
 abbrev pub all_of : {S T : Type 0} → (S → Option T) → List S → Option (List T)
 all_of f [] = Some []
 all_of f (x ∷ xs) = cons_of (f x) (all_of f xs)
 
--- a number below a bound
+-- the number, if it is below the bound
 abbrev pub below : ℕ → ℕ → Option ℕ
 below bound n = if nat_lt n bound then Some n else None
 
 -- ---- values and messages
 
--- the selector of a text
+-- the selector with this text
 abbrev pub selector_of : List (List ℕ) → List ℕ → Option Selector
 selector_of names text = option_map selector (place_of names text)
 
--- names and classes by their texts
+-- symbols and classes are found by their texts
 abbrev pub value_meant : List (List ℕ) → List Edit → ValueText → Option Value
 value_meant names edits (Int z) = Some (value.Int z)
 value_meant names edits (Boolean b) = Some (value.Bool b)
@@ -90,21 +90,21 @@ frame_meant names edits f =
     (all_of (value_meant names edits) f.temps)
     (all_of (value_meant names edits) f.operands)
 
--- a message that is not yet dispatched
+-- a message that is not dispatched yet
 abbrev pub start_with : Option (List Value) → Option Selector → Option Phase
 start_with (Some args) (Some s) = Some (standing.Start s args)
 start_with _ _ = None
 
--- one frame that waits before the others
+-- the same frames, with f before the callers
 abbrev pub with_caller : FrameView → FramesView → FramesView
 with_caller f fs = record fs { callers = f ∷ fs.callers }
 
--- frames of which the last runs, by the first one and the others
+-- the frames f and gs, of which the last one runs
 abbrev pub last_runs : FrameView → List FrameView → FramesView
 last_runs f [] = record { callers = []; running = f }
 last_runs f (g ∷ gs) = with_caller f (last_runs g gs)
 
--- frames of which the last runs, where there is one
+-- the last frame runs, so there has to be one
 abbrev pub frames_of : List FrameView → Option FramesView
 frames_of [] = None
 frames_of (f ∷ fs) = Some (last_runs f fs)

@@ -1,5 +1,5 @@
--- Parts of an image whose selectors and classes are there, so that each has a text.
--- Nothing is asked of the numbers of actors and objects, which a file has as they are.
+-- Parts of an image whose selectors and classes exist, so that each has a text.
+-- The numbers of actors and objects are free: a file holds them as they are.
 use Rattle.std.specs.Prelude.{◌≡◌, ◌<◌, ℕ, List, length, true, All}
 use Rattle.st_classes.specs.declared.values.Selector.{Selector}
 use Rattle.st_classes.specs.declared.values.Value.{Value}
@@ -15,7 +15,7 @@ use Rattle.st_turn.specs.FrameViews.{FrameView, FramesView}
 use Rattle.st_mailbox.specs.declared.messages.Message.{Message}
 use Rattle.st_image.specs.declared.actor_part.ActorPart.{ActorPart}
 
--- a selector is a name by its number
+-- the selector's number is that of a name
 abbrev pub IsNamed : List (List ℕ) → Selector → Type 0
 IsNamed names s = s.0 < length names
 

@@ -1,4 +1,4 @@
--- How an image is told as texts, and how a file is written.
+-- An image as texts, and how its file is written.
 use Rattle.std.specs.Prelude.{◌≡◌, ◌⊎◌, ℕ, List, [], ◌∷◌, ◌++◌, codes, true, Some, Result, Ok, Err, drop, map}
 use mathlib.Core.List.{IsPrefix}
 use Rattle.serde_json.specs.Data.{Data}
@@ -16,9 +16,9 @@ use Rattle.st_file.specs.Describes.{Describes}
 use Rattle.st_file.specs.Files.{document_of}
 use Rattle.st_file.specs.Meanings.{actors_meant}
 
--- ---- an image told as texts
+-- ---- an image as texts
 
--- a file's texts tell an image: its names behind the kernel's, its edits, actors that mean its own, its clients, and its counts
+-- the texts hold the image's names after the kernel's, its edits, actors that mean its own, its clients, and its counts
 pub record TellsImage (i : ImageView) (t : ImageText) : Type 0 where
   pub names : t.names ≡ drop 22 i.names
   pub edits : t.edits ≡ edit_texts i.names (world i).edits
@@ -28,8 +28,8 @@ pub record TellsImage (i : ImageView) (t : ImageText) : Type 0 where
 
 -- ---- documents
 
--- a value is the document of an image: it describes the image, its world as one that another image can begin with; its list of names
--- has all names behind the kernel's, by their numbers; and its keys are in byte order at every level
+-- a value is the document of an image: it describes the image, with its present world as one that another image can begin with; it lists
+-- all names after the kernel's, by their numbers; and its keys are in byte order at every level
 pub record IsDocument (v : Data) (i : ImageView) : Type 0 where
   pub describes : Describes v i.names (rebase (world i)) (counts_of i)
   pub names : texts_at (codes "names") v ≡ Some (drop 22 i.names)
@@ -46,12 +46,12 @@ pub record IsLineOf (v : Data) (text : List ℕ) : Type 0 where
   pub line : text ≡ value_line v
   pub again : document_of text ≡ Some v
 
--- a text is what the file of an image has: the line of the image's document
+-- a text is that of an image's file: the line of the image's document
 abbrev pub IsFileOf : ImageView → List ℕ → Type 0
 IsFileOf i text = (v : Data) × IsDocument v i × IsLineOf v text
 
--- such a text is written whole; or it found no memory, and nothing is written; or the device failed, be it behind the last byte, and
--- what is written is a prefix of such a text
+-- such a text is written whole; or memory ran out, and nothing is written; or the device failed, perhaps after the last byte, and a
+-- prefix of such a text is written
 abbrev pub Writes : (List ℕ → Type 0) → List ℕ → Result (Unit {0}) Refusal → Type 0
 Writes IsWhole written (Ok _) = IsWhole written
 Writes IsWhole written (Err e) = ((written ≡ []) × (e ≡ NoMemory))
@@ -61,7 +61,7 @@ Writes IsWhole written (Err e) = ((written ≡ []) × (e ≡ NoMemory))
 abbrev pub Saves : ImageView → List ℕ → Result (Unit {0}) Refusal → Type 0
 Saves i written result = Writes (IsFileOf i) written result
 
--- a device's count of failures: one more where it failed
+-- a device's count of failures: one more if it failed
 abbrev pub failures_after : {T : Type 0} → Result T Refusal → ℕ → ℕ
 failures_after (Err WriteFault) failures = one_more failures
 failures_after _ failures = failures

@@ -4,7 +4,7 @@ use Rattle.serde_json.specs.Data.{Data, depth}
 use Rattle.serde_json.specs.Written.{has_float}
 use Rattle.st_wire.specs.Replies.{keys_rise}
 
--- a value of a form says a part: the part is read of it; it nests so deep at most; it has no float; and its keys rise
+-- reading a value by a form gives this part; the value nests at most this deep; it has no float; and its keys rise
 pub record Says {T : Type 0} (form : Data → Option T) (deep : ℕ) (part : T) (d : Data) : Type 0 where
   pub read : form d ≡ Some part
   pub shallow : depth d ≤ deep

@@ -26,25 +26,25 @@ use Rattle.st_image.specs.declared.edit_text.EditText.TheVariants as edit
 use Rattle.st_image.specs.Counts.{most_counted}
 use Rattle.st_file.specs.declared.texts.ImageText.{ImageText}
 
--- what is there, where an object has just these keys
+-- what was found, if the object has exactly these keys
 abbrev pub of_keys : {T : Type 0} → List (List ℕ) → Data → Option T → Option T
 of_keys keys d found = if has_just keys d then found else None
 
--- what each item of an array is
+-- the items of an array, each read by f
 abbrev pub list_in : {T : Type 0} → (Data → Option T) → Data → Option (List T)
 list_in f d = option_and_then (each_of f) (as_array d)
 
--- what each item of a key's array is
+-- the items of the array at a key, each read by f
 abbrev pub list_at : {T : Type 0} → (Data → Option T) → List ℕ → Data → Option (List T)
 list_at f key d = option_and_then (each_of f) (option_and_then as_array (get key d))
 
--- what the value of a key is
+-- the value at a key, read by f
 abbrev pub one_at : {T : Type 0} → (Data → Option T) → List ℕ → Data → Option T
 one_at f key d = option_and_then f (get key d)
 
 -- ---- values
 
--- `{"ref":n}`, `{"sym":"at:put:"}`, `{"class":"Counter"}` or `{"local":n}`, by what stands at these keys
+-- `{"ref":n}`, `{"sym":"at:put:"}`, `{"class":"Counter"}` or `{"local":n}`, by the first of these keys that it has
 abbrev pub named_by : Data → Option Data → Option Data → Option Data → Option ValueText
 named_by d (Some r) sym class = option_map Actor (actor_at (codes "ref") d)
 named_by d None (Some s) class = option_map Symbol (text_at (codes "sym") d)
@@ -65,7 +65,7 @@ value_in (string s) = None
 value_in (array items) = None
 value_in (object members) = named_in (object members)
 
--- the values of a key
+-- the values at a key
 abbrev pub values_at : List ℕ → Data → Option (List ValueText)
 values_at = list_at value_in
 
@@ -128,12 +128,12 @@ faults =
     ∷ TooManyActors
     ∷ []
 
--- the first of these that has a name
+-- the first of these faults with this name
 abbrev pub fault_among : List Fault → List ℕ → Option Fault
 fault_among [] name = None
 fault_among (f ∷ fs) name = if bytes_eq name (fault_name f) then Some f else fault_among fs name
 
--- the fault of a name
+-- the fault with this name
 abbrev pub fault_of : List ℕ → Option Fault
 fault_of = fault_among faults
 
@@ -145,7 +145,7 @@ abbrev pub start_in : Data → Option PhaseText
 start_in d = of_keys (codes "args" ∷ codes "selector" ∷ []) d
     (start_from (values_at (codes "args") d) (text_at (codes "selector") d))
 
--- `{"start":..}`, `{"frames":..}`, `{"answer":..}` or `{"fault":..}`, by what stands at these keys
+-- `{"start":..}`, `{"frames":..}`, `{"answer":..}` or `{"fault":..}`, by the first of these keys that it has
 abbrev pub turn_by : Data → Option Data → Option Data → Option Data → Option PhaseText
 turn_by d (Some s) frames answer = start_in s
 turn_by d None (Some f) answer = option_map phase.Frames (list_at frame_in (codes "frames") d)
@@ -157,7 +157,7 @@ abbrev pub turn_in : Data → Option PhaseText
 turn_in d =
     if size d == 1 then turn_by d (get (codes "start") d) (get (codes "frames") d) (get (codes "answer") d) else None
 
--- where a turn stands
+-- the phase of a turn
 abbrev pub phase_in : Data → Option PhaseText
 phase_in (string s) = if bytes_eq s (codes "fresh") then Some phase.Fresh else None
 phase_in null = None
@@ -233,7 +233,7 @@ abbrev pub reparent_in : Data → Option EditText
 reparent_in d = of_keys (codes "class" ∷ codes "super" ∷ []) d
     (reparent_from (text_at (codes "class") d) (text_at (codes "super") d))
 
--- `{"define":..}`, `{"install":..}`, `{"remove":..}` or `{"reparent":..}`, by what stands at these keys
+-- `{"define":..}`, `{"install":..}`, `{"remove":..}` or `{"reparent":..}`, by the first of these keys that it has
 abbrev pub edit_by : Data → Option Data → Option Data → Option Data → Option EditText
 edit_by d (Some e) install remove = define_in e
 edit_by d None (Some e) remove = install_in e
@@ -248,7 +248,7 @@ abbrev pub client_from : Option ℕ → Option ℕ → Option (ℕ × ℕ)
 client_from (Some client) (Some last) = Some (client, last)
 client_from _ _ = None
 
--- the number of items of an array; 0 for another value
+-- the number of items of an array; 0 for any other value
 abbrev pub count : Data → ℕ
 count (array items) = items_len items
 count null = 0
@@ -257,7 +257,7 @@ count (number n) = 0
 count (string s) = 0
 count (object ms) = 0
 
--- a whole number of a range at a place of an array
+-- the whole number at a place of an array, which must be in a range
 abbrev pub whole_in : ℕ → ℕ → ℕ → Data → Option ℕ
 whole_in place least most d = within least most (option_and_then as_u64 (option_and_then as_number (at place d)))
 
@@ -275,11 +275,11 @@ abbrev pub counts_from : Option ℕ → Option ℕ → Option Counts
 counts_from (Some posts) (Some steps) = Some (record { posts = posts; steps = steps })
 counts_from _ _ = None
 
--- the posts and the steps that are counted
+-- the counts of posts and steps
 abbrev pub counts_at : Data → Option Counts
 counts_at d = counts_from (whole_at (codes "posts") 0 most_counted d) (whole_at (codes "steps") 0 most_counted d)
 
--- what a file counts, which has just the keys of its format: nothing in the first format
+-- the counts of a file, which must have exactly the keys of its format; none in the first format
 abbrev pub counts_by : ℕ → Data → Option Counts
 counts_by format d =
     if format == 1
@@ -296,7 +296,7 @@ counts_by format d =
     d
     (counts_at d)
 
--- of the first or the second format
+-- the counts of a file of the first or the second format
 abbrev pub counts_in : Data → Option Counts
 counts_in d = option_and_then (λ format. counts_by format d) (whole_at (codes "format") 1 2 d)
 

@@ -58,11 +58,11 @@ EditIsText (edit.Install class source) = IsText class × IsText source
 EditIsText (edit.Remove class selector) = IsText class × IsText selector
 EditIsText (edit.Reparent class parent) = IsText class × IsText parent
 
--- a client sent something
+-- a client has sent something: its last number is at least 1
 abbrev pub HasSent : ℕ × ℕ → Type 0
 HasSent client = 1 ≤ client.1
 
--- all texts of a file are UTF-8, its clients sent something, and its counts are those of an image
+-- all texts of a file are UTF-8, its clients have sent something, and its counts are those of an image
 pub record ImageIsText (t : ImageText) : Type 0 where
   pub actors : All ActorIsText t.actors
   pub counts : CanBeCounted t.counts

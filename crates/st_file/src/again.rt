@@ -1,11 +1,11 @@
-//! What is saved is loaded again.
+//! A saved image loads again.
 ghost use Rattle.st_file.specs.Again.{DocumentsLoad, FilesLoad, TextsLoad};
 
 use crate::images::describes_one;
 
-/// The image of the value that [`crate::saving::image_value`] answers is the image again: with the same names, beginning with its
-/// present world, with nothing happened yet. So is that of a text that [`crate::saving::save`] has written, and that of an input
-/// which gives such a text. A load of it finds no fault; it can only find no memory, or an input that is not read to its end.
+/// Loading the value that [`crate::saving::image_value`] answers gives the image again: its names and its counts are the same, it
+/// begins with the image's present world, and nothing has happened in it yet. The same holds of a text that [`crate::saving::save`] has
+/// written, and of an input that gives such a text. Such a load can only run out of memory, or fail to read the input to its end.
 pub fn saved_loads()
     ensures documents { DocumentsLoad }
     ensures texts { TextsLoad }

@@ -1,10 +1,10 @@
-//! Texts in memory of their own.
+//! Copies of texts.
 ghost use Rattle.std.specs.Prelude.{◌≡◌, IfOk};
 
 use st_classes::seq::Seq;
 use std::alloc::{AllocError, Global};
 
-/// The same text in memory of its own.
+/// Copies a text.
 pub(crate) fn copied(alloc: Global, text: &[u8]) -> Result<Seq<u8>, AllocError>
     ensures { IfOk result (λ t. t ≡ text.now) }
 {

@@ -18,7 +18,7 @@ const FAULTS: [Fault; 9] = [
     Fault::TooManyActors,
 ];
 
-/// The fault of a name.
+/// The fault with this name.
 pub(crate) fn fault_of(name: &str) -> Option<Fault>
     ensures { result ≡ shapes.fault_of name.now }
 {

@@ -13,17 +13,17 @@ use st_classes::seq::Seq;
 use st_classes::values::ActorId;
 use std::alloc::{AllocError, Global};
 
-/// The refusal of a value that has not the form of an image's.
+/// The refusal of a value that does not have the form of an image file.
 pub(crate) const SHAPE: Refusal = Refusal::BadImage {
     place: ImagePlace::Shape,
 };
 
-/// What a JSON value can be read as.
+/// A type that can be read from a JSON value.
 pub(crate) trait Readable: Drop {
     ghost use Rattle.std.specs.Prelude.{Option};
     ghost use Rattle.serde_json.specs.Data.{Data};
 
-    /// What is read of each value, where it has the form.
+    /// The value that is read, if the JSON value has the right form.
     ghost form: { Data → Option Self };
 
     /// Reads a value.
@@ -58,7 +58,7 @@ fn each<T: Readable>(alloc: Global, values: &Vec<Value>) -> Result<Seq<T>, Refus
     Ok(Seq::from_vec(found))
 }
 
-/// What each item of a key's array is.
+/// Reads each item of the array at a key.
 pub(crate) fn list_at<T: Readable>(
     alloc: Global,
     object: &Value,
@@ -72,7 +72,7 @@ pub(crate) fn list_at<T: Readable>(
     }
 }
 
-/// What the value of a key is.
+/// Reads the value at a key.
 pub(crate) fn one_at<T: Readable>(alloc: Global, object: &Value, key: &str) -> Result<T, Refusal>
     ensures { Finds Shape (shapes.one_at T.form key.now (view object.now)) result }
 {
@@ -82,14 +82,14 @@ pub(crate) fn one_at<T: Readable>(alloc: Global, object: &Value, key: &str) -> R
     }
 }
 
-/// The text of a key.
+/// Reads the text at a key.
 pub(crate) fn text_at(alloc: Global, object: &Value, key: &str) -> Result<Seq<u8>, Refusal>
     ensures { Finds Shape (spec.text_at key.now (view object.now)) result }
 {
     one_at(alloc, object, key)
 }
 
-/// The number of keys of an object, and 0 for another value.
+/// The number of keys of an object; 0 for any other value.
 pub(crate) fn size(object: &Value) -> usize
     ensures { result ≡ spec.size (view object.now) }
 {
@@ -99,7 +99,7 @@ pub(crate) fn size(object: &Value) -> usize
     }
 }
 
-/// The number of items of an array, and 0 for another value.
+/// The number of items of an array; 0 for any other value.
 pub(crate) fn count(array: &Value) -> usize
     ensures { result ≡ shapes.count (view array.now) }
 {
@@ -109,14 +109,14 @@ pub(crate) fn count(array: &Value) -> usize
     }
 }
 
-/// Whether a value is an object of just these keys.
+/// Whether a value is an object with exactly these keys.
 pub(crate) fn has_just(object: &Value, keys: &[&str]) -> bool
     ensures { result ≡ has_just_keys (map (λ key. key.now) keys.now) (view object.now) }
 {
     size(object) == keys.len() && has_all(object, keys)
 }
 
-/// Whether all of some keys are there.
+/// Whether a value has all of these keys.
 fn has_all(object: &Value, keys: &[&str]) -> bool
     ensures { result ≡ has_all_keys (map (λ key. key.now) keys.now) (view object.now) }
 {
@@ -128,7 +128,7 @@ fn has_all(object: &Value, keys: &[&str]) -> bool
     true
 }
 
-/// A whole number in a range, with both ends in it.
+/// Checks that a number is in a range, both ends included.
 fn within(number: Option<u64>, least: u64, most: u64) -> Result<u64, Refusal>
     ensures read { Finds Shape (spec.within least most number) result }
     ensures within { IfOk result (λ n. n ≤ most) }
@@ -139,7 +139,7 @@ fn within(number: Option<u64>, least: u64, most: u64) -> Result<u64, Refusal>
     }
 }
 
-/// A whole number of a key in a range, with both ends in it.
+/// Reads the whole number at a key, which must be in a range, both ends included.
 pub(crate) fn whole_at(object: &Value, key: &str, least: u64, most: u64) -> Result<u64, Refusal>
     ensures read { Finds Shape (spec.whole_at key.now least most (view object.now)) result }
     ensures within { IfOk result (λ n. n ≤ most) }
@@ -150,14 +150,14 @@ pub(crate) fn whole_at(object: &Value, key: &str, least: u64, most: u64) -> Resu
     }
 }
 
-/// A number of 64 bits.
+/// Reads the unsigned 64-bit number at a key.
 pub(crate) fn number_at(object: &Value, key: &str) -> Result<u64, Refusal>
     ensures { Finds Shape (spec.number_at key.now (view object.now)) result }
 {
     whole_at(object, key, 0, u64::MAX)
 }
 
-/// An actor's number.
+/// Reads the actor's number at a key.
 pub(crate) fn actor_at(object: &Value, key: &str) -> Result<ActorId, Refusal>
     ensures { Finds Shape (spec.actor_at key.now (view object.now)) result }
 {
@@ -165,7 +165,7 @@ pub(crate) fn actor_at(object: &Value, key: &str) -> Result<ActorId, Refusal>
     Ok(ActorId(number as u32))
 }
 
-/// A client's number.
+/// Checks a client's number, which has 16 bits.
 pub(crate) fn client_number(number: Option<u64>) -> Result<u16, Refusal>
     ensures { Finds Shape (spec.within 0 65535 number) result }
 {
@@ -173,7 +173,7 @@ pub(crate) fn client_number(number: Option<u64>) -> Result<u16, Refusal>
     Ok(number as u16)
 }
 
-/// The last number of a client that sent something.
+/// Checks the number of a client's last message, which is at least 1.
 pub(crate) fn last_number(number: Option<u64>) -> Result<u64, Refusal>
     ensures { Finds Shape (spec.within 1 18446744073709551615 number) result }
 {

@@ -1,4 +1,4 @@
-//! The image of a file.
+//! Loads the image of a file.
 ghost use Rattle.std.specs.Prelude.{◌≡◌, ◌⊎◌, None, Some, IfErr, IfOk};
 ghost use Rattle.serde_json.specs.View.{view};
 ghost use Rattle.st_classes.specs.declared.refusals.Refusal.TheVariants.{BadImage, NoMemory};
@@ -17,9 +17,9 @@ use st_mailbox::mailboxes::Mailbox;
 use st_wire::streams::Input;
 use std::alloc::Global;
 
-/// The image of the text that an input gives. All of the text is read before anything is made of it.
+/// Loads the image from the text of an input. All of the text is read before anything is made of it.
 ///
-/// It is `ReadFault` where a read failed, or 2^32 of them found no end. Else it is the image of the text, or its refusal.
+/// Fails with `ReadFault` if a read failed, or if 2^32 reads found no end. Otherwise answers as [`image_of_bytes`] does.
 pub fn load<M: Mailbox, I: Input>(alloc: Global, input: &mut I) -> Result<Image<M>, Refusal>
     ensures { let before = input_view I.remaining I.failures I.reads input.old in
         let after = input_view I.remaining I.failures I.reads input.new in
@@ -31,8 +31,8 @@ pub fn load<M: Mailbox, I: Input>(alloc: Global, input: &mut I) -> Result<Image<
     }
 }
 
-/// The image of a text, whose last byte may be a newline. It is `BadImage` of the place `Json` where the text is none of JSON, and else
-/// the image that its value describes, or the refusal of the value.
+/// Loads the image from a text, whose last byte may be a newline. If the text is not JSON, the refusal is `BadImage` with the place
+/// `Json`. Otherwise the result is the image that its value describes, or the refusal of the value.
 pub fn image_of_bytes<M: Mailbox>(alloc: Global, text: &[u8]) -> Result<Image<M>, Refusal>
     ensures { LoadsText text.now result }
 {
@@ -42,7 +42,7 @@ pub fn image_of_bytes<M: Mailbox>(alloc: Global, text: &[u8]) -> Result<Image<M>
     }
 }
 
-/// A text without the newline at its end, where it has one.
+/// A text without the newline at its end, if it has one.
 fn without_newline(text: &[u8]) -> &[u8]
     ensures { result.now ≡ spec.without_newline text.now }
 {

@@ -1,4 +1,4 @@
-//! The image that a JSON value describes.
+//! Makes the image that a JSON value describes.
 ghost use Rattle.std.specs.Prelude.{◌≡◌, ◌⊎◌, ℕ, List, IfErr};
 ghost use Rattle.serde_json.specs.View.{view};
 ghost use Rattle.st_classes.specs.declared.refusals.Refusal.TheVariants.{NoMemory};
@@ -19,7 +19,7 @@ use st_image::loader::{Loader, leads_to_one};
 use st_mailbox::mailboxes::Mailbox;
 use std::alloc::Global;
 
-/// A value describes one world at most, and a value of which something is wrong describes none.
+/// A value describes at most one world, and a value with something wrong describes none.
 #[tactic(auto, using(crate::proofs::DescribedOnce::describes_once, crate::proofs::DescribedOnce::wrong_none))]
 pub fn describes_one()
     ensures one { DescribesOne }
@@ -28,10 +28,10 @@ pub fn describes_one()
     leads_to_one();
 }
 
-/// The image that a JSON value describes.
+/// Makes the image that a JSON value describes.
 ///
-/// It is refused as `BadImage` of the first of these places where something is wrong of it: its shape, its names, its edits, its
-/// actors, the numbers of its senders. It then describes no image. Else the only refusal is `NoMemory`.
+/// If something is wrong with the value, the refusal is `BadImage` with the first place at fault, in this order: its shape, its names,
+/// its edits, its actors, the numbers of its senders. The value then describes no image. The only other refusal is `NoMemory`.
 pub fn image_of<M: Mailbox>(alloc: Global, value: &Value) -> Result<Image<M>, Refusal>
     ensures answers { LoadsImage (view value.now) result }
     ensures refused { IfErr result (λ e. (e ≡ NoMemory)
@@ -41,7 +41,7 @@ pub fn image_of<M: Mailbox>(alloc: Global, value: &Value) -> Result<Image<M>, Re
     load_value(alloc, value)
 }
 
-/// The image of a value, layer by layer.
+/// Makes the image of a value, layer by layer.
 fn load_value<M: Mailbox>(alloc: Global, value: &Value) -> Result<Image<M>, Refusal>
     ensures { LoadsImage (view value.now) result }
 {
@@ -54,7 +54,7 @@ fn load_value<M: Mailbox>(alloc: Global, value: &Value) -> Result<Image<M>, Refu
     }
 }
 
-/// The names and the class table of a file.
+/// Loads the names and the class table of a file.
 fn load_table(alloc: Global, text: &ImageText) -> Result<Loader, Refusal>
     ensures { LoadsTable text.now result }
 {
@@ -71,7 +71,7 @@ fn load_table(alloc: Global, text: &ImageText) -> Result<Loader, Refusal>
     }
 }
 
-/// The image of a file whose names and class table are loaded.
+/// Makes the image of a file whose names and class table are loaded.
 fn load_world<M: Mailbox>(
     alloc: Global,
     loader: Loader,

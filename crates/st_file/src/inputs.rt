@@ -1,4 +1,4 @@
-//! Inputs that are read to their end.
+//! Reads an input to its end.
 ghost use Rattle.std.specs.Prelude.{◌≡◌, ◌<◌, ◌⊎◌, ℕ, List, ◌++◌, length, IfErr, IfOk, MatchResult, OnOk};
 ghost use Rattle.std.specs.Io.KnownBytes.{Consumes, IsAtEnd};
 ghost use Rattle.st_classes.specs.declared.refusals.Refusal.TheVariants.{NoMemory, ReadFault};
@@ -9,13 +9,13 @@ use st_classes::refusals::Refusal;
 use st_wire::streams::Input;
 use std::alloc::Global;
 
-/// The most bytes of a read.
+/// The most bytes that one read takes.
 const PIECE: usize = 8192;
 
-/// The most reads of an input.
+/// The most reads from one input.
 const READS: u64 = 1 << 32;
 
-/// Reads the next piece of an input and puts it behind a text, and says how many bytes it has. It is empty only at the end.
+/// Reads the next piece of an input, appends it to a text, and returns its length, which is 0 only at the end.
 fn read_piece<I: Input>(
     input: &mut I,
     text: &mut Vec<u8>,
@@ -39,7 +39,7 @@ fn read_piece<I: Input>(
     }
 }
 
-/// All that an input gives. It is ReadFault where a read failed, or 2^32 of them found no end.
+/// Reads an input to its end. Fails with `ReadFault` if a read failed, or if 2^32 reads found no end.
 pub(crate) fn read_all<I: Input>(alloc: Global, input: &mut I) -> Result<Vec<u8>, Refusal>
     ensures { let before = input_view I.remaining I.failures I.reads input.old in
         let after = input_view I.remaining I.failures I.reads input.new in

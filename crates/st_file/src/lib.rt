@@ -1,11 +1,11 @@
 //! Image files: the text of an image, and the image of a text.
 //!
-//! A file is read in layers. [`reading`] takes a JSON value apart into [`texts`]; the loader of st_image takes its names and its
-//! edits one after the other; [`resolving`] finds what the texts of its actors mean; and the loader makes the image: see
-//! [`images::image_of`], and [`files::load`], which does so with the bytes of an input.
+//! A file is read in layers. [`reading`] turns a JSON value into [`texts`]. The loader of st_image takes the names and the edits, in
+//! order. [`resolving`] finds what the texts of the actors mean, and the loader makes the image of them. [`images::image_of`] does all
+//! this with a JSON value, and [`files::load`] with the bytes of an input.
 //!
-//! On the way back [`part_texts`] tells actors in texts that mean them again, [`telling`] gives the JSON value that says some texts,
-//! and [`saving`] does so with an image, and writes its text to an output. What is saved is loaded [`again`].
+//! To save, [`part_texts`] turns actors into texts that mean them again, [`telling`] makes a JSON value of texts, and [`saving`] does
+//! both with an image and writes the text to an output. [`again`] says that a saved image loads again.
 #![tactic(auto)]
 
 pub mod again;
@@ -16,6 +16,7 @@ pub mod files;
 pub mod images;
 mod inputs;
 mod loading;
+mod objects;
 mod part_texts;
 mod reading;
 mod resolving;

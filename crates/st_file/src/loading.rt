@@ -1,4 +1,4 @@
-//! The names and the edits of a file are loaded, one after the other.
+//! Loads the names and the edits of a file, in order.
 ghost use Rattle.st_classes.specs.declared.refusals.ImagePlace.TheVariants as place;
 ghost use Rattle.st_image.specs.Loading.{LoadsAll, LoadsEdit, LoadsName};
 ghost use Rattle.st_file.specs.Layers.{AnswersAll};
@@ -9,7 +9,7 @@ use st_image::edit_text::EditText;
 use st_image::loader::{Loader, leads_to_one};
 use std::alloc::Global;
 
-/// Adds names, one after the other.
+/// Adds names, in order.
 pub(crate) fn add_names(
     loader: &mut Loader,
     alloc: Global,
@@ -27,7 +27,7 @@ pub(crate) fn add_names(
     Ok(())
 }
 
-/// Adds edits, one after the other.
+/// Adds edits, in order.
 pub(crate) fn add_edits(
     loader: &mut Loader,
     alloc: Global,

@@ -1,6 +1,6 @@
-//! The texts of the parts of an image, for its names and its class table.
+//! Turns the parts of an image into texts, by the image's names and its class table.
 //!
-//! What is told of a part means that part again, and all of it is UTF-8.
+//! The text of a part means that part again, and is UTF-8.
 ghost use Rattle.std.specs.Prelude.{◌≡◌, true, Some, All, IfOk};
 ghost use Rattle.st_classes.specs.Classes.{class_named, is_class};
 ghost use Rattle.st_file.specs.Meanings.{all_of, actors_meant, actor_meant, selector_of};
@@ -25,16 +25,16 @@ pub(crate) trait Tells<T: Drop> {
     ghost use Rattle.std.specs.Prelude.{ℕ, List, Option};
     ghost use Rattle.st_classes.specs.declared.edits.Edit.{Edit};
 
-    /// What it names is there.
+    /// The selectors and classes that it names exist.
     ghost is_named: { List (List ℕ) → List Edit → Self → Type 0 };
 
     /// What a text means.
     ghost meaning: { List (List ℕ) → List Edit → T → Option Self };
 
-    /// A text that is UTF-8.
+    /// The text is UTF-8.
     ghost is_text: { T → Type 0 };
 
-    /// Its text. Only want of memory is an error.
+    /// Makes its text. Fails only if memory runs out.
     fn tell(&self, alloc: Global, names: &Names, version: &Version) -> Result<T, AllocError>
         requires { is_named names.now version.now self.now }
         ensures meant { IfOk result (λ t. meaning names.now version.now t ≡ Some self.now) }
@@ -82,7 +82,7 @@ fn class_text(alloc: Global, version: &Version, class: ClassId) -> Result<Seq<u8
     }
 }
 
-/// The text of an actor. Only want of memory is an error.
+/// Makes the text of an actor. Fails only if memory runs out.
 pub fn tell_actor(
     alloc: Global,
     names: &Names,
@@ -96,7 +96,7 @@ pub fn tell_actor(
     part.tell(alloc, names, version)
 }
 
-/// The texts of some actors. Only want of memory is an error.
+/// Makes the texts of some actors. Fails only if memory runs out.
 pub fn tell_actors(
     alloc: Global,
     names: &Names,

@@ -1,4 +1,4 @@
-//! From a JSON value to what an image file says.
+//! Reads what an image file says from a JSON value.
 ghost use Rattle.std.specs.Prelude.{◌≡◌, IfOk, codes, option_map, option_and_then};
 ghost use Rattle.serde_json.specs.Find.{as_bool};
 ghost use Rattle.st_wire.specs.Fields as spec;
@@ -25,7 +25,7 @@ use st_image::edit_text::EditText;
 use st_mailbox::messages::Sender;
 use std::alloc::Global;
 
-/// What a file says. The refusal of a value that has no such form is `BadImage` with the place `Shape`.
+/// Reads what a file says. A value of another form is refused as `BadImage` with the place `Shape`.
 pub fn read_image(alloc: Global, value: &Value) -> Result<ImageText, Refusal>
     ensures read { Finds Shape (shapes.image_in (view value.now)) result }
     ensures counted { IfOk result (λ t. CanBeCounted t.counts) }
@@ -40,7 +40,7 @@ pub fn read_image(alloc: Global, value: &Value) -> Result<ImageText, Refusal>
     })
 }
 
-/// What a file counts, which has just the keys of its format. A file of the first format counts nothing.
+/// Reads the counts of a file, which must have exactly the keys of its format. A file of the first format counts no posts and no steps.
 fn counts(value: &Value) -> Result<Counts, Refusal>
     ensures read { Finds Shape (shapes.counts_in (view value.now)) result }
     ensures few { IfOk result (λ c. CanBeCounted c) }
@@ -49,7 +49,7 @@ fn counts(value: &Value) -> Result<Counts, Refusal>
     counts_of(value, format)
 }
 
-/// The same, of a format.
+/// Reads the counts of a file of this format.
 fn counts_of(value: &Value, format: u64) -> Result<Counts, Refusal>
     ensures read { Finds Shape (shapes.counts_by format (view value.now)) result }
     ensures few { IfOk result (λ c. CanBeCounted c) }
@@ -275,13 +275,14 @@ impl Readable for ActorText {
         ) {
             return Err(SHAPE);
         }
+        // The numbers come first and the body last. So little is let go where a part is refused, which keeps the proof short.
         Ok(ActorText {
-            body: one_at(alloc, value, "body")?,
             capacity: number_at(value, "capacity")?,
-            class: text_at(alloc, value, "class")?,
             last: number_at(value, "last")?,
             is_open: one_at(alloc, value, "open")?,
+            class: text_at(alloc, value, "class")?,
             pending: list_at(alloc, value, "pending")?,
+            body: one_at(alloc, value, "body")?,
         })
     }
 }

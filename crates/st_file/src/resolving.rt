@@ -1,4 +1,4 @@
-//! What the texts of a file mean, for names and a class table.
+//! Finds what the texts of a file mean, by its names and its class table.
 ghost use Rattle.std.specs.Prelude.{◌^◌};
 ghost use Rattle.st_classes.specs.Classes.{class_named};
 ghost use Rattle.st_classes.specs.declared.refusals.ImagePlace.TheVariants.{Actors};
@@ -23,15 +23,15 @@ const ACTORS: Refusal = Refusal::BadImage {
     place: ImagePlace::Actors,
 };
 
-/// What means a part of an image.
+/// A text that can mean a part of an image.
 pub(crate) trait Means<P: Drop> {
     ghost use Rattle.std.specs.Prelude.{ℕ, List, Option};
     ghost use Rattle.st_classes.specs.declared.edits.Edit.{Edit};
 
-    /// What it means, for names and a class table.
+    /// What it means, by names and a class table.
     ghost meaning: { List (List ℕ) → List Edit → Self → Option P };
 
-    /// The part that it means.
+    /// Makes the part that it means.
     fn resolve(&self, alloc: Global, names: &Names, version: &Version) -> Result<P, Refusal>
         ensures { Finds Actors (meaning names.now version.now self.now) result };
 }
@@ -58,7 +58,7 @@ fn resolve_all<P: Drop, T: Means<P>>(
     Ok(Seq::from_vec(found))
 }
 
-/// The class of a name.
+/// The class with this name.
 fn class_of(version: &Version, text: &[u8]) -> Result<ClassId, Refusal>
     ensures { Finds Actors (class_named version.now text.now) result }
 {
@@ -68,7 +68,7 @@ fn class_of(version: &Version, text: &[u8]) -> Result<ClassId, Refusal>
     }
 }
 
-/// The selector of a text.
+/// The selector with this text.
 fn selector_of(names: &Names, text: &[u8]) -> Result<Selector, Refusal>
     ensures { Finds Actors (spec.selector_of names.now text.now) result }
 {
@@ -78,7 +78,7 @@ fn selector_of(names: &Names, text: &[u8]) -> Result<Selector, Refusal>
     }
 }
 
-/// A number of 32 bits.
+/// The number, if it fits in 32 bits.
 fn word(number: u64) -> Result<u32, Refusal>
     ensures { Finds Actors (spec.below (2 ^ 32) number) result }
 {

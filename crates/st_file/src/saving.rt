@@ -1,4 +1,4 @@
-//! From an image to the text of a file.
+//! Saves an image as the text of a file.
 ghost use Rattle.std.specs.Prelude.{◌≡◌, ◌≤◌, ℕ, List, false, IfOk, OnOk};
 ghost use Rattle.std.specs.Io.KnownBytes.{Appends};
 ghost use Rattle.serde_json.specs.Data.{depth};
@@ -25,7 +25,7 @@ use st_mailbox::mailboxes::Mailbox;
 use st_wire::streams::Output;
 use std::alloc::{AllocError, Global};
 
-/// What a file says of an image. Only want of memory is an error.
+/// What a file says of an image. Fails only if memory runs out.
 fn image_text<M: Mailbox>(alloc: Global, image: &Image<M>) -> Result<ImageText, AllocError>
     ensures tells { IfOk result (λ t. TellsImage image.now t) }
     ensures text { IfOk result (λ t. ImageIsText t) }
@@ -46,8 +46,8 @@ fn image_text<M: Mailbox>(alloc: Global, image: &Image<M>) -> Result<ImageText, 
     })
 }
 
-/// The document of an image: the JSON value that describes it, with all its names behind the kernel's, its class table, its actors
-/// with what is pending and where their turns stand, its clients, and its counts of posts and steps. Only want of memory is an error.
+/// The document of an image: the JSON value that describes it. It has all names after the kernel's, the class table, the actors with
+/// their pending messages and the phases of their turns, the clients, and the counts of posts and steps. Fails only if memory runs out.
 pub fn image_value<M: Mailbox>(alloc: Global, image: &Image<M>) -> Result<Value, AllocError>
     ensures document { IfOk result (λ v. IsDocument (view v) image.now) }
     ensures shallow { IfOk result (λ v. depth (view v) ≤ 9) }
@@ -63,10 +63,11 @@ pub fn image_value<M: Mailbox>(alloc: Global, image: &Image<M>) -> Result<Value,
     image_data(alloc, text)
 }
 
-/// Writes the text of an image file, which is the line of the image's document and is read as that document again, and hands it on.
+/// Writes the text of an image file and flushes the output. The text is the line of the image's document, and is read as that document
+/// again.
 ///
-/// The refusal is `NoMemory`, and then nothing was written; or `WriteFault` where the output failed, and then a prefix of the text was
-/// written, which is all of it where it could not be handed on.
+/// Fails with `NoMemory` before anything is written, or with `WriteFault` if the output failed. After `WriteFault` a prefix of the text
+/// is written, which is all of it if only the flush failed.
 pub fn save<M: Mailbox, O: Output>(
     alloc: Global,
     image: &Image<M>,

@@ -1,4 +1,4 @@
-//! From what an image file says to a JSON value.
+//! Turns what an image file says into a JSON value.
 ghost use Rattle.std.specs.Prelude.{◌≡◌, ◌≤◌, ℕ, suc, true, false, IfOk, All, Option, Some, codes};
 ghost use Rattle.serde_json.specs.Data.{Data, boolean, object, no_members, member, depth};
 ghost use Rattle.serde_json.specs.View.{view};
@@ -11,6 +11,7 @@ ghost use Rattle.st_file.specs.Says.{Says};
 ghost use Rattle.st_file.specs.Shapes as shapes;
 ghost use Rattle.st_file.specs.Tellable.{IsText, ValueIsText, MessageIsText, ObjectIsText, FrameIsText, PhaseIsText, BodyIsText, ActorIsText, EditIsText, HasSent, ImageIsText};
 
+use crate::objects::object_of;
 use crate::texts::{
     ActorText, BodyText, FrameText, ImageText, MessageText, ObjectText, PhaseText, ValueText,
 };
@@ -21,7 +22,7 @@ use st_mailbox::messages::Sender;
 use st_wire::names::fault_name;
 use std::alloc::{AllocError, Global};
 
-/// The JSON value that says this: what is read of it is this again. Only want of memory is an error.
+/// Makes the JSON value of a file's texts. It is read as these texts again. Fails only if memory runs out.
 pub fn image_data(alloc: Global, text: ImageText) -> Result<Value, AllocError>
     requires { ImageIsText text }
     ensures read { IfOk result (λ v. shapes.image_in (view v) ≡ Some text) }
@@ -32,21 +33,21 @@ pub fn image_data(alloc: Global, text: ImageText) -> Result<Value, AllocError>
     text.tell(alloc)
 }
 
-/// What a JSON value can say.
+/// A type that can be written as a JSON value.
 trait Telling: Drop {
     ghost use Rattle.std.specs.Prelude.{ℕ, Option, IfOk};
     ghost use Rattle.serde_json.specs.Data.{Data};
 
-    /// How it is read again.
+    /// How it is read back.
     ghost form: { Data → Option Self };
 
-    /// How deep its values nest at most.
+    /// How deep its values can nest.
     ghost deep: { ℕ };
 
-    /// Its texts can be told.
+    /// It can be written: its texts are UTF-8 and its numbers are in range.
     ghost is_text: { Self → Type 0 };
 
-    /// The JSON value that says this.
+    /// Makes its JSON value.
     fn tell(self, alloc: Global) -> Result<Value, AllocError>
         requires { is_text self }
         ensures { IfOk result (λ v. Says form deep self (view v)) };
@@ -64,7 +65,7 @@ impl Telling for Seq<u8> {
     }
 }
 
-/// A list of such.
+/// Makes an array of the parts.
 fn list<T: Telling>(alloc: Global, parts: Seq<T>) -> Result<Value, AllocError>
     requires { All T.is_text parts }
     ensures { IfOk result (λ v. Says (shapes.list_in T.form) (suc T.deep) parts (view v)) }
@@ -91,14 +92,14 @@ impl Telling for ValueText {
             ValueText::Nil => Ok(Value::Null),
             ValueText::Symbol(name) => {
                 let name = name.tell(alloc)?;
-                json!(in alloc; {"sym": name})
+                object_of(alloc, &["sym"], [name])
             }
             ValueText::Class(name) => {
                 let name = name.tell(alloc)?;
-                json!(in alloc; {"class": name})
+                object_of(alloc, &["class"], [name])
             }
-            ValueText::Actor(actor) => json!(in alloc; {"ref": actor.0}),
-            ValueText::Local(place) => json!(in alloc; {"local": place}),
+            ValueText::Actor(actor) => object_of(alloc, &["ref"], [Value::from(actor.0)]),
+            ValueText::Local(place) => object_of(alloc, &["local"], [Value::from(place)]),
         }
     }
 }
@@ -113,7 +114,7 @@ impl Telling for Sender {
     fn tell(self, alloc: Global) -> Result<Value, AllocError> {
         match self {
             Sender::Client(client) => Ok(Value::from(client)),
-            Sender::Actor(actor) => json!(in alloc; {"ref": actor.0}),
+            Sender::Actor(actor) => object_of(alloc, &["ref"], [Value::from(actor.0)]),
         }
     }
 }
@@ -135,7 +136,11 @@ impl Telling for MessageText {
         let args = list(alloc, args)?;
         let selector = selector.tell(alloc)?;
         let sender = sender.tell(alloc)?;
-        json!(in alloc; {"args": args, "selector": selector, "sender": sender, "seq": seq})
+        object_of(
+            alloc,
+            &["args", "selector", "sender", "seq"],
+            [args, selector, sender, Value::from(seq)],
+        )
     }
 }
 
@@ -150,7 +155,7 @@ impl Telling for ObjectText {
         let ObjectText { class, slots } = self;
         let class = class.tell(alloc)?;
         let slots = list(alloc, slots)?;
-        json!(in alloc; {"class": class, "slots": slots})
+        object_of(alloc, &["class", "slots"], [class, slots])
     }
 }
 
@@ -172,13 +177,17 @@ impl Telling for FrameText {
         let operands = list(alloc, operands)?;
         let receiver = receiver.tell(alloc)?;
         let temps = list(alloc, temps)?;
-        json!(in alloc; {
-            "method": method,
-            "operands": operands,
-            "pc": pc,
-            "receiver": receiver,
-            "temps": temps
-        })
+        object_of(
+            alloc,
+            &["method", "operands", "pc", "receiver", "temps"],
+            [
+                Value::from(method),
+                operands,
+                Value::from(pc),
+                receiver,
+                temps,
+            ],
+        )
     }
 }
 
@@ -190,7 +199,7 @@ fn start(alloc: Global, args: Seq<ValueText>, selector: Seq<u8>) -> Result<Value
 {
     let args = list(alloc, args)?;
     let selector = selector.tell(alloc)?;
-    json!(in alloc; {"args": args, "selector": selector})
+    object_of(alloc, &["args", "selector"], [args, selector])
 }
 
 impl Telling for PhaseText {
@@ -202,20 +211,23 @@ impl Telling for PhaseText {
 
     fn tell(self, alloc: Global) -> Result<Value, AllocError> {
         match self {
-            PhaseText::Fresh => json!(in alloc; "fresh"),
+            PhaseText::Fresh => Value::try_from_str(alloc, "fresh"),
             PhaseText::Start { args, selector } => {
                 let start = start(alloc, args, selector)?;
-                json!(in alloc; {"start": start})
+                object_of(alloc, &["start"], [start])
             }
             PhaseText::Frames(frames) => {
                 let frames = list(alloc, frames)?;
-                json!(in alloc; {"frames": frames})
+                object_of(alloc, &["frames"], [frames])
             }
             PhaseText::Answer(answer) => {
                 let answer = answer.tell(alloc)?;
-                json!(in alloc; {"answer": answer})
+                object_of(alloc, &["answer"], [answer])
             }
-            PhaseText::Fault(fault) => json!(in alloc; {"fault": fault_name(fault)}),
+            PhaseText::Fault(fault) => {
+                let fault = Value::try_from_str(alloc, fault_name(fault))?;
+                object_of(alloc, &["fault"], [fault])
+            }
         }
     }
 }
@@ -231,7 +243,7 @@ impl Telling for BodyText {
         let BodyText { objects, phase } = self;
         let objects = list(alloc, objects)?;
         let phase = phase.tell(alloc)?;
-        json!(in alloc; {"objects": objects, "phase": phase})
+        object_of(alloc, &["objects", "phase"], [objects, phase])
     }
 }
 
@@ -258,7 +270,7 @@ impl Telling for ActorText {
     }
 }
 
-/// The object of an actor.
+/// The JSON object of an actor.
 fn actor(
     alloc: Global,
     body: Value,
@@ -277,14 +289,18 @@ fn actor(
         (member (codes "pending") (view pending)
         no_members))))))) }
 {
-    json!(in alloc; {
-        "body": body,
-        "capacity": capacity,
-        "class": class,
-        "last": last,
-        "open": is_open,
-        "pending": pending
-    })
+    object_of(
+        alloc,
+        &["body", "capacity", "class", "last", "open", "pending"],
+        [
+            body,
+            Value::from(capacity),
+            class,
+            Value::from(last),
+            Value::Bool(is_open),
+            pending,
+        ],
+    )
 }
 
 fn define(
@@ -301,7 +317,7 @@ fn define(
     let name = name.tell(alloc)?;
     let slots = list(alloc, slots)?;
     let parent = parent.tell(alloc)?;
-    json!(in alloc; {"name": name, "slots": slots, "super": parent})
+    object_of(alloc, &["name", "slots", "super"], [name, slots, parent])
 }
 
 fn install(alloc: Global, class: Seq<u8>, source: Seq<u8>) -> Result<Value, AllocError>
@@ -311,7 +327,7 @@ fn install(alloc: Global, class: Seq<u8>, source: Seq<u8>) -> Result<Value, Allo
 {
     let class = class.tell(alloc)?;
     let source = source.tell(alloc)?;
-    json!(in alloc; {"class": class, "source": source})
+    object_of(alloc, &["class", "source"], [class, source])
 }
 
 fn remove(alloc: Global, class: Seq<u8>, selector: Seq<u8>) -> Result<Value, AllocError>
@@ -321,7 +337,7 @@ fn remove(alloc: Global, class: Seq<u8>, selector: Seq<u8>) -> Result<Value, All
 {
     let class = class.tell(alloc)?;
     let selector = selector.tell(alloc)?;
-    json!(in alloc; {"class": class, "selector": selector})
+    object_of(alloc, &["class", "selector"], [class, selector])
 }
 
 fn reparent(alloc: Global, class: Seq<u8>, parent: Seq<u8>) -> Result<Value, AllocError>
@@ -331,7 +347,7 @@ fn reparent(alloc: Global, class: Seq<u8>, parent: Seq<u8>) -> Result<Value, All
 {
     let class = class.tell(alloc)?;
     let parent = parent.tell(alloc)?;
-    json!(in alloc; {"class": class, "super": parent})
+    object_of(alloc, &["class", "super"], [class, parent])
 }
 
 impl Telling for EditText {
@@ -349,19 +365,19 @@ impl Telling for EditText {
                 slots,
             } => {
                 let define = define(alloc, name, parent, slots)?;
-                json!(in alloc; {"define": define})
+                object_of(alloc, &["define"], [define])
             }
             EditText::Install { class, source } => {
                 let install = install(alloc, class, source)?;
-                json!(in alloc; {"install": install})
+                object_of(alloc, &["install"], [install])
             }
             EditText::Remove { class, selector } => {
                 let remove = remove(alloc, class, selector)?;
-                json!(in alloc; {"remove": remove})
+                object_of(alloc, &["remove"], [remove])
             }
             EditText::Reparent { class, parent } => {
                 let reparent = reparent(alloc, class, parent)?;
-                json!(in alloc; {"reparent": reparent})
+                object_of(alloc, &["reparent"], [reparent])
             }
         }
     }
@@ -411,7 +427,7 @@ impl Telling for ImageText {
     }
 }
 
-/// The object of an image.
+/// The JSON object of an image.
 fn image(
     alloc: Global,
     actors: Value,
@@ -431,13 +447,19 @@ fn image(
         (member (codes "steps") (whole steps)
         no_members)))))))) }
 {
-    json!(in alloc; {
-        "actors": actors,
-        "edits": edits,
-        "format": 2u64,
-        "names": names,
-        "posts": posts,
-        "senders": senders,
-        "steps": steps
-    })
+    object_of(
+        alloc,
+        &[
+            "actors", "edits", "format", "names", "posts", "senders", "steps",
+        ],
+        [
+            actors,
+            edits,
+            Value::from(2u64),
+            names,
+            Value::from(posts),
+            senders,
+            Value::from(steps),
+        ],
+    )
 }

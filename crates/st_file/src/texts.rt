@@ -1,4 +1,4 @@
-//! What an image file says, in its own texts: names and classes are texts, and methods are sources.
+//! What an image file says, as texts: names and classes are texts, and methods are sources.
 use st_classes::faults::Fault;
 use st_classes::seq::Seq;
 use st_classes::values::ActorId;
@@ -6,7 +6,7 @@ use st_image::counts::Counts;
 use st_image::edit_text::EditText;
 use st_mailbox::messages::Sender;
 
-/// A value, whose names are texts.
+/// A value. Its symbol or class is a text.
 #[derive(Drop)]
 pub enum ValueText {
     Int(i64),
@@ -47,7 +47,7 @@ pub struct FrameText {
     pub temps: ValueTexts,
 }
 
-/// Where a turn stands.
+/// The phase of a turn.
 #[derive(Drop)]
 pub enum PhaseText {
     Fresh,
@@ -79,7 +79,7 @@ pub struct ActorText {
 #[derive(Drop)]
 pub struct ImageText {
     pub actors: Seq<ActorText>,
-    /// How many posts and steps there were.
+    /// The counts of posts and steps.
     pub counts: Counts,
     pub edits: Seq<EditText>,
     pub names: Seq<Seq<u8>>,

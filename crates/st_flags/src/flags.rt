@@ -7,16 +7,16 @@ use crate::words::{first_from, make_room, read, write, write_in};
 use std::alloc::{AllocError, Global};
 use std::marker::Model;
 
-/// Flags, one a number from 0 on, at most 65,536. Contracts see their list.
+/// Flags numbered from 0, at most 65,536. Contracts see them as a list.
 #[derive(Drop)]
 pub struct Flags {
-    /// How many flags there are.
+    /// The number of flags.
     len: u32,
     /// The flags, 64 to a word. The bits past the last flag are zero.
     low: Vec<u64>,
-    /// A bit for each word of `low`: whether it is not zero.
+    /// One bit for each word of `low`: whether the word is not zero.
     mid: Vec<u64>,
-    /// A bit for each word of `mid`: whether it is not zero.
+    /// One bit for each word of `mid`: whether the word is not zero.
     top: [u64; 1],
 }
 
@@ -44,7 +44,7 @@ impl Flags {
         }
     }
 
-    /// How many flags there are.
+    /// The number of flags, at most 65,536.
     #[inline]
     pub fn len(&self) -> u32
         ensures value { result ≡ length self.now }
@@ -53,7 +53,7 @@ impl Flags {
         self.len
     }
 
-    /// Puts a flag last that is not raised. An error says that nothing changed.
+    /// Appends a flag that is not raised. On an error nothing changes.
     pub fn push(&mut self) -> Result<(), AllocError>
         requires { length self.old < 65536 }
         ensures ok { OnOk result (self.new ≡ self.old ++ false ∷ []) }
@@ -65,7 +65,7 @@ impl Flags {
         Ok(())
     }
 
-    /// The flag of a number. Past the end none is raised.
+    /// The flag with this number. Past the end no flag is raised.
     #[inline]
     pub fn get(&self, at: u32) -> bool
         ensures { result ≡ is_raised self.now at }
@@ -73,7 +73,7 @@ impl Flags {
         read(&self.low, at)
     }
 
-    /// Raises or lowers the flag of a number.
+    /// Raises or lowers the flag with this number.
     #[inline]
     pub fn set(&mut self, at: u32, raised: bool)
         requires { at < length self.old }
@@ -84,7 +84,7 @@ impl Flags {
         let _ = write(&mut self.top, at / BITS / BITS, mid_any);
     }
 
-    /// The first raised flag in cyclic order of numbers from a number on.
+    /// The first raised flag in cyclic order, starting at `from`.
     pub fn next(&self, from: u32) -> Option<u32>
         ensures some { IfSome result (λ a. IsNext self.now from a) }
         ensures none { IfNone result ((a : ℕ) → is_raised self.now a ≡ false) }

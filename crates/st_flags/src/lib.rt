@@ -1,7 +1,7 @@
-//! A list of flags with a search for the next raised one.
+//! A list of flags, with a search for the next raised one.
 //!
-//! [`flags::Flags`] holds up to 65,536 flags, and finds the first raised one from a number on, in cyclic order. Only adding a flag
-//! takes memory. Reading, setting and searching touch at most a few words, however many flags there are.
+//! [`flags::Flags`] holds up to 65,536 flags. It finds the first raised one from a given number on, in cyclic order. Only adding a
+//! flag takes memory. Reading, setting and searching touch a few words at most, however many flags there are.
 #![tactic(auto)]
 
 pub mod flags;

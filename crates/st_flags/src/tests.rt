@@ -2,7 +2,7 @@
 use crate::flags::Flags;
 use std::alloc::Global;
 
-/// Some flags, of which those of some numbers are raised. Where there is no memory, fewer than that.
+/// Flags, of which those with the given numbers are raised. There are fewer if memory runs out.
 fn flags_of(alloc: Global, count: u32, raised: &[u32]) -> Flags {
     let mut flags = Flags::new(alloc);
     for _ in 0..count {

@@ -4,10 +4,10 @@ ghost use Rattle.std.specs.Int.{bit_at};
 ghost use Rattle.std.proofs.Common.{◌≢◌};
 ghost use Rattle.st_flags.specs.Words.{IsLowestBit};
 
-/// How many bits a word has.
+/// The number of bits of a word.
 pub const BITS: u32 = 64;
 
-/// Whether the bit at a place of a word is raised.
+/// Whether a bit of a word is raised.
 #[inline]
 pub fn is_raised(word: u64, place: u32) -> bool
     requires { place < 64 }
@@ -16,7 +16,7 @@ pub fn is_raised(word: u64, place: u32) -> bool
     (word >> place) & 1 == 1
 }
 
-/// A word with the bit at a place raised or lowered.
+/// The word with one bit raised or lowered.
 #[inline]
 pub fn with_bit(word: u64, place: u32, raised: bool) -> u64
     requires { place < 64 }
@@ -27,7 +27,7 @@ pub fn with_bit(word: u64, place: u32, raised: bool) -> u64
     if raised { word | bit } else { word & !bit }
 }
 
-/// The lowest raised bit of a word from a place on.
+/// The lowest raised bit of a word at `place` or above.
 #[inline]
 pub fn lowest_from(word: u64, place: u32) -> Option<u32>
     requires { place < 64 }
@@ -42,7 +42,7 @@ pub fn lowest_from(word: u64, place: u32) -> Option<u32>
     }
 }
 
-/// The lowest raised bit of a word that is not zero.
+/// The lowest raised bit of a word, which must not be zero.
 #[inline]
 pub fn lowest(word: u64) -> u32
     requires { 0 < word }

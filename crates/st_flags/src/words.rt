@@ -1,11 +1,11 @@
-//! Levels of words: each bit of the level above says whether a word is not zero.
+//! Levels of words. Each bit of a level says whether a word of the level below is not zero.
 ghost use Rattle.std.specs.Prelude.{◌≡◌, ℕ, ◌+◌, ◌*◌, ◌/◌, ◌^◌, ◌<◌, ◌≤◌, ◌==◌, not, length, IfSome, IfNone, OnOk};
 ghost use Rattle.st_flags.specs.Words.{IsFirst, IsWritten, NoneFrom, NoneInWord, Summarises, bit_of, word_of};
 
 use crate::word::{BITS, is_raised, lowest, lowest_from, with_bit};
 use std::alloc::AllocError;
 
-/// The bit of a number; past the end none is raised.
+/// The bit with this number. Past the end no bit is raised.
 #[inline]
 pub fn read(words: &[u64], at: u32) -> bool
     ensures { result ≡ bit_of words.now at }
@@ -16,7 +16,7 @@ pub fn read(words: &[u64], at: u32) -> bool
     }
 }
 
-/// Raises or lowers the bit of a number, and says whether its word then has a raised one.
+/// Raises or lowers a bit, and says whether its word then has a raised bit.
 #[inline]
 pub fn write(words: &mut [u64], at: u32, raised: bool) -> bool
     requires { at < 64 * length words.old }
@@ -39,7 +39,7 @@ pub fn write_in(words: &mut Vec<u64>, at: u32, raised: bool) -> bool
     write(words.as_mut_slice(), at, raised)
 }
 
-/// The first raised bit from a number on, of those in the word of that number.
+/// The first raised bit from `from` on, within the word of `from`.
 #[inline]
 pub fn first_in_word(words: &[u64], from: u32) -> Option<u32>
     ensures some { IfSome result (λ a. IsFirst words.now from a) }
@@ -51,7 +51,7 @@ pub fn first_in_word(words: &[u64], from: u32) -> Option<u32>
     Some(place * BITS + bit)
 }
 
-/// The first raised bit of a word that is not zero.
+/// The first raised bit of a word, which must not be zero.
 #[inline]
 pub fn first_of_word(words: &[u64], place: u32) -> u32
     requires raised { 0 < word_of words.now place }
@@ -61,7 +61,7 @@ pub fn first_of_word(words: &[u64], place: u32) -> u32
     place * BITS + lowest(words[place as usize])
 }
 
-/// The first raised bit from a number on, in a single word.
+/// The first raised bit from `from` on, in a single word.
 #[inline]
 fn first_in_top(top: &[u64], from: u32) -> Option<u32>
     requires { length top.now ≡ 1 }
@@ -71,7 +71,7 @@ fn first_in_top(top: &[u64], from: u32) -> Option<u32>
     first_in_word(top, from)
 }
 
-/// The first raised bit from a number on, in words below a single one.
+/// The first raised bit from `from` on, in words that a single word summarises.
 #[inline]
 fn first_in_mid(mid: &[u64], top: &[u64], from: u32) -> Option<u32>
     requires one { length top.now ≡ 1 }
@@ -88,7 +88,7 @@ fn first_in_mid(mid: &[u64], top: &[u64], from: u32) -> Option<u32>
     Some(first_of_word(mid, place))
 }
 
-/// The first raised bit from a number on, in the lowest of three levels of words.
+/// The first raised bit from `from` on, in the lowest of three levels of words.
 pub fn first_from(low: &[u64], mid: &[u64], top: &[u64], from: u32) -> Option<u32>
     requires one { length top.now ≡ 1 }
     requires above_mid { Summarises top.now mid.now }
@@ -105,7 +105,7 @@ pub fn first_from(low: &[u64], mid: &[u64], top: &[u64], from: u32) -> Option<u3
     Some(first_of_word(low, place))
 }
 
-/// Puts a word of zero last where there is none of a number. An error says that nothing changed.
+/// Appends a zero word if there is none at `place`. On an error nothing changes.
 pub fn make_room(words: &mut Vec<u64>, place: u32) -> Result<(), AllocError>
     requires { place ≤ length words.old.items }
     ensures same { (k : ℕ) → word_of words.new.items k ≡ word_of words.old.items k }

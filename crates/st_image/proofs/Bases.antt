@@ -23,7 +23,7 @@ use Rattle.st_image.specs.ClaimsOut.{put_first, trimmed}
 use Rattle.st_image.specs.Earlier.{Earlier, counted_earlier}
 use Rattle.st_image.specs.declared.counts.Counts.{Counts}
 use Rattle.st_image.specs.declared.items.Item.{Item}
-use Rattle.st_image.specs.declared.tallies.Tally.{Tally}
+use Rattle.st_turn.specs.declared.tally.Tally.{Tally}
 use Rattle.st_image.specs.Loaded.{AreBaseActors, AreBaseSenders, loaded_image}
 use Rattle.st_image.proofs.Posting.{seen, standing_of}
 use Rattle.st_image.proofs.Filling.{first_more}

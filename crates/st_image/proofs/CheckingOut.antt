@@ -19,7 +19,7 @@ use Rattle.st_image.specs.Images.{ImageView, Standing, appended, world, world_of
 use Rattle.st_image.specs.ActorViews.{ActorView, Shows, actor_view, view_after_begin, view_checked_out}
 use Rattle.st_image.specs.ActResults.{constants_of}
 use Rattle.st_image.specs.ImageInvariant.{CanRun, IsImage}
-use Rattle.st_image.specs.declared.tallies.Tally.{Tally}
+use Rattle.st_turn.specs.declared.tally.Tally.{Tally}
 use Rattle.st_image.specs.ClaimsOut.{one_more}
 use Rattle.st_turn.specs.Claims.{ClaimView}
 use Rattle.st_image.specs.Changes.{change_count, changes_in}

@@ -28,9 +28,10 @@ use Rattle.st_turn.proofs.ClaimsLater.{claims_survive}
 use Rattle.st_image.specs.declared.items.Item.{Item}
 use Rattle.st_image.specs.declared.items.Item.TheVariants.{Ran}
 use Rattle.st_image.specs.declared.settings.Settings.{Settings}
-use Rattle.st_image.specs.declared.tallies.Tally.{Tally}
+use Rattle.st_turn.specs.declared.tally.Tally.{Tally}
 use Rattle.st_image.specs.ImageInvariant.{IsImage}
-use Rattle.st_image.specs.Tallies.{CountsSends, Tallied, after_act_at, after_sends, asked_by_item, tally_at}
+use Rattle.st_turn.specs.Tallies.{after_sends}
+use Rattle.st_image.specs.Tallies.{CountsSends, Tallied, after_act_at, asked_by_item, tally_at}
 use Rattle.st_image.specs.Commits.{CommitAllowed, CommitRefused, HasCommitted, IsUnchanged, Survives, act_site, commit_room, items_of, stands_before_act, steps_of}
 use Rattle.st_image.specs.Newest.{Kept, kept_with}
 use Rattle.st_image.specs.ActorViews.{ActorView, Shows, view_after_steps}

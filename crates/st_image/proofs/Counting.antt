@@ -12,18 +12,19 @@ use Rattle.st_guard.specs.SiteTables.{is_site}
 use Rattle.st_turn.specs.declared.claim.Sent.{Sent}
 use Rattle.st_turn.specs.Claims.{sites_asked}
 use Rattle.st_turn.specs.Steps.{Asked}
-use Rattle.st_image.specs.declared.tallies.Tally.{Tally}
+use Rattle.st_turn.specs.declared.tally.Tally.{Tally}
 use Rattle.st_image.specs.declared.items.Item.{Item}
 use Rattle.st_image.specs.declared.items.Item.TheVariants.{Edited, Created, Posted, Closed, Begun, Ran}
 use Rattle.st_image.specs.Worlds.{Constants, World}
 use Rattle.st_image.specs.Replay.{Trail, after_step, asked_at, next, replay, trail_after, trail_step}
 use Rattle.st_image.specs.ActResults.{world_after}
 use Rattle.st_image.specs.WorldInvariant.{IsSoundItem, IsWorld}
-use Rattle.st_image.specs.Tallies.{CountsSends, SameTallies, Tallied, after_sends, asked_by_item, asked_on, asked_then, asked_through, is_sent_at, is_site_of, sends_of, tally_at, with_act}
+use Rattle.st_turn.specs.Tallies.{after_sends, sends_of, with_act}
+use Rattle.st_image.specs.Tallies.{CountsSends, SameTallies, Tallied, asked_by_item, asked_on, asked_then, asked_through, is_sent_at, is_site_of, tally_at}
 use Rattle.st_image.proofs.Stepping.{bound, cond_some, mapped, ran_after}
 use Rattle.st_image.proofs.Lasting.{named_more, next_keeps, stepped_keeps}
 use Rattle.st_image.proofs.GrowingNames.{replay_more}
-use Rattle.st_image.proofs.Tallying.{sends_after, sends_few}
+use Rattle.st_turn.proofs.Summing.{sends_after, sends_few}
 
 -- ---- what a history asks for
 

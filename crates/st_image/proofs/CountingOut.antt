@@ -10,7 +10,7 @@ use Rattle.st_image.specs.Earlier.{Earlier}
 use Rattle.st_image.specs.Images.{ImageView, world}
 use Rattle.st_image.specs.Scheduling.{IsNextReady, is_free_at, is_ready_at}
 use Rattle.st_image.specs.ActorViews.{ActorsView, IsNextFree, SameOut, Shows, is_free_in}
-use Rattle.st_image.specs.declared.tallies.Tally.{Tally}
+use Rattle.st_turn.specs.declared.tally.Tally.{Tally}
 use Rattle.st_image.specs.declared.items.Item.{Item}
 use Rattle.st_image.specs.declared.settings.Settings.{Settings}
 use Rattle.st_classes.specs.declared.refusals.Refusal.{Refusal}

@@ -24,7 +24,7 @@ use Rattle.st_turn.specs.Effects.{FrameView}
 use Rattle.st_turn.specs.Steps.{Asked, asked, asked_by, asked_in, body_after, step}
 use Rattle.st_turn.specs.Claims.{ClaimView, IsSound, asked_from, own_asked, sites_asked}
 use Rattle.st_turn.specs.Surviving.{SameSteps}
-use Rattle.st_image.specs.declared.tallies.Tally.{Tally}
+use Rattle.st_turn.specs.declared.tally.Tally.{Tally}
 use Rattle.st_image.specs.Commits.{act_site, stands_before_act}
 use Rattle.st_image.specs.Tallies.{Covers, HasPlaces, KeepsPlaces, has_place}
 use Rattle.st_image.proofs.Places.{same_or_not}

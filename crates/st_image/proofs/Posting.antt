@@ -14,7 +14,7 @@ use Rattle.st_image.specs.declared.items.Item.TheVariants.{Posted}
 use Rattle.st_image.specs.Worlds.{World, WorldActor, change, change_at}
 use Rattle.st_image.specs.Replay.{with_accepted, with_last}
 use Rattle.st_image.specs.PostRules.{IsClients, post_rules}
-use Rattle.st_image.specs.declared.tallies.Tally.{Tally}
+use Rattle.st_turn.specs.declared.tally.Tally.{Tally}
 use Rattle.st_image.specs.ClaimsOut.{trimmed}
 use Rattle.st_image.specs.Earlier.{Earlier}
 use Rattle.st_image.specs.Counts.{most_counted}

@@ -10,13 +10,14 @@ use Rattle.st_classes.specs.declared.instructions.Instruction.{Instruction}
 use Rattle.st_classes.specs.declared.instructions.Instruction.TheVariants.{Send, SuperSend}
 use Rattle.st_classes.specs.declared.methods.MethodParts.{MethodParts}
 use Rattle.st_classes.specs.EditLists.{method_at}
-use Rattle.st_image.specs.declared.tallies.Tally.{Tally}
+use Rattle.st_turn.specs.declared.tally.Tally.{Tally}
 use Rattle.st_image.specs.declared.tallies.SiteStats.{SiteStats}
 use Rattle.st_classes.specs.declared.refusals.Refusal.{Refusal}
 use Rattle.st_image.specs.Images.{ImageView, world}
 use Rattle.st_image.specs.WorldInvariant.{IsLawful}
 use Rattle.st_image.specs.Calls.{AnswersExactly}
-use Rattle.st_image.specs.Tallies.{sends_of, tally_at}
+use Rattle.st_turn.specs.Tallies.{sends_of}
+use Rattle.st_image.specs.Tallies.{tally_at}
 use Rattle.st_image.specs.Stats.{HasCounted, HasFewSends, method_stats, site_stats, sites_stats, stats_with}
 
 -- what is told of an instruction

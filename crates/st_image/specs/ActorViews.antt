@@ -16,7 +16,7 @@ use Rattle.st_image.specs.Newest.{Kept, kept_of, kept_with}
 use Rattle.st_image.specs.Parts.{result_of}
 use Rattle.st_image.specs.ClaimsOut.{claims_of}
 
--- an actor without the messages that it began: what is pending, and how many it accepted
+-- an actor without the messages that it began: it has those that are pending, and how many it accepted
 pub record ActorView : Type 0 where
   pub class : ClassId
   pub capacity : ℕ
@@ -40,11 +40,11 @@ actor_view b = record {
   results = kept_of b.results;
 }
 
--- what is kept of the result of the turn that an actor is behind, where it is behind one
+-- what is kept of the result of the turn that an actor's body has ended, if it has ended one
 abbrev pub last_kept : ActorView → Kept
 last_kept k = kept_of (result_of k.body.phase)
 
--- an actor that begins anew: what is pending is all that it accepted, and only the turn that it is behind has a result
+-- an actor that begins anew: it has accepted just what is pending, and of results it has only that of a turn which its body has ended
 abbrev pub view_anew : ActorView → ActorView
 view_anew k = record k { accepted = length k.pending; results = last_kept k }
 
@@ -59,12 +59,12 @@ view_part k = record {
   pending = k.pending;
 }
 
--- what is kept of the actors is a world's, and so is the class table
+-- the class table, and what is kept of the actors, are those of a world
 pub record Shows (edits : List Edit) (actors : List ActorView) (w : World) : Type 0 where
   pub edits_are : edits ≡ w.edits
   pub actors_are : actors ≡ map actor_view w.actors
 
--- the mailbox of an actor that is there takes a message
+-- the mailbox of an actor that exists takes a message
 abbrev pub Accepts : List ActorView → ActorId → Type 0
 Accepts actors a = (k : ActorView) → slice_get actors a.0 ≡ Some k
     → first_of (box_rules k.is_open k.capacity (length k.pending)) ≡ None
@@ -86,12 +86,12 @@ new_actor_view c capacity body = record {
 abbrev pub view_with_message : Message → ActorView → ActorView
 view_with_message m k = record k { pending = k.pending ++ m ∷ []; accepted = k.accepted + 1 }
 
--- an actor begins its first pending message, where one is pending
+-- an actor begins its first pending message, if there is one
 abbrev pub view_begins : ActorView → List Message → ActorView
 view_begins k [] = k
 view_begins k (m ∷ ms) = record k { pending = ms; body = record k.body { phase = Start m.selector m.args } }
 
--- by what is pending
+-- an actor begins its next message
 abbrev pub view_after_begin : ActorView → ActorView
 view_after_begin k = view_begins k k.pending
 
@@ -103,7 +103,7 @@ view_after_steps body k = record k { body = body; results = kept_with body.phase
 abbrev pub is_ready_view : ActorView → Bool
 is_ready_view k = not (is_idle k.body.phase) || not (length k.pending == 0)
 
--- the actor of a number is there, and is ready
+-- the actor with this number exists and is ready
 abbrev pub is_ready_in : List ActorView → ℕ → Bool
 is_ready_in ks n = ready_kept (slice_get ks n)
   where
@@ -120,19 +120,19 @@ pub record ActorsView : Type 0 where
 abbrev pub is_free_in : ActorsView → ℕ → Bool
 is_free_in v a = is_ready_in v.kept a && (claims_of v.out a == 0)
 
--- the flags of those that may be checked out are raised; there are as many flags and counts as actors, 65,536 at most
+-- the flags of the actors that may be checked out are raised; there are as many flags and counts as actors, and at most 65,536
 pub record AreActors (v : ActorsView) (free : List Bool) : Type 0 where
   pub flags : (n : ℕ) → is_raised free n ≡ is_free_in v n
   pub each_flag : length free ≡ length v.kept
   pub each_count : length v.out ≡ length v.kept
   pub few : length v.kept ≤ 65536
 
--- a free actor that comes no later than any other
+-- a free actor that comes no later than any other free one, counted from a number
 pub record IsNextFree (v : ActorsView) (from a : ℕ) : Type 0 where
   pub free : is_free_in v a ≡ true
   pub first : (b : ℕ) → is_free_in v b ≡ true → is_no_later from a b ≡ true
 
--- the claims of one actor that are out are counted anew
+-- the number of claims out is changed for one actor, and stays for every other
 abbrev pub CountsIn : (ℕ → ℕ) → ℕ → List ℕ → List ℕ → Type 0
 CountsIn count a old new = (b : ℕ) → claims_of new b ≡ (if b == a then count (claims_of old b) else claims_of old b)
 
@@ -140,6 +140,6 @@ CountsIn count a old new = (b : ℕ) → claims_of new b ≡ (if b == a then cou
 abbrev pub SameOut : List ℕ → List ℕ → Type 0
 SameOut old new = (b : ℕ) → claims_of new b ≡ claims_of old b
 
--- an actor that is idle begins its next message
+-- an idle actor begins its next message
 abbrev pub view_checked_out : ActorView → ActorView
 view_checked_out k = if is_idle k.body.phase then view_after_begin k else k

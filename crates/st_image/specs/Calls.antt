@@ -14,13 +14,13 @@ use Rattle.st_image.specs.declared.items.Item.TheVariants.{Edited, Created, Post
 use Rattle.st_image.specs.Images.{ImageView, world, appended, image_define_rules, image_remove_rules, image_reparent_rules, close_rules, create_rules, image_post_rules, accepted_by}
 use Rattle.st_image.specs.Installs.{AnswersInstall, LeavesNames}
 
--- the answer of a call that asks its rules before it takes memory: a value only where no refusal applies; else the
--- first that applies, or want of memory where none does
+-- the answer of a call that asks its rules before it takes memory: a value only if no refusal applies; otherwise the first one that
+-- applies, or `NoMemory` if none does
 abbrev pub AnswersExactly : {T : Type 0} → Option Refusal → Result T Refusal → (T → Type 0) → Type 0
 AnswersExactly first (Ok value) P = (first ≡ None) × P value
 AnswersExactly first (Err e) P = (first ≡ Some e) ⊎ ((first ≡ None) × (e ≡ NoMemory))
 
--- an item goes last in the history, and this is the answer of the image after it; a refused call changes nothing
+-- an item is appended to the history, and this is the answer of the image after it; a refused call changes nothing
 abbrev pub Adds : {T : Type 0} → List Rule → ImageView → Item → (ImageView → T) → Result T Refusal → ImageView → Type 0
 Adds rules i item answer result j = AnswersExactly (first_of rules) result
     (λ value. (j ≡ appended i (item ∷ [])) × (value ≡ answer j))
@@ -30,7 +30,7 @@ Adds rules i item answer result j = AnswersExactly (first_of rules) result
 abbrev pub Edits : List Rule → Edit → ImageView → Result ℕ Refusal → ImageView → Type 0
 Edits rules edit i = Adds rules i (Edited edit) (λ j. length (world j).edits)
 
--- a class is defined under a superclass; memory may run out for a copy of its name before any rule is asked
+-- a class is defined under a superclass; copying its name may run out of memory before any rule is asked
 abbrev pub Defines : ImageView → List ℕ → ClassId → List (List ℕ) → Result ℕ Refusal → ImageView → Type 0
 Defines i name parent slots result j = ((result ≡ Err NoMemory) × (j ≡ i))
     ⊎ Edits (image_define_rules i name parent slots) (Define name parent slots) i result j

@@ -16,15 +16,15 @@ changes_body a _ = false
 abbrev pub changes_in : List Item → ℕ → ℕ
 changes_in history a = count_by (changes_body a) history
 
--- the number of an actor in a list, 0 past its end
+-- the count of an actor in a list; 0 past its end
 abbrev pub change_count : List ℕ → ℕ → ℕ
 change_count counts a = slice_index_or counts a 0
 
--- a list has the numbers of a history
+-- a list has the counts of a history
 abbrev pub CountsChanges : List ℕ → List Item → Type 0
 CountsChanges counts history = (a : ℕ) → change_count counts a ≡ changes_in history a
 
--- items of which none changes an actor's body lead to a world where it is still the same
+-- if no item changes an actor's body, the body is still the same in the world to which the items lead
 abbrev pub BodiesStay : Type 0
 BodiesStay = (c : Constants) (w v : World) (items : List Item) (a : ℕ) (b : WorldActor)
     → replay c w items ≡ Some v

@@ -6,11 +6,11 @@ use Rattle.st_image.specs.declared.items.Item.{Item}
 use Rattle.st_image.specs.declared.items.Item.TheVariants.{Posted}
 use Rattle.st_image.specs.Worlds.{client_last, put_number}
 
--- the last number of a client, 0 past the end of the list
+-- the last number of a client; 0 past the end of the list
 abbrev pub number_of : List ℕ → ℕ → ℕ
 number_of numbers s = slice_index_or numbers s 0
 
--- the clients that sent a message, each with its last number, where a list has the last numbers of all from a client on
+-- the clients that sent a message, each with its last number; the list has the last numbers of all clients from a first one on
 abbrev pub clients_from : ℕ → List ℕ → List (ℕ × ℕ)
 clients_from s [] = []
 clients_from s (n ∷ ns) = if n == 0 then clients_from (suc s) ns else (s, n) ∷ clients_from (suc s) ns
@@ -30,6 +30,6 @@ abbrev pub clients_through : List Item → List (ℕ × ℕ) → List (ℕ × �
 clients_through [] ps = ps
 clients_through (i ∷ is) ps = clients_through is (clients_after i ps)
 
--- a list of numbers has those that a history leads to
+-- a list has the last numbers to which a history leads
 abbrev pub KeepsClients : List ℕ → List (ℕ × ℕ) → List Item → Type 0
 KeepsClients numbers base history = (s : ℕ) → client_last s (clients_through history base) ≡ number_of numbers s

@@ -10,8 +10,8 @@ use Rattle.st_reader.specs.Spelling.{Spells}
 use Rattle.st_compile.specs.CompiledMethod.{IsCompiled}
 use Rattle.st_compile.specs.CompileRules.{code_rules}
 
--- A method is the one that its own source spells, compiled in a class at these edits, where no rule refuses its code. So
--- its selector, and the selectors and symbols of its code, are among the names.
+-- A method is the one that its own source spells, compiled in a class at these edits; no rule refuses its code. So its selector, and the
+-- selectors and symbols of its code, are among the names.
 pub record IsCompiledFrom (names : List (List ℕ)) (edits : List Edit) (c : ClassId) (m : MethodParts) : Type 0 where
   pub method : Method
   pub spelled : Spells method m.source

@@ -32,7 +32,7 @@ ran_of (Closed a) = 0
 ran_of (Begun a) = 0
 ran_of (Ran a n) = n
 
--- what the items weigh together
+-- the sum of the items' weights
 abbrev pub weigh : (Item → ℕ) → List Item → ℕ
 weigh f [] = 0
 weigh f (item ∷ items) = f item + weigh f items
@@ -50,7 +50,7 @@ pub record CanBeCounted (c : Counts) : Type 0 where
   pub posts : c.posts ≤ most_counted
   pub steps : c.steps ≤ most_counted
 
--- these are the counts of a history, which with those before it are no more than an image counts
+-- these are the counts of a history; with what was counted before, they are no more than an image counts
 pub record CountsItems (c : Counts) (e : Earlier) (history : List Item) : Type 0 where
   pub counts : c ≡ counts_in history
   pub few_posts : e.posts + weigh posts_of history ≤ most_counted

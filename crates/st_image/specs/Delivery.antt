@@ -8,7 +8,7 @@ use Rattle.st_image.specs.Replay.{replay}
 use Rattle.st_image.specs.Senders.{AcceptedOnce, BegunInSendingOrder, InSendingOrder}
 use Rattle.st_image.specs.Images.{ImageView, constants, world}
 
--- a list begins with another
+-- a list is a prefix of another
 abbrev pub IsPrefixOf : {X : Type 0} → List X → List X → Type 0
 IsPrefixOf {X} some all = (rest : List X) × (all ≡ some ++ rest)
 
@@ -16,19 +16,18 @@ IsPrefixOf {X} some all = (rest : List X) × (all ≡ some ++ rest)
 abbrev pub BeginsInOrder : WorldActor → Type 0
 BeginsInOrder b = IsPrefixOf b.begun b.accepted
 
--- where the mailbox of an actor was closed, it is closed, and has accepted nothing since
+-- if an actor's mailbox was closed, it still is, and has accepted nothing since
 abbrev pub NoneAfterClose : WorldActor → WorldActor → Type 0
 NoneAfterClose b c = b.is_open ≡ false → (c.is_open ≡ false) × (c.accepted ≡ b.accepted)
 
--- an actor has accepted and begun what it had, and perhaps more, but nothing was accepted after close; and its turns
--- have ended as they had
+-- what an actor had accepted and begun, and its results, are prefixes of what it has now, and nothing was accepted after close
 pub record HasGrown (b c : WorldActor) : Type 0 where
   pub accepted : IsPrefixOf b.accepted c.accepted
   pub begun : IsPrefixOf b.begun c.begun
   pub results : IsPrefixOf b.results c.results
   pub closed : NoneAfterClose b c
 
--- the actors of one list are in the other, and have only grown
+-- each actor of one list is in the other, and has only grown
 abbrev pub OnlyGrow : List WorldActor → List WorldActor → Type 0
 OnlyGrow actors later = (a : ℕ) (b : WorldActor) → slice_get actors a ≡ Some b
     → (c : WorldActor) × (slice_get later a ≡ Some c) × HasGrown b c
@@ -41,8 +40,8 @@ pub record IsDelivered (w : World) : Type 0 where
   pub senders : InSendingOrder w
   pub begun : BegunInSendingOrder w
 
--- a lawful history that goes on from a base in which messages are begun in order and senders' numbers rise delivers,
--- over each of its prefixes, and nothing of what stood at a prefix is lost
+-- a lawful history delivers over each of its prefixes, if messages are begun in order and senders' numbers rise in its base; and nothing
+-- that an actor had at a prefix is lost
 abbrev pub Delivers : Type 0
 Delivers = (c : Constants) (base : World) (first later : List Item) (v w : World)
     → All BeginsInOrder base.actors
@@ -51,7 +50,7 @@ Delivers = (c : Constants) (base : World) (first later : List Item) (v w : World
     → replay c base (first ++ later) ≡ Some w
     → IsDelivered v × IsDelivered w × OnlyGrow v.actors w.actors
 
--- an image has delivered over each prefix of its own history, and nothing of what stood at a prefix is lost
+-- an image has delivered over each prefix of its own history, and nothing that an actor had at a prefix is lost
 abbrev pub HasDelivered : ImageView → Type 0
 HasDelivered i = (first later : List Item)
     → i.history ≡ first ++ later

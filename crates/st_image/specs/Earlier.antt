@@ -1,8 +1,8 @@
--- What was counted in an image before the world that it began with: a history that is emptied leaves its counts here.
+-- What was counted in an image before its base: a history that is emptied leaves its counts here.
 use Rattle.std.specs.Prelude.{ℕ, List, []}
 use Rattle.st_image.specs.declared.counts.Counts.{Counts}
 
--- how often each actor's body was changed, by the actors' numbers, past the end never; and how many edits, posts and steps
+-- how often each actor's body was changed, by the actors' numbers, 0 past the end of the list; and how many edits, posts and steps
 -- there were
 pub record Earlier : Type 0 where
   pub changes : List ℕ
@@ -10,7 +10,7 @@ pub record Earlier : Type 0 where
   pub posts : ℕ
   pub steps : ℕ
 
--- so many posts and steps were counted before, and nothing else
+-- this many posts and steps were counted before, and nothing else
 abbrev pub counted_earlier : Counts → Earlier
 counted_earlier c = record { changes = []; edits = 0; posts = c.posts; steps = c.steps }
 

@@ -1,4 +1,4 @@
--- What is true of the fields of an image.
+-- What holds of the fields of an image.
 use Rattle.std.specs.Prelude.{◌≡◌, ℕ, ◌+◌, ◌*◌, ◌<◌, ◌≤◌, List, length, Option, None, Some, All, if◌then◌else◌, slice_get}
 use Rattle.st_classes.specs.declared.values.ActorId.{ActorId}
 use Rattle.st_classes.specs.declared.edits.Edit.{Edit}
@@ -23,7 +23,7 @@ use Rattle.st_image.specs.CompiledEdits.{AllCompiled}
 use Rattle.st_image.specs.declared.counts.Counts.{Counts}
 use Rattle.st_image.specs.ActorViews.{ActorView, Shows}
 use Rattle.st_image.specs.ActResults.{constants_of}
-use Rattle.st_image.specs.declared.tallies.Tally.{Tally}
+use Rattle.st_turn.specs.declared.tally.Tally.{Tally}
 use Rattle.st_image.specs.Tallies.{CountsSends, Covers}
 
 -- the history leads from the base to the world that is kept, and all numbers are within their limits
@@ -42,21 +42,20 @@ pub record IsImage (base : World) (names : List (List ℕ)) (edits : List Edit) 
   pub few_items : length history ≤ s.history
   pub few_accepted : All (λ (k : ActorView). k.accepted ≤ length history + 1024) actors
 
--- 1 where an actor is in a turn, else 0
+-- 1 if an actor is in a turn, else 0
 abbrev pub turns_open : Option WorldActor → ℕ
 turns_open None = 0
 turns_open (Some b) = if is_idle b.body.phase then 0 else 1
 
--- What was counted before a base fits it: the edits are among those of its table, and a body was changed at most twice for
--- each step that was taken, and once more where it is in a turn. Each turn begins once and takes a step before it ends.
+-- What was counted before a base fits it: no more edits than its table has, and for each body at most two changes for each step that
+-- was taken, and one more if its actor is in a turn. Each turn begins once and takes a step before it ends.
 pub record FitsBase (e : Earlier) (base : World) : Type 0 where
   pub edits : e.edits ≤ length base.edits
   pub changes : (a : ℕ) → change_count e.changes a ≤ 2 * e.steps + turns_open (slice_get base.actors a)
 
--- The history leads to what is kept; the numbers of clients are those that it leads to, the tallies count its sends and have
--- places for the methods of so many edits as are covered, each actor's number is how often it changed the actor's body,
--- its posts and steps are counted, the methods of the table are compiled from their sources, and what was counted before the
--- base fits it.
+-- The history leads to what is kept. The numbers of clients are those that it leads to. The tallies count its sends, and have places for
+-- the methods of the edits that are covered. Each actor's count of changes is how often the history changed its body. The posts and the
+-- steps of the history are counted. The methods of the table are compiled from their sources. What was counted before the base fits it.
 pub record HoldsImage (base : World) (names : List (List ℕ)) (edits : List Edit) (actors : List ActorView)
     (history : List Item) (made : ℕ) (s : Settings) (clients : List ℕ) (tallies : List (List Tally))
     (covered : ℕ) (changes : List ℕ) (counted : Counts) (earlier : Earlier) : Type 0 where
@@ -69,7 +68,7 @@ pub record HoldsImage (base : World) (names : List (List ℕ)) (edits : List Edi
   pub compiled : AllCompiled names edits
   pub before : FitsBase earlier base
 
--- a body fits a table whose edits are lawful and sound, so that its steps fit it too
+-- a body fits a table whose edits are lawful and sound; so its steps fit it too
 abbrev pub CanRun : List Edit → ActorId → Body → Type 0
 CanRun edits a b = (given : Referents) × AreLawful edits × AllSuit given.names edits × AllSound edits
     × (arity_at given.names does_not_understand ≡ Some 1)

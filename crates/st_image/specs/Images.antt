@@ -12,7 +12,7 @@ use Rattle.st_classes.specs.EditRules.{is_value_class, define_rules, remove_rule
 use Rattle.st_mailbox.specs.declared.messages.Message.{Message}
 use Rattle.st_image.specs.declared.items.Item.{Item}
 use Rattle.st_image.specs.declared.settings.Settings.{Settings}
-use Rattle.st_image.specs.declared.tallies.Tally.{Tally}
+use Rattle.st_turn.specs.declared.tally.Tally.{Tally}
 use Rattle.st_image.specs.Worlds.{Constants, World, WorldActor, start, is_capacity}
 use Rattle.st_image.specs.PostRules.{post_rules}
 use Rattle.st_image.specs.Replay.{replay}
@@ -20,16 +20,16 @@ use Rattle.st_image.specs.Earlier.{Earlier, nothing_earlier}
 use Rattle.st_image.specs.Counts.{edits_of, most_counted, posts_of, ran_of, weigh}
 use Rattle.st_image.specs.declared.counts.Counts.{Counts}
 
--- what an image keeps beside its world: the number from which the next ready actor is looked for, how many claims of
--- each actor are out, up to the last that has one, the tallies of the call sites, and what was counted before its base
+-- what an image keeps beside its world: the number from which the next ready actor is looked for; how many claims of each actor are out,
+-- up to the last actor that has one; the tallies of the call sites; and what was counted before its base
 pub record Standing : Type 0 where
   pub next_from : ℕ
   pub claims_out : List ℕ
   pub tallies : List (List Tally)
   pub earlier : Earlier
 
--- an image: the world that it began with, its names, its history, the capacity of new actors, the most items of the
--- history, and what it keeps beside its world
+-- an image: the world that it began with, its names, its history, the capacity of new actors' mailboxes, the most items of the history,
+-- and what it keeps beside its world
 pub record ImageView : Type 0 where
   pub base : World
   pub names : List (List ℕ)
@@ -54,7 +54,7 @@ world i = world_of (constants i) i.base i.history
 abbrev pub edits_in : List Item → ℕ
 edits_in = weigh edits_of
 
--- how many messages of clients were accepted, and how many steps were taken, since the image was new, and before it was loaded
+-- how many messages of clients were accepted, and how many steps were taken, since the image was new, also before it was loaded
 abbrev pub counts_of : ImageView → Counts
 counts_of i = record {
   posts = i.standing.earlier.posts + weigh posts_of i.history;
@@ -72,7 +72,7 @@ new_image s = record {
   standing = record { next_from = 0; claims_out = []; tallies = []; earlier = nothing_earlier };
 }
 
--- the image with items behind its history
+-- the image with items appended to its history
 abbrev pub appended : ImageView → List Item → ImageView
 appended i items = record i { history = i.history ++ items }
 
@@ -84,15 +84,15 @@ settings_rules s =
     (not (is_capacity s.capacity) || not (nat_le 1 s.history && nat_le s.history 1000000), BadArguments)
     ∷ []
 
--- no room for so many items more
+-- no room for n more items
 abbrev pub no_room : ImageView → ℕ → Rule
 no_room i n = (nat_lt i.most_items (length i.history + n), HistoryFull)
 
--- a post more would be more posts than an image counts
+-- one more post would be more than an image counts
 abbrev pub too_many_posts : ImageView → Rule
 too_many_posts i = (nat_lt most_counted ((counts_of i).posts + 1), HistoryFull)
 
--- so many steps more would be more steps than an image counts
+-- n more steps would be more than an image counts
 abbrev pub too_many_steps : ImageView → ℕ → Rule
 too_many_steps i n = (nat_lt most_counted ((counts_of i).steps + n), HistoryFull)
 
@@ -112,7 +112,7 @@ image_define_rules i name parent added = define_rules (world i).edits name paren
 abbrev pub image_remove_rules : ImageView → ClassId → Selector → List Rule
 image_remove_rules i c s = remove_rules (world i).edits c s ++ run_rules i
 
--- of another superclass of a class
+-- the refusals of another superclass for a class in an image, in their order
 abbrev pub image_reparent_rules : ImageView → ClassId → ClassId → List Rule
 image_reparent_rules i c parent = reparent_rules (world i).edits c parent ++ run_rules i
 

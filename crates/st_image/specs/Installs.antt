@@ -21,12 +21,12 @@ use Rattle.st_compile.specs.CompiledMethod.{IsCompiled}
 use Rattle.st_image.specs.declared.items.Item.TheVariants.{Edited}
 use Rattle.st_image.specs.Images.{ImageView, world, appended, run_rules}
 
--- the kernel has a method in the class for the selector of a number
+-- the kernel has a method of the class for the selector with this number
 abbrev pub has_kernel : ClassId → Option ℕ → Bool
 has_kernel c None = false
 has_kernel c (Some n) = is_some (kernel_method c (selector n))
 
--- the kernel has a method in the class for the selector of a text
+-- the kernel has a method of the class for the selector with this text
 abbrev pub is_kernel_text : ClassId → List ℕ → Bool
 is_kernel_text c text = has_kernel c (place_of kernel_selectors text)
 
@@ -48,12 +48,11 @@ image_install_rules i c method = source_rules i c method
 abbrev pub with_names_of : ImageView → Method → ImageView
 with_names_of i method = record i { names = interned_all i.names (needed_texts method) }
 
--- all of the texts were interned, in their order
+-- all of the texts were interned, in order
 abbrev pub InternsAll : List (List ℕ) → List (List ℕ) → List (List ℕ) → Type 0
 InternsAll names texts after = after ≡ interned_all names texts
 
--- only names were added, of the method that the text spells, whose code is accepted: the first ones that it needs, or
--- all
+-- the text spells a method whose code is accepted, and only names that it needs were added: the first ones, or all
 pub record AddsNames (Interned : List (List ℕ) → List (List ℕ) → List (List ℕ) → Type 0)
     (i : ImageView) (c : ClassId) (text : List ℕ) (j : ImageView) : Type 0 where
   pub method : Method
@@ -62,7 +61,7 @@ pub record AddsNames (Interned : List (List ℕ) → List (List ℕ) → List (L
   pub interned : Interned i.names (needed_texts method) j.names
   pub only : j ≡ record i { names = j.names }
 
--- what a refused install leaves, by the refusal: no names; or the first ones of those that the method needs; or all
+-- what a refused install leaves, by the refusal: no new names; or the first ones of those that the method needs; or all
 abbrev pub LeavesNames : ImageView → ClassId → List ℕ → Refusal → ImageView → Type 0
 LeavesNames i c text NoMemory j = (j ≡ i) ⊎ AddsNames InternsFirst i c text j
 LeavesNames i c text (TooMany Names) j = AddsNames InternsFirst i c text j × (length j.names ≡ 8192)
@@ -70,8 +69,8 @@ LeavesNames i c text (TooMany Edits) j = AddsNames InternsAll i c text j
 LeavesNames i c text HistoryFull j = AddsNames InternsAll i c text j
 LeavesNames i c text e j = j ≡ i
 
--- the class has the compiled method; the names that it needs and the edit are added to the image, and the edit alone to
--- its world; the answer is the number of edits
+-- the class has the compiled method; the names that it needs and the edit are added to the image, and only the edit to its world; the
+-- answer is the number of edits
 pub record Installs (i : ImageView) (c : ClassId) (method : Method) (text : List ℕ) (j : ImageView) (n : ℕ)
     : Type 0 where
   pub parts : MethodParts
@@ -84,8 +83,8 @@ pub record Installs (i : ImageView) (c : ClassId) (method : Method) (text : List
 abbrev pub IsUnread : List ℕ → Type 0
 IsUnread text = (method : Method) → Spells method text → ⊥
 
--- why an install is refused: the class is unknown; the text spells no method; or, of the method that it spells, the
--- first refusal that applies. Want of memory may stand in place of any
+-- why an install is refused: the class is unknown; or the text spells no method; or it spells one, and the first refusal of this
+-- method applies. `NoMemory` may come in place of any
 pub data RefusesInstall (i : ImageView) (c : ClassId) (text : List ℕ) (e : Refusal) : Type 0 where
   memory : e ≡ NoMemory → RefusesInstall i c text e
   unknown : is_class (world i).edits c ≡ false → e ≡ UnknownClass → RefusesInstall i c text e
@@ -93,7 +92,7 @@ pub data RefusesInstall (i : ImageView) (c : ClassId) (text : List ℕ) (e : Ref
   first : (method : Method) → Spells method text → first_of (image_install_rules i c method) ≡ Some e
       → RefusesInstall i c text e
 
--- an install is answered by the number of edits, where a method that the text spells is installed, or by a refusal
+-- an install answers the number of edits, if the text spells a method and this is installed; otherwise it is refused
 abbrev pub AnswersInstall : ImageView → ClassId → List ℕ → ImageView → Result ℕ Refusal → Type 0
 AnswersInstall i c text j (Ok n) = (method : Method) × Spells method text
     × (first_of (image_install_rules i c method) ≡ None)

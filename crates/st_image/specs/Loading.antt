@@ -30,14 +30,14 @@ pub record LoaderView : Type 0 where
   pub names : List (List ℕ)
   pub edits : List Edit
 
--- what is true of the fields of a loader: the methods suit the names, and are compiled from their sources
+-- what holds of the fields of a loader: the methods suit the names, and are compiled from their sources
 pub record HoldsLoader (names : List (List ℕ)) (edits : List Edit) : Type 0 where
   pub suited : AllSuit names edits
   pub compiled : AllCompiled names edits
 
 -- ---- names
 
--- a name of a file isn't there yet and is accepted as a name; it goes last
+-- a name of a file is not known yet and is accepted as a name; it is appended
 pub record LoadsName (l : LoaderView) (name : List ℕ) (m : LoaderView) : Type 0 where
   pub new : is_name l.names name ≡ false
   pub allowed : first_of (intern_rules l.names name) ≡ None
@@ -45,19 +45,19 @@ pub record LoadsName (l : LoaderView) (name : List ℕ) (m : LoaderView) : Type 
 
 -- ---- edits
 
--- an edit that no rule refuses goes last
+-- an edit that no rule refuses is appended
 pub record Accepts (l : LoaderView) (e : Edit) (m : LoaderView) : Type 0 where
   pub allowed : first_of (edit_rules l.edits e) ≡ None
   pub added : m.edits ≡ l.edits ++ e ∷ []
 
--- a class under that of a name
+-- a class under the class with this name
 pub record LoadsDefine (l : LoaderView) (name parent : List ℕ) (slots : List (List ℕ)) (m : LoaderView) : Type 0 where
   pub above : ClassId
   pub named : class_named l.edits parent ≡ Some above
   pub accepts : Accepts l (Define name above slots) m
   pub names : m.names ≡ l.names
 
--- a method in a class, compiled at this place of the list. The names that it needs go last
+-- a method in a class, compiled at this place of the list; the names that it needs are appended
 pub record InstallsTree (l : LoaderView) (holder : ClassId) (method : Method) (source : List ℕ) (m : LoaderView)
     : Type 0 where
   pub parts : MethodParts
@@ -66,7 +66,7 @@ pub record InstallsTree (l : LoaderView) (holder : ClassId) (method : Method) (s
   pub compiled : IsCompiled m.names l.edits holder method source parts
   pub accepts : Accepts l (Install holder parts) m
 
--- the method that a source spells, in the class of a name
+-- the method that a source spells, in the class with this name
 pub record InstallsFrom (l : LoaderView) (class source : List ℕ) (m : LoaderView) : Type 0 where
   pub holder : ClassId
   pub method : Method
@@ -74,7 +74,7 @@ pub record InstallsFrom (l : LoaderView) (class source : List ℕ) (m : LoaderVi
   pub spelled : Spells method source
   pub installs : InstallsTree l holder method source m
 
--- a method less
+-- the method of a class for a selector is removed; both are named
 pub record LoadsRemove (l : LoaderView) (class name : List ℕ) (m : LoaderView) : Type 0 where
   pub holder : ClassId
   pub number : ℕ
@@ -83,7 +83,7 @@ pub record LoadsRemove (l : LoaderView) (class name : List ℕ) (m : LoaderView)
   pub accepts : Accepts l (Remove holder (selector number)) m
   pub names : m.names ≡ l.names
 
--- another superclass of a class; both are named
+-- a class gets another superclass; both are named
 pub record LoadsReparent (l : LoaderView) (class parent : List ℕ) (m : LoaderView) : Type 0 where
   pub moved : ClassId
   pub above : ClassId
@@ -99,22 +99,22 @@ LoadsEdit l (text.Install class source) m = InstallsFrom l class source m
 LoadsEdit l (text.Remove class name) m = LoadsRemove l class name m
 LoadsEdit l (text.Reparent class parent) m = LoadsReparent l class parent m
 
--- one after the other
+-- texts are loaded, one after the other
 abbrev pub LoadsAll : {T : Type 0} → (LoaderView → T → LoaderView → Type 0) → LoaderView → List T → LoaderView → Type 0
 LoadsAll step l [] n = n ≡ l
 LoadsAll step l (x ∷ xs) n = (m : LoaderView) × step l x m × LoadsAll step m xs n
 
--- a step from a table by a text leads to one table
+-- from a table, a text leads to at most one table
 abbrev pub LeadsToOne : {T : Type 0} → (LoaderView → T → LoaderView → Type 0) → Type 0
 LeadsToOne {T} step = (l : LoaderView) (x : T) (m n : LoaderView) → step l x m → step l x n → m ≡ n
 
 -- ---- answers
 
--- nothing does it
+-- P holds of no loader
 abbrev pub Nowhere : (LoaderView → Type 0) → Type 0
 Nowhere P = (m : LoaderView) → P m → ⊥
 
--- it is done; or nothing does it; or memory was refused
+-- P holds of the new loader; or P holds of none; or memory ran out
 abbrev pub AnswersEdit : (LoaderView → Type 0) → LoaderView → Result (Unit {0}) Refusal → Type 0
 AnswersEdit P new (Ok _) = P new
 AnswersEdit P new (Err e) = (e ≡ NoMemory) ⊎ ((e ≡ BadImage place.Edits) × Nowhere P)
@@ -126,19 +126,19 @@ abbrev pub AnswersName : LoaderView → List ℕ → LoaderView → Result (Unit
 AnswersName old name new (Ok _) = LoadsName old name new
 AnswersName old name new (Err e) = (new ≡ old) × ((e ≡ NoMemory) ⊎ ((e ≡ BadImage place.Names) × Nowhere (LoadsName old name)))
 
--- want of memory as it is, and any other refusal of an edit as that of the file's edits
+-- `NoMemory` stays as it is; any other refusal of an edit becomes that of the file's edits
 abbrev pub edits_refusal : Refusal → Refusal
 edits_refusal NoMemory = NoMemory
 edits_refusal _ = BadImage place.Edits
 
--- want of memory as it is, and any other refusal of a name as that of the file's names
+-- `NoMemory` stays as it is; any other refusal of a name becomes that of the file's names
 abbrev pub names_refusal : Refusal → Refusal
 names_refusal NoMemory = NoMemory
 names_refusal _ = BadImage place.Names
 
 -- ---- what a refused edit leaves
 
--- a method that the source spells, with code in the class of the name
+-- the source spells a method, and its code is accepted in the class with this name
 pub record HasCode (l : LoaderView) (class source : List ℕ) (method : Method) : Type 0 where
   pub holder : ClassId
   pub named : class_named l.edits class ≡ Some holder
@@ -153,8 +153,8 @@ pub record AddsNeeded (Interned : List (List ℕ) → List (List ℕ) → List (
   pub interned : Interned l.names (needed_texts method) m.names
   pub only : m ≡ record l { names = m.names }
 
--- what a refused install leaves: where memory ran out, no names, or the first ones of such a method; else no names where
--- there is no such method, the first ones where they fill the table, or all
+-- what a refused install leaves: if memory ran out, no new names, or the first ones of such a method; otherwise no new names if there
+-- is no such method, or the first ones if they fill the table, or all
 abbrev pub LeavesInstall : LoaderView → List ℕ → List ℕ → Refusal → LoaderView → Type 0
 LeavesInstall l class source NoMemory m = (m ≡ l) ⊎ AddsNeeded InternsFirst l class source m
 LeavesInstall l class source e m =
@@ -167,16 +167,16 @@ abbrev pub LeavesEdit : LoaderView → EditText → Refusal → LoaderView → T
 LeavesEdit l (text.Install class source) e m = LeavesInstall l class source e m
 LeavesEdit l edit e m = m ≡ l
 
--- ---- tables told as texts
+-- ---- tables as texts
 
--- the name of a class, and the text of a number
+-- the name of a class; empty if there is none
 abbrev pub class_text : List Edit → ClassId → List ℕ
 class_text edits c = unwrap_or (class_name edits c) []
 
 abbrev pub selector_text : List (List ℕ) → Selector → List ℕ
 selector_text names s = unwrap_or (slice_get names s.0) []
 
--- an edit as text, by the names and the classes of a table
+-- an edit as text, with the names and the classes of a table
 abbrev pub edit_text : List (List ℕ) → List Edit → Edit → EditText
 edit_text names edits (Define name parent slots) = text.Define name (class_text edits parent) slots
 edit_text names edits (Install c m) = text.Install (class_text edits c) m.source
@@ -187,14 +187,14 @@ edit_text names edits (Reparent c p) = text.Reparent (class_text edits c) (class
 abbrev pub edit_texts : List (List ℕ) → List Edit → List EditText
 edit_texts names edits = map (edit_text names edits) edits
 
--- a table's names load again after the kernel's, and then its edits, and give the table
+-- a table's names load after the kernel's, then its edits, and this gives the table again
 pub record Reloads (names : List (List ℕ)) (edits : List Edit) : Type 0 where
   pub named : LoadsAll LoadsName (record { names = kernel_selectors; edits = [] }) (drop 22 names)
       (record { names = names; edits = [] })
   pub edited : LoadsAll LoadsEdit (record { names = names; edits = [] }) (edit_texts names edits)
       (record { names = names; edits = edits })
 
--- each table reloads whose edits were accepted, and whose methods suit the names and are compiled from their sources
+-- a table reloads if its edits were accepted, and its methods suit the names and are compiled from their sources
 abbrev pub TablesReload : Type 0
 TablesReload = (names : List (List ℕ)) (edits : List Edit)
     → AreNames names → AreLawful edits → AllSuit names edits → AllCompiled names edits

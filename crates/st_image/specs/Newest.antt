@@ -10,13 +10,13 @@ use Rattle.st_turn.specs.declared.body.Phase.TheVariants.{Fresh, Start, Frames, 
 abbrev pub newest : {X : Type 0} → List X → List X
 newest xs = drop (length xs - 64) xs
 
--- the newest ones, how many there were, and how many there is room for
+-- the newest ones, how many there were in all, and how many there is room for
 pub record Newest (X : Type 0) : Type 0 where
   pub items : List X
   pub count : ℕ
   pub room : ℕ
 
--- one more has room: there is some, or the oldest goes
+-- there is room for one more, or all 64 places are there and the oldest goes
 abbrev pub HasRoom : {X : Type 0} → Newest X → Type 0
 HasRoom n = (length n.items < n.room) ⊎ (n.room ≡ 64)
 
@@ -40,15 +40,15 @@ kept_with (Start s args) k = k
 kept_with (Frames fs) k = k
 kept_with (Done outcome) k = record { items = newest (k.items ++ outcome ∷ []); count = k.count + 1 }
 
--- a result that has not come is pending
+-- a result that has not come yet is pending
 abbrev pub or_pending : Option Outcome → Result Outcome Refusal
 or_pending None = Err Pending
 or_pending (Some outcome) = Ok outcome
 
--- the result of a number, from 0, in what is kept
+-- the result with a number, from 0, in what is kept
 abbrev pub kept_result : Kept → ℕ → Result Outcome Refusal
 kept_result k n = if nat_lt (n + 64) k.count then Err Expired else or_pending (slice_get k.items (n - (k.count - 64)))
 
--- the outcome of a turn in what is kept, where the first of the results is that of a turn of this number
+-- the outcome of a turn in what is kept; `first` is the number of the turn that had the first result
 abbrev pub kept_outcome : ℕ → Kept → ℕ → Result Outcome Refusal
 kept_outcome first k turn = if nat_lt turn first then Err Expired else kept_result k (turn - first)

@@ -8,15 +8,14 @@ use Rattle.st_image.specs.Images.{ImageView, world}
 use Rattle.st_image.specs.WorldInvariant.{IsLawful}
 use Rattle.st_image.specs.Commits.{Commits, IsReleased, Survives, body_at, stands_before_act}
 
--- a claim's steps are refused as those of another body: the claim is spent, and nothing changes but that it is no
--- longer out
+-- a claim is refused as one on another body: it is spent, and nothing changes except that it is no longer out
 abbrev pub IsLost : ImageView → ClaimView → Result ℕ (Refusal × Option ClaimView) → ImageView → Type 0
 IsLost i c result j = (result ≡ Err (Changed, None)) × IsReleased i c.actor j
 
--- A commit that is not refused found its actor with the body that the claim began with, and leaves it with the one to
--- which the claim's steps lead, where no step of the image follows these. A claim that survives has taken steps of the
--- present class table, though it took them at an earlier one; where its actor has another body it is lost. So of two claims on
--- one body only one counts, where it changed the body: the other is lost, or stale before that.
+-- A commit that is not refused found its actor with the body with which the claim began. If no step of the image follows the claim's
+-- steps, it leaves the body to which these lead. A claim that survives has taken steps of the present class table, though it took them
+-- at an earlier one; if its actor has another body, it is lost. So of two claims on one body only one counts, if it changed the body:
+-- the other is lost, or stale before that.
 pub record CountsOnItsBody : Type 0 where
   pub before : (i j : ImageView) (c : ClaimView) (n : ℕ) → Commits i c (Ok n) j → body_at i c.actor ≡ Some c.before
   pub after : (i j : ImageView) (c : ClaimView) (n : ℕ) →

@@ -9,8 +9,8 @@ use Rattle.st_image.specs.Worlds.{WorldActor}
 use Rattle.st_image.specs.Images.{ImageView, world}
 use Rattle.st_image.specs.WorldInvariant.{first_turn}
 
--- the outcome of a turn, where the first of the results is that of a turn of this number: only the newest 64 results are
--- kept, and a turn that has no result yet has not ended
+-- the outcome of a turn; `first` is the number of the turn that had the first result. Only the newest 64 results are kept, and a turn
+-- that has no result yet has not ended
 abbrev pub outcome_in : ℕ → List Outcome → ℕ → Result Outcome Refusal
 outcome_in first results turn =
     if nat_lt turn first then Err Expired

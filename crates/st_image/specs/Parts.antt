@@ -9,7 +9,7 @@ use Rattle.st_turn.specs.declared.body.Phase.TheVariants.{Fresh, Start, Frames, 
 use Rattle.st_image.specs.declared.actor_part.ActorPart.{ActorPart}
 use Rattle.st_image.specs.Worlds.{World, WorldActor, pending}
 
--- how the turn of a body ended, where it did
+-- how the turn of a body ended, if it has ended
 abbrev pub result_of : Phase → List Outcome
 result_of Fresh = []
 result_of (Start s args) = []
@@ -33,7 +33,7 @@ actor_of a = record {
 abbrev pub world_of_parts : List Edit → List ActorPart → List (ℕ × ℕ) → World
 world_of_parts edits parts clients = record { edits = edits; actors = map actor_of parts; clients = clients }
 
--- a part's mailbox has a capacity, and what is pending is within it
+-- a part's mailbox has a capacity from 1 to 1,024, and its pending messages are within it
 pub record FitsMailbox (a : ActorPart) : Type 0 where
   pub some : 1 ≤ a.capacity
   pub few : a.capacity ≤ 1024
@@ -50,11 +50,11 @@ part_of b = record {
   pending = pending b;
 }
 
--- the actor as one of a base: what is pending is all that it has accepted, and it has begun nothing
+-- the actor as one of a base: it has accepted just what is pending, and has begun nothing
 abbrev pub rebased : WorldActor → WorldActor
 rebased b = actor_of (part_of b)
 
--- the world as a base: its actors have forgotten what they have begun, and how earlier turns ended
+-- the world as a base: its actors forget what they have begun, and how earlier turns ended
 abbrev pub rebase : World → World
 rebase w = record w { actors = map rebased w.actors }
 

@@ -13,7 +13,7 @@ use Rattle.st_mailbox.specs.declared.messages.Sender.{Sender}
 use Rattle.st_mailbox.specs.declared.messages.Sender.TheVariants.{Client, Actor as Acting}
 use Rattle.st_image.specs.Worlds.{World, WorldActor, client_last, pending}
 
--- an argument of a message names no object
+-- what an argument of a message names exists, and is not an object
 abbrev pub argument_fits : List (List ℕ) → ℕ → ℕ → Value → Bool
 argument_fits names classes actors = is_there names classes actors 0
 
@@ -21,7 +21,7 @@ argument_fits names classes actors = is_there names classes actors 0
 abbrev pub from_client : ℕ → ℕ → Selector → List Value → Message
 from_client sender seq selector args = record { sender = Client sender; seq = seq; selector = selector; args = args }
 
--- the selector is there and takes so many arguments, and each of them fits
+-- the selector exists and takes this many arguments, and each of them fits
 abbrev pub message_fits : List (List ℕ) → ℕ → ℕ → Message → Bool
 message_fits names classes actors m = is_number (arity_at names m.selector) (length m.args)
     && list_all (argument_fits names classes actors) m.args
@@ -30,16 +30,16 @@ message_fits names classes actors m = is_number (arity_at names m.selector) (len
 abbrev pub message_suits : List (List ℕ) → World → Message → Bool
 message_suits names w m = message_fits names (class_count w.edits) (length w.actors) m
 
--- a number is not above its sender's last; a sender that is not there sends nothing
+-- a number that is not above its sender's last is old; a sender that does not exist sends nothing
 abbrev pub old_rule : Option ℕ → ℕ → Rule
 old_rule None n = (true, Old 0)
 old_rule (Some last) n = (nat_le n last, Old last)
 
--- the last number of an actor, where it is there
+-- the last number of an actor, if it exists
 abbrev pub last_at : Option WorldActor → Option ℕ
 last_at o = option_map (λ b. b.last) o
 
--- the last number of a sender, where it is there; that of a client is 0 at first
+-- the last number of a sender, if it exists; that of a client is 0 at first
 abbrev pub sender_last : World → Sender → Option ℕ
 sender_last w (Client s) = Some (client_last s w.clients)
 sender_last w (Acting a) = last_at (slice_get w.actors a.0)

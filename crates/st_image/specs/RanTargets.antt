@@ -1,5 +1,4 @@
--- What each step in a history has run: where it sent a message, the target that the walk finds at the class table of
--- that place.
+-- What each step in a history has run: if it sent a message, the target that the walk finds at the class table of its place.
 use Rattle.std.specs.Prelude.{◌≡◌, ◌<◌, ℕ, List, [], ◌∷◌, ◌++◌, Option, Some, None, MatchOption, slice_get}
 use Rattle.std.specs.Option.{option_map}
 use Rattle.st_classes.specs.declared.values.ActorId.{ActorId}
@@ -30,26 +29,26 @@ edits_among (Closed a ∷ is) = edits_among is
 edits_among (Begun a ∷ is) = edits_among is
 edits_among (Ran a n ∷ is) = edits_among is
 
--- a step of an actor leads from one world to another: the items before it lead to a world, and the steps of its item
--- before it lead from there to the first of the two
+-- a step of an actor leads from the world w to the world v: the items before it lead to a world, and the steps before it in its own item
+-- lead from there to w
 pub record IsStep (i : ImageView) (before : List Item) (a : ActorId) (place : ℕ) (w v : World) : Type 0 where
   pub start : World
   pub begins : replay (constants i) i.base before ≡ Some start
   pub comes : option_map (λ t. t.world) (trail_after (constants i) a place (record { world = start; asked = [] })) ≡ Some w
   pub step : after_step (constants i) a w ≡ Some v
 
--- a target is what is run for a message at a class table, by the four cases: a method of the user's that is current in
--- the table, one of the kernel's, the user's for `doesNotUnderstand:`, or nothing
+-- a target is what a message runs at a class table, by the four cases: a user's method that is current in the table, one of the
+-- kernel's, the user's for `doesNotUnderstand:`, or nothing
 abbrev pub IsFound : List Edit → Body → Sending → Target → Type 0
 IsFound edits b x t = IsTarget edits (receiver_class b x) (classes_along edits (receiver_class b x) x.holder) x.selector t
 
--- what was found for a message ran: after the step the actor's body is the one to which the target's arrival leads
+-- what was found for a message ran: after the step the actor's body is the one to which the arrival of the target leads
 pub record RunsTarget (a : ActorId) (b : Body) (x : Sending) (w v : World) : Type 0 where
   pub target : Target
   pub found : IsFound w.edits b x target
   pub ran : v ≡ change (with_body (x.arrives (arrival w.edits b.objects x.selector x.receiver x.args target))) a w
 
--- what a method of the kernel asks of the image, sent to a receiver with some arguments, where it does
+-- what a method of the kernel, sent to a receiver with these arguments, asks of the image, if anything
 abbrev pub asks_of : Value → List Value → Kernel → Option Act
 asks_of (Actor a) args kernel = actor_act a args kernel
 asks_of (Class c) [] kernel = class_act c kernel
@@ -67,8 +66,8 @@ abbrev pub RunsMessage : Constants → ActorId → Body → World → World → 
 RunsMessage c a b w v x =
     MatchOption (act_asked x.holder x.receiver x.selector x.args) (RunsTarget a b x w v) (λ act. RunsAct c a b x act w v)
 
--- A step: its class table is that of the base with the edits before it in the history. It looks something up exactly
--- where it sends a message, by the class of the receiver and the selector; and then it has run what is found.
+-- A step: its class table is that of the base with the edits before it in the history. It looks something up exactly if it sends a
+-- message, by the class of the receiver and the selector; and then it has run what is found.
 pub record HasRun (i : ImageView) (before : List Item) (a : ActorId) (w v : World) : Type 0 where
   pub actor : WorldActor
   pub there : slice_get w.actors a.0 ≡ Some actor
@@ -76,7 +75,7 @@ pub record HasRun (i : ImageView) (before : List Item) (a : ActorId) (w v : Worl
   pub keys : option_map (λ q. q.key) (asked w.edits actor.body) ≡ option_map (sent_key actor.body) (message_sent w.edits actor.body)
   pub runs : (x : Sending) → message_sent w.edits actor.body ≡ Some x → RunsMessage (constants i) a actor.body w v x
 
--- at each place of the history where an actor took steps, each of these steps has run what the walk finds there
+-- each step that an actor took in the history has run what the walk finds at its place
 abbrev pub EachStepRan : ImageView → Type 0
 EachStepRan i = (before later : List Item) (a : ActorId) (steps place : ℕ)
     → i.history ≡ before ++ Ran a steps ∷ later

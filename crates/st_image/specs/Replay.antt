@@ -1,4 +1,4 @@
--- What each item makes of a world, and the replay of a history.
+-- What each item does to a world, and the replay of a history.
 use Rattle.std.specs.Prelude.{ℕ, zero, suc, ◌+◌, ◌-◌, ◌^◌, ◌&&◌, List, [], ◌∷◌, ◌++◌, length, Bool, true, false, not, Option, Some, None, Result, Ok, Err, is_none, nat_le, nat_lt, slice_get, option_and_then, option_map, option_to_list, if◌then◌else◌}
 use Rattle.std.specs.List.{list_any}
 use Rattle.st_classes.specs.declared.values.ClassId.{ClassId}
@@ -30,11 +30,11 @@ use Rattle.st_image.specs.declared.items.Item.TheVariants.{Edited, Created, Post
 use Rattle.st_image.specs.Worlds.{Constants, World, WorldActor, change, pending, put_number}
 use Rattle.st_image.specs.PostRules.{post_rules}
 
--- a world, under a condition
+-- a world, if a condition holds
 abbrev pub only_if : Bool → World → Option World
 only_if b w = if b then Some w else None
 
--- ---- an edit goes last in the class table
+-- ---- an edit is appended to the class table
 
 -- the edit is accepted at the table, and its method suits
 abbrev pub after_edit : Constants → World → Edit → Option World
@@ -44,8 +44,7 @@ after_edit c w e = only_if
 
 -- ---- a new last actor, of Object or a user's class
 
--- a new actor is open, and has accepted, begun and answered nothing; its body is itself, with its instance variables
--- nil
+-- a new actor is open, and has accepted, begun and answered nothing; its only object is itself, with its instance variables nil
 abbrev pub new_world_actor : List Edit → ClassId → ℕ → WorldActor
 new_world_actor edits class capacity = record {
   class = class;
@@ -66,14 +65,14 @@ with_new c class w = record w { actors = w.actors ++ new_world_actor w.edits cla
 abbrev pub after_create : Constants → World → ClassId → Option World
 after_create c w class = only_if (has_instances w.edits class) (with_new c class w)
 
--- ---- a message goes last in what its actor accepted
+-- ---- a message is appended to what its actor accepted
 
 -- the sender's last number is the message's
 abbrev pub with_last : Sender → ℕ → World → World
 with_last (Client s) n w = record w { clients = put_number s n w.clients }
 with_last (Actor a) n w = change (λ b. record b { last = n }) a w
 
--- the message goes last
+-- the message is appended
 abbrev pub with_accepted : Message → WorldActor → WorldActor
 with_accepted m b = record b { accepted = b.accepted ++ m ∷ [] }
 
@@ -85,7 +84,7 @@ after_post c w a m = only_if
 
 -- ---- the mailbox closes
 
--- an actor is there, and its mailbox is open
+-- an actor exists, and its mailbox is open
 abbrev pub is_open_at : Option WorldActor → Bool
 is_open_at None = false
 is_open_at (Some b) = b.is_open
@@ -96,11 +95,11 @@ after_close w a = only_if (is_open_at (slice_get w.actors a.0)) (change (λ b. r
 
 -- ---- the first pending message of an idle actor begins
 
--- the message goes last in what is begun, and the body starts it
+-- the message is appended to what is begun, and the body starts it
 abbrev pub with_begun : Message → WorldActor → WorldActor
 with_begun m b = record b { begun = b.begun ++ m ∷ []; body = record b.body { phase = Start m.selector m.args } }
 
--- the first pending message of an actor that is there and idle
+-- the first pending message of an actor, if it exists and is idle
 abbrev pub next_message : Option WorldActor → Option Message
 next_message None = None
 next_message (Some b) = if is_idle b.body.phase then slice_get (pending b) 0 else None
@@ -109,7 +108,7 @@ next_message (Some b) = if is_idle b.body.phase then slice_get (pending b) 0 els
 abbrev pub after_begin : World → ActorId → Option World
 after_begin w a = option_map (λ m. change (with_begun m) a w) (next_message (slice_get w.actors a.0))
 
--- ---- an act of an actor on the world, and what it answers
+-- ---- an act of an actor on the world, and its answer
 
 -- the world after an act, and its answer or its fault
 pub record ActResult : Type 0 where
@@ -130,7 +129,7 @@ abbrev pub is_local : Value → Bool
 is_local (Local n) = true
 is_local _ = false
 
--- an actor's message has the number after its last one, and there is none after 2^64 - 1
+-- an actor's message has the number after the actor's last one; there is none after 2^64 - 1
 abbrev pub after_post_by : Constants → ActorId → Selector → List Value → ActorId → World → Option WorldActor
     → Option World
 after_post_by c to s args a w None = None
@@ -146,7 +145,7 @@ post_result c to s args a w =
     else (if list_any is_local args then failed_act w LocalArgument
     else attempted_act w (after_post_by c to s args a w (slice_get w.actors a.0)))
 
--- an actor of Object or a user's class, where there are fewer than 65,536
+-- a new actor of Object or of a user's class, if there are fewer than 65,536 actors
 abbrev pub create_result : Constants → ClassId → World → ActResult
 create_result c class w =
     if is_value_class class then failed_act w BadArgument
@@ -183,11 +182,11 @@ after_step_of c a w (leads body) = Some (change (with_body body) a w)
 after_step_of c a w ended = None
 after_step_of c a w (outer act) = Some (after_act a act (act_result c a w act))
 
--- one step of an actor that is there
+-- one step of an actor that exists
 abbrev pub after_step : Constants → ActorId → World → Option World
 after_step c a w = option_and_then (λ b. after_step_of c a w (step w.edits a b.body)) (slice_get w.actors a.0)
 
--- a world on the way of an actor's steps, and what they asked the class table for, in order
+-- a world reached in the course of an actor's steps, and what they asked the class table for, in order
 pub record Trail : Type 0 where
   pub world : World
   pub asked : List Asked
@@ -197,7 +196,7 @@ abbrev pub asked_at : List Edit → Option WorldActor → Option Asked
 asked_at edits None = None
 asked_at edits (Some b) = asked edits b.body
 
--- one step more
+-- one more step
 abbrev pub trail_step : Constants → ActorId → Trail → Option Trail
 trail_step c a t = option_map
     (λ w. record {
@@ -206,7 +205,7 @@ trail_step c a t = option_map
     })
     (after_step c a t.world)
 
--- so many steps, one after the other
+-- this many steps, one after the other
 abbrev pub trail_after : Constants → ActorId → ℕ → Trail → Option Trail
 trail_after c a zero t = Some t
 trail_after c a (suc n) t = option_and_then (trail_after c a n) (trail_step c a t)
@@ -218,7 +217,7 @@ after_run c w a n =
     then option_map (λ t. t.world) (trail_after c a n (record { world = w; asked = [] }))
     else None
 
--- ---- the world after an item, where the item is allowed
+-- ---- the world after an item, if the item is allowed
 
 -- by the kind of the item
 abbrev pub next : Constants → World → Item → Option World

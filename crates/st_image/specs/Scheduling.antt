@@ -10,7 +10,7 @@ use Rattle.st_image.specs.Images.{ImageView, world}
 abbrev pub is_ready : WorldActor → Bool
 is_ready b = not (is_idle b.body.phase) || not (length (pending b) == 0)
 
--- the actor of a number is there, and is ready
+-- the actor with this number exists and is ready
 abbrev pub is_ready_at : World → ℕ → Bool
 is_ready_at w a = ready_being (slice_get w.actors a)
   where
@@ -22,7 +22,7 @@ is_ready_at w a = ready_being (slice_get w.actors a)
 abbrev pub is_free_at : ImageView → ℕ → Bool
 is_free_at i a = is_ready_at (world i) a && (claims_of i.standing.claims_out a == 0)
 
--- a free actor that comes no later than any other, from the number that is kept on
+-- a free actor that comes no later than any other free one, counted from the number that is kept
 pub record IsNextReady (i : ImageView) (a : ℕ) : Type 0 where
   pub free : is_free_at i a ≡ true
   pub first : (b : ℕ) → is_free_at i b ≡ true → is_no_later i.standing.next_from a b ≡ true

@@ -1,4 +1,4 @@
--- The numbers that senders gave to the messages that are pending, by the parts of actors.
+-- The numbers that senders gave to pending messages, by the parts of actors.
 use Rattle.std.specs.Prelude.{◌≡◌, ◌<◌, ◌≤◌, ℕ, Bool, List, Option, Some, None, take, slice_get, All, Decides}
 use Rattle.std.specs.Ordering.{nat_cmp, ordering_then}
 use Rattle.std.specs.BTreeSet.{contains}
@@ -10,13 +10,13 @@ use Rattle.st_image.specs.declared.actor_part.ActorPart.{ActorPart}
 use Rattle.st_image.specs.declared.senders.seen.SeenNumbers.{SeenNumbers}
 use Rattle.st_image.specs.Clients.{number_of}
 
--- each item of a list, with those before it
+-- Q holds of each item of a list, with the items before it
 abbrev pub AfterOthers : {X : Type 0} → (List X → X → Type 0) → List X → Type 0
 AfterOthers {X} Q xs = (k : ℕ) (x : X) → slice_get xs k ≡ Some x → Q (take k xs) x
 
 -- ---- senders
 
--- a sender is a client, or one of so many actors
+-- a sender is a client, or one of this many actors
 abbrev pub IsSenderAmong : ℕ → Sender → Type 0
 IsSenderAmong actors (Client s) = Unit {0}
 IsSenderAmong actors (Actor a) = a.0 < actors
@@ -27,7 +27,7 @@ HasSenders actors p = All (λ m. IsSenderAmong actors m.sender) p.pending
 
 -- ---- in one mailbox
 
--- where two messages are of one sender, the later has the greater number
+-- if two messages are of one sender, the later one has the greater number
 abbrev pub IsBelow : Message → Message → Type 0
 IsBelow later earlier = earlier.sender ≡ later.sender → earlier.seq < later.seq
 
@@ -35,7 +35,7 @@ IsBelow later earlier = earlier.sender ≡ later.sender → earlier.seq < later.
 abbrev pub IsAbove : List Message → Message → Type 0
 IsAbove earlier later = All (IsBelow later) earlier
 
--- the last number of an actor, 0 where there is none
+-- the last number of an actor; 0 if there is none
 abbrev pub part_last : Option ActorPart → ℕ
 part_last None = 0
 part_last (Some p) = p.last
@@ -56,27 +56,27 @@ pub record IsMailed (numbers : List ℕ) (parts : List ActorPart) (p : ActorPart
 
 -- ---- in all mailboxes
 
--- a sender's number is that of one of some messages
+-- one of the messages has this sender and this number
 abbrev pub IsIn : List Message → Sender → ℕ → Type 0
 IsIn ms s n = (i : ℕ) × (m : Message) × (slice_get ms i ≡ Some m) × (m.sender ≡ s) × (m.seq ≡ n)
 
--- or of a message in the mailbox of one of some actors
+-- a message in some actor's mailbox has this sender and this number
 abbrev pub IsSent : List ActorPart → Sender → ℕ → Type 0
 IsSent parts s n = (a : ℕ) × (p : ActorPart) × (slice_get parts a ≡ Some p) × IsIn p.pending s n
 
--- no message of an actor has a sender's number that is that of a message of an earlier one
+-- no message of an actor has the sender and the number of a message of an earlier actor
 abbrev pub IsApart : List ActorPart → ActorPart → Type 0
 IsApart earlier p = All (λ m. IsSent earlier m.sender m.seq → ⊥) p.pending
 
--- numbers by their senders, and then by themselves
+-- orders by the sender, then by the number
 abbrev pub number_cmp : ℕ × ℕ → ℕ × ℕ → Ordering
 number_cmp a b = ordering_then (nat_cmp a.0 b.0) (nat_cmp a.1 b.1)
 
--- a sender's number was seen
+-- this number of a sender was seen
 abbrev pub has : SeenNumbers → Sender → ℕ → Bool
 has seen (Client s) n = contains number_cmp seen.of_clients (s, n)
 has seen (Actor a) n = contains number_cmp seen.of_actors (a.0, n)
 
--- seen are just the numbers for which this holds
+-- exactly the numbers for which P holds were seen
 abbrev pub AreSeen : SeenNumbers → (Sender → ℕ → Type 0) → Type 0
 AreSeen seen P = (s : Sender) (n : ℕ) → Decides (has seen s n) (P s n)

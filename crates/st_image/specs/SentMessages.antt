@@ -1,5 +1,5 @@
--- The message that a step of an actor sends: the dispatch of a turn sends the turn's message to the actor itself, a send
--- and a super send that of their instruction. All other steps send none.
+-- The message that a step of an actor sends, if it sends one.
+-- The dispatch of a turn sends the turn's message to the actor itself; a send and a super send send that of their instruction.
 use Rattle.std.specs.Prelude.{ℕ, List, Bool, true, false, Option, Some, None, slice_get, option_and_then}
 use Rattle.st_classes.specs.declared.values.ClassId.{ClassId}
 use Rattle.st_classes.specs.declared.values.Selector.{Selector}
@@ -22,8 +22,8 @@ use Rattle.st_turn.specs.FrameViews.{FramesView}
 use Rattle.st_turn.specs.Objects.{class_in}
 use Rattle.st_turn.specs.Steps.{Arrival, act_of, arguments, call_body, first_body, holder_of, receiver_of}
 
--- a message: the holder of the running method, where it is a super send; its receiver, its selector and its arguments;
--- and the body to which each way of arriving leads
+-- a message: the holder of the running method, if it is a super send; its receiver, its selector and its arguments; and the body to
+-- which each way of arriving leads
 pub record Sending : Type 0 where
   pub holder : Option ClassId
   pub receiver : Value
@@ -36,7 +36,7 @@ abbrev pub turn_message : List Object → Selector → List Value → Sending
 turn_message objects s args =
     record { holder = None; receiver = Local 0; selector = s; args = args; arrives = first_body objects }
 
--- a message of the running frame, whose caller that frame is
+-- a message of the running frame, which is its caller
 abbrev pub frame_message : MethodParts → List Object → FramesView → Bool → Selector → ℕ → Sending
 frame_message m objects fs by_super s n = record {
   holder = holder_of by_super m;
@@ -69,17 +69,17 @@ message_sent edits b = message_in edits b.objects b.phase
 abbrev pub receiver_class : Body → Sending → ClassId
 receiver_class b x = class_in b.objects x.receiver
 
--- what it is looked up by: that class and its selector, and for a super send the holder
+-- its key for the lookup: the class of the receiver, the selector, and for a super send the holder
 abbrev pub sent_key : Body → Sending → Key
 sent_key b x = record { holder = x.holder; class = receiver_class b x; selector = x.selector }
 
--- the classes along which a method is looked for: the chain of the receiver's class, and for a super send that of the
--- holder's superclass
+-- the classes along which a method is looked for: the chain of the receiver's class, and for a super send that of the holder's
+-- superclass
 abbrev pub classes_along : List Edit → ClassId → Option ClassId → List ClassId
 classes_along edits c None = chain edits c
 classes_along edits c (Some holder) = chain_from edits (parent edits holder)
 
--- what an ordinary send asks of the image, if it does; a super send asks nothing
+-- what an ordinary send asks of the image, if anything; a super send asks nothing
 abbrev pub act_asked : Option ClassId → Value → Selector → List Value → Option Act
 act_asked None receiver s args = act_of receiver s args
 act_asked (Some holder) receiver s args = None

@@ -15,37 +15,38 @@ use Rattle.st_classes.specs.Refusals.{Rule}
 use Rattle.st_classes.specs.Classes.{is_class}
 use Rattle.st_classes.specs.EditLists.{method_at}
 use Rattle.st_classes.specs.Walks.{own}
-use Rattle.st_image.specs.declared.tallies.Tally.{Tally}
+use Rattle.st_turn.specs.declared.tally.Tally.{Tally}
 use Rattle.st_image.specs.declared.tallies.SiteStats.{SiteStats}
 use Rattle.st_image.specs.Images.{ImageView, constants, world}
-use Rattle.st_image.specs.Tallies.{CountsSends, sends_of, tally_at}
+use Rattle.st_turn.specs.Tallies.{sends_of}
+use Rattle.st_image.specs.Tallies.{CountsSends, tally_at}
 
--- the user's method among those that a class can have
+-- the method, if it is a user's
 abbrev pub user_method : Option Found → Option MethodId
 user_method None = None
 user_method (Some (Kernel k)) = None
 user_method (Some (User m)) = Some m
 
--- the method that is installed in a class for a selector
+-- the user's method of a class for a selector
 abbrev pub installed_own : List Edit → ClassId → Selector → Option MethodId
 installed_own edits c s = user_method (own edits c s)
 
--- what is told of a send with a tally
+-- the statistics of a send with a tally
 abbrev pub stats_with : Tally → Option Instruction → Option SiteStats
 stats_with t (Some (Send s n)) = Some (record { selector = s; is_super = false; tally = t })
 stats_with t (Some (SuperSend s n)) = Some (record { selector = s; is_super = true; tally = t })
 stats_with t _ = None
 
--- what is told of the send at a place of a method's code
+-- the statistics of the send at a place of a method's code
 abbrev pub site_stats : List (List Tally) → MethodId → List Instruction → ℕ → Option SiteStats
 site_stats rows m code place = stats_with (tally_at rows (record { method = m; place = place })) (slice_get code place)
 
--- what is told of the sites of a method, in the order of its code
+-- the statistics of a method's sites, in the order of its code
 abbrev pub sites_stats : List (List Tally) → MethodId → Option MethodParts → List SiteStats
 sites_stats rows m None = []
 sites_stats rows m (Some parts) = filter_map (site_stats rows m parts.code) parts.sites
 
--- where there is one
+-- the same of a method, if there is one
 abbrev pub method_stats : ImageView → Option MethodId → List SiteStats
 method_stats i None = []
 method_stats i (Some m) = sites_stats i.standing.tallies m (method_at (world i).edits m)
@@ -57,7 +58,7 @@ stats_rules i c s =
     ∷ (is_none (installed_own (world i).edits c s), NoSuchMethod)
     ∷ []
 
--- the sends of a site are fewer than a machine word counts
+-- the number of a site's sends fits in a machine word
 abbrev pub HasFewSends : SiteStats → Type 0
 HasFewSends s = sends_of s.tally < 2 ^ 64
 

@@ -1,4 +1,4 @@
--- What is true of every world that a history leads to.
+-- What holds of every world that a history leads to.
 use Rattle.std.specs.Prelude.{◌≡◌, ℕ, suc, ◌+◌, ◌≤◌, List, [], ◌∷◌, ◌++◌, length, true, Option, Some, None, slice_get, All, if◌then◌else◌}
 use Rattle.st_classes.specs.declared.values.Value.TheVariants.{Local}
 use Rattle.st_classes.specs.declared.edits.Edit.{Edit}
@@ -24,13 +24,13 @@ use Rattle.st_image.specs.Senders.{InSendingOrder}
 use Rattle.st_image.specs.Delivery.{BeginsInOrder}
 use Rattle.st_image.specs.Starts.{StartsLast, StartsWithoutLocals}
 
--- names, and so many actors
+-- names, and a number of actors
 abbrev pub given : List (List ℕ) → ℕ → Referents
 given names actors = record { names = names; actors = actors }
 
--- an actor: its body fits the table, its first object is of its class, and a message that it is to dispatch has no
--- object of its own; its mailbox is within its capacity; what it has begun is a prefix of what it accepted, and what it
--- accepted still makes sense; and what a result names is there
+-- an actor: its body fits the table, its first object is of its class, and a message that it is yet to dispatch has none of its own
+-- objects; its mailbox is within its capacity; what it has begun is a prefix of what it accepted; what it accepted still fits its
+-- selectors and names what exists; and what a result names exists
 pub record IsWorldActor (names : List (List ℕ)) (edits : List Edit) (actors : ℕ) (b : WorldActor) : Type 0 where
   pub fits : Fits (given names actors) edits b.body
   pub itself : class_in b.body.objects (Local 0) ≡ b.class
@@ -42,16 +42,16 @@ pub record IsWorldActor (names : List (List ℕ)) (edits : List Edit) (actors : 
   pub mail : All (λ (m : Message). message_fits names (class_count edits) actors m ≡ true) b.accepted
   pub told : All (λ (o : Outcome). FitsPhase (given names actors) edits b.body.objects (Done o)) b.results
 
--- the names begin with the kernel's
+-- the kernel's names are a prefix of the names
 abbrev pub BeginsWithKernel : List (List ℕ) → Type 0
 BeginsWithKernel names = (more : List (List ℕ)) × (names ≡ kernel_selectors ++ more)
 
--- an item's edit, where it is one, is sound
+-- an item's edit, if it is an edit, is sound
 abbrev pub IsSoundItem : Item → Type 0
 IsSoundItem (Edited e) = IsSoundEdit e
 IsSoundItem _ = Unit {0}
 
--- the constants of a run: the names begin with the kernel's, and the capacity is one
+-- the constants of a run: the kernel's names are a prefix of the names, and the capacity is from 1 to 1,024
 pub record AreConstants (c : Constants) : Type 0 where
   pub kernel : BeginsWithKernel c.names
   pub some_capacity : 1 ≤ c.capacity
@@ -73,7 +73,7 @@ pub record IsWorld (c : Constants) (w : World) : Type 0 where
 
 -- ---- names
 
--- a lawful history is lawful, and leads to the same world, also for names that go on from those it was made with
+-- a lawful history stays lawful, and leads to the same world, if more names are appended
 abbrev pub NamesMayGrow : Type 0
 NamesMayGrow = (names more : List (List ℕ)) (capacity : ℕ) (base w : World) (h : List Item)
     → IsWorld (record { names = names; capacity = capacity }) base
@@ -83,7 +83,7 @@ NamesMayGrow = (names more : List (List ℕ)) (capacity : ℕ) (base w : World) 
 
 -- ---- turns and results
 
--- the number of an actor's first turn: 0 where the base has it in a turn or behind one, else 1
+-- the number of an actor's first turn: 0 if in the base it is in a turn or has ended one, else 1
 abbrev pub first_turn : Option WorldActor → ℕ
 first_turn None = 1
 first_turn (Some b) = first_of_phase b.body.phase
@@ -92,11 +92,11 @@ first_turn (Some b) = first_of_phase b.body.phase
     first_of_phase Fresh = 1
     first_of_phase _ = 0
 
--- each turn of an actor from its first on has one result, but for one that is going on
+-- each turn of an actor, from its first one on, has one result, except for one that is going on
 abbrev pub HasTurns : ℕ → WorldActor → Type 0
 HasTurns first b = length b.results + (if is_idle b.body.phase then 0 else 1) + first ≡ length b.begun + 1
 
--- the actors of a base are still there, and each actor has its turns, and dispatches what it has begun
+-- the actors of a base still exist, and each actor has its turns, and dispatches what it has begun last
 pub record HaveTurns (base w : World) : Type 0 where
   pub long : length base.actors ≤ length w.actors
   pub each : (a : ℕ) (b : WorldActor) → slice_get w.actors a ≡ Some b
@@ -105,20 +105,20 @@ pub record HaveTurns (base w : World) : Type 0 where
 
 -- ---- images
 
--- the numbers of a run are within their limits
+-- the settings are within their limits
 pub record AreSettings (s : Settings) : Type 0 where
   pub some_capacity : 1 ≤ s.capacity
   pub few_messages : s.capacity ≤ 1024
   pub some_history : 1 ≤ s.history
   pub few_items : s.history ≤ 1000000
 
--- the numbers that are set for an image
+-- the settings of an image
 abbrev pub settings_of : ImageView → Settings
 settings_of i = record { capacity = i.capacity; history = i.most_items }
 
--- what is true of every image: it began with a world, its history is lawful from there and no longer than its limit,
--- its numbers are within theirs, its world has what every world has, each turn has its message and its result, and no more
--- posts and steps are counted than an image counts
+-- what holds of every image: it began with a world, its history is lawful from there and no longer than its limit, its settings are
+-- within theirs, its world has the invariant of worlds, each turn has its message and its result, there are at most 65,536 actors, and
+-- no more posts and steps are counted than an image counts
 pub record IsLawful (i : ImageView) : Type 0 where
   pub base : IsWorld (constants i) i.base
   pub senders : InSendingOrder i.base

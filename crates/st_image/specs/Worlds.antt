@@ -25,8 +25,7 @@ pub record WorldActor : Type 0 where
   pub begun : List Message
   pub results : List Outcome
 
--- the edits, the actors by their numbers, and the clients that sent a message, rising, each with the number of its last
--- one
+-- the edits; the actors, by their numbers; and the clients that sent a message, in rising order, each with its last number
 pub record World : Type 0 where
   pub edits : List Edit
   pub actors : List WorldActor
@@ -48,12 +47,12 @@ mailbox_of b = record { items = pending b; capacity = b.capacity; is_open = b.is
 abbrev pub start : World
 start = record { edits = []; actors = []; clients = [] }
 
--- the last number of a client, 0 where it sent nothing
+-- the last number of a client; 0 if it sent nothing
 abbrev pub client_last : ℕ → List (ℕ × ℕ) → ℕ
 client_last s [] = 0
 client_last s (p ∷ ps) = if s == p.0 then p.1 else client_last s ps
 
--- the number of a client in place of its old one, or where the list stays rising
+-- a client's number, in place of its old one, or inserted so that the list stays rising
 abbrev pub put_number : ℕ → ℕ → List (ℕ × ℕ) → List (ℕ × ℕ)
 put_number s n [] = (s, n) ∷ []
 put_number s n (p ∷ ps) =
@@ -61,15 +60,15 @@ put_number s n (p ∷ ps) =
     else (if nat_lt s p.0 then (s, n) ∷ p ∷ ps
     else p ∷ put_number s n ps)
 
--- a list whose item at a place is changed, where there is one
+-- a list with the item at a place changed, if there is one
 abbrev pub changed : {X : Type 0} → (X → X) → ℕ → List X → Option X → List X
 changed f place xs None = xs
 changed f place xs (Some x) = slice_set xs place (f x)
 
--- by what is there
+-- the item at a place is changed, if there is one
 abbrev pub change_at : {X : Type 0} → (X → X) → ℕ → List X → List X
 change_at f place xs = changed f place xs (slice_get xs place)
 
--- the world with the actor of a number changed
+-- the world with the actor at a number changed
 abbrev pub change : (WorldActor → WorldActor) → ActorId → World → World
 change f a w = record w { actors = change_at f a.0 w.actors }

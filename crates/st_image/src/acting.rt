@@ -14,7 +14,7 @@ ghost use Rattle.st_image.specs.Worlds.{World, change_at};
 use crate::actor::Actor;
 use crate::actors::Actors;
 use st_classes::faults::Fault;
-use st_classes::kernel::KERNEL_CLASSES;
+use st_classes::kernel::is_value_class;
 use st_classes::limits::ACTORS;
 use st_classes::names::Names;
 use st_classes::refusals::Refusal;
@@ -212,7 +212,7 @@ fn create<M: Mailbox>(
     ensures out { OnOk result (SameOut actors.old.out actors.new.out) }
     ensures err { OnErr result (actors.new ≡ actors.old) }
 {
-    if 1 <= class.0 && class.0 < KERNEL_CLASSES {
+    if is_value_class(class) {
         return Ok(Err(Fault::BadArgument));
     }
     if actors.len() >= ACTORS {

@@ -4,7 +4,7 @@ use st_classes::values::ClassId;
 use st_mailbox::messages::Message;
 use st_turn::body::Body;
 
-/// An actor by its parts, as it stands in an image or begins in one.
+/// An actor as plain data, as it is in an image or begins in one.
 #[derive(Drop)]
 pub struct ActorPart {
     pub class: ClassId,
@@ -12,8 +12,8 @@ pub struct ActorPart {
     pub capacity: u32,
     pub is_open: bool,
     pub body: Body,
-    /// The number of the last message that it sent, 0 where it sent none.
+    /// The number of the last message that it sent; 0 if it sent none.
     pub last: u64,
-    /// What it accepted and has not begun.
+    /// The messages that it accepted and has not begun.
     pub pending: Seq<Message>,
 }

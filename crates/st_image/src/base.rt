@@ -39,7 +39,7 @@ impl Base {
         }
     }
 
-    /// The number of the first turn of an actor.
+    /// The number of an actor's first turn.
     pub(crate) fn first_turn(&self, actor: ActorId) -> u64
         ensures { result ≡ first_turn_of (slice_get self.now.actors actor.0) }
     {

@@ -6,8 +6,7 @@ use st_classes::values::ActorId;
 use std::alloc::{AllocError, Global};
 use std::marker::Model;
 
-/// How often the body of each actor was changed, by the actors' numbers. Contracts see a list of numbers, of which those past its
-/// end are 0.
+/// How often the body of each actor was changed, by the actors' numbers. Contracts see a list of numbers; a number past its end is 0.
 #[derive(Drop)]
 pub(crate) struct Changes {
     counts: Vec<u32>,
@@ -31,14 +30,14 @@ impl Changes {
         }
     }
 
-    /// The number of actors up to the last whose body was changed, or more.
+    /// A number of actors that covers all whose body was changed.
     pub(crate) fn len(&self) -> usize
         ensures { result ≡ length self.now }
     {
         self.counts.len()
     }
 
-    /// How often the body of the actor of a place was changed.
+    /// How often the body of the actor at a place was changed.
     pub(crate) fn at(&self, place: usize) -> u32
         ensures { result ≡ change_count self.now place }
     {
@@ -67,7 +66,7 @@ impl Changes {
         Ok(())
     }
 
-    /// The body of an actor was changed once more.
+    /// Counts one more change of an actor's body.
     pub(crate) fn raise(&mut self, actor: ActorId)
         requires room { actor.0 < length self.old }
         requires few { change_count self.old actor.0 + 1 < 2 ^ 32 }

@@ -6,7 +6,7 @@ ghost use Rattle.st_image.specs.Worlds.{client_last};
 use std::alloc::{AllocError, Global};
 use std::marker::Model;
 
-/// The clients of a list of their last numbers, without those that have sent no message.
+/// The clients of a list of last numbers, without those that have sent no message.
 fn clients_of(alloc: Global, numbers: &[u64]) -> Result<Vec<(u16, u64)>, AllocError>
     requires { length numbers.now ≤ 65536 }
     ensures { IfOk result (λ clients. clients.items ≡ clients_from 0 numbers.now) }
@@ -20,8 +20,7 @@ fn clients_of(alloc: Global, numbers: &[u64]) -> Result<Vec<(u16, u64)>, AllocEr
     Ok(clients)
 }
 
-/// The last number of each client, by the clients' numbers. Contracts see a list of numbers, of which those past its
-/// end are 0.
+/// The last number of each client, by the clients' numbers. Contracts see a list of numbers; a number past its end is 0.
 #[derive(Drop)]
 pub(crate) struct Clients {
     numbers: Vec<u64>,
@@ -53,7 +52,7 @@ impl Clients {
     {
         let mut clients = Clients::new(alloc);
         let mut left = pairs.len();
-        // From the last to the first: of two numbers of a client the first would count.
+        // From the last to the first, because the first of two numbers of a client counts.
         'pairs: while 0 < left {
             left -= 1;
             let (client, number) = pairs[left];
@@ -63,7 +62,7 @@ impl Clients {
         Ok(clients)
     }
 
-    /// The last number of a client, 0 if it has sent no message.
+    /// The last number of a client; 0 if it has sent no message.
     pub(crate) fn last(&self, client: u16) -> u64
         ensures { result ≡ number_of self.now client }
     {
@@ -73,7 +72,7 @@ impl Clients {
         }
     }
 
-    /// The clients that have sent a message, rising, each with its last number.
+    /// The clients that have sent a message, in rising order, each with its last number.
     pub(crate) fn list(&self, alloc: Global) -> Result<Vec<(u16, u64)>, AllocError>
         ensures { IfOk result (λ clients. clients.items ≡ clients_from 0 self.now) }
     {

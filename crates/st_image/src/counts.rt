@@ -1,4 +1,4 @@
-//! How much there was of posts and of steps.
+//! Counts of posts and steps.
 
 /// The most posts, and the most steps, that an image counts: 2^63 - 1.
 pub const MOST_COUNTED: u64 = (1 << 63) - 1;

@@ -1,4 +1,4 @@
-//! What was counted before the world that an image began with.
+//! What was counted in an image before its base.
 ghost use Rattle.std.specs.Prelude.{◌≡◌, ◌+◌, ◌<◌, ◌≤◌, ◌^◌, ℕ, length, IfOk};
 ghost use Rattle.st_image.specs.Changes.{change_count};
 ghost use Rattle.st_image.specs.Earlier.{counted_earlier};
@@ -27,7 +27,7 @@ impl Model for Earlier {
 }
 
 impl Earlier {
-    /// So many posts and steps were counted, and nothing else.
+    /// This many posts and steps were counted, and nothing else.
     pub(crate) fn counted(alloc: Global, counts: Counts) -> Earlier
         ensures { result ≡ counted_earlier counts }
     {
@@ -60,7 +60,7 @@ impl Earlier {
         self.counts
     }
 
-    /// The same with these changes besides, so many edits in all, and these counts in all.
+    /// The same with these changes added, this many edits in all, and these counts in all.
     pub(crate) fn with(
         &self,
         alloc: Global,
@@ -86,7 +86,7 @@ impl Earlier {
         })
     }
 
-    /// The number of actors up to the last whose body was changed before or by these changes, or more.
+    /// A number of actors that covers all whose body was changed, before or by these changes.
     fn actors_with(&self, changes: &Changes) -> usize
         ensures before { length self.now.changes ≤ result }
         ensures since { length changes.now ≤ result }
@@ -98,7 +98,7 @@ impl Earlier {
         }
     }
 
-    /// How often the body of the actor of a place was changed.
+    /// How often the body of the actor at a place was changed.
     fn changed_at(&self, place: usize) -> u64
         ensures { result ≡ change_count self.now.changes place }
     {

@@ -1,7 +1,7 @@
 //! An edit of an image file.
 use st_classes::seq::Seq;
 
-/// An edit in texts: classes and selectors are named, and a method is its source.
+/// An edit as texts: classes and selectors are named, and a method is its source.
 #[derive(Drop)]
 pub enum EditText {
     Define {

@@ -30,7 +30,7 @@ use crate::earlier::Earlier;
 use crate::items::Item;
 use crate::settings::Settings;
 use crate::tallies::Tallies;
-use st_classes::kernel::KERNEL_CLASSES;
+use st_classes::kernel::is_value_class;
 use st_classes::limits::ACTORS;
 use st_classes::names::Names;
 use st_classes::refusals::{Limited, Refusal};
@@ -43,19 +43,18 @@ use st_turn::body::{Body, Outcome};
 use std::alloc::Global;
 use std::marker::Model;
 
-/// Whatever happens, each actor has begun a prefix of what its mailbox accepted, every message once, each sender's in
-/// sending order, and none accepted after close. What a mailbox accepted stays accepted, what an actor began stays
-/// begun, and how its turns ended stays so.
+/// Each actor has begun a prefix of what its mailbox accepted, every message once, each sender's in sending order, and none accepted
+/// after close. Whatever happens later, what a mailbox accepted stays accepted, what an actor began stays begun, and results stay.
 pub fn delivery()
     ensures { Delivers }
 {}
 
-/// New names change nothing of what is in a history: it is lawful for longer names too, and leads to the same world.
+/// New names change nothing in a history: it stays lawful with more names, and leads to the same world.
 pub fn names_may_grow()
     ensures { NamesMayGrow }
 {}
 
-/// An actor's body is changed by the beginning of its messages and by its own steps alone.
+/// An actor's body is changed only by the beginning of its messages and by its own steps.
 pub fn bodies_stay()
     ensures { BodiesStay }
 {}
@@ -66,17 +65,17 @@ pub fn one_claim_counts()
     ensures { CountsOnItsBody }
 {}
 
-/// A checkpoint is nothing to a claim that is out: the claim commits afterwards as it would have before, and is refused as `Stale` or
-/// `Changed` where it would have been.
+/// A checkpoint changes nothing for a claim that is out: the claim commits afterwards as it would have before, and is refused as
+/// `Stale` or `Changed` exactly if it would have been.
 pub fn checkpoint_leaves_claims()
     ensures { LeavesClaims }
 {}
 
 /// An image: a class table, actors, and the history that led to them.
 ///
-/// Contracts see the world that it began with, its names, its history, the numbers that are set, and what it keeps beside its
-/// world: the number from which the next ready actor is looked for, the claims that are out, the tallies of call sites, and what
-/// was counted before it began. All else follows from the history.
+/// Contracts see the world that it began with, its names, its history, its settings, and what it keeps beside its world: the number
+/// from which the next ready actor is looked for, how many claims of each actor are out, the tallies of call sites, and what was
+/// counted before it began. All else follows from the history.
 #[derive(Drop)]
 pub struct Image<M: Mailbox> {
     /// The world that it began with.
@@ -93,7 +92,7 @@ pub struct Image<M: Mailbox> {
     /// The number from which the next ready actor is looked for.
     next_from: u32,
     tallies: Tallies,
-    /// How many edits, from the first on, are covered: the tallies have places for all code of the methods that they install.
+    /// The tallies have places for all code of the methods that the first edits install; this is the number of these edits.
     covered: u32,
     changes: Changes,
     /// The posts and the steps of the history.
@@ -134,7 +133,7 @@ impl<M: Mailbox> Image<M> {
 
     /// An image with the kernel's names and classes, no actors and no history.
     ///
-    /// `BadArguments` says that a number is out of its range.
+    /// `BadArguments` if a setting is out of its range.
     pub fn new(alloc: Global, settings: Settings) -> Result<Image<M>, Refusal>
         ensures { Answers (first_of (settings_rules settings)) result (λ i. i ≡ new_image settings) }
     {
@@ -173,7 +172,7 @@ impl<M: Mailbox> Image<M> {
 
     /// Replaces the capacity of new mailboxes and the limit of the history. The history has to be empty.
     ///
-    /// `BadArguments` says that a number is out of its range. A refused call changes nothing.
+    /// `BadArguments` if a setting is out of its range. A refused call changes nothing.
     pub fn set(&mut self, settings: Settings) -> Result<(), Refusal>
         requires { self.old.history ≡ [] }
         ensures { MatchResult result
@@ -187,22 +186,22 @@ impl<M: Mailbox> Image<M> {
         Ok(())
     }
 
-    /// What is true of every image.
+    /// What holds of every image.
     pub fn known(&self)
         ensures { IsLawful self.now }
     {
         self.actors.len();
     }
 
-    /// Each method that was installed is the one that its own source spells, compiled in its class at the edits before it.
+    /// Each installed method is the one that its own source spells, compiled in its class at the edits before it.
     pub fn all_compiled(&self)
         ensures { AllCompiled self.now.names (world self.now).edits }
     {
         self.actors.len();
     }
 
-    /// Over each prefix of its own history, each actor had begun a prefix of what its mailbox had accepted, every
-    /// message once and each sender's in sending order. Both have only grown since, and none was accepted after close.
+    /// Over each prefix of the history, each actor had begun a prefix of what its mailbox had accepted, every message once and each
+    /// sender's in sending order. Both have only grown since, and a mailbox that was closed has accepted nothing since.
     pub fn delivered(&self)
         ensures { HasDelivered self.now }
     {
@@ -245,10 +244,10 @@ impl<M: Mailbox> Image<M> {
         self.actors.len() as u32
     }
 
-    /// The number of a selector, which is put last in the names where it isn't there yet.
+    /// The number of a selector. A new one is appended to the names.
     ///
-    /// `BadName` says that the text is no selector, and `TooMany` that it isn't there and 8,192 names are. Memory can run out
-    /// only where a name is put last. A refused call changes nothing.
+    /// `BadName` if the text is no selector; `TooMany` if it is new and there are 8,192 names. Memory can run out only if the text is new.
+    /// A refused call changes nothing.
     pub fn intern(&mut self, alloc: Global, text: &[u8]) -> Result<Selector, Refusal>
         ensures answers { Answers (first_of (intern_rules self.old.names text.now)) result (λ s. slice_get self.new.names s.0 ≡ Some text.now) }
         ensures names { OnOk result (self.new ≡ record self.old { names = interned self.old.names text.now }) }
@@ -259,11 +258,11 @@ impl<M: Mailbox> Image<M> {
         self.names.intern(alloc, text)
     }
 
-    /// How a turn of an actor ended. Turns are numbered as the actor's messages are: those that were pending when the image was loaded
-    /// or had its last checkpoint from 1, and then those accepted since. Turn 0 is the one that the actor was in at that time, or behind.
+    /// How a turn of an actor ended. Turns are numbered like the actor's messages: from 1 those that were pending when the image was
+    /// loaded or had its last checkpoint, then those accepted since. Turn 0 is the one that the actor was in, or had ended, at that time.
     ///
-    /// Refusals, in this order: `UnknownActor`; `Expired` for turn 0 where the actor began with none, and for a turn whose result
-    /// is no longer among the newest 64; `Pending` where the turn has not ended, or there is none.
+    /// Refusals, in this order: `UnknownActor`; `Expired` for turn 0 if the actor began with none, and for a turn whose result is no
+    /// longer among the newest 64; `Pending` if the turn has not ended, or there is none.
     pub fn outcome(&self, actor: ActorId, turn: u64) -> Result<Outcome, Refusal>
         ensures { result ≡ image_outcome self.now actor turn }
     {
@@ -273,8 +272,8 @@ impl<M: Mailbox> Image<M> {
         }
     }
 
-    /// The first actor, in cyclic order of numbers after the one that was checked out last, that has no claim out, and is in a
-    /// turn or has a message pending.
+    /// The first ready actor without a claim out, in cyclic order of numbers after the actor that was checked out last. An actor is ready
+    /// if it is in a turn or has a message pending.
     pub fn next_ready(&self) -> Option<ActorId>
         ensures some { IfSome result (λ a. IsNextReady self.now a.0) }
         ensures none { IfNone result ((a : ℕ) → is_free_at self.now a ≡ false) }
@@ -299,28 +298,28 @@ impl<M: Mailbox> Image<M> {
         Some(self.actor(actor)?.body())
     }
 
-    /// The mailbox of an actor: what it accepted and the actor has not begun, the first to be begun in front.
+    /// The mailbox of an actor: the messages that it accepted and the actor has not begun, in order.
     pub fn mailbox(&self, actor: ActorId) -> Option<&M>
         ensures { option_map (λ b. M.shown b) (option_copied result) ≡ option_map mailbox_of (slice_get (world self.now).actors actor.0) }
     {
         Some(self.actor(actor)?.mailbox())
     }
 
-    /// The number of the last message of an actor that a mailbox accepted, 0 where none was.
+    /// The number of the last message of an actor that a mailbox accepted; 0 if there is none.
     pub fn last_sent(&self, actor: ActorId) -> Option<u64>
         ensures { result ≡ option_map (λ b. b.last) (slice_get (world self.now).actors actor.0) }
     {
         Some(self.actor(actor)?.last())
     }
 
-    /// The actor of a number, if there is one.
+    /// The actor with this number, if there is one.
     fn actor(&self, actor: ActorId) -> Option<&Actor<M>>
         ensures { option_copied result ≡ option_map actor_view (slice_get (world self.now).actors actor.0) }
     {
         self.actors.get(actor)
     }
 
-    /// The last number of a sender, if it is there: that of a client is 0 at first.
+    /// The last number of a sender, if it exists; that of a client is 0 at first.
     fn sender_last(&self, sender: Sender) -> Option<u64>
         ensures { result ≡ last_of_sender (world self.now) sender }
     {
@@ -330,7 +329,7 @@ impl<M: Mailbox> Image<M> {
         }
     }
 
-    /// Why the history has no place for so many items more, if it has none.
+    /// Why the history has no room for this many more items, if it has none.
     fn room_refusal(&self, items: u32) -> Option<Refusal>
         requires { items < 3 }
         ensures { result ≡ first_of (no_room self.now items ∷ []) }
@@ -349,7 +348,7 @@ impl<M: Mailbox> Image<M> {
         if u32::from(class.0) >= self.version().classes() {
             return Some(Refusal::UnknownClass);
         }
-        if 1 <= class.0 && class.0 < KERNEL_CLASSES {
+        if is_value_class(class) {
             return Some(Refusal::KernelClass);
         }
         if self.actors.len() >= ACTORS {
@@ -362,8 +361,8 @@ impl<M: Mailbox> Image<M> {
 
     /// A new actor of a class, with the capacity that is set. Actors are numbered from 0.
     ///
-    /// Refusals, in this order: `UnknownClass`; `KernelClass` for classes 1 to 7; `TooMany` where 65,536 actors are there;
-    /// `HistoryFull`. Memory can run out only where none of these applies. A refused call changes nothing.
+    /// Refusals, in this order: `UnknownClass`; `KernelClass` for classes 1 to 7; `TooMany` if there are 65,536 actors; `HistoryFull`.
+    /// Memory can run out only if none of these applies. A refused call changes nothing.
     pub fn create(&mut self, alloc: Global, class: ClassId) -> Result<ActorId, Refusal>
         ensures { Creates self.old class result self.new }
     {

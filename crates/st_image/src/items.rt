@@ -16,6 +16,6 @@ pub enum Item {
     Closed(ActorId),
     /// The next pending message became the actor's turn.
     Begun(ActorId),
-    /// The actor took so many steps, at least one.
+    /// The actor took this many steps, at least one.
     Ran { actor: ActorId, steps: u32 },
 }

@@ -1,7 +1,7 @@
 //! The image: actors, their mailboxes, the class table, and the history of all that happened.
 //!
-//! An [`image::Image`] is at all times the replay of its history: its state is what the items of the history lead to,
-//! one after the other, each of them allowed where it stands.
+//! An [`image::Image`] is at all times the replay of its history: its state is what the items of the history lead to, one after the
+//! other, and each item was allowed at its place.
 #![tactic(auto)]
 
 mod acting;

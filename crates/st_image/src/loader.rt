@@ -18,7 +18,7 @@ use st_reader::trees::MethodTree;
 use std::alloc::{AllocError, Global};
 use std::marker::Model;
 
-/// What a name or an edit of a file leads to is determined, and so is what several lead to, one after the other.
+/// From a table, a name or an edit of a file leads to at most one table, and so do several, one after the other.
 #[tactic(auto, using(crate::proofs::LoadedOnce::name_once, crate::proofs::LoadedOnce::edit_once, crate::proofs::LoadedOnce::all_once))]
 pub fn leads_to_one()
     ensures name { LeadsToOne LoadsName }
@@ -29,8 +29,8 @@ pub fn leads_to_one()
     one_reading();
 }
 
-/// A class table whose methods are compiled from their sources, as that of every image and of every loader is, loads again from the
-/// texts of its names and of its edits.
+/// A class table whose methods are compiled from their sources loads again from the texts of its names and its edits. The tables of all
+/// images and loaders are such.
 pub fn reloads()
     ensures { TablesReload }
 {}
@@ -39,7 +39,7 @@ const EDITS: Refusal = Refusal::BadImage {
     place: ImagePlace::Edits,
 };
 
-/// Want of memory as it is, and any other refusal of an edit as that of the file's edits.
+/// `NoMemory` stays as it is; any other refusal of an edit becomes that of the file's edits.
 fn refused(refusal: Refusal) -> Refusal
     ensures { result ≡ edits_refusal refusal }
 {
@@ -53,7 +53,7 @@ const NAMES: Refusal = Refusal::BadImage {
     place: ImagePlace::Names,
 };
 
-/// Want of memory as it is, and any other refusal of a name as that of the file's names.
+/// `NoMemory` stays as it is; any other refusal of a name becomes that of the file's names.
 fn refused_name(refusal: Refusal) -> Refusal
     ensures { result ≡ names_refusal refusal }
 {
@@ -63,7 +63,7 @@ fn refused_name(refusal: Refusal) -> Refusal
     }
 }
 
-/// Names and a class table, to which those of a file are added one after the other.
+/// Names and a class table. Those of a file are added one after the other.
 #[derive(Drop)]
 pub struct Loader {
     names: Names,
@@ -106,8 +106,8 @@ impl Loader {
         })
     }
 
-    /// What is true of every loader: of its names and its class table what is true of all, and the methods suit the names and are
-    /// compiled from their sources.
+    /// What holds of every loader: its names and its class table have their invariants, and the methods suit the names and are compiled
+    /// from their sources.
     pub fn known(&self)
         ensures names { AreNames self.now.names }
         ensures lawful { AreLawful self.now.edits }
@@ -131,10 +131,10 @@ impl Loader {
         &self.version
     }
 
-    /// Puts a name last.
+    /// Appends a name.
     ///
-    /// `BadImage`, at the names, says that the text is no selector, that it is a name already, or that there are 8,192 names.
-    /// Else the only refusal is `NoMemory`. A refused name changes nothing.
+    /// `BadImage` at the names if the text is no selector, is a name already, or there are 8,192 names. The only other refusal is
+    /// `NoMemory`. A refused name changes nothing.
     pub fn name(&mut self, alloc: Global, text: &[u8]) -> Result<(), Refusal>
         ensures { AnswersName self.old text.now self.new result }
     {
@@ -147,12 +147,12 @@ impl Loader {
         Ok(())
     }
 
-    /// Puts an edit last. An install's source is read and compiled, and the names that its code needs are put last too.
+    /// Appends an edit. An install's source is read and compiled, and the names that its code needs are appended too.
     ///
-    /// `BadImage`, at the edits, says that an image would refuse the edit for another cause than the limits of a run or of the
-    /// history. Else the only refusal is `NoMemory`. A refused edit changes nothing, except that an install whose source has code
-    /// in its class may add names that this code needs: where the names are too many, those that fitted; for want of memory, some of
-    /// the first or all of them; for any other cause, all.
+    /// `BadImage` at the edits if an image would refuse the edit for another cause than the limits of a run or of the history. The only
+    /// other refusal is `NoMemory`. A refused edit changes nothing, except that an install whose source has code in its class may add
+    /// names that this code needs: those that fitted, if the names are too many; none, the first ones or all, if memory ran out; all, for
+    /// any other cause.
     pub fn edit(&mut self, alloc: Global, edit: &EditText) -> Result<(), Refusal>
         ensures answers { AnswersEdit (LoadsEdit self.old edit.now) self.new result }
         ensures refused { IfErr result (λ e. LeavesEdit self.old edit.now e self.new) }
@@ -175,7 +175,7 @@ impl Loader {
         }
     }
 
-    /// An edit that suits, with a method that is compiled from its source, or why it is refused.
+    /// Appends an edit that suits, with a method that is compiled from its source, or answers why it is refused.
     fn accept(&mut self, alloc: Global, edit: Edit) -> Result<(), Refusal>
         requires suits { edit_suits self.old.names self.old.edits edit ≡ true }
         requires compiled { IsCompiledEdit self.old.names self.old.edits edit }
@@ -232,7 +232,7 @@ impl Loader {
         self.install_tree(alloc, class, &tree)
     }
 
-    /// The method of a tree in a class, and the names that it needs.
+    /// Compiles the method of a tree in a class, and interns the names that it needs.
     fn compiled(
         &mut self,
         alloc: Global,

@@ -33,7 +33,7 @@ impl Model for Results {
 }
 
 impl Results {
-    /// There are none yet.
+    /// No results.
     pub(crate) fn new(alloc: Global) -> Result<Results, AllocError>
         ensures { IfOk result (λ r. r ≡ record { items = []; count = 0; room = 0 }) }
     {
@@ -43,7 +43,7 @@ impl Results {
         })
     }
 
-    /// That of the turn that a body is behind, if it is behind one.
+    /// The result of the turn that a body has ended, if it has ended one.
     pub(crate) fn of_phase(alloc: Global, phase: &Phase) -> Result<Results, AllocError>
         ensures { IfOk result (λ r. kept_in r ≡ kept_of (result_of phase.now)) }
     {
@@ -55,7 +55,7 @@ impl Results {
         Ok(results)
     }
 
-    /// The result of a number, from 0: `Pending` where there is none yet, `Expired` where it is not kept any more.
+    /// The result with a number, from 0: `Pending` if it has not come yet, `Expired` if it is no longer kept.
     pub(crate) fn outcome(&self, number: u64) -> Result<Outcome, Refusal>
         ensures { result ≡ kept_result (record { items = self.now.items; count = self.now.count }) number }
     {
@@ -82,7 +82,7 @@ impl Results {
         Ok(())
     }
 
-    /// Puts a result last. Of 65 the first goes.
+    /// Appends a result. The first of 65 goes.
     pub(crate) fn push(&mut self, outcome: Outcome)
         requires room { HasRoom self.old }
         requires few { self.old.count < 2 ^ 63 }

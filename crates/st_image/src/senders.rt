@@ -1,4 +1,4 @@
-//! Whether the numbers of senders hold together in an image file.
+//! Whether the numbers of senders in an image file are consistent.
 ghost use Rattle.std.specs.Prelude.{List, Decides, IfOk};
 ghost use Rattle.st_classes.specs.declared.edits.Edit.{Edit as EditOf};
 ghost use Rattle.st_image.specs.Parts.{world_of_parts};
@@ -18,8 +18,8 @@ pub(crate) use clients::last_numbers;
 use std::alloc::{AllocError, Global};
 pub(crate) use there::senders_are_there;
 
-/// Whether clients rise, each with a last number of 1 or more, and the numbers of the messages that are pending are in sending
-/// order: those of each sender rise in each mailbox, from 1 to the sender's last at most, and none stands in two mailboxes.
+/// Whether clients rise, each with a last number of 1 or more, and the numbers of pending messages are in sending order: those of each
+/// sender rise in each mailbox, from 1 to the sender's last at most, and none is in two mailboxes.
 pub(crate) fn in_sending_order(
     alloc: Global,
     actors: &[ActorPart],

@@ -1,4 +1,4 @@
-//! The numbers that are set for a run.
+//! The settings of a run.
 ghost use Rattle.std.specs.Prelude.{◌≡◌};
 ghost use Rattle.st_classes.specs.Refusals.{first_of};
 ghost use Rattle.st_image.specs.Images.{settings_rules};
@@ -20,7 +20,7 @@ impl Settings {
         history: 1_000_000,
     };
 
-    /// Why they are refused, if they are: a number is out of its range.
+    /// Why the settings are refused, if a number is out of its range.
     pub(crate) fn refusal(&self) -> Option<Refusal>
         ensures { result ≡ first_of (settings_rules self.now) }
     {

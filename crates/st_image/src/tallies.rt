@@ -2,7 +2,8 @@
 ghost use Rattle.std.specs.Prelude.{◌≡◌, ◌<◌, ◌≤◌, ◌+◌, ◌^◌, ℕ, [], length, slice_set, true, None, OnOk, All};
 ghost use Rattle.std.specs.List.{slice_index_or};
 ghost use Rattle.st_classes.specs.declared.keys.SiteId.{SiteId as SiteIdOf};
-ghost use Rattle.st_image.specs.Tallies.{ChangesTally, Covers, HasPlaces, KeepsPlaces, SameTallies, Tallied, has_place, no_tally, sends_of, tally_at, with_act, with_send};
+ghost use Rattle.st_turn.specs.Tallies.{AreSums, after_sums, no_tally, sends_of, with_act, with_send, with_sum};
+ghost use Rattle.st_image.specs.Tallies.{ChangesTally, Covers, HasPlaces, KeepsPlaces, SameTallies, Summed, Tallied, has_place, tally_at};
 
 use st_classes::keys::SiteId;
 use st_classes::values::{MethodId, Selector};
@@ -10,21 +11,10 @@ use st_classes::version::Version;
 use st_guard::how::How;
 use st_sites::site::SiteState;
 use st_turn::claim::Sent;
+use st_turn::sums::SiteSum;
+use st_turn::tally::Tally;
 use std::alloc::{AllocError, Global};
 use std::marker::Model;
-
-/// The committed sends of a call site, by how their targets were found.
-#[derive(Clone, Copy, PartialEq, Eq, Debug)]
-pub struct Tally {
-    /// Sends whose target the call site had.
-    pub by_site: u64,
-    /// Sends whose target the lookup cache had.
-    pub by_global: u64,
-    /// Sends whose target a walk through the class table found, and all sends that the image did.
-    pub by_walk: u64,
-    /// The state of the site after the last send that a worker did.
-    pub state: SiteState,
-}
 
 /// What is told of a call site.
 #[derive(Clone, Copy, PartialEq, Eq, Debug)]
@@ -36,66 +26,6 @@ pub struct SiteStats {
     pub tally: Tally,
 }
 
-impl Tally {
-    /// All sends.
-    pub fn sends(&self) -> u64
-        requires { sends_of self.now < 2 ^ 64 }
-        ensures { result ≡ sends_of self.now }
-    {
-        self.by_site + self.by_global + self.by_walk
-    }
-
-    /// Nothing was sent.
-    #[inline]
-    fn none() -> Tally
-        ensures { result ≡ no_tally }
-    {
-        Tally {
-            by_site: 0,
-            by_global: 0,
-            by_walk: 0,
-            state: SiteState::Empty,
-        }
-    }
-
-    /// One more send of a worker's.
-    #[inline(always)]
-    fn add_send(&mut self, how: How, state: SiteState)
-        requires { sends_of self.old + 1 < 2 ^ 64 }
-        ensures { self.new ≡ with_send how state self.old }
-    {
-        self.state = state;
-        if how == How::Site {
-            self.by_site += 1;
-            return;
-        }
-        self.add_rare(how);
-    }
-
-    /// One more send of a worker's, which is rare where its call site did not have the target.
-    #[cold]
-    #[inline(never)]
-    fn add_rare(&mut self, how: How)
-        requires { sends_of self.old + 1 < 2 ^ 64 }
-        ensures { self.new ≡ with_send how self.old.state self.old }
-    {
-        match how {
-            How::Site => self.by_site += 1,
-            How::Global => self.by_global += 1,
-            How::Walk => self.by_walk += 1,
-        }
-    }
-
-    /// One more send that the image did.
-    #[inline]
-    fn add_act(&mut self)
-        requires { sends_of self.old + 1 < 2 ^ 64 }
-        ensures { self.new ≡ with_act self.old }
-    {
-        self.by_walk += 1;
-    }
-}
-
 /// The tallies of a method, by places of its code.
 #[derive(Drop)]
 struct TallyRow {
@@ -104,7 +34,7 @@ struct TallyRow {
 
 impl Model for TallyRow {
     ghost use Rattle.std.specs.Prelude.{List};
-    ghost use Rattle.st_image.specs.declared.tallies.Tally.{Tally as TallyOf};
+    ghost use Rattle.st_turn.specs.declared.tally.Tally.{Tally as TallyOf};
 
     ghost Value = { List TallyOf };
 
@@ -153,6 +83,16 @@ impl TallyRow {
     }
 
     #[inline]
+    fn add_sum(&mut self, place: u16, sum: &Tally)
+        requires place { place < length self.old }
+        requires few { sends_of (slice_index_or self.old place no_tally) + sends_of sum.now < 2 ^ 64 }
+        ensures { self.new ≡ slice_set self.old place (with_sum sum.now (slice_index_or self.old place no_tally)) }
+    {
+        let tally = &mut self.tallies[usize::from(place)];
+        tally.add_sum(sum);
+    }
+
+    #[inline]
     fn add_act(&mut self, place: u16)
         requires place { place < length self.old }
         requires few { sends_of (slice_index_or self.old place no_tally) + 1 < 2 ^ 64 }
@@ -171,7 +111,7 @@ pub(crate) struct Tallies {
 
 impl Model for Tallies {
     ghost use Rattle.std.specs.Prelude.{List};
-    ghost use Rattle.st_image.specs.declared.tallies.Tally.{Tally as TallyOf};
+    ghost use Rattle.st_turn.specs.declared.tally.Tally.{Tally as TallyOf};
 
     ghost Value = { List (List TallyOf) };
 
@@ -213,6 +153,46 @@ fn count_each(rows: &mut [TallyRow], sends: &[Sent])
 {
     for sent in sends {
         count_send(rows, sent);
+    }
+}
+
+/// Counts the sends that were summed at a site.
+#[inline]
+fn count_sum(rows: &mut [TallyRow], sum: &SiteSum)
+    requires place { has_place rows.old sum.now.site ≡ true }
+    requires few { sends_of (tally_at rows.old sum.now.site) + sends_of sum.now.tally < 2 ^ 64 }
+    ensures tally { ChangesTally (with_sum sum.now.tally) sum.now.site rows.old rows.new }
+    ensures keeps { KeepsPlaces rows.old rows.new }
+{
+    let row = &mut rows[sum.site.method.0 as usize];
+    row.add_sum(sum.site.place, &sum.tally);
+}
+
+/// Counts sends by their sums, one after the other.
+fn count_sums(rows: &mut [TallyRow], sums: &[SiteSum])
+    requires places { All (λ m. has_place rows.old m.site ≡ true) sums.now }
+    requires few { (id : SiteIdOf) → sends_of (after_sums id sums.now (tally_at rows.old id)) < 2 ^ 64 }
+    ensures summed { Summed rows.old sums.now rows.new }
+    ensures keeps { KeepsPlaces rows.old rows.new }
+{
+    for sum in sums {
+        count_sum(rows, sum);
+    }
+}
+
+/// Counts sends: by their sums, where there are any.
+#[inline(always)]
+fn count_all(rows: &mut [TallyRow], sends: &[Sent], sums: &[SiteSum])
+    requires sums { 0 < length sums.now → AreSums sums.now sends.now }
+    requires places { All (λ s. has_place rows.old s.site ≡ true) sends.now }
+    requires few { (id : SiteIdOf) → sends_of (tally_at rows.old id) + length sends.now < 2 ^ 64 }
+    ensures tallied { Tallied rows.old sends.now None rows.new }
+    ensures keeps { KeepsPlaces rows.old rows.new }
+{
+    if sums.is_empty() {
+        count_each(rows, sends);
+    } else {
+        count_sums(rows, sums);
     }
 }
 
@@ -306,25 +286,27 @@ impl Tallies {
         row.add_act(site.place);
     }
 
-    /// Counts sends.
+    /// Counts sends, which may be summed by their sites.
     #[inline(always)]
-    fn count_sends(&mut self, sends: &[Sent])
+    fn count_sends(&mut self, sends: &[Sent], sums: &[SiteSum])
+        requires sums { 0 < length sums.now → AreSums sums.now sends.now }
         requires places { All (λ s. has_place self.old s.site ≡ true) sends.now }
         requires few { (id : SiteIdOf) → sends_of (tally_at self.old id) + length sends.now < 2 ^ 64 }
         ensures tallied { Tallied self.old sends.now None self.new }
         ensures keeps { KeepsPlaces self.old self.new }
     {
-        count_each(self.rows.as_mut_slice(), sends);
+        count_all(self.rows.as_mut_slice(), sends, sums);
     }
 
-    /// Counts the sends of a claim, and an act behind them. No memory is taken.
-    pub(crate) fn count(&mut self, sends: &[Sent], act: Option<SiteId>)
+    /// Counts the sends of a claim, which may be summed by their sites, and an act behind them. No memory is taken.
+    pub(crate) fn count(&mut self, sends: &[Sent], sums: &[SiteSum], act: Option<SiteId>)
+        requires sums { 0 < length sums.now → AreSums sums.now sends.now }
         requires places { HasPlaces self.old sends.now act }
         requires few { (id : SiteIdOf) → sends_of (tally_at self.old id) + length sends.now + 1 < 2 ^ 64 }
         ensures tallied { Tallied self.old sends.now act self.new }
         ensures keeps { KeepsPlaces self.old self.new }
     {
-        self.count_sends(sends);
+        self.count_sends(sends, sums);
         if let Some(site) = act {
             self.count_act(site);
         }

@@ -1,7 +1,7 @@
 //! Mailboxes: where an actor's messages wait (Agha, *Actors*, 1986).
 //!
-//! A mailbox is a list of messages, the most that it holds, and whether it is open. [`mailboxes::Mailbox`] says what every kind of
-//! mailbox does; [`list_box::ListBox`] is a queue whose room is made once, and [`ring_box::RingBox`] a ring that is let go once the
+//! A mailbox is a list of messages, a capacity, and whether it is open. [`mailboxes::Mailbox`] says what every kind of mailbox
+//! does. [`list_box::ListBox`] is a queue, and keeps its memory. [`ring_box::RingBox`] is a ring, and frees its memory once the
 //! mailbox is closed and empty.
 #![tactic(auto)]
 

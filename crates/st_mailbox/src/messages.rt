@@ -1,9 +1,9 @@
-//! A message, and who sends it.
+//! A message, and its sender.
 use st_classes::seq::Seq;
 use st_classes::values::{ActorId, Selector, Values};
 use std::alloc::{AllocError, Global};
 
-/// Who sends a message.
+/// The sender of a message.
 #[derive(Clone, Copy, PartialEq, Eq, Debug)]
 pub enum Sender {
     /// A client by its number.
@@ -25,7 +25,6 @@ pub struct Message {
 impl Message {
     ghost use Rattle.std.specs.Prelude.{◌≡◌, IfOk};
 
-    /// A copy.
     pub fn copy(&self, alloc: Global) -> Result<Message, AllocError>
         ensures { IfOk result (λ m. m ≡ self.now) }
     {

@@ -11,10 +11,10 @@ use st_classes::refusals::Refusal;
 use std::alloc::{AllocError, Global};
 use std::marker::Model;
 
-/// A mailbox over a ring, whose memory it gives back once it is closed and empty.
+/// A mailbox over a ring. It frees the ring once it is closed and empty.
 #[derive(Drop)]
 pub struct RingBox {
-    /// None where the mailbox is closed and empty.
+    /// None if the mailbox is closed and empty.
     ring: Option<HeapCircularBuffer<Message>>,
     capacity: u32,
     is_open: bool,
@@ -84,7 +84,7 @@ impl Mailbox for RingBox {
     }
 }
 
-/// Gives the memory of a ring back in which no message waits.
+/// Frees a ring that holds no message.
 fn let_go_if_empty(ring: &mut Option<HeapCircularBuffer<Message>>)
     ensures { ring.new ≡ unless_empty ring.old }
 {

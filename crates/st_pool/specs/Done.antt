@@ -77,20 +77,20 @@ abbrev pub Settles : ImageView → ClaimView → Result ℕ Refusal → ImageVie
 Settles i c (Ok n) j = Commits i c (Ok n) j
 Settles i c (Err e) j = (back : Option ClaimView) × (k : ImageView) × Commits i c (Err (e, back)) k × ReleasesBack k back j
 
--- A worker goes on in the hold of its commit where its claim is spent: it was committed, and memory did not run out in its quantum; or
--- it is Stale or Changed
-abbrev pub looks_on : Bool → Result ℕ Refusal → Bool
-looks_on starved (Ok n) = not starved
-looks_on starved (Err HistoryFull) = false
-looks_on starved (Err NoMemory) = false
-looks_on starved (Err e) = true
+-- A worker takes more work in the hold of its commit where its claim is spent: it was committed, and memory did not run out in its
+-- quantum; or it is Stale or Changed
+abbrev pub takes_more : Bool → Result ℕ Refusal → Bool
+takes_more starved (Ok n) = not starved
+takes_more starved (Err HistoryFull) = false
+takes_more starved (Err NoMemory) = false
+takes_more starved (Err e) = true
 
--- A hold at the end of a quantum. First the claim is settled; in the image that this leaves the worker finds what is next, where it goes
--- on. Else it is to wait, and nothing else has changed
+-- A hold at the end of a quantum. First the claim is settled; in the image that this leaves the worker finds what is next, where it
+-- takes more. Else it is to wait, and nothing else has changed
 pub record TurnsOver (i : ImageView) (c : ClaimView) (starved : Bool) (result : Result ℕ Refusal) (work : Work ClaimView) (j : ImageView) : Type 0 where
   pub between : ImageView
   pub settles : Settles i c result between
-  pub next : MatchBool (looks_on starved result) (Takes between work j) ((moves : ℕ) × (work ≡ Wait moves) × (j ≡ between))
+  pub next : MatchBool (takes_more starved result) (Takes between work j) ((moves : ℕ) × (work ≡ Wait moves) × (j ≡ between))
 
 -- the steps that were committed
 abbrev pub committed : Result ℕ Refusal → ℕ

@@ -120,7 +120,7 @@ impl<'a, K: Naming, M: Mailbox> Caller<'a, K, M> {
             Ok(turn) => turn,
             Err(refusal) => return Err(refusal),
         };
-        shared.moved.notify_one();
+        shared.wake();
         receipts.push_reserved(Receipt {
             place,
             actor,
@@ -151,7 +151,7 @@ impl<'a, K: Naming, M: Mailbox> Caller<'a, K, M> {
         office.audit(share);
         let answer = office.define(alloc, share, name, parent, slots);
         drop(office);
-        shared.moved.notify_one();
+        shared.wake();
         answer
     }
 
@@ -171,7 +171,7 @@ impl<'a, K: Naming, M: Mailbox> Caller<'a, K, M> {
         office.audit(share);
         let answer = office.install(alloc, share, class, source);
         drop(office);
-        shared.moved.notify_one();
+        shared.wake();
         answer
     }
 
@@ -191,7 +191,7 @@ impl<'a, K: Naming, M: Mailbox> Caller<'a, K, M> {
         office.audit(share);
         let answer = office.remove(alloc, share, class, selector);
         drop(office);
-        shared.moved.notify_one();
+        shared.wake();
         answer
     }
 
@@ -211,7 +211,7 @@ impl<'a, K: Naming, M: Mailbox> Caller<'a, K, M> {
         office.audit(share);
         let answer = office.reparent(alloc, share, class, parent);
         drop(office);
-        shared.moved.notify_one();
+        shared.wake();
         answer
     }
 
@@ -230,7 +230,7 @@ impl<'a, K: Naming, M: Mailbox> Caller<'a, K, M> {
         office.audit(share);
         let answer = office.create(alloc, class);
         drop(office);
-        shared.moved.notify_one();
+        shared.wake();
         answer
     }
 
@@ -244,7 +244,7 @@ impl<'a, K: Naming, M: Mailbox> Caller<'a, K, M> {
         office.audit(share);
         let answer = office.close(actor);
         drop(office);
-        shared.moved.notify_one();
+        shared.wake();
         answer
     }
 
@@ -262,7 +262,7 @@ impl<'a, K: Naming, M: Mailbox> Caller<'a, K, M> {
         office.audit(share);
         let answer = office.checkpoint(alloc);
         drop(office);
-        shared.moved.notify_one();
+        shared.wake();
         answer
     }
 

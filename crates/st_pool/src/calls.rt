@@ -166,6 +166,7 @@ pub(crate) fn checkpoint<M: Mailbox>(alloc: Global, image: &mut Image<M>) -> Res
 }
 
 /// Hands out a claim, which fits the image.
+#[inline(always)]
 pub(crate) fn check_out<M: Mailbox>(
     alloc: Global,
     image: &mut Image<M>,
@@ -201,6 +202,7 @@ fn commit<M: Mailbox>(
 }
 
 /// Commits a claim, and releases it where it is handed back.
+#[inline(always)]
 fn commit_or_release<M: Mailbox>(
     alloc: Global,
     image: &mut Image<M>,
@@ -222,6 +224,7 @@ fn commit_or_release<M: Mailbox>(
 }
 
 /// Commits a claim, and releases it where it is handed back. Nothing is compared where the claim is known to fit the image.
+#[inline(always)]
 pub(crate) fn settle<M: Mailbox>(
     alloc: Global,
     image: &mut Image<M>,

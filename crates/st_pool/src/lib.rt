@@ -9,6 +9,7 @@
 pub mod books;
 pub mod callers;
 pub(crate) mod calls;
+pub(crate) mod crowding;
 pub mod front;
 pub mod hand;
 pub mod held;

@@ -3,7 +3,7 @@ ghost use Rattle.std.specs.Prelude.{◌≡◌};
 ghost use Rattle.std.specs.Option.{IfSome};
 ghost use Rattle.st_classes.specs.declared.refusals.Refusal.TheVariants as refusals;
 ghost use Rattle.st_classes.specs.declared.refusals.Limited.TheVariants as limits;
-ghost use Rattle.st_pool.specs.Done.{looks_on};
+ghost use Rattle.st_pool.specs.Done.{takes_more as takes_more_of};
 ghost use Rattle.st_pool.specs.Seen.{Ends, MayFollow};
 
 use crate::books::{Blanks, Books, PARTS};
@@ -46,6 +46,10 @@ pub struct Office<K: Naming, M: Mailbox> {
     moves: u64,
     /// How many workers sleep, or have been woken and not taken the lock since.
     sleepers: u32,
+    /// How many moves were commits of short quanta, whose workers went on with the next one.
+    hurried: u64,
+    /// How many workers rest, or have been woken and not taken the lock since.
+    resting: u32,
     is_stopped: bool,
     /// How many items of histories checkpoints have emptied, at most 2^63 - 1.
     pub(crate) emptied: u64,
@@ -88,15 +92,21 @@ fn has_steps(answer: &Result<u32, Refusal>) -> bool {
     }
 }
 
-/// Whether a worker looks for work in the hold of its commit: its claim is spent, and what it committed did not end for want of memory.
-fn goes_on(answer: &Result<u32, Refusal>, is_starved: bool) -> bool
-    ensures { result ≡ looks_on is_starved answer.now }
+/// Whether a worker takes more work in the hold of its commit. It does not where its claim was handed back, nor where memory ran out in
+/// a quantum that was committed.
+fn takes_more(answer: &Result<u32, Refusal>, is_starved: bool) -> bool
+    ensures { result ≡ takes_more_of is_starved answer.now }
 {
     match answer {
         Ok(_) => !is_starved,
         Err(Refusal::HistoryFull) | Err(Refusal::NoMemory) => false,
         Err(_) => true,
     }
+}
+
+/// Whether a worker goes on with a claim.
+pub(crate) fn goes_on<T>(work: &Work<T>) -> bool {
+    matches!(work, Work::Turn(_))
 }
 
 impl<K: Naming, M: Mailbox> Office<K, M> {
@@ -129,6 +139,8 @@ impl<K: Naming, M: Mailbox> Office<K, M> {
             front: Some(front),
             moves: 0,
             sleepers: 0,
+            hurried: 0,
+            resting: 0,
             is_stopped: false,
             emptied: 0,
         }
@@ -358,6 +370,7 @@ impl<K: Naming, M: Mailbox> Office<K, M> {
     }
 
     /// Hands out a claim.
+    #[inline(always)]
     pub(crate) fn check_out(&mut self, alloc: Global, actor: ActorId) -> Result<Held<K>, Refusal>
         ensures takes { ChecksOut self.old.image actor result self.new.image }
         ensures books { self.new.books ≡ self.old.books }
@@ -376,6 +389,7 @@ impl<K: Naming, M: Mailbox> Office<K, M> {
     }
 
     /// What a worker does next.
+    #[inline(always)]
     pub(crate) fn work(&mut self, alloc: Global, mine: &mut WorkerShare<K>) -> Work<Held<K>>
         ensures takes { Takes self.old.image result self.new.image }
         ensures share { mine.new ≡ mine.old }
@@ -397,6 +411,7 @@ impl<K: Naming, M: Mailbox> Office<K, M> {
     }
 
     /// Commits a claim for a worker, and releases it where it is handed back.
+    #[inline(always)]
     fn commit(
         &mut self,
         alloc: Global,
@@ -419,14 +434,15 @@ impl<K: Naming, M: Mailbox> Office<K, M> {
         answer
     }
 
-    /// Commits a claim for a worker, and finds what the worker does next. It is to wait where its claim was handed back, and where its
-    /// quantum ended for want of memory and was committed.
+    /// Commits a claim for a worker, and finds what the worker does next, where it takes more work. Else it is to wait.
+    #[inline(always)]
     pub(crate) fn turn_over(
         &mut self,
         alloc: Global,
         mine: &mut WorkerShare<K>,
         held: Held<K>,
         is_starved: bool,
+        is_short: bool,
         leavings: &mut Leavings,
     ) -> (Result<u32, Refusal>, Work<Held<K>>)
         ensures turns { TurnsOver self.old.image held is_starved result.0 result.1 self.new.image }
@@ -436,10 +452,13 @@ impl<K: Naming, M: Mailbox> Office<K, M> {
         ensures within { K.start.steps + mine.old ≤ (amounts self.old.image).steps }
     {
         let answer = self.commit(alloc, mine, held, leavings);
-        if !goes_on(&answer, is_starved) {
+        if !takes_more(&answer, is_starved) {
             return (answer, Work::Wait(self.moves));
         }
         let work = self.work(alloc, mine);
+        if is_short && goes_on(&work) {
+            self.hurried = self.hurried.wrapping_add(has_steps(&answer) as u64);
+        }
         (answer, work)
     }
 
@@ -460,6 +479,40 @@ impl<K: Naming, M: Mailbox> Office<K, M> {
         ensures { self.new ≡ self.old }
     {
         self.sleepers = self.sleepers.wrapping_sub(1);
+    }
+
+    /// Whether another worker than the one that asks neither sleeps nor rests.
+    pub(crate) fn has_helpers(&self) -> bool {
+        u64::from(self.sleepers) + u64::from(self.resting) + 1 < self.books.workers()
+    }
+
+    /// How often a worker that rests was to look again.
+    pub(crate) fn eases(&self) -> u64 {
+        self.moves.wrapping_sub(self.hurried)
+    }
+
+    /// Whether more has moved since than short quanta, or the workers are to end.
+    pub(crate) fn is_eased_since(&self, seen: u64) -> bool {
+        self.is_stopped || self.eases() != seen
+    }
+
+    /// A worker is about to rest, and holds the lock until it does.
+    pub(crate) fn sit_down(&mut self)
+        ensures { self.new ≡ self.old }
+    {
+        self.resting = self.resting.wrapping_add(1);
+    }
+
+    /// A worker that was about to rest, or rested, has the lock again.
+    pub(crate) fn stand_up(&mut self)
+        ensures { self.new ≡ self.old }
+    {
+        self.resting = self.resting.wrapping_sub(1);
+    }
+
+    /// Whether an actor is ready while a worker may rest.
+    pub(crate) fn wants_more(&self) -> bool {
+        self.resting != 0 && self.image.next_ready().is_some()
     }
 
     /// Whether an actor is ready while a worker may be asleep.

@@ -130,9 +130,11 @@ impl<K: Naming, M: Mailbox> Office<K, M> {
         if callers.len() as u64 != self.books.callers()
             || workers.len() as u64 != self.books.workers()
         {
+            drop((self, callers, workers));
             return Err(Refusal::BadArguments);
         }
         if !all_callers_stand(self.emptied, self.image.history(), &callers) {
+            drop((self, callers, workers));
             return Err(Refusal::Changed);
         }
         self.image.known();
@@ -145,6 +147,7 @@ impl<K: Naming, M: Mailbox> Office<K, M> {
         } = self;
         let (totals, gone) = books.close(emptied, callers, workers);
         if totals.posts.saturating_sub(posts_in(image.history())) < gone {
+            drop(image);
             return Err(Refusal::Changed);
         }
         Ok((image, totals))

@@ -17,17 +17,33 @@ use std::alloc::Global;
 use std::hint::spin_loop;
 use std::sync::{Condvar, Mutex, MutexGuard, Wait};
 
-/// How often a thread looks for the lock before it sleeps for it. A hold takes a few microseconds, a sleep far more.
-const LOOKS: usize = 200;
+/// How often a thread looks for the lock at short intervals. A hold takes a few microseconds.
+const LOOKS: usize = 100;
 
-/// How many pauses there are between two looks.
+/// How often it looks at long intervals then, before it sleeps for the lock. A sleep takes far more than a hold, and a thread that was
+/// woken for the lock may find it held again; then it is left to that thread alone, and all others that look for it sleep as well.
+const LONG_LOOKS: usize = 250;
+
+/// How many pauses there are between two looks at a short interval, and at a long one.
 const PAUSES: usize = 4;
+
+const LONG_PAUSES: usize = 16;
+
+/// Lets some time pass.
+#[inline]
+fn pause(count: usize) {
+    for _ in 0..count {
+        spin_loop();
+    }
+}
 
 /// An image that threads share, with books of what they do to it. Each call takes the lock once.
 #[derive(Drop)]
 pub struct Shared<K: Naming, M: Mailbox> {
     pub(crate) office: Mutex<Office<K, M>>,
     pub(crate) moved: Condvar,
+    /// On which workers rest that were in the way of others.
+    pub(crate) eased: Condvar,
 }
 
 impl<K: Naming, M: Mailbox> Shared<K, M> {
@@ -43,6 +59,7 @@ impl<K: Naming, M: Mailbox> Shared<K, M> {
         Shared {
             office: Mutex::new(Office::new(image, blanks, opened)),
             moved: Condvar::new(),
+            eased: Condvar::new(),
         }
     }
 
@@ -62,16 +79,27 @@ impl<K: Naming, M: Mailbox> Shared<K, M> {
             if let Some(office) = self.office.try_lock() {
                 return office;
             }
-            for _ in 0..PAUSES {
-                spin_loop();
+            pause(PAUSES);
+        }
+        for _ in 0..LONG_LOOKS {
+            if let Some(office) = self.office.try_lock() {
+                return office;
             }
+            pause(LONG_PAUSES);
         }
         self.office.lock(rt)
     }
 
-    /// Tells the workers to end, each when its quantum is over. Those that wait are woken.
+    /// Something has moved: a worker that sleeps is woken, and one that rests.
+    pub(crate) fn wake(&self) {
+        self.moved.notify_one();
+        self.eased.notify_one();
+    }
+
+    /// Tells the workers to end, each when its quantum is over. Those that wait or rest are woken.
     pub fn stop<R: Wait>(&self, rt: &R) {
         self.enter(rt).stop();
         self.moved.notify_all();
+        self.eased.notify_all();
     }
 }

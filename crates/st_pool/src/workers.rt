@@ -7,10 +7,11 @@ ghost use Rattle.std.specs.Prelude.{◌≡◌, ◌≤◌, IfErr};
 ghost use Rattle.st_classes.specs.declared.refusals.Refusal.TheVariants as refusals;
 ghost use Rattle.st_classes.specs.declared.refusals.Limited.TheVariants as limits;
 
+use crate::crowding::Crowding;
 use crate::hand::Hand;
 use crate::held::Held;
 use crate::naming::Naming;
-use crate::office::Work;
+use crate::office::{Work, goes_on};
 use crate::shared::Shared;
 use crate::shares::WorkerShare;
 use st_classes::refusals::Refusal;
@@ -51,6 +52,34 @@ fn wait_past<K: Naming, M: Mailbox, R: Wait>(rt: &R, shared: &Shared<K, M>, seen
     behind.get_up();
 }
 
+/// Rests until something else has moved than short quanta, or the workers are to end. It does not where no other worker is awake.
+fn rest<K: Naming, M: Mailbox, R: Wait>(rt: &R, shared: &Shared<K, M>) {
+    let mut before = shared.enter(rt);
+    if !before.has_helpers() {
+        return;
+    }
+    let seen = before.eases();
+    before.sit_down();
+    let mut behind = shared
+        .eased
+        .wait_while(rt, before, |office| !office.is_eased_since(seen));
+    behind.stand_up();
+}
+
+/// Waits, or rests where the worker was in the way of others.
+fn pause<K: Naming, M: Mailbox, R: Wait>(
+    rt: &R,
+    shared: &Shared<K, M>,
+    crowding: &mut Crowding,
+    seen: u64,
+) {
+    if crowding.takes_rest() {
+        rest(rt, shared);
+    } else {
+        wait_past(rt, shared, seen);
+    }
+}
+
 /// What a worker does first, or after a wait.
 fn next_work<K: Naming, M: Mailbox, R: Wait>(
     rt: &R,
@@ -62,7 +91,8 @@ fn next_work<K: Naming, M: Mailbox, R: Wait>(
 }
 
 /// Commits the steps of a quantum, and answers what the worker does next, both in one hold. A commit readies at most one actor more
-/// than this worker takes next, so one other worker is woken, where one sleeps and an actor is ready.
+/// than this worker takes next, so one other worker is woken, where one sleeps and an actor is ready. One that rests is woken too, but
+/// not behind a short quantum.
 fn turn_over<K: Naming, M: Mailbox, R: Wait>(
     rt: &R,
     alloc: Global,
@@ -70,15 +100,34 @@ fn turn_over<K: Naming, M: Mailbox, R: Wait>(
     share: &mut WorkerShare<K>,
     held: Held<K>,
     is_starved: bool,
+    crowding: &mut Crowding,
 ) -> Work<Held<K>> {
     // What is left of the commit is let go behind the hold.
     let mut leavings = Leavings::none();
-    let mut office = shared.enter(rt);
-    let (answer, work) = office.turn_over(alloc, share, held, is_starved, &mut leavings);
+    let at_once = shared.office.try_lock();
+    let is_short = crowding.note(held.claim().steps(), at_once.is_some());
+    let mut office = match at_once {
+        Some(office) => office,
+        None => shared.enter(rt),
+    };
+    let rests = crowding.asks_for_rest(!is_starved && office.has_helpers());
+    let (answer, work) = office.turn_over(
+        alloc,
+        share,
+        held,
+        is_starved || rests,
+        is_short,
+        &mut leavings,
+    );
     let wants_help = office.wants_help();
+    let is_hurried = is_short && (rests || goes_on(&work));
+    let wants_more = !is_hurried && office.wants_more();
     drop(office);
     if answer.is_ok() && wants_help {
         shared.moved.notify_one();
+    }
+    if answer.is_ok() && wants_more {
+        shared.eased.notify_one();
     }
     work
 }
@@ -94,10 +143,11 @@ fn take_quantum<G: Guard, K: Naming, M: Mailbox, T: Gate, R: Wait>(
     quantum: u32,
     number: u32,
     gate: &mut T,
+    crowding: &mut Crowding,
 ) -> Work<Held<K>> {
     gate.before(number, held.claim());
     let is_starved = hand.run(alloc, &mut held, quantum).is_err();
-    let work = turn_over(rt, alloc, shared, share, held, is_starved);
+    let work = turn_over(rt, alloc, shared, share, held, is_starved, crowding);
     gate.after(number);
     work
 }
@@ -124,16 +174,26 @@ pub fn worker_loop<G: Guard, K: Naming, M: Mailbox, T: Gate, R: Wait>(
 {
     let mut share = shared.enter(rt).employ()?;
     let mut hand = Hand::new(worker);
+    let mut crowding = Crowding::none();
     let mut work = next_work(rt, alloc, shared, &mut share);
     for _ in rt.forever() {
         work = match work {
             Work::Stop => break,
             Work::Wait(seen) => {
-                wait_past(rt, shared, seen);
+                pause(rt, shared, &mut crowding, seen);
                 next_work(rt, alloc, shared, &mut share)
             }
             Work::Turn(held) => take_quantum(
-                rt, alloc, shared, &mut share, &mut hand, held, quantum, number, gate,
+                rt,
+                alloc,
+                shared,
+                &mut share,
+                &mut hand,
+                held,
+                quantum,
+                number,
+                gate,
+                &mut crowding,
             ),
         };
     }

@@ -13,7 +13,7 @@ use crate::overlap::overlap;
 use crate::pools::{Caller, Image, Shared, Stage, new_image, new_worker, no_shares};
 use crate::refused::calls_alone;
 use crate::scenes::Scene;
-use crate::waking::{endless, long_turn, rest, stopping, waking, waking_by_commit};
+use crate::waking::{endless, long_turn, rally, rest, stopping, waking, waking_by_commit};
 use st_classes::refusals::Refusal;
 use st_pool::books::Blanks;
 use st_pool::front::Opened;
@@ -108,6 +108,7 @@ fn act<K: Naming + Send + Sync, R: Threads + Wait + Clock + Sync>(
         Scene::ManyCallers => many_callers(rt, alloc, stage),
         Scene::Waking => waking(rt, alloc, caller),
         Scene::WakingByCommit => waking_by_commit(rt, alloc, caller, marks),
+        Scene::Rally => rally(rt, alloc, caller),
         Scene::Crowd => crowd(rt, alloc, stage, caller),
         Scene::Checkpoints => among_checkpoints(rt, alloc, stage, caller),
         Scene::Refused => calls_alone(rt, alloc, caller),

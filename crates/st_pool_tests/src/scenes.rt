@@ -42,6 +42,8 @@ pub enum Scene {
     Waking,
     /// A commit makes two actors ready, and both workers are needed.
     WakingByCommit,
+    /// Two actors take thousands of short turns, and both workers are at it.
+    Rally,
     /// Four callers post to one actor.
     Crowd,
     /// The same, and a fifth makes checkpoints meanwhile.
@@ -68,7 +70,7 @@ pub enum Way {
 impl Scene {
     pub fn workers(self) -> u32 {
         match self {
-            Scene::Overlap | Scene::Rest | Scene::WakingByCommit => 2,
+            Scene::Overlap | Scene::Rest | Scene::WakingByCommit | Scene::Rally => 2,
             Scene::Refused => 0,
             _ => 1,
         }

@@ -94,6 +94,22 @@ pub fn waking_by_commit<K: Naming, R: Wait + Clock>(
         && marks.claims() == 3
 }
 
+/// Each of two actors posts to itself 3,000 times. A turn that posts has 15 steps, the last one 9. Workers of so short quanta are in each
+/// other's way, so one of them may rest; it has to end all the same.
+pub fn rally<K: Naming, R: Wait + Clock>(
+    rt: &R,
+    alloc: Global,
+    caller: &mut Caller<'_, K>,
+) -> bool {
+    let source = "rally: n n > 0 ifTrue: [thisActor post: #rally: with: n - 1]. ^n";
+    make_actor(rt, alloc, caller, source)
+        && create(rt, alloc, caller, A) == Ok(SECOND)
+        && post_with(rt, alloc, caller, 1, FIRST, "rally:", Value::Int(3000)) == Ok(1)
+        && post_with(rt, alloc, caller, 2, SECOND, "rally:", Value::Int(3000)) == Ok(1)
+        && answers(rt, caller, FIRST, 3001, 0)
+        && answers(rt, caller, SECOND, 3001, 0)
+}
+
 /// What all have done together. An actor's own posts are none of a caller.
 const SCENES: &[(Scene, Totals)] = &[
     (
@@ -142,6 +158,14 @@ const SCENES: &[(Scene, Totals)] = &[
             posts: 1,
             edits: 4,
             steps: 8,
+        },
+    ),
+    (
+        Scene::Rally,
+        Totals {
+            posts: 2,
+            edits: 2,
+            steps: 90018,
         },
     ),
 ];

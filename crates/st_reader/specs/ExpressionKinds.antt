@@ -23,19 +23,19 @@ expression_kind (block opening ss closing) = Block
 expression_kind (name n) = name_alone (bytes_eq n.text (codes "super"))
 expression_kind _ = Other
 
--- the value of an expression, after the variables that it is assigned to
+-- the value of an expression, without its assignments
 abbrev pub value_of : Written → Expression
 value_of x = cascaded (chain_view (out-Expression x).receiver) (seen_cascade (out-Expression x).cascade)
 
--- a target is a variable, and no argument
+-- a target is a variable other than an argument
 abbrev pub is_variable : List (List ℕ) → Target → Bool
 is_variable fixed t = may_change fixed t.name
 
--- where anything is assigned to, each target is such a variable, and the value is neither a block nor `super`
+-- if there are targets, each is a variable other than an argument, and the value is neither a block nor `super`
 abbrev pub assigns_well : List (List ℕ) → List Target → Expression → Bool
 assigns_well fixed [] e = true
 assigns_well fixed (t ∷ ts) e = not (is_loose e) && list_all (is_variable fixed) (t ∷ ts)
 
--- what an expression assigns, where it does, it may
+-- an expression assigns nothing, or only what it may to what it may
 abbrev pub may_assign : List (List ℕ) → Written → Bool
 may_assign fixed x = assigns_well fixed (out-Expression x).targets (value_of x)

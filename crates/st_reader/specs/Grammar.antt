@@ -1,4 +1,4 @@
--- The grammar: the tokens of a tree by one equation for each form, and how tightly each form binds.
+-- The grammar: the tokens of a tree, by one equation for each form, and how tightly each form binds.
 use Rattle.std.specs.Prelude.{◌≡◌, ℕ, suc, ◌<◌, ◌≤◌, ◌^◌, ℤ, pos, negsuc, unsigned_abs, max, List, [], ◌∷◌, ◌++◌, length, Option, Some, None, codes}
 use Rattle.st_reader.specs.declared.trees.Span.{Span}
 use Rattle.st_reader.specs.declared.trees.Name.{Name}
@@ -11,17 +11,17 @@ use Rattle.st_reader.specs.declared.tokens.Mark.TheVariants.{OpenParenthesis, Cl
 use Rattle.st_reader.specs.Tokens.{Token}
 use Rattle.st_reader.specs.Syntax.{Method, Expression, Message, Parts, Further, Statements, parenthesis, empty_block, block, send, cascade, name, unary, keywords, no_parts, part, no_further, further, last, answer, statement}
 
--- a number's minus, where it has one
+-- the minus of a number, if it has one
 abbrev pub minus_toks : Option Span → List Token
 minus_toks None = []
 minus_toks (Some place) = Token.binary (record { text = codes "-"; span = place }) ∷ []
 
--- a last period, where there is one
+-- a last period, if there is one
 abbrev pub period_toks : Option Span → List Token
 period_toks None = []
 period_toks (Some place) = Token.mark Period place ∷ []
 
--- the tokens of an expression, of a message, of statements
+-- the tokens of expressions, of messages and of statements
 abbrev mutual
   pub toks : Expression → List Token
   toks (Expression.number value place minus) = minus_toks minus ++ Token.number (unsigned_abs value) place ∷ []
@@ -56,8 +56,8 @@ abbrev mutual
   statements_toks (answer caret e period) = Token.mark Caret caret ∷ (toks e ++ period_toks period)
   statements_toks (statement e period ss) = toks e ++ Token.mark Period period ∷ statements_toks ss
 
--- How tightly an expression binds: an operand 0, after unary messages 1, after binary ones 2, after a keyword
--- message 3, a cascade 4, an assignment 5.
+-- How tightly an expression binds: 0 for an operand, 1 after unary messages, 2 after binary ones, 3 after a keyword
+-- message, 4 for a cascade, 5 for an assignment.
 abbrev mutual
   pub level : Expression → ℕ
   level (send e m) = message_level m
@@ -70,31 +70,31 @@ abbrev mutual
   message_level (Message.binary n e) = 2
   message_level (keywords ps) = 3
 
--- from 0 to 2^63 - 1; with a minus, which is directly before the digits, from -2^63 to 0
+-- without a minus from 0 to 2^63 - 1; with a minus, which is directly before the digits, from -2^63 to 0
 abbrev pub NumberFits : ℤ → Span → Option Span → Type 0
 NumberFits (pos n) place None = n < 2 ^ 63
 NumberFits (negsuc n) place None = ⊥
 NumberFits (pos n) place (Some minus) = (n ≡ 0) × (minus.end ≡ place.start)
 NumberFits (negsuc n) place (Some minus) = (n < 2 ^ 63) × (minus.end ≡ place.start)
 
--- what a message goes to binds more tightly, or, where it is unary or binary, as tightly
+-- the greatest level of a message's receiver: 1 for a unary message, 2 for a binary or keyword message
 abbrev pub goes_to : Message → ℕ
 goes_to (unary n) = 1
 goes_to (Message.binary n e) = 2
 goes_to (keywords ps) = 2
 
--- how many keywords a message has
+-- the number of keywords of a message
 abbrev pub count : Parts → ℕ
 count no_parts = 0
 count (part n e ps) = suc (count ps)
 
--- a cascade has a further message
+-- a cascade has at least one further message
 abbrev pub IsSome : Further → Type 0
 IsSome no_further = ⊥
 IsSome (further place m ms) = Unit {0}
 
--- An expression of the grammar: binary messages bind more tightly than keyword messages and unary ones more tightly
--- than both, from the left; a keyword message has from 1 to 8 keywords.
+-- An expression of the grammar. Unary messages bind more tightly than binary ones, and these more tightly than
+-- keyword messages; they associate from the left. A keyword message has 1 to 8 keywords.
 abbrev mutual
   pub IsExpression : Expression → Type 0
   IsExpression (Expression.number value place minus) = NumberFits value place minus
@@ -125,7 +125,7 @@ abbrev mutual
   AreStatements (answer caret e period) = IsExpression e
   AreStatements (statement e period ss) = IsExpression e × AreStatements ss
 
--- how deep parentheses and blocks stand in one another
+-- how deep parentheses and blocks nest
 abbrev mutual
   pub nesting : Expression → ℕ
   nesting (Expression.number value place minus) = 0
@@ -160,22 +160,22 @@ abbrev mutual
 abbrev pub parameter_toks : Parameter → List Token
 parameter_toks p = Token.keyword p.keyword ∷ Token.identifier p.argument ∷ []
 
--- what a method is called
+-- the tokens of a pattern
 abbrev pub pattern_toks : Pattern → List Token
 pattern_toks (Unary n) = Token.identifier n ∷ []
 pattern_toks (Binary n argument) = Token.binary n ∷ Token.identifier argument ∷ []
 pattern_toks (Keyword ps) = flat_map parameter_toks ps
 
--- a variable by its name
+-- the token of a variable
 abbrev pub name_toks : Name → List Token
 name_toks n = Token.identifier n ∷ []
 
--- temporaries between bars
+-- temporaries between bars, if there are bars
 abbrev pub temporaries_toks : Option Temporaries → List Token
 temporaries_toks None = []
 temporaries_toks (Some t) = Token.mark Bar t.opening ∷ (flat_map name_toks t.names ++ Token.mark Bar t.closing ∷ [])
 
--- the statements of a method, where it has any
+-- the statements of a method, if it has any
 abbrev pub body_toks : Option Statements → List Token
 body_toks None = []
 body_toks (Some ss) = statements_toks ss
@@ -184,7 +184,7 @@ body_toks (Some ss) = statements_toks ss
 abbrev pub method_toks : Method → List Token
 method_toks m = pattern_toks m.pattern ++ (temporaries_toks m.temporaries ++ body_toks m.body)
 
--- a pattern of keywords has from 1 to 8
+-- a keyword pattern has 1 to 8 keywords
 abbrev pub IsPattern : Pattern → Type 0
 IsPattern (Unary n) = Unit {0}
 IsPattern (Binary n argument) = Unit {0}

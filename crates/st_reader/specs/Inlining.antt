@@ -1,5 +1,4 @@
--- Which messages are inlined: those of certain keywords whose arguments are blocks, where the receiver is as it has to
--- be.
+-- The messages that are inlined: certain keywords, with blocks as arguments and a receiver of the right sort.
 use Rattle.std.specs.Prelude.{ℕ, ◌&&◌, ◌||◌, List, [], ◌∷◌, Bool, true, false, not, Option, Some, None, codes}
 use Rattle.std.specs.List.{list_all}
 use Rattle.std.specs.Str.{bytes_eq}
@@ -7,7 +6,7 @@ use Rattle.st_reader.specs.declared.inlining.Inlining.{Inlining}
 use Rattle.st_reader.specs.declared.inlining.Inlining.TheVariants.{IfTrue, IfFalse, IfTrueIfFalse, IfFalseIfTrue, And, Or, WhileTrue, WhileFalse}
 use Rattle.st_reader.specs.Syntax.{Expression, Message, Parts, empty_block, block, name, keywords, no_parts, part}
 
--- an inlined message where the texts are alike, and the rest where they are not
+-- this inlining if the texts are equal, and else the rest
 abbrev pub if_text : List ℕ → List ℕ → Inlining → Option Inlining → Option Inlining
 if_text text other inlining rest = if_so (bytes_eq text other)
   where
@@ -15,7 +14,7 @@ if_text text other inlining rest = if_so (bytes_eq text other)
     if_so true = Some inlining
     if_so false = rest
 
--- the inlined messages of one keyword
+-- the inlining of a message with one keyword
 abbrev pub inlining_of_one : List ℕ → Option Inlining
 inlining_of_one text =
     if_text text (codes "ifTrue:") IfTrue (if_text text (codes "ifFalse:") IfFalse (if_text text (codes "and:") And
@@ -23,7 +22,7 @@ inlining_of_one text =
     (if_text text (codes "whileTrue:") WhileTrue
     (if_text text (codes "whileFalse:") WhileFalse None)))))
 
--- the inlined messages of two keywords
+-- the inlining of a message with two keywords
 abbrev pub inlining_of_two : List ℕ → List ℕ → Option Inlining
 inlining_of_two text next =
     both
@@ -35,13 +34,13 @@ inlining_of_two text next =
     both false true = Some IfFalseIfTrue
     both false false = None
 
--- how a message of these keywords is inlined where it is
+-- how a message with these keywords is inlined, if it is
 abbrev pub inlining : List (List ℕ) → Option Inlining
 inlining (text ∷ []) = inlining_of_one text
 inlining (text ∷ next ∷ []) = inlining_of_two text next
 inlining _ = None
 
--- a loop has its condition as receiver
+-- a loop: its receiver is its condition
 abbrev pub is_loop : Inlining → Bool
 is_loop WhileTrue = true
 is_loop WhileFalse = true
@@ -58,11 +57,11 @@ abbrev pub is_super : Expression → Bool
 is_super (name n) = bytes_eq n.text (codes "super")
 is_super _ = false
 
--- what may not stand by itself
+-- an expression that may not be used by itself
 abbrev pub is_loose : Expression → Bool
 is_loose e = is_block e || is_super e
 
--- what the receiver of an inlined message is: a block for a loop, and neither a block nor `super` for the others
+-- the receiver of an inlined message is a block for a loop, and neither a block nor `super` for the others
 abbrev pub suits_receiver : Option Inlining → Expression → Bool
 suits_receiver None e = false
 suits_receiver (Some i) e = by_loop (is_loop i)
@@ -81,7 +80,7 @@ abbrev pub part_arguments : Parts → List Expression
 part_arguments no_parts = []
 part_arguments (part n e ps) = e ∷ part_arguments ps
 
--- a message is inlined where each argument is a block, and its receiver is as it has to be
+-- a message is inlined if each argument is a block, and its receiver is of the right sort
 abbrev pub is_inlined : Expression → Message → Bool
 is_inlined e (keywords ps) = suits_receiver (inlining (part_texts ps)) e && list_all is_block (part_arguments ps)
 is_inlined e _ = false

@@ -1,5 +1,5 @@
--- Cutting, as a function that reads a text from the front. It is exact: it gives tokens just where these are a cut of
--- the text.
+-- Cutting a text into tokens, as a function that reads it from the front.
+-- It gives tokens exactly if they are a cut of the text.
 use Rattle.std.specs.Prelude.{ℕ, zero, suc, ◌+◌, ◌==◌, ◌&&◌, ◌||◌, List, [], ◌∷◌, ◌++◌, length, take, drop, Bool, true, false, not, Option, Some, None, option_map, option_and_then, nat_lt, if◌then◌else◌}
 use Rattle.std.specs.List.{prefix_len}
 use Rattle.st_classes.specs.Selectors.{is_letter, is_digit, is_letter_or_digit, is_binary_character}
@@ -12,42 +12,43 @@ use Rattle.st_reader.specs.declared.tokens.Piece.TheVariants.{White, Comment, To
 use Rattle.st_reader.specs.Pieces.{is_white, is_no_quote, begins, begins_equals, begins_colon, begins_fraction}
 use Rattle.st_reader.specs.Tokens.{Token, span, piece_tokens}
 
--- a comment goes to the next quote
+-- a comment ends at the next quote
 abbrev pub comment : List ℕ → Option (Piece × ℕ)
 comment bs =
     if nat_lt (prefix_len is_no_quote bs) (length bs)
     then Some (Comment, prefix_len is_no_quote bs + 1)
     else None
 
--- how many bytes a keyword has after its first letter; none where a word has no colon, or that of a `:=`
+-- the number of bytes of a keyword after its first letter; none if the word has no colon, or only that of a `:=`
 abbrev pub keyword_more : List ℕ → Option ℕ
 keyword_more bs =
     if begins_colon (drop (prefix_len is_letter_or_digit bs) bs)
     then Some (prefix_len is_letter_or_digit bs + 1)
     else None
 
--- a keyword, or a word
+-- a keyword, or else a word
 abbrev pub word_or : ℕ → Option ℕ → Kind × ℕ
 word_or length (Some more) = (Keyword, more)
 word_or length None = (Identifier, length)
 
--- as many letters and digits as there are, and a colon where it makes a keyword
+-- the longest prefix of letters and digits, and a colon if that makes it a keyword
 abbrev pub word_front : List ℕ → Kind × ℕ
 word_front bs = word_or (prefix_len is_letter_or_digit bs) (keyword_more bs)
 
--- a number is no token where a letter follows, or a period and a digit
+-- a number is not a token before a letter, or before a period and a digit
 abbrev pub number_behind : ℕ → List ℕ → Option (Piece × ℕ)
 number_behind more after = if begins is_letter after || begins_fraction after then None else Some (Whole Number, more)
 
--- as many digits as there are
+-- the longest prefix of digits
 abbrev pub number_front : List ℕ → Option (Piece × ℕ)
 number_front bs = number_behind (prefix_len is_digit bs) (drop (prefix_len is_digit bs) bs)
 
--- a binary selector has a second character, where one follows that is no minus
+-- a binary selector has a second character if one follows that is not a minus
 abbrev pub binary_more : List ℕ → ℕ
 binary_more bs = if begins (λ b. is_binary_character b && not (b == 45)) bs then 1 else 0
 
--- how many bytes the keywords in front have, before or inside of a word; none where a word without a colon ends them
+-- the number of bytes of the keywords in front, from the start or the inside of a word; none if a word without a
+-- colon ends them
 unfoldable pub keywords_length : Bool → List ℕ → Option ℕ
 keywords_length false [] = Some 0
 keywords_length true [] = None
@@ -57,12 +58,12 @@ keywords_length true (b ∷ bs) =
     else if begins_colon (b ∷ bs) then option_map suc (keywords_length false bs)
     else None
 
--- a symbol that begins with a word
+-- a symbol that starts with a word
 abbrev pub word_symbol : Option ℕ → List ℕ → Option ℕ
 word_symbol (Some more) bs = keywords_length false bs
 word_symbol None bs = Some (prefix_len is_letter_or_digit bs)
 
--- how many bytes a symbol has after its `#`
+-- the number of bytes of a symbol after its `#`
 abbrev pub symbol_length : List ℕ → Option ℕ
 symbol_length [] = None
 symbol_length (b ∷ bs) =
@@ -70,7 +71,7 @@ symbol_length (b ∷ bs) =
     else if is_binary_character b then Some (binary_more bs + 1)
     else None
 
--- the mark that a byte is
+-- the mark of a byte
 abbrev pub mark_of : ℕ → Option Sign
 mark_of b =
     if b == 40 then Some OpenParenthesis
@@ -83,14 +84,14 @@ mark_of b =
     else if b == 124 then Some Bar
     else None
 
--- a mark or a `:=`
+-- a `:=` or a mark
 abbrev pub mark_front : ℕ → List ℕ → Option (Piece × ℕ)
 mark_front b bs =
     if (b == 58) && begins_equals bs then Some (Whole Assign, 1)
     else option_map (λ m. (Whole (Mark m), 0)) (mark_of b)
 
--- what is at the front of a text, as long as it can be, and how many bytes it has after the first; none where
--- nothing can begin so
+-- the longest piece at the front of a text, and the number of its bytes after the first; none if no piece can begin
+-- there
 abbrev pub front : List ℕ → Option (Piece × ℕ)
 front [] = None
 front (b ∷ bs) =
@@ -102,7 +103,7 @@ front (b ∷ bs) =
     else if b == 35 then option_map (λ n. (Whole Symbol, n)) (symbol_length bs)
     else mark_front b bs
 
--- the tokens of the rest of a text that begins at a place, after so many bytes of the piece before
+-- the tokens of the rest of a text that begins at a place, after `more` bytes of the piece before
 unfoldable pub tokens_behind : ℕ → ℕ → List ℕ → Option (List Token)
 tokens_behind more place [] = Some []
 tokens_behind (suc more) place (b ∷ bs) = tokens_behind more (place + 1) bs
@@ -113,6 +114,6 @@ tokens_behind zero place (b ∷ bs) =
     (tokens_behind p.1 (place + 1) bs))
     (front (b ∷ bs))
 
--- the tokens of a text; none where at some place no piece begins
+-- the tokens of a text; none if no piece begins at some place
 abbrev pub tokens : List ℕ → Option (List Token)
 tokens text = tokens_behind 0 0 text

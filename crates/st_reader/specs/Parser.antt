@@ -1,4 +1,4 @@
--- Reading tokens from the front, as functions. They are exact: they give a tree just where these are the tree's tokens.
+-- Reading tokens from the front, as functions. They give a tree exactly if these are the tree's tokens.
 use Rattle.std.specs.Prelude.{◌≡◌, ℕ, zero, suc, ◌==◌, ◌^◌, pos, neg_ℤ, Bool, true, false, List, [], ◌∷◌, ◌++◌, length, Option, Some, None, option_map, option_and_then, nat_lt, nat_le, if◌then◌else◌, codes, Result, Ok, Err}
 use Rattle.std.specs.Str.{bytes_eq}
 use Rattle.st_reader.specs.declared.trees.Span.{Span}
@@ -15,7 +15,8 @@ use Rattle.st_reader.specs.Tokens.{Token}
 use Rattle.st_reader.specs.Syntax.{Method, Expression, Message, Statements, parenthesis, empty_block, block, send, cascade, name, unary, keywords, last, answer, statement}
 use Rattle.st_reader.specs.TreeViews.{parts_of, further_of, assigns}
 
--- A function returns what reading gives, seen by view: it fails only if reading gives nothing, or memory runs out.
+-- A call returns what the reading function gives, seen through view. It fails only if that gives nothing, or memory
+-- runs out.
 abbrev pub Gives : {X Y : Type 0} → (X → Y) → Result X Wrong → Option Y → Type 0
 Gives view (Ok x) read = read ≡ Some (view x)
 Gives view (Err NoRoom) read = Unit {0}
@@ -32,11 +33,11 @@ infixl 10 ◌>>=◌
 abbrev pub ◌>>=◌ : {A B : Type 0} → Option A → (A → Option B) → Option B
 o >>= f = option_and_then f o
 
--- more in front of a row that was read
+-- items prepended to a list that was read
 abbrev pub in_front : {X : Type 0} → List X → Read (List X) → Read (List X)
 in_front xs read = option_map (λ r. (xs ++ r.0, r.1)) read
 
--- a number of 64 bits after its minus, where it has one
+-- a number of 64 bits, with its minus if it has one
 abbrev pub literal_of : Option Span → ℕ → Span → Option Expression
 literal_of None n place = if nat_lt n (2 ^ 63) then Some (Expression.number (pos n) place None) else None
 literal_of (Some minus) n place =
@@ -67,12 +68,12 @@ unfoldable pub unaries_of : Expression → List Token → Expression × List Tok
 unaries_of e (Token.identifier n ∷ ts) = unaries_of (send e (unary n)) ts
 unaries_of e ts = (e, ts)
 
--- a keyword message, where there are keywords
+-- a keyword message, if there are keywords
 abbrev pub with_parts : Expression → List (Name × Expression) → Expression
 with_parts e [] = e
 with_parts e (p ∷ ps) = send e (keywords (parts_of (p ∷ ps)))
 
--- a cascade, where further messages go to the receiver of the last
+-- a cascade, if there are further messages: they go to the receiver of the last message
 abbrev pub with_further : Expression → List (Span × Message) → Option Expression
 with_further e [] = Some e
 with_further (send e m) (f ∷ fs) = Some (cascade e m (further_of (f ∷ fs)))
@@ -84,7 +85,7 @@ targets_of (Token.identifier n ∷ Token.assign place ∷ ts) =
     ((record { name = n; assign = place }) ∷ (targets_of ts).0, (targets_of ts).1)
 targets_of ts = ([], ts)
 
--- what an expression is made of, by what opening brackets begin
+-- the parts of an expression, given what is read after opening brackets
 module _ (group inner : Span → Parse Expression) where
   abbrev pub operand_of : Parse Expression
   operand_of (Token.identifier n ∷ ts) = Some (name n, ts)
@@ -116,11 +117,11 @@ module _ (group inner : Span → Parse Expression) where
       binary_of ts >>= λ r. in_front ((n, r.0) ∷ []) (keyword_parts_of k r.1)
   keyword_parts_of k ts = Some ([], ts)
 
-  -- an expression of binary messages and its keyword message
+  -- an expression of binary messages, and its keyword message if there is one
   unfoldable pub chain_of : Parse Expression
   chain_of ts = binary_of ts >>= λ r. keyword_parts_of 8 r.1 >>= λ p. Some (with_parts r.0 p.0, p.1)
 
-  -- a message by itself
+  -- a single message
   unfoldable pub message_of : Parse Message
   message_of (Token.identifier n ∷ ts) = Some (unary n, ts)
   message_of (Token.binary n ∷ ts) = term_of ts >>= λ r. Some (Message.binary n r.0, r.1)
@@ -141,22 +142,22 @@ module _ (group inner : Span → Parse Expression) where
       >>= λ r. further_messages_of (length r.1) r.1
       >>= λ f. option_map (λ e. (e, f.1)) (with_further r.0 f.0)
 
-  -- a value and what it is assigned to
+  -- a value, and what it is assigned to
   unfoldable pub expression_with : Parse Expression
   expression_with ts = option_map (λ r. (assigns (targets_of ts).0 r.0, r.1)) (value_of (targets_of ts).1)
 
--- whether statements end
+-- whether statements end here
 abbrev pub is_end : List Token → Bool
 is_end [] = true
 is_end (Token.mark CloseBlock place ∷ ts) = true
 is_end _ = false
 
--- the answered expression, with its period where there is one
+-- the answered expression, with its period if there is one
 abbrev pub answered : Span → Expression → List Token → Statements × List Token
 answered caret e (Token.mark Period place ∷ ts) = (answer caret e (Some place), ts)
 answered caret e ts = (answer caret e None, ts)
 
--- what follows an expression: more statements after a period, or none
+-- what follows an expression: more statements after a period, or nothing
 abbrev pub statement_of : Parse Statements → Expression → Parse Statements
 statement_of more e (Token.mark Period place ∷ ts) =
     if is_end ts then Some (last e (Some place), ts)
@@ -170,45 +171,45 @@ statements_with expression (suc n) (Token.mark Caret place ∷ ts) =
     option_map (λ r. answered place r.0 r.1) (expression ts)
 statements_with expression (suc n) ts = expression ts >>= λ r. statement_of (statements_with expression n) r.0 r.1
 
--- after an opening parenthesis
+-- a group, after its opening parenthesis
 unfoldable pub group_with : Parse Expression → Span → Parse Expression
 group_with expression opening ts =
     expression ts
     >>= λ r. parenthesis_end r.1
     >>= λ c. Some (parenthesis opening r.0 c.0, c.1)
 
--- after an opening bracket, statements
+-- a block with statements, after its opening bracket
 unfoldable pub filled_block_with : Parse Expression → Span → Parse Expression
 filled_block_with expression opening ts =
     statements_with expression (length ts) ts
     >>= λ r. block_end r.1
     >>= λ c. Some (block opening r.0 c.0, c.1)
 
--- after an opening bracket
+-- a block, after its opening bracket
 unfoldable pub block_with : Parse Expression → Span → Parse Expression
 block_with expression opening (Token.mark CloseBlock place ∷ ts) = Some (empty_block opening place, ts)
 block_with expression opening ts = filled_block_with expression opening ts
 
--- nothing is read
+-- nothing can be read
 abbrev pub nothing : Span → Parse Expression
 nothing place ts = None
 
--- an expression in which brackets nest at most so deep
+-- an expression in which brackets nest at most n deep
 unfoldable pub expression_of : ℕ → Parse Expression
 expression_of zero = expression_with nothing nothing
 expression_of (suc n) = expression_with (group_with (expression_of n)) (block_with (expression_of n))
 
--- after an opening parenthesis, where brackets may nest so deep, this one counted
+-- a group after its opening parenthesis, if brackets may nest n deep, this one included
 abbrev pub group_of : ℕ → Span → Parse Expression
 group_of zero = nothing
 group_of (suc n) = group_with (expression_of n)
 
--- the same of a block
+-- the same for a block
 abbrev pub block_of : ℕ → Span → Parse Expression
 block_of zero = nothing
 block_of (suc n) = block_with (expression_of n)
 
--- a name
+-- the name of an argument
 abbrev pub parameter_of : Parse Name
 parameter_of (Token.identifier n ∷ ts) = Some (n, ts)
 parameter_of _ = None
@@ -238,12 +239,12 @@ temporaries_end opening names (Token.mark Bar place ∷ ts) =
     Some (Some (record { opening = opening; names = names; closing = place }), ts)
 temporaries_end opening names _ = None
 
--- the temporaries, where there are bars
+-- the temporaries, if there are bars
 unfoldable pub temporaries_of : Parse (Option Temporaries)
 temporaries_of (Token.mark Bar place ∷ ts) = temporaries_end place (names_of ts).0 (names_of ts).1
 temporaries_of ts = Some (None, ts)
 
--- what was read, where nothing is left
+-- what was read, if no token is left
 abbrev pub whole : {T : Type 0} → T × List Token → Option T
 whole (x, []) = Some x
 whole (x, t ∷ ts) = None

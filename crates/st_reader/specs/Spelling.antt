@@ -6,8 +6,8 @@ use Rattle.st_reader.specs.Syntax.{Method}
 use Rattle.st_reader.specs.Grammar.{method_toks, IsMethod}
 use Rattle.st_reader.specs.WellFormed.{keeps_rules}
 
--- a text spells a method of the grammar: it is 4,096 bytes at most, of those that a source may have, it is cut into the
--- tokens of the method, each within its limits, and the method is one of the grammar
+-- a text spells a method of the grammar: it has at most 4,096 bytes, all of which may be in a source, it is cut into
+-- the tokens of the method, each within its limits, and the method follows the grammar
 pub record SpellsGrammar (method : Method) (text : List ℕ) : Type 0 where
   pub short : length text ≤ 4096
   pub characters : list_all is_character text ≡ true

@@ -1,5 +1,5 @@
--- How the logic stores the statements of a method, by which it tells two apart, as the view of a tree needs.
--- Nothing rests on the way that is taken: any that gives the statements back will do.
+-- An injective encoding of the statements of a method as stored values of the logic, which the view of a tree needs.
+-- Nothing depends on the encoding that is chosen: any that can be decoded will do.
 use Rattle.std.specs.Prelude.{◌≡◌, ℕ, ℤ, pos, List, [], Option, Some, None, unwrap_or, cond, ◌==◌, refl}
 use Rattle.std.specs.Coded.{Coded, code_by, coded×, coded_ℕ, coded_ℤ, coded_list, coded_option}
 use base.Stored.{Gv, gnil, gnum, gcons}
@@ -20,7 +20,7 @@ name_code =
     code_by (List ℕ × Span) (coded× (coded_list coded_ℕ) span_code)
     (λ n. (n.text, n.span)) (λ p. record { text = p.0; span = p.1 }) (λ _. refl)
 
--- what a node has beside its children: a number, a name, and two places
+-- what a node holds besides its children: a number, a name, and two places
 record Leaf : Type 0 where
   value : ℤ
   named : Name
@@ -109,7 +109,7 @@ abbrev mutual
   statements_tree (answer caret e period) = node 1 (ended caret period) (expression_tree e) nil nil
   statements_tree (statement e period ss) = node 2 (ended period None) (expression_tree e) (statements_tree ss) nil
 
--- what a tree is read as, by what it stores
+-- what a tree can be decoded to
 record Read : Type 0 where
   expression : Expression
   message : Message

@@ -36,7 +36,7 @@ mutual
     answer : Span → Expression → Option Span → Statements
     statement : Expression → Span → Statements → Statements
 
--- a method: what it is called, its temporaries where it has bars, and its statements where it has any
+-- a method: its pattern, its temporaries if it has bars, and its statements if it has any
 pub record Method : Type 0 where
   pub pattern : Pattern
   pub temporaries : Option Temporaries

@@ -11,8 +11,8 @@ use Rattle.st_reader.specs.declared.tokens.Piece.{Piece}
 use Rattle.st_reader.specs.declared.tokens.Piece.TheVariants.{White, Comment, Token as Whole}
 use Rattle.st_reader.specs.Pieces.{is_white, is_piece, may_stop}
 
--- a token with its place; a keyword's text has its colon; a number is the value of its digits, and its minus is a token
--- `-` of its own; a symbol's text has no `#`, and its place has it
+-- a token with its place; the text of a keyword includes its colon; a number is the value of its digits, and its
+-- minus is a separate token `-`; the place of a symbol includes its `#`, its text does not
 pub data Token : Type 0 where
   identifier : Name → Token
   keyword : Name → Token
@@ -22,15 +22,15 @@ pub data Token : Type 0 where
   symbol : Name → Token
   mark : Sign → Span → Token
 
--- the number that decimal digits write
+-- the number that decimal digits stand for
 abbrev pub digits_value : List ℕ → ℕ
 digits_value digits = fold (λ n d. n * 10 + (d - 48)) 0 digits
 
--- a place from its ends
+-- a span from its ends
 abbrev pub span : ℕ → ℕ → Span
 span start end = record { start = start; end = end }
 
--- a text with its place
+-- a name from its text and its span
 abbrev pub name : List ℕ → Span → Name
 name text place = record { text = text; span = place }
 
@@ -50,19 +50,19 @@ piece_tokens White text place = []
 piece_tokens Comment text place = []
 piece_tokens (Whole kind) text place = token kind text place ∷ []
 
--- the tokens of pieces with their bytes that stand from a place on
+-- the tokens of pieces with their bytes, the first of which is at the given place
 abbrev pub tokens_from : ℕ → List (Piece × List ℕ) → List Token
 tokens_from place [] = []
 tokens_from place (p ∷ ps) =
     piece_tokens p.0 p.1 (span place (place + length p.1))
     ++ tokens_from (place + length p.1) ps
 
--- the bytes of pieces, and those after them
+-- the bytes of pieces, followed by other bytes
 abbrev pub bytes_of : List (Piece × List ℕ) → List ℕ → List ℕ
 bytes_of [] behind = behind
 bytes_of (p ∷ ps) behind = p.1 ++ bytes_of ps behind
 
--- each piece is one of its kind, and may stop before what is after it
+-- each piece has the bytes of its kind, and may end before what follows it
 abbrev pub AreWhole : List (Piece × List ℕ) → List ℕ → Type 0
 AreWhole [] behind = Unit {0}
 AreWhole (p ∷ ps) behind =
@@ -70,18 +70,18 @@ AreWhole (p ∷ ps) behind =
     × (may_stop p.0 p.1 (bytes_of ps behind) ≡ true)
     × AreWhole ps behind
 
--- a text is a row of pieces, whose tokens these are, and bytes after them
+-- a text is a sequence of pieces with these tokens, followed by these bytes
 pub record IsCutBefore (text : List ℕ) (ts : List Token) (behind : List ℕ) : Type 0 where
   pub pieces : List (Piece × List ℕ)
   pub joined : bytes_of pieces behind ≡ text
   pub whole : AreWhole pieces behind
   pub tokens : tokens_from 0 pieces ≡ ts
 
--- a text is a row of pieces, whose tokens these are
+-- a text is a sequence of pieces with these tokens
 abbrev pub IsCut : List ℕ → List Token → Type 0
 IsCut text ts = IsCutBefore text ts []
 
--- no piece that may stop begins a text
+-- no piece is at the front of a text and may end where it does
 abbrev pub BeginsNone : List ℕ → Type 0
 BeginsNone text =
     (p : Piece) (bytes behind : List ℕ)
@@ -90,7 +90,7 @@ BeginsNone text =
     → may_stop p bytes behind ≡ true
     → ⊥
 
--- a text is a row of pieces up to a place in it where none begins
+-- a text is a sequence of pieces with these tokens up to a place in it where no piece begins
 pub record StopsAt (text : List ℕ) (ts : List Token) (place : ℕ) : Type 0 where
   pub before : IsCutBefore text ts (drop place text)
   pub inside : place < length text
@@ -100,13 +100,13 @@ pub record StopsAt (text : List ℕ) (ts : List Token) (place : ℕ) : Type 0 wh
 abbrev pub CutsOneWay : Type 0
 CutsOneWay = (text : List ℕ) (a b : List Token) → IsCut text a → IsCut text b → a ≡ b
 
--- an identifier has at most 64 bytes, with a colon at most 65, and a symbol's text is a selector
+-- an identifier has at most 64 bytes, a keyword at most 65 with its colon, and the text of a symbol is a selector
 abbrev pub token_fits : Token → Bool
 token_fits (identifier n) = nat_le (length n.text) 64
 token_fits (keyword n) = nat_le (length n.text) 65
 token_fits (symbol n) = is_selector n.text
 token_fits _ = true
 
--- a byte that may stand in a source: white space, or a visible character
+-- a byte that may be in a source: white space or a visible character
 abbrev pub is_character : ℕ → Bool
 is_character b = is_white b || (nat_le 33 b && nat_le b 126)

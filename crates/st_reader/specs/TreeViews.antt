@@ -1,4 +1,4 @@
--- The syntax that a tree shows.
+-- The syntax of a tree.
 use Rattle.std.specs.Prelude.{ℕ, List, [], ◌∷◌, Option, Some, None, option_map, map}
 use Rattle.std.specs.declared.vec.Vec.{Vec}
 use Rattle.std.specs.declared.alloc.Global.{Global}
@@ -33,22 +33,22 @@ abbrev pub assigns : List Target → Expression → Expression
 assigns [] e = e
 assigns (t ∷ ts) e = assign t.name t.assign (assigns ts e)
 
--- statements in front of others
+-- statements prepended to others
 abbrev pub thens : List (Expression × Span) → Statements → Statements
 thens [] ss = ss
 thens (s ∷ before) ss = statement s.0 s.1 (thens before ss)
 
--- a last statement, answered if a caret is before it
+-- a last statement, answered if it has a caret
 abbrev pub last_of : Option Span → Expression → Option Span → Statements
 last_of None e period = last e period
 last_of (Some caret) e period = answer caret e period
 
--- a cascade, where there is one
+-- a cascade, if there is one
 abbrev pub cascaded : Expression → Option (Message × List (Span × Message)) → Expression
 cascaded e None = e
 cascaded e (Some c) = cascade e c.0 (further_of c.1)
 
--- one level of each type, where what it holds is seen already
+-- the syntax of one node of each type, given the syntax of its children
 module _ where
   abbrev pub operand_step : Operand-F Message Expression Expression Expression Statements → Expression
   operand_step (Operand-F.Number value span minus) = number value span minus
@@ -97,24 +97,24 @@ statements_view =
     fold-Statements Message Expression Expression Expression Statements
     message_step operand_step chain_step expression_step statements_step
 
--- keywords with their arguments, as a tree shows them
+-- the syntax of keywords with their arguments
 abbrev pub seen_parts : List (Name × Chain) → List (Name × Expression)
 seen_parts ps = map (λ p. (p.0, chain_view p.1)) ps
 
--- the further messages of a cascade, as a tree shows them
+-- the syntax of the further messages of a cascade
 abbrev pub seen_further : List (Span × Sent) → List (Span × Message)
 seen_further ms = map (λ m. (m.0, message_view m.1)) ms
 
--- the messages of a cascade, as a tree shows them
+-- the syntax of the messages of a cascade
 abbrev pub seen_cascade : Option (Sent × Vec (Span × Sent) Global) → Option (Message × List (Span × Message))
 seen_cascade None = None
 seen_cascade (Some c) = Some (message_view c.0, seen_further c.1.items)
 
--- statements with their periods, as a tree shows them
+-- the syntax of statements with their periods
 abbrev pub seen_sentences : List (Written × Span) → List (Expression × Span)
 seen_sentences ss = map (λ s. (expression_view s.0, s.1)) ss
 
--- statements in front of what was read
+-- statements prepended to those that were read
 abbrev pub behind_sentences : {T : Type 0} → List (Expression × Span) → Statements × T → Statements × T
 behind_sentences before r = (thens before r.0, r.1)
 

@@ -1,4 +1,4 @@
--- The variables of a method: its arguments, and then its temporaries.
+-- The variables of a method: its arguments, then its temporaries.
 use Rattle.std.specs.Prelude.{ℕ, ◌&&◌, List, [], ◌∷◌, ◌++◌, length, map, Bool, not, Option, Some, None, nat_le}
 use Rattle.std.specs.List.{list_all}
 use Rattle.st_classes.specs.Selectors.{is_slot_name}
@@ -32,7 +32,7 @@ texts names = map (λ n. n.text) names
 abbrev pub argument_texts : Pattern → List (List ℕ)
 argument_texts p = texts (arguments_of p)
 
--- each is an identifier that begins with a lower-case letter and is not reserved, no two are alike, and there are 64 at
--- most
+-- each is an identifier that starts with a lower-case letter and is not reserved, all are different, and there are at
+-- most 64
 abbrev pub are_variables : List Name → Bool
 are_variables names = list_all is_slot_name (texts names) && not (has_twice (texts names)) && nat_le (length names) 64

@@ -1,5 +1,4 @@
--- What a method keeps beyond the grammar: where blocks and `super` stand, what is assigned to, and what its variables
--- are called.
+-- The rules beyond the grammar, for blocks and `super`, for assignments, and for the names of variables.
 use Rattle.std.specs.Prelude.{ℕ, ◌&&◌, ◌||◌, List, [], ◌∷◌, ◌++◌, Bool, true, not, Option, Some, None}
 use Rattle.std.specs.List.{list_any}
 use Rattle.std.specs.Str.{bytes_eq}
@@ -20,13 +19,13 @@ abbrev pub further_arguments : Further → List Expression
 further_arguments no_further = []
 further_arguments (further place m ms) = arguments m ++ further_arguments ms
 
--- the expressions that are statements
+-- the expressions of statements
 abbrev pub sentences : Statements → List Expression
 sentences (last e period) = e ∷ []
 sentences (answer caret e period) = e ∷ []
 sentences (statement e period ss) = e ∷ sentences ss
 
--- blocks stand where messages are inlined, and `super` as the receiver of a message alone
+-- blocks are in inlined messages only, and `super` is only the receiver of a message outside cascades
 abbrev pub is_well_placed : Expression → Bool
 is_well_placed (send e m) = is_inlined e m || (not (is_block e) && not (list_any is_loose (arguments m)))
 is_well_placed (cascade e m ms) =
@@ -38,20 +37,20 @@ is_well_placed (block opening ss closing) = not (list_any is_loose (sentences ss
 is_well_placed (Expression.assign n place e) = not (is_loose e)
 is_well_placed _ = true
 
--- the name of a variable, and of no argument
+-- the name of a variable other than an argument
 abbrev pub may_change : List (List ℕ) → Name → Bool
 may_change fixed n = is_slot_name n.text && not (list_any (bytes_eq n.text) fixed)
 
--- what is assigned to is a variable, and no argument
+-- what is assigned to is a variable other than an argument
 abbrev pub assigns_variable : List (List ℕ) → Expression → Bool
 assigns_variable fixed (Expression.assign n place e) = may_change fixed n
 assigns_variable fixed _ = true
 
--- an expression is where it may be, and what it assigns to is a variable
+-- an expression is where it may be, and assigns to a variable if it assigns
 abbrev pub is_allowed : List (List ℕ) → Expression → Bool
 is_allowed fixed e = is_well_placed e && assigns_variable fixed e
 
--- each expression in an expression is allowed, itself too
+-- all expressions in an expression are allowed, itself included
 module _ (fixed : List (List ℕ)) where
   abbrev mutual
     pub allowed : Expression → Bool
@@ -83,11 +82,11 @@ module _ (fixed : List (List ℕ)) where
     statements_allowed (answer caret e period) = allowed e
     statements_allowed (statement e period ss) = allowed e && statements_allowed ss
 
--- each expression in the statements of a method is allowed, and none of them is a block or `super` by itself
+-- all expressions in the statements of a method are allowed, and no statement is a block or `super` by itself
 abbrev pub body_allowed : List (List ℕ) → Option Statements → Bool
 body_allowed fixed None = true
 body_allowed fixed (Some ss) = not (list_any is_loose (sentences ss)) && statements_allowed fixed ss
 
--- a method has variables that it may have, and does what it may
+-- the variables of a method are well named, and its body is allowed
 abbrev pub keeps_rules : Method → Bool
 keeps_rules m = are_variables (locals_of m) && body_allowed (argument_texts m.pattern) m.body

@@ -1,4 +1,4 @@
-//! The characters that separate tokens, and runs of characters.
+//! The characters that separate tokens, and prefixes of characters of one sort.
 ghost use Rattle.std.specs.Prelude.{◌≡◌, ◌+◌, ◌-◌, ◌*◌, ◌<◌, ◌≤◌, ◌^◌, length, SomeIff};
 ghost use Rattle.std.specs.List.{list_all, prefix_len};
 ghost use Rattle.st_classes.specs.Selectors.{is_letter_or_digit, is_digit};
@@ -17,21 +17,21 @@ pub fn is_white(b: u8) -> bool
     }
 }
 
-/// Whether a byte may stand in a source at all.
+/// Whether a byte may be in a source at all.
 pub fn is_character(b: u8) -> bool
     ensures { result ≡ is_character b }
 {
     is_white(b) || 33 <= b && b <= 126
 }
 
-/// Whether each byte may stand in a source.
+/// Whether each byte may be in a source.
 pub fn are_characters(text: &[u8]) -> bool
     ensures { result ≡ list_all is_character text.now }
 {
     text.iter().all(|b| is_character(*b))
 }
 
-/// The number of letters and digits at the front.
+/// The length of the longest prefix of letters and digits.
 pub fn word_length(text: &[u8]) -> usize
     ensures value { result ≡ prefix_len is_letter_or_digit text.now }
     ensures within { result ≤ length text.now }
@@ -41,7 +41,7 @@ pub fn word_length(text: &[u8]) -> usize
         .count()
 }
 
-/// The number of digits at the front.
+/// The length of the longest prefix of digits.
 pub fn digits_length(text: &[u8]) -> usize
     ensures value { result ≡ prefix_len is_digit text.now }
     ensures within { result ≤ length text.now }
@@ -57,7 +57,7 @@ pub fn unquoted_length(text: &[u8]) -> usize
     text.iter().take_while(|b| **b != b'"').count()
 }
 
-/// A value with one digit more.
+/// A value with one more digit at its end.
 fn with_digit(value: u64, digit: u8) -> Option<u64>
     ensures { SomeIff result (value * 10 + (digit - 48) < 2 ^ 64) (value * 10 + (digit - 48)) }
 {
@@ -66,7 +66,7 @@ fn with_digit(value: u64, digit: u8) -> Option<u64>
         .checked_add(u64::from(digit.saturating_sub(b'0')))
 }
 
-/// The value of digits, where it is below 2^64.
+/// The value of digits, if it is below 2^64.
 pub fn digits_value(digits: &[u8]) -> Option<u64>
     ensures { SomeIff result (digits_value digits.now < 2 ^ 64) (digits_value digits.now) }
 {

@@ -1,8 +1,8 @@
 //! What is wrong with a source that has no method, and where.
 //!
-//! The checks have an order, and of one check the least offset counts. The first two read the bytes. All others are made in
-//! one pass over the tokens, which keeps the open brackets in a list and so needs no more stack for a deep source than for a
-//! flat one.
+//! The checks have an order. Of the failures of one check the least offset counts. The first two checks look at the bytes. All
+//! others are made in one pass over the tokens. The pass keeps the open brackets in a list, so it needs no more stack for a deep
+//! source than for a flat one.
 ghost use Rattle.std.specs.Prelude.{length};
 ghost use Rattle.st_reader.specs.Faults.{IsWithin, RefusesSource};
 
@@ -24,11 +24,11 @@ use st_classes::limits;
 use st_classes::refusals::{Refusal, SourceFault};
 use std::alloc::Global;
 
-/// The refusal of a source that has no method: `BadSource` with the first check that fails and the least place where it does,
+/// The refusal of a source that has no method: `BadSource` with the first check that fails and the least offset at which it fails,
 /// or `NoMemory`.
 ///
-/// The offset is at most the length of the source. That kind and offset are the right ones is tested and not proved. For a
-/// source that has a method the answer means nothing.
+/// The offset is at most the length of the source. That the kind and the offset are the right ones is tested, not proved. If the
+/// source has a method, the answer means nothing.
 pub fn source_fault(alloc: Global, source: &[u8]) -> Refusal
     ensures source { RefusesSource result }
     ensures offset { IsWithin (length source.now) result }
@@ -43,7 +43,7 @@ pub fn source_fault(alloc: Global, source: &[u8]) -> Refusal
     }
 }
 
-/// The first fault of a source; none where it has a method.
+/// The first fault of a source, or `None` if it has a method.
 fn first_fault(alloc: Global, source: &[u8]) -> Result<Option<Fault>, Stop> {
     if source.len() > limits::SOURCE {
         return Ok(Some(Fault::new(Check::Length, limits::SOURCE as u16)));

@@ -1,4 +1,4 @@
-//! The messages that are inlined where their arguments are blocks.
+//! The messages that are inlined if their arguments are blocks.
 ghost use Rattle.std.specs.Prelude.{◌≡◌, ◌∷◌, []};
 ghost use Rattle.st_reader.specs.Inlining.{inlining_of_one, inlining_of_two, is_loop};
 
@@ -16,7 +16,7 @@ pub enum Inlining {
 }
 
 impl Inlining {
-    /// The inlined message of one keyword.
+    /// The inlined message with one keyword.
     pub fn of_one(text: &[u8]) -> Option<Inlining>
         ensures { result ≡ inlining_of_one text.now }
     {
@@ -37,7 +37,7 @@ impl Inlining {
         }
     }
 
-    /// The inlined message of two keywords.
+    /// The inlined message with two keywords.
     pub fn of_two(text: &[u8], next: &[u8]) -> Option<Inlining>
         ensures { result ≡ inlining_of_two text.now next.now }
     {
@@ -50,7 +50,7 @@ impl Inlining {
         }
     }
 
-    /// Whether the receiver is a block too.
+    /// Whether the receiver must be a block, too.
     pub fn is_loop(self) -> bool
         ensures { result ≡ is_loop self }
     {

@@ -1,8 +1,8 @@
-//! Method source to tree: the whole grammar.
+//! From the source of a method to its tree: the whole grammar.
 //!
-//! A text is cut into tokens, and these are read as a tree by a descent with one function for each form of the grammar. No
-//! text has two trees. Then the tree is asked for what the grammar does not say: where blocks and `super` stand, what is assigned
-//! to, and what arguments and temporaries are called.
+//! A text is cut into tokens. A recursive descent, with one function for each form of the grammar, reads the tokens as a tree. No
+//! text has two trees. Then the tree is checked against the rules beyond the grammar: where blocks and `super` may be, what may be
+//! assigned to, and how arguments and temporaries may be named.
 #![tactic(auto)]
 
 mod characters;

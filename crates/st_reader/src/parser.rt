@@ -1,4 +1,4 @@
-//! Trees of tokens: a descent by one function for each form of the grammar.
+//! From tokens to trees: a recursive descent with one function for each form of the grammar.
 ghost use Rattle.std.specs.Prelude.{◌≡◌, option_map};
 ghost use Rattle.st_reader.specs.Lexemes.{tokens_of};
 ghost use Rattle.st_reader.specs.TreeViews.{statements_view, method_view};
@@ -32,7 +32,8 @@ impl<T: Drop> From<AllocFailed<T>> for Wrong {
     }
 }
 
-/// Lets go of what was read where no more can be. A large value is dropped here and not on each path that gives up.
+/// Drops what was read so far when the rest cannot be read, and answers the error. Large values are dropped in this one place, not
+/// on each path that gives up.
 pub(crate) fn let_go<T: Drop, E>(_read: T, error: E) -> E
     ensures { result ≡ error }
 {
@@ -58,7 +59,7 @@ fn body(alloc: Global, source: &[u8], lexemes: &[Lexeme]) -> Result<Option<State
     }
 }
 
-/// The method of the tokens of a whole source.
+/// The method whose tokens are those of a whole source.
 #[tactic(auto, unfolding(crate::specs::Parser::method_of))]
 pub(crate) fn method(
     alloc: Global,

@@ -1,4 +1,4 @@
-//! The entry: from the source of a method to its tree.
+//! The entry point: from the source of a method to its tree.
 ghost use Rattle.std.specs.Prelude.{◌≡◌, ◌⊎◌, length, IfOk, IfErr};
 ghost use Rattle.st_classes.specs.declared.refusals.Refusal.TheVariants.{NoMemory};
 ghost use Rattle.st_reader.specs.Syntax.{Method};
@@ -41,7 +41,7 @@ fn read_syntax(alloc: Global, source: &[u8]) -> Result<MethodSyntax, Refusal>
     }
 }
 
-/// That no text spells two methods.
+/// A law: no text spells two methods.
 pub fn one_reading()
     ensures { OneReading }
 {
@@ -50,11 +50,12 @@ pub fn one_reading()
 
 /// The tree of the method that a source spells, with a copy of the source.
 ///
-/// `BadSource` says that the source spells none: it is over 4,096 bytes, has a byte that no source may have, can't be cut into
-/// tokens within their limits, or is no method of the grammar, in which parentheses and blocks nest at most 64 deep; or the
-/// method breaks a rule: a block or `super` is where it may not be, an argument or what is no variable is assigned to, or
-/// arguments and temporaries have names that they may not have, two have one, or they are over 64. Its offset is at most the
-/// length of the source; that kind and offset are the right ones is tested, not proved. Else the only refusal is `NoMemory`.
+/// `BadSource` says that the source spells no method. Either it is over 4,096 bytes, has a byte that no source may contain, cannot
+/// be cut into tokens within their limits, or is not a method of the grammar, in which parentheses and blocks nest at most 64 deep.
+/// Or the method breaks a rule: a block or `super` is where it may not be; an argument or something that is not a variable is
+/// assigned to; arguments and temporaries have names that they may not have, have the same name twice, or are more than 64. The
+/// offset is at most the length of the source. That the kind and the offset are the right ones is tested, not proved. The only
+/// other refusal is `NoMemory`.
 pub fn read_method(alloc: Global, source: &[u8]) -> Result<MethodTree, Refusal>
     ensures ok { IfOk result (λ t. t.source ≡ source.now) }
     ensures spelled { IfOk result (λ t. Spells t.syntax source.now) }

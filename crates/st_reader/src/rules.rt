@@ -1,5 +1,4 @@
-//! What a method keeps beyond the grammar: where blocks and `super` stand, what is assigned to, and what its variables are
-//! called.
+//! The rules beyond the grammar: where blocks and `super` may be, what may be assigned to, and how variables may be named.
 ghost use Rattle.std.specs.Prelude.{◌≡◌, true, map, option_map};
 ghost use Rattle.std.specs.List.{list_all};
 ghost use Rattle.st_reader.specs.TreeViews.{operand_view, chain_view, message_view, expression_view, statements_view, method_view, sends, parts_of, further_of, seen_parts, seen_further};
@@ -21,7 +20,7 @@ use crate::trees::{
     Chain, Expression, Message, MethodSyntax, Name, Operand, Pattern, Span, Statements,
 };
 
-/// Whether each expression in an operand is allowed.
+/// Whether all expressions in an operand are allowed.
 #[cycle(rules)]
 fn operand_allowed(pattern: &Pattern, operand: &Operand) -> bool
     ensures { result ≡ allowed (argument_texts pattern.now) (operand_view operand.now) }
@@ -39,7 +38,7 @@ fn operand_allowed(pattern: &Pattern, operand: &Operand) -> bool
     }
 }
 
-/// Whether each expression in the arguments of keywords is allowed.
+/// Whether all expressions in the arguments of keywords are allowed.
 #[cycle(rules)]
 fn parts_allowed(pattern: &Pattern, parts: &[(Name, Chain)]) -> bool
     ensures { result ≡ parts_pass (argument_texts pattern.now) (parts_of (seen_parts parts.now)) }
@@ -52,7 +51,7 @@ fn parts_allowed(pattern: &Pattern, parts: &[(Name, Chain)]) -> bool
     true
 }
 
-/// Whether each expression in a message is allowed.
+/// Whether all expressions in a message are allowed.
 #[tactic(auto, using(crate::proofs::Messages::keyword_is, crate::proofs::Messages::unary_is, crate::proofs::Messages::binary_is))]
 #[cycle(rules)]
 fn message_allowed(pattern: &Pattern, message: &Message) -> bool
@@ -65,7 +64,7 @@ fn message_allowed(pattern: &Pattern, message: &Message) -> bool
     }
 }
 
-/// Whether each expression is allowed where messages go to a receiver that is.
+/// Whether all expressions are allowed when messages go to a receiver that is allowed.
 #[cycle(rules)]
 fn messages_allowed(pattern: &Pattern, receiver: Alone, messages: &[Message]) -> bool
     ensures { (e : Shown) → expression_kind e ≡ receiver → allowed (argument_texts pattern.now) e ≡ true → result ≡ allowed (argument_texts pattern.now) (sends e (map message_view messages.now)) }
@@ -80,7 +79,7 @@ fn messages_allowed(pattern: &Pattern, receiver: Alone, messages: &[Message]) ->
     true
 }
 
-/// Whether each expression in an operand with its messages is allowed.
+/// Whether all expressions in an operand and its messages are allowed.
 #[tactic(auto, using(crate::proofs::Allowed::chain_fails))]
 #[cycle(rules)]
 fn chain_allowed(pattern: &Pattern, chain: &Chain) -> bool
@@ -90,7 +89,7 @@ fn chain_allowed(pattern: &Pattern, chain: &Chain) -> bool
         && messages_allowed(pattern, operand_alone(&chain.operand), &chain.messages)
 }
 
-/// Whether each expression in the messages after semicolons is allowed.
+/// Whether all expressions in the messages after semicolons are allowed.
 #[cycle(rules)]
 fn further_allowed(pattern: &Pattern, further: &[(Span, Message)]) -> bool
     ensures { result ≡ further_pass (argument_texts pattern.now) (further_of (seen_further further.now)) }
@@ -103,7 +102,7 @@ fn further_allowed(pattern: &Pattern, further: &[(Span, Message)]) -> bool
     true
 }
 
-/// Whether each expression in an expression is allowed.
+/// Whether all expressions in an expression are allowed, itself included.
 #[tactic(auto, using(crate::proofs::Allowed::expression_fails, crate::proofs::Allowed::receiver_fails, crate::proofs::Allowed::plain_allowed))]
 #[cycle(rules)]
 fn expression_allowed(pattern: &Pattern, expression: &Expression) -> bool
@@ -121,7 +120,7 @@ fn expression_allowed(pattern: &Pattern, expression: &Expression) -> bool
     message_allowed(pattern, first) && further_allowed(pattern, further)
 }
 
-/// Whether each expression in statements that others follow is allowed.
+/// Whether all expressions in the statements before the last one are allowed.
 #[cycle(rules)]
 fn sentences_allowed(pattern: &Pattern, before: &[(Expression, Span)]) -> bool
     ensures { result ≡ list_all (λ s. allowed (argument_texts pattern.now) (expression_view s.0)) before.now }
@@ -134,7 +133,7 @@ fn sentences_allowed(pattern: &Pattern, before: &[(Expression, Span)]) -> bool
     true
 }
 
-/// Whether each expression in statements is allowed.
+/// Whether all expressions in statements are allowed.
 #[tactic(auto, using(crate::proofs::Allowed::statements_rows))]
 #[cycle(rules)]
 fn statements_allowed(pattern: &Pattern, statements: &Statements) -> bool
@@ -143,7 +142,7 @@ fn statements_allowed(pattern: &Pattern, statements: &Statements) -> bool
     sentences_allowed(pattern, &statements.before) && expression_allowed(pattern, &statements.last)
 }
 
-/// Whether each expression in a method is allowed.
+/// Whether all expressions in a method's statements are allowed, and no statement is a block or `super` by itself.
 fn body_allowed(pattern: &Pattern, body: &Option<Statements>) -> bool
     ensures { result ≡ body_passes (argument_texts pattern.now) (option_map statements_view body.now) }
 {

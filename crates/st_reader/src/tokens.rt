@@ -27,7 +27,7 @@ pub enum Mark {
     Bar,
 }
 
-/// What a token is.
+/// The kind of a token.
 #[derive(Clone, Copy, PartialEq, Eq, Debug)]
 pub enum Kind {
     Identifier,
@@ -36,7 +36,7 @@ pub enum Kind {
     /// `:=`
     Assign,
     Binary,
-    /// Decimal digits. A minus before them is a token of its own.
+    /// Decimal digits. A minus before them is a separate token.
     Number,
     Symbol,
     Mark(Mark),
@@ -50,26 +50,26 @@ pub enum Piece {
     Token(Kind),
 }
 
-/// A token by its place in a source.
+/// A token, by its span in a source.
 #[derive(Clone, Copy, PartialEq, Eq, Debug)]
 pub struct Lexeme {
     pub kind: Kind,
     pub span: Span,
 }
 
-/// The tokens of a source up to the first place where none begins, and that place, where there is one.
+/// The tokens of a source up to the first place where none begins, and that place, if there is one.
 #[derive(Drop)]
 pub struct Tokens {
     pub lexemes: Vec<Lexeme>,
     pub stop: Option<u16>,
 }
 
-/// That no text is cut into tokens in two ways.
+/// A law: no text is cut into tokens in two ways.
 pub fn one_cut()
     ensures { CutsOneWay }
 {}
 
-/// The bytes of a source at a place, as far as it has them.
+/// The bytes of a source in a span, as far as it has them.
 pub fn text(source: &[u8], place: Span) -> &[u8]
     ensures { result.now ≡ text_at source.now place }
 {
@@ -79,7 +79,7 @@ pub fn text(source: &[u8], place: Span) -> &[u8]
     &after[..long.min(after.len())]
 }
 
-/// The bytes of a symbol after its `#`.
+/// The bytes of a symbol, without its `#`.
 pub fn symbol_text(source: &[u8], place: Span) -> &[u8]
     ensures { result.now ≡ drop 1 (text_at source.now place) }
 {
@@ -124,7 +124,7 @@ fn begins_equals(text: &[u8]) -> bool
     }
 }
 
-/// Whether a period and a digit are at the front.
+/// Whether a text starts with a period and a digit.
 fn begins_fraction(text: &[u8]) -> bool
     ensures { result ≡ begins_fraction text.now }
 {
@@ -134,7 +134,7 @@ fn begins_fraction(text: &[u8]) -> bool
     }
 }
 
-/// Whether a colon is at the front that belongs to no `:=`.
+/// Whether a text starts with a colon that is not part of a `:=`.
 fn begins_colon(text: &[u8]) -> bool
     ensures { result ≡ begins_colon text.now }
 {
@@ -144,7 +144,7 @@ fn begins_colon(text: &[u8]) -> bool
     }
 }
 
-/// How many bytes a keyword has after its first letter. `None` where an identifier has no colon.
+/// The number of bytes of a keyword after its first letter. `None` if no colon follows the identifier.
 fn keyword_more(rest: &[u8]) -> Option<usize>
     ensures value { result ≡ keyword_more rest.now }
     ensures within { IfSome result (λ n. n ≤ length rest.now) }
@@ -177,7 +177,7 @@ fn number_front(rest: &[u8]) -> Option<(Piece, usize)>
     Some((Piece::Token(Kind::Number), length))
 }
 
-/// A binary selector, after its first character.
+/// The number of bytes of a binary selector after its first character.
 fn binary_more(rest: &[u8]) -> usize
     ensures value { result ≡ binary_more rest.now }
     ensures within { result ≤ length rest.now }
@@ -188,7 +188,7 @@ fn binary_more(rest: &[u8]) -> usize
     }
 }
 
-/// How many bytes the keywords at the front have. `None` where an identifier without a colon ends them.
+/// The number of bytes of the keywords at the front. `None` if an identifier without a colon ends them.
 fn keywords_length(text: &[u8]) -> Option<usize>
     ensures value { result ≡ keywords_length false text.now }
     ensures within { IfSome result (λ n. n ≤ length text.now) }
@@ -201,7 +201,7 @@ fn keywords_length(text: &[u8]) -> Option<usize>
     Some(length)
 }
 
-/// How many bytes a symbol has after its `#`.
+/// The number of bytes of a symbol after its `#`.
 fn symbol_length(rest: &[u8]) -> Option<usize>
     ensures value { result ≡ symbol_length rest.now }
     ensures within { IfSome result (λ n. n ≤ length rest.now) }
@@ -237,7 +237,7 @@ fn mark_of(b: u8) -> Option<Mark>
     }
 }
 
-/// A `:=` or a mark, by its first byte and what is after it.
+/// A `:=` or a mark, from its first byte and what follows.
 fn mark_front(first: u8, rest: &[u8]) -> Option<(Piece, usize)>
     ensures value { result ≡ mark_front first rest.now }
     ensures within { IfSome result (λ x. x.1 ≤ length rest.now) }
@@ -249,7 +249,7 @@ fn mark_front(first: u8, rest: &[u8]) -> Option<(Piece, usize)>
     Some((Piece::Token(Kind::Mark(mark)), 0))
 }
 
-/// The piece at the front of a text, and how many bytes it has after the first. `None` where no piece begins.
+/// The piece at the front of a text, and the number of its bytes after the first. `None` if no piece begins there.
 fn front(text: &[u8]) -> Option<(Piece, usize)>
     ensures value { result ≡ front text.now }
     ensures within { IfSome result (λ x. x.1 < length text.now) }
@@ -276,7 +276,7 @@ fn front(text: &[u8]) -> Option<(Piece, usize)>
     }
 }
 
-/// Adds a piece's token, where it has one.
+/// Adds the token of a piece, if it has one.
 fn put(lexemes: &mut Vec<Lexeme>, piece: Piece, span: Span) -> Result<(), Refusal>
     ensures ok { OnOk result (lexemes.new.items ≡ lexemes.old.items ++ piece_lexemes piece span) }
     ensures err { IfErr result (λ e. e ≡ NoMemory) }
@@ -289,10 +289,10 @@ fn put(lexemes: &mut Vec<Lexeme>, piece: Piece, span: Span) -> Result<(), Refusa
     Ok(())
 }
 
-/// Cuts a text into its tokens, from the left, each as long as it can be.
+/// Cuts a text into its tokens, from the left. Each is as long as it can be.
 ///
-/// Where nothing stops it, the tokens are the text's, and no others are. Where it stops, no tokens are: these are those before
-/// the stop, and none begins there. The only refusal is `NoMemory`.
+/// If the cut reaches the end, these are the tokens of the text, and there is no other way to cut it. If it stops early, the text
+/// has no cut: these are the tokens before the stop, and none begins there. The only refusal is `NoMemory`.
 pub fn cut(alloc: Global, source: &[u8]) -> Result<Tokens, Refusal>
     requires { length source.now ≤ 4096 }
     ensures ok { IfOk result (λ c. Cuts source.now c) }
@@ -334,8 +334,8 @@ pub fn fits(source: &[u8], lexeme: Lexeme) -> bool
     }
 }
 
-/// Whether each token is within its limits: an identifier has 64 bytes at most, a keyword one more for its colon, and a symbol
-/// is a selector.
+/// Whether each token is within its limits: an identifier has at most 64 bytes, a keyword one more for its colon, and a symbol is a
+/// selector.
 pub fn fit(source: &[u8], lexemes: &[Lexeme]) -> bool
     ensures { result ≡ list_all token_fits (tokens_of source.now lexemes.now) }
 {

@@ -1,12 +1,12 @@
-//! Trees of methods. Each leaf keeps the place of its token in the source, so a tree has the tokens of its source and no others.
-//! The tree of a method keeps its source too.
+//! Trees of methods. Each leaf holds the span of its token in the source, so a tree has exactly the tokens of its source. The tree
+//! of a method also holds its source.
 //!
-//! A receiver and the messages that go to it, one after another, are one `Chain`: what nests is what is in brackets, and no
-//! long row of messages makes a tree deep.
+//! A receiver and the messages that it gets in turn are one `Chain`. Only brackets nest, so a long sequence of messages does not
+//! make a tree deep.
 use st_classes::seq::Seq;
 use std::marker::Model;
 
-/// The bytes of a token: from `start`, counted from 0, to before `end`.
+/// The bytes of a token, from `start` to before `end`. Offsets count from 0.
 #[derive(Clone, Copy, PartialEq, Eq, Debug)]
 pub struct Span {
     pub start: u16,
@@ -20,14 +20,14 @@ pub struct Name {
     pub span: Span,
 }
 
-/// A keyword of a pattern and the argument after it.
+/// A keyword of a pattern, and the argument after it.
 #[derive(Drop)]
 pub struct Parameter {
     pub keyword: Name,
     pub argument: Name,
 }
 
-/// What a method is called, with the names of its arguments.
+/// The selector of a method, with the names of its arguments.
 #[derive(Drop)]
 pub enum Pattern {
     Unary(Name),
@@ -43,24 +43,24 @@ pub struct Temporaries {
     pub closing: Span,
 }
 
-/// The variable that an assignment stores in, and the place of its `:=`.
+/// The variable to which an assignment assigns, and the place of its `:=`.
 #[derive(Drop)]
 pub struct Target {
     pub name: Name,
     pub assign: Span,
 }
 
-/// What messages go to.
+/// An operand: what gets messages.
 #[cycle(tree)]
 #[derive(Drop)]
 pub enum Operand {
-    /// A number and the place of its digits. A minus is directly before them.
+    /// A number, with the place of its digits. A minus is directly before them.
     Number {
         value: i64,
         span: Span,
         minus: Option<Span>,
     },
-    /// A symbol. Its place has the `#`, its text doesn't.
+    /// A symbol. Its place includes the `#`, its text does not.
     Symbol(Name),
     /// A variable, a class, or a reserved name.
     Name(Name),
@@ -85,7 +85,7 @@ pub enum Message {
     Keyword(Vec<(Name, Chain)>),
 }
 
-/// An operand and the messages that are sent, the first to it and each other to the answer of the one before.
+/// An operand and its messages. The first goes to the operand, each other to the answer of the one before.
 #[cycle(tree)]
 #[derive(Drop)]
 pub struct Chain {
@@ -93,8 +93,8 @@ pub struct Chain {
     pub messages: Vec<Message>,
 }
 
-/// An expression: the variables that it is assigned to, and its value. In a cascade the receiver gets several messages, each
-/// but the first after a semicolon.
+/// An expression: the variables to which it is assigned, and its value. In a cascade the receiver gets several messages, separated
+/// by semicolons.
 #[cycle(tree)]
 #[derive(Drop)]
 pub struct Expression {
@@ -103,8 +103,8 @@ pub struct Expression {
     pub cascade: Option<(Message, Vec<(Span, Message)>)>,
 }
 
-/// Statements: those with a period after them that another follows, and the last one, which may be answered and may have a
-/// period too.
+/// Statements: those before the last, each with the period after it, and the last one, which may be answered and may have a period
+/// too.
 #[cycle(tree)]
 #[derive(Drop)]
 pub struct Statements {
@@ -114,7 +114,7 @@ pub struct Statements {
     pub period: Option<Span>,
 }
 
-/// What a method is called, its temporaries where it has bars, and its statements where it has any.
+/// The syntax of a method: its pattern, its temporaries if it has bars, and its statements if it has any.
 #[derive(Drop)]
 pub(crate) struct MethodSyntax {
     pub pattern: Pattern,
@@ -157,35 +157,34 @@ impl MethodTree {
         MethodTree { syntax, source }
     }
 
-    /// What the method is called, with the names of its arguments.
+    /// The selector of the method, with the names of its arguments.
     pub fn pattern(&self) -> &Pattern
         ensures { result.now ≡ self.now.syntax.pattern }
     {
         &self.syntax.pattern
     }
 
-    /// The temporaries between bars, where there are bars.
+    /// The temporaries between bars, if there are bars.
     pub fn temporaries(&self) -> &Option<Temporaries>
         ensures { result.now ≡ self.now.syntax.temporaries }
     {
         &self.syntax.temporaries
     }
 
-    /// The statements, where there are any.
+    /// The statements, if there are any.
     pub fn body(&self) -> &Option<Statements>
         ensures { option_map statements_view result.now ≡ self.now.syntax.body }
     {
         &self.syntax.body
     }
 
-    /// The source.
     pub fn source(&self) -> &[u8]
         ensures { result.now ≡ self.now.source }
     {
         self.source.as_slice()
     }
 
-    /// The source spells the method.
+    /// A law: the source spells the method.
     pub fn known(&self)
         ensures { Spells self.now.syntax self.now.source }
     {

@@ -1,4 +1,4 @@
--- The values that the texts of a command stand for, and the texts of values.
+-- From the texts of a command to values, and back.
 use Rattle.std.specs.Prelude.{◌≡◌, ℕ, List, [], ◌∷◌, Bool, true, false, Option, Some, None, Result, Ok, Err, MatchResult, unwrap_or, slice_get, if◌then◌else◌}
 use Rattle.st_classes.specs.declared.values.ClassId.{ClassId}
 use Rattle.st_classes.specs.declared.values.Selector.{Selector}
@@ -17,26 +17,26 @@ use Rattle.st_wire.specs.declared.commands.Argument.TheVariants as argument
 use Rattle.st_wire.specs.declared.replies.Answered.{Answered}
 use Rattle.st_wire.specs.declared.replies.Answered.TheVariants as answered
 
--- only the names differ
+-- the image with other names
 abbrev pub with_names : ImageView → List (List ℕ) → ImageView
 with_names i names = record i { names = names }
 
--- a new name goes last, and a refused one nowhere
+-- a new name is appended; a refused text adds none
 abbrev pub names_after : {T : Type 0} → List (List ℕ) → List ℕ → Result T Refusal → List (List ℕ)
 names_after names text (Ok _) = interned names text
 names_after names text (Err _) = names
 
--- a text is interned, or refused, by an image that is left as k
+-- a text is interned or refused, and the image becomes k
 abbrev pub Interns : {T : Type 0} → ImageView → List ℕ → (List (List ℕ) → T → Type 0)
     → Result T Refusal → ImageView → Type 0
 Interns i text Stands r k = Answers (first_of (intern_rules i.names text)) r (λ v. Stands k.names v)
     × (k ≡ with_names i (names_after i.names text r))
 
--- a selector's number stands for its text
+-- the selector's number is that of the text
 abbrev pub StandsFor : List ℕ → List (List ℕ) → Selector → Type 0
 StandsFor text names s = slice_get names s.0 ≡ Some text
 
--- a selector is looked up, and not interned: a text that is none is BadName, and one that was never interned is
+-- a selector is looked up, not interned: a text that is not a selector is BadName, and one that was never interned is
 -- NoSuchMethod, since no class has a method for it
 abbrev pub found_selector : List (List ℕ) → List ℕ → Result Selector Refusal
 found_selector names text = if is_selector text then selector_at (place_of names text) else Err BadName
@@ -45,16 +45,16 @@ found_selector names text = if is_selector text then selector_at (place_of names
     selector_at None = Err NoSuchMethod
     selector_at (Some place) = Ok (selector place)
 
--- a symbol, whose number stands for its text
+-- a symbol whose number is that of the text
 abbrev pub IsSymbol : List ℕ → List (List ℕ) → Value → Type 0
 IsSymbol text names v = (s : Selector) × (v ≡ value.Sym s) × StandsFor text names s
 
--- the value of a class that is there
+-- a class as a value, or UnknownClass
 abbrev pub class_value : Option ClassId → Result Value Refusal
 class_value None = Err UnknownClass
 class_value (Some c) = Ok (value.Class c)
 
--- an argument has a value, or a refusal, and the image is left as k
+-- an argument has a value or a refusal, and the image becomes k
 abbrev pub Resolves : ImageView → Argument → Result Value Refusal → ImageView → Type 0
 Resolves i (argument.Int z) r k = (r ≡ Ok (value.Int z)) × (k ≡ i)
 Resolves i (argument.Bool b) r k = (r ≡ Ok (value.Bool b)) × (k ≡ i)
@@ -63,7 +63,7 @@ Resolves i (argument.Symbol text) r k = Interns i text (IsSymbol text) r k
 Resolves i (argument.Class text) r k = (r ≡ class_value (class_named (world i).edits text)) × (k ≡ i)
 Resolves i (argument.Actor a) r k = (r ≡ Ok (value.Actor a)) × (k ≡ i)
 
--- a value in front of others, where these are there
+-- a value prepended to others, unless these are refused
 abbrev pub with_first : Value → Result (List Value) Refusal → Result (List Value) Refusal
 with_first v (Ok vs) = Ok (v ∷ vs)
 with_first v (Err e) = Err e
@@ -76,7 +76,7 @@ AllResolve i (a ∷ args) r k = (first : Result Value Refusal) × (m : ImageView
     (λ v. (rest : Result (List Value) Refusal) × AllResolve m args rest k × (r ≡ with_first v rest))
     (λ e. (r ≡ Err e) × (k ≡ m))
 
--- a value as texts
+-- a value, with its names as texts
 abbrev pub value_text : ImageView → Value → Answered
 value_text i (value.Int z) = answered.Int z
 value_text i (value.Bool b) = answered.Bool b
@@ -86,7 +86,7 @@ value_text i (value.Class c) = answered.Class (unwrap_or (class_name (world i).e
 value_text i (value.Actor a) = answered.Actor a
 value_text i (value.Local n) = answered.Local n
 
--- a value that is told by a copy of a text
+-- values whose reply copies a text
 abbrev pub is_told_by_text : Value → Bool
 is_told_by_text (value.Sym s) = true
 is_told_by_text (value.Class c) = true

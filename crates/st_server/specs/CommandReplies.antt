@@ -24,44 +24,44 @@ use Rattle.st_server.specs.SiteReports.{StatesNamed}
 use Rattle.st_server.specs.Runners.{RunnerView, NextAdvances, NoneReady}
 use Rattle.st_server.specs.ArgumentValues.{Interns, StandsFor, AllResolve, found_selector, is_told_by_text, value_text}
 
--- a call is made, and what is next with its value at the image, or runner, that it left; where it is refused, that is the
--- reply
+-- a call, and then Next with its value on the image, or runner, that it left; if the call is refused, the refusal is
+-- the reply
 abbrev pub Then : {T S : Type 0} → (Result T Refusal → S → Type 0) → (T → S → Reply → S → Type 0) → Reply → S → Type 0
 Then {T} {S} Calls Next r j = (result : Result T Refusal) × (k : S) × Calls result k × MatchResult result
     (λ value. Next value k r j)
     (λ e. (r ≡ reply.Refused e) × (j ≡ k))
 
--- the reply to what a call answered, made from its value
+-- the reply to a call's result, made from its value
 abbrev pub reply_by : {T : Type 0} → (T → Reply) → Result T Refusal → Reply
 reply_by told (Ok value) = told value
 reply_by told (Err e) = reply.Refused e
 
--- a call is made and replied to
+-- a call is made, and its result is the reply
 abbrev pub RepliesTo : {T : Type 0} → (T → Reply) → (Result T Refusal → ImageView → Type 0) → Reply → ImageView → Type 0
 RepliesTo {T} told Calls r j = (result : Result T Refusal) × (r ≡ reply_by told result) × Calls result j
 
--- the same of a call on the class that a text names, where it names one
+-- the same for a call on the class that a text names; if no class has the name, the reply is UnknownClass
 abbrev pub RepliesFor : {T : Type 0} → ImageView → List ℕ → (T → Reply)
     → (ClassId → Result T Refusal → ImageView → Type 0) → Reply → ImageView → Type 0
 RepliesFor i text told Calls r j = MatchOption (class_named (world i).edits text)
     ((r ≡ reply.Refused UnknownClass) × (j ≡ i))
     (λ c. RepliesTo told (Calls c) r j)
 
--- the class's own method for the selector that a text names is removed; no name is added
+-- removes the class's own method for the selector that a text names; adds no name
 abbrev pub RemovesNamed : ImageView → List ℕ → ClassId → Result ℕ Refusal → ImageView → Type 0
 RemovesNamed i text c result j = MatchResult (found_selector i.names text)
     (λ s. Removes i c s result j)
     (λ e. (result ≡ Err e) × (j ≡ i))
 
--- a class gets the superclass that a text names
+-- gives a class the superclass that a text names
 abbrev pub ReparentsNamed : ImageView → List ℕ → ClassId → Result ℕ Refusal → ImageView → Type 0
 ReparentsNamed i text c result j = MatchOption (class_named (world i).edits text)
     ((result ≡ Err UnknownClass) × (j ≡ i))
     (λ parent. Reparents i c parent result j)
 
--- ---- a post: its selector and its arguments are resolved from the left, and then it is posted
+-- ---- a post: its selector and then its arguments are resolved, from the left, before it is posted
 
--- memory may run out before the first argument
+-- memory may run out before the first argument is resolved
 abbrev pub PostsArguments : ImageView → ActorId → List Argument → Selector → ℕ → ℕ → Reply → ImageView → Type 0
 PostsArguments i a args s sender seq r j = ((r ≡ reply.Refused NoMemory) × (j ≡ i))
     ⊎ Then (AllResolve i args) (λ vs k. RepliesTo reply.Turn (Posts k a (from_client sender seq s vs))) r j
@@ -73,24 +73,24 @@ PostsNamed i a args text sender seq =
 
 -- ---- an outcome
 
--- the reply to a question for an outcome
+-- the reply to a request for an outcome
 abbrev pub outcome_reply : ImageView → Result Outcome Refusal → Reply
 outcome_reply i (Ok (outcome.Answer v)) = reply.Answer (value_text i v)
 outcome_reply i (Ok (outcome.Fault f)) = reply.Fault f
 outcome_reply i (Err e) = reply.Refused e
 
--- an outcome whose reply copies a text
+-- outcomes whose reply copies a text
 abbrev pub copies_text : Result Outcome Refusal → Bool
 copies_text (Ok (outcome.Answer v)) = is_told_by_text v
 copies_text _ = false
 
--- the outcome is told; memory runs out only where a text is copied
+-- the reply tells the outcome; memory can run out only if a text is copied
 abbrev pub Tells : ImageView → Result Outcome Refusal → Reply → Type 0
 Tells i result r = (r ≡ outcome_reply i result) ⊎ ((copies_text result ≡ true) × (r ≡ reply.Refused NoMemory))
 
 -- ---- statistics
 
--- the reply to a question for the call sites of a method that a class has of its own
+-- the reply to a request for the call sites of a class's own method
 abbrev pub States : ImageView → List ℕ → List ℕ → Reply → Type 0
 States i class text r = MatchOption (class_named (world i).edits class)
     (r ≡ reply.Refused UnknownClass)
@@ -98,13 +98,13 @@ States i class text r = MatchOption (class_named (world i).edits class)
 
 -- ---- a checkpoint
 
--- what an image has counted, as a reply
+-- the counts of an image, as a reply
 abbrev pub counted_reply : Counts → Reply
 counted_reply c = reply.Counted c.posts c.steps
 
--- ---- a command that is asked of the image alone
+-- ---- a command that needs the image alone
 
--- by the command; a run asks a worker too, and is none
+-- the reply to each command; a run needs a worker too, and is refused by BadCommand
 abbrev pub Asks : ImageView → Command → Reply → ImageView → Type 0
 Asks i (command.Define name parent slots) r j = RepliesFor i parent reply.Version (λ c. Defines i name c slots) r j
 Asks i (command.Method class source) r j = RepliesFor i class reply.Version (λ c. InstallsIn i c source) r j
@@ -118,9 +118,9 @@ Asks i (command.Close actor) r j = RepliesTo (λ done. reply.Closed) (Closes i a
 Asks i (command.Stats class text) r j = States i class text r × (j ≡ i)
 Asks i command.Checkpoint r j = RepliesTo (λ done. counted_reply (counts_of j)) (MakesCheckpoint i) r j
 
--- ---- a run: so long as quanta are left and an actor is ready, the next ready one takes a quantum of so many steps
+-- ---- a run: ready actors take a quantum each, in turn, until no quantum is left or no actor is ready
 
--- with so many quanta left, and so many quanta and steps taken
+-- a run, with this number of quanta left, after q quanta and s steps
 abbrev pub Runs : ℕ → ℕ → RunnerView → ℕ → ℕ → Reply → RunnerView → Type 0
 Runs quantum zero i q s r j = (r ≡ reply.Ran q s) × (j ≡ i)
 Runs quantum (suc left) i q s r j = (NoneReady i × (r ≡ reply.Ran q s) × (j ≡ i))
@@ -128,7 +128,7 @@ Runs quantum (suc left) i q s r j = (NoneReady i × (r ≡ reply.Ran q s) × (j 
 
 -- ---- any command
 
--- a run is served by the worker's steps; any other command is asked of the image, and the worker stays as it is
+-- a run is served by the worker's steps; any other command needs the image alone, and leaves the worker as it is
 abbrev pub Serves : ℕ → RunnerView → Command → Reply → RunnerView → Type 0
 Serves quantum i (command.Run quanta) r j = Runs quantum quanta i 0 0 r j
 Serves quantum i c r j = Asks i.image c r j.image × (j.caches ≡ i.caches)

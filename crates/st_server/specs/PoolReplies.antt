@@ -1,5 +1,5 @@
--- Which reply a session over a pool may give to a command, and what the session has done then. Each hold of the lock finds an image of
--- its own, and between two holds others may have had theirs.
+-- The replies of a session over a pool, and what the session has done then. Each hold of the lock finds its own image:
+-- others may hold the lock in between.
 use Rattle.std.specs.Prelude.{◌≡◌, ◌⊎◌, ℕ, ◌+◌, ◌++◌, List, [], ◌∷◌, Option, Result, Ok, Err, MatchOption, MatchResult}
 use Rattle.st_classes.specs.declared.values.ActorId.{ActorId}
 use Rattle.st_classes.specs.declared.values.ClassId.{ClassId}
@@ -27,21 +27,21 @@ use Rattle.st_wire.specs.declared.replies.Reply.TheVariants as reply
 use Rattle.st_server.specs.ArgumentValues.{class_value, found_selector, with_first}
 use Rattle.st_server.specs.CommandReplies.{States, Tells, counted_reply, reply_by}
 
--- a hold finds such an image: it is lawful, and has at least what the session has done
+-- a hold finds an image that is lawful and has at least what the session has done, and P holds of it
 abbrev pub Finds : Amounts → Done → (ImageView → Type 0) → Type 0
 Finds start d P = (i : ImageView) × HasAtLeast start d i × P i
 
--- a call in one hold
+-- a call within one hold
 abbrev pub CallsOnce : {T : Type 0} → Amounts → Done → (ImageView → Result T Refusal → ImageView → Type 0) → Result T Refusal → Type 0
 CallsOnce start d Calls result = Finds start d (λ i. (j : ImageView) × Calls i result j)
 
--- a step whose value the next one goes on with; a refusal is the answer
+-- a step, and then Next with its value; a refusal is the result
 abbrev pub GoesOn : {T U : Type 0} → (Result T Refusal → Type 0) → (T → Result U Refusal → Type 0) → Result U Refusal → Type 0
 GoesOn {T} {U} First Next result = (first : Result T Refusal) × First first × MatchResult first
     (λ v. Next v result)
     (λ e. result ≡ Err e)
 
--- the class that a text names in one hold
+-- the class that a text names, looked up in one hold
 abbrev pub ClassNamed : Amounts → Done → List ℕ → Option ClassId → Type 0
 ClassNamed start d text named = Finds start d (λ i. named ≡ class_named (world i).edits text)
 
@@ -51,26 +51,26 @@ RepliesOn {T} start d text told Calls r = (named : Option ClassId) × ClassNamed
     (r ≡ reply.Refused UnknownClass)
     (λ c. (result : Result T Refusal) × Calls c result × (r ≡ reply_by told result))
 
--- what a session has done after the reply to an edit
+-- what a session has done after an edit with this reply
 abbrev pub after_edit : Done → Reply → Done
 after_edit d (reply.Version n) = record d { edits = d.edits + 1 }
 after_edit d r = d
 
--- the class's own method for the selector that a text names is removed
+-- removes the class's own method for the selector that a text names
 abbrev pub RemovesText : Amounts → Done → List ℕ → ClassId → Result ℕ Refusal → Type 0
 RemovesText start d text c = GoesOn
     (λ found. Finds start d (λ i. found ≡ found_selector i.names text))
     (λ s. CallsOnce start d (λ i. Removes i c s))
 
--- a class gets the superclass that a text names, which is looked up once the class is
+-- gives a class the superclass that a text names; the class is looked up before the superclass
 abbrev pub ReparentsText : Amounts → Done → List ℕ → ClassId → Result ℕ Refusal → Type 0
 ReparentsText start d text c result = (named : Option ClassId) × ClassNamed start d text named × MatchOption named
     (result ≡ Err UnknownClass)
     (λ parent. CallsOnce start d (λ i. Reparents i c parent) result)
 
--- ---- a post: its selector and its arguments are resolved from the left, and then it is posted
+-- ---- a post: its selector and then its arguments are resolved, from the left, before it is posted
 
--- the value of a symbol that was interned
+-- an interned symbol as a value
 abbrev pub symbol_value : Result Selector Refusal → Result Value Refusal
 symbol_value (Ok s) = Ok (value.Sym s)
 symbol_value (Err e) = Err e
@@ -91,7 +91,7 @@ HaveValues start d (a ∷ args) r = (first : Result Value Refusal) × HasValue s
     (λ v. (rest : Result (List Value) Refusal) × HaveValues start d args rest × (r ≡ with_first v rest))
     (λ e. r ≡ Err e)
 
--- memory may run out before the first argument
+-- memory may run out before the first argument is resolved
 abbrev pub PostsWith : Amounts → Done → ActorId → List Argument → Selector → ℕ → ℕ → Result ℕ Refusal → Done → Type 0
 PostsWith start d a args s sender seq result e = ((result ≡ Err NoMemory) × (e ≡ d))
     ⊎ ((values : Result (List Value) Refusal) × HaveValues start d args values × MatchResult values
@@ -106,7 +106,7 @@ PostsText start d a args text sender seq result e = (s : Result Selector Refusal
 
 -- ---- any command
 
--- by the command; a run is none here, since workers run the turns
+-- the reply to each command; a run is refused by BadCommand, since the workers run the turns
 abbrev pub Attends : Amounts → Done → Command → Reply → Done → Type 0
 Attends start d (command.Define name parent slots) r e =
     RepliesOn start d parent reply.Version (λ c. CallsOnce start d (λ i. Defines i name c slots)) r × (e ≡ after_edit d r)

@@ -1,4 +1,4 @@
--- A runner: an image, and the caches of the worker that takes the steps of its actors; and what one quantum of it is.
+-- A runner: an image, and the caches of the worker that takes the steps of its actors. What one quantum does.
 use Rattle.std.specs.Prelude.{◌≡◌, ◌≤◌, ℕ, [], Bool, false, Option, None, Some, Result, Ok, Err, IfOk, MatchResult}
 use Rattle.std.specs.Option.{IfSome}
 use Rattle.std.specs.declared.alloc.AllocError.{AllocError}
@@ -24,7 +24,7 @@ use Rattle.st_image.specs.Commits.{ChecksOut, Commits, IsReleased}
 abbrev pub GuardView : Type 0
 GuardView = SwitchView
 
--- how many edits it has noted
+-- the number of edits that it has noted
 abbrev pub noted : GuardView → ℕ
 noted g = g.edits
 
@@ -32,7 +32,7 @@ noted g = g.edits
 abbrev pub floor_of : GuardView → Selector → ℕ
 floor_of g s = floor_in g s
 
--- which selectors' floors an edit raises
+-- whether an edit raises the floor of a selector
 abbrev pub raises : Edit → Selector → Bool
 raises e s = touches e s
 
@@ -43,11 +43,11 @@ pub record RunnerView : Type 0 where
   pub image : ImageView
   pub caches : CachesView GuardView
 
--- what the caches keep, where they keep a list of edits, begins the image's
+-- the edits that the caches hold, if any, are a prefix of the image's
 abbrev pub KeepsFirst : ImageView → CachesView GuardView → Type 0
 KeepsFirst i v = IfSome v.kept (λ k. Begins k (world i).edits)
 
--- new caches: nothing was found yet, and the list of edits that they keep is empty, as the kernel's is
+-- new caches: they are empty, and hold the empty list of edits, which is the kernel's
 pub record AreNew (v : CachesView GuardView) : Type 0 where
   pub guard : v.guard ≡ record { edits = 0; all = 0; each = [] }
   pub no_site : NoSites v.sites
@@ -57,7 +57,7 @@ pub record AreNew (v : CachesView GuardView) : Type 0 where
 
 -- ---- a quantum
 
--- the caches move to the edits of a claim, and it takes steps, up to so many
+-- the caches move to the edits of a claim, and the claim takes steps, up to a quantum
 abbrev pub Steps : ℕ → CachesView GuardView → ClaimView → Result Stop AllocError → CachesView GuardView
     → ClaimView → Type 0
 Steps quantum v c ran w d = (moved : CachesView GuardView) × HasMoved noted floor_of raises v moved c.edits
@@ -68,18 +68,18 @@ abbrev pub ReleasesBack : ImageView → Option ClaimView → ImageView → Type 
 ReleasesBack i None j = j ≡ i
 ReleasesBack i (Some c) j = IsReleased i c.actor j
 
--- a claim is committed; or its commit is refused, and then it is released where it was handed back
+-- a claim is committed, or the commit is refused and the claim is released if it was handed back
 abbrev pub Settles : ImageView → ClaimView → Result ℕ Refusal → ImageView → Type 0
 Settles i c (Ok n) j = Commits i c (Ok n) j
 Settles i c (Err e) j = (back : Option ClaimView) × (k : ImageView) × Commits i c (Err (e, back)) k × ReleasesBack k back j
 
--- what a quantum answers: what its commit does, but NoMemory where its steps found none
+-- the answer of a quantum: that of its commit, but NoMemory if the commit succeeds after memory ran out in the steps
 abbrev pub quantum_answer : Result Stop AllocError → Result ℕ Refusal → Result ℕ Refusal
 quantum_answer (Ok stop) settled = settled
 quantum_answer (Err e) (Ok n) = Err NoMemory
 quantum_answer (Err e) (Err f) = Err f
 
--- a claim takes steps, which are committed
+-- a claim takes steps, and they are committed
 abbrev pub Works : ℕ → RunnerView → ClaimView → Result ℕ Refusal → RunnerView → Type 0
 Works quantum i c result j = (ran : Result Stop AllocError) × (d : ClaimView) × (settled : Result ℕ Refusal)
     × Steps quantum i.caches c ran j.caches d

@@ -26,7 +26,7 @@ script_rules s =
 abbrev pub with_settings : ImageView → ScriptSettings → ImageView
 with_settings i s = record i { capacity = s.capacity; most_items = s.history }
 
--- a script is run with new caches, or finds no memory for them, and then nothing is read or written
+-- a script runs with new caches; without memory for them nothing is read or written
 abbrev pub RunsScript : ℕ → ImageView → InputView → InputView → List ℕ → ImageView → Result ℕ Refusal → Type 0
 RunsScript quantum i before after written j result =
     ((v : CachesView GuardView) × (k : RunnerView) × AreNew v
@@ -34,7 +34,7 @@ RunsScript quantum i before after written j result =
     × (j ≡ k.image))
     ⊎ ((result ≡ Err NoMemory) × (after ≡ before) × (written ≡ []) × (j ≡ i))
 
--- settings out of their ranges are refused, and then nothing is read or written
+-- settings out of their ranges are refused, and nothing is read or written
 abbrev pub Script : ScriptSettings → ImageView → InputView → InputView → List ℕ → ImageView → Result ℕ Refusal → Type 0
 Script s i before after written j result = MatchOption (first_of (script_rules s))
     (RunsScript s.quantum (with_settings i s) before after written j result)

@@ -9,7 +9,7 @@ use Rattle.st_sites.specs.declared.site.SiteState.TheVariants.{Empty, Mono, Poly
 use Rattle.st_image.specs.declared.tallies.SiteStats.{SiteStats}
 use Rattle.st_image.specs.Images.{ImageView, world}
 use Rattle.st_image.specs.Calls.{AnswersExactly}
-use Rattle.st_image.specs.Tallies.{sends_of}
+use Rattle.st_turn.specs.Tallies.{sends_of}
 use Rattle.st_image.specs.Stats.{installed_own, method_stats, stats_rules}
 use Rattle.st_wire.specs.declared.replies.SiteReport.{SiteReport}
 use Rattle.st_wire.specs.declared.replies.SiteState.{SiteState as Shown}
@@ -35,12 +35,12 @@ site_report names s = record {
   walk = s.tally.by_walk;
 }
 
--- the sites of the method that a class has of its own for a selector are reported, in the order of its code
+-- the reports of the sites of a class's own method for a selector, in the order of its code
 abbrev pub StatesOf : ImageView → ClassId → Selector → Result (List SiteReport) Refusal → Type 0
 StatesOf i c s result = AnswersExactly (first_of (stats_rules i c s)) result
     (λ reports. reports ≡ map (site_report i.names) (method_stats i (installed_own (world i).edits c s)))
 
--- the same for the selector that a text names
+-- the same, for the selector that a text names
 abbrev pub StatesNamed : ImageView → List ℕ → ClassId → Result (List SiteReport) Refusal → Type 0
 StatesNamed i text c result = MatchResult (found_selector i.names text)
     (λ s. StatesOf i c s result)

@@ -1,4 +1,4 @@
--- What a run took, by what it added to the history.
+-- What a run took, from what it added to the history.
 use Rattle.std.specs.Prelude.{◌≡◌, ℕ, ◌+◌, ◌≤◌, ◌<◌, List, [], ◌∷◌, ◌++◌, All, length, sum}
 use Rattle.st_image.specs.declared.items.Item.{Item}
 use Rattle.st_image.specs.declared.items.Item.TheVariants.{Ran}
@@ -6,14 +6,14 @@ use Rattle.st_wire.specs.declared.replies.Reply.TheVariants as reply
 use Rattle.st_server.specs.Runners.{RunnerView, NoneReady}
 use Rattle.st_server.specs.CommandReplies.{Runs}
 
--- the steps of each quantum among some items
+-- the steps of each quantum in a list of items
 abbrev pub quanta_in : List Item → List ℕ
 quanta_in [] = []
 quanta_in (Ran a n ∷ is) = n ∷ quanta_in is
 quanta_in (_ ∷ is) = quanta_in is
 
--- the history grew by q quanta, each of 1 step or more and no more than a quantum has and one that the image takes, and
--- of s steps in all; they are fewer than were asked for only where no actor is ready
+-- the history grew by q quanta with s steps in all, each from 1 step to one more than a quantum; there are fewer
+-- quanta than requested only if no actor is ready
 abbrev pub HasRun : ℕ → ℕ → RunnerView → ℕ → ℕ → RunnerView → Type 0
 HasRun quantum quanta i q s j = (items : List Item) × (j.image.history ≡ i.image.history ++ items)
     × (length (quanta_in items) ≡ q)
@@ -22,7 +22,7 @@ HasRun quantum quanta i q s j = (items : List Item) × (j.image.history ≡ i.im
     × (q ≤ quanta)
     × (q < quanta → NoneReady j)
 
--- so it is wherever a run says how many quanta and steps it took
+-- this holds of every run that answers its quanta and steps
 abbrev pub RunsSayWhatTheyTook : Type 0
 RunsSayWhatTheyTook = (quantum quanta q s : ℕ) (i j : RunnerView)
     → Runs quantum quanta i 0 0 (reply.Ran q s) j

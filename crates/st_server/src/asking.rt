@@ -1,4 +1,4 @@
-//! Commands that are asked of an image alone.
+//! Commands that need the image alone, without a worker.
 ghost use Rattle.std.specs.Prelude.{◌≡◌};
 ghost use Rattle.st_image.specs.Calls.{Closes, Creates, Defines, InstallsIn, Posts};
 ghost use Rattle.st_image.specs.Checkpoints.{MakesCheckpoint};
@@ -114,7 +114,6 @@ fn create(alloc: Global, image: &mut Image, class: &[u8]) -> Reply
     }
 }
 
-/// Closes a mailbox.
 fn close(image: &mut Image, actor: ActorId) -> Reply
     ensures { RepliesTo (λ done. replies.Closed) (Closes image.old actor) result image.new }
 {
@@ -124,7 +123,6 @@ fn close(image: &mut Image, actor: ActorId) -> Reply
     }
 }
 
-/// Makes a checkpoint.
 fn checkpoint(alloc: Global, image: &mut Image) -> Reply
     ensures { RepliesTo (λ done. counted_reply (counts_of image.new)) (MakesCheckpoint image.old) result image.new }
 {
@@ -201,7 +199,7 @@ pub(crate) fn outcome(alloc: Global, image: &Image, actor: ActorId, turn: u64) -
     }
 }
 
-/// The reply to a command that asks the image alone. A run is none, and is BadCommand here.
+/// The reply to a command that needs the image alone. A run needs a worker, and is refused here by BadCommand.
 pub(crate) fn ask(alloc: Global, image: &mut Image, command: Command) -> Reply
     ensures { Asks image.old command result image.new }
 {

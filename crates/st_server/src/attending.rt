@@ -1,4 +1,4 @@
-//! Sessions over a pool: each has a caller of its own.
+//! Sessions over a pool. Each has its own caller.
 ghost use Rattle.std.specs.Prelude.{◌≡◌, ℕ, List};
 ghost use Rattle.std.specs.Io.KnownBytes.{Appends};
 ghost use Rattle.st_wire.specs.Streams.{input_view};
@@ -21,7 +21,7 @@ use std::alloc::Global;
 use std::marker::Model;
 use std::sync::Wait;
 
-/// A caller, which answers commands. Contracts see what it has done.
+/// A caller that answers commands. Contracts see what it has done.
 struct PoolHandler<'a, R: Wait, K: Naming> {
     rt: &'a R,
     caller: Caller<'a, K, Mailbox>,
@@ -43,8 +43,8 @@ impl<'a, R: Wait, K: Naming> Handler for PoolHandler<'a, R, K> {
     }
 }
 
-/// Answers the lines of an input for a caller. The caller ends however the session ends: its share is handed on, with how many lines
-/// there were or why the session ended.
+/// Answers the lines of an input for a caller. The caller ends with the session, however that ends. The answer is the caller's
+/// share, and how many lines there were or why the session ended.
 pub fn attend<R: Wait, K: Naming, I: Input, O: Output>(
     rt: &R,
     alloc: Global,

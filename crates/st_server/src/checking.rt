@@ -1,4 +1,4 @@
-//! What `check` tells of an image file.
+//! The command `check`, which describes an image file.
 ghost use Rattle.std.specs.Prelude.{◌≡◌, ℕ, List, Result, Ok, Err};
 ghost use Rattle.std.specs.Io.KnownBytes.{Appends};
 ghost use Rattle.st_classes.specs.declared.refusals.Refusal.{Refusal as RefusalOf};
@@ -17,7 +17,7 @@ use st_wire::replies::Reply;
 use st_wire::streams::{Input, Output};
 use std::alloc::Global;
 
-/// The reply that tells of the image of a file, or why the file has none.
+/// The reply that describes the image of a file, or says why the file has none.
 fn reply_of(loaded: &Result<Image, Refusal>) -> Reply
     ensures { result ≡ checked loaded.now }
 {
@@ -31,7 +31,7 @@ fn reply_of(loaded: &Result<Image, Refusal>) -> Reply
     }
 }
 
-/// The status that tells whether there is an image.
+/// The exit status: 0 if the file has an image, else 1.
 fn status_of(loaded: &Result<Image, Refusal>) -> u8
     ensures { result ≡ spec.status_of loaded.now }
 {
@@ -41,10 +41,10 @@ fn status_of(loaded: &Result<Image, Refusal>) -> u8
     }
 }
 
-/// Loads an image and writes to an output how many actors, classes and edits it has, the kernel's classes counted, or why it was
-/// refused. The answer is the status: 0, or 1 where the image was refused.
+/// Loads an image and writes a line to an output: how many actors, classes and edits the image has, including the kernel's classes,
+/// or why the file was refused. The answer is the exit status: 0, or 1 if the file was refused.
 ///
-/// Refusals: `NoMemory`, where nothing is written; `WriteFault`, where the line is not written whole.
+/// Refusals: `NoMemory`, and then nothing is written; `WriteFault` if the line is not written whole.
 pub fn check_on<I: Input, O: Output>(
     alloc: Global,
     input: &mut I,
@@ -59,7 +59,10 @@ pub fn check_on<I: Input, O: Output>(
 {
     let loaded: Result<Image, Refusal> = load::<Mailbox, I>(alloc, input);
     let status = status_of(&loaded);
-    match write_reply(alloc, output, &reply_of(&loaded)) {
+    let reply = reply_of(&loaded);
+    let written = write_reply(alloc, output, &reply);
+    drop((loaded, reply));
+    match written {
         Ok(()) => Ok(status),
         Err(refusal) => Err(refusal),
     }

@@ -1,9 +1,9 @@
-//! The image that the program runs, and the worker that takes its actors' steps: it is here that the program says which mailboxes and
-//! which guard they have.
+//! The image that the program runs, and the worker that takes its actors' steps. The program's choice of mailbox and guard is made
+//! here.
 use st_guard::switch_guard::SwitchGuard;
 use st_mailbox::ring_box::RingBox;
 
-/// The guard of a worker's caches: an edit ends what was found for the selectors that it touches.
+/// The guard of a worker's caches. An edit invalidates the cached targets of the selectors that it touches.
 pub type Guard = SwitchGuard;
 
 /// The mailbox of an actor.

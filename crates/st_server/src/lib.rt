@@ -1,7 +1,7 @@
 //! The program over an image: commands and their replies, and a script of lines.
 //!
-//! [`scripts::script_on`] answers each line of its input, as it comes, by one line: the text of the reply to the line's command,
-//! asked of the image as the line before left it.
+//! [`scripts::script_on`] answers each line of its input with one line, as it comes. The answer is the text of the reply to the
+//! line's command, asked of the image as the line before left it.
 #![tactic(auto)]
 
 mod asking;

@@ -1,6 +1,7 @@
-//! Commands that are asked of a pool, by one of its callers.
+//! Commands that a caller asks of a pool.
 //!
-//! A command may take the lock more than once, as where it names a class or interns a text; others may be answered between.
+//! A command may take the lock more than once, for instance to look up a class or to intern a text. Other commands may be answered
+//! in between.
 ghost use Rattle.std.specs.Prelude.{◌≡◌, ◌⊎◌, Err, Result};
 ghost use Rattle.st_classes.specs.declared.refusals.Refusal.{Refusal as RefusalOf};
 ghost use Rattle.st_classes.specs.declared.refusals.Refusal.TheVariants.{NoMemory};
@@ -28,7 +29,7 @@ use st_wire::replies::Reply;
 use std::alloc::Global;
 use std::sync::Wait;
 
-/// The class of a name.
+/// The class with a given name.
 fn class_named<K: Naming, R: Wait>(
     rt: &R,
     caller: &mut Caller<'_, K, Mailbox>,
@@ -79,7 +80,7 @@ fn install<K: Naming, R: Wait>(
     }
 }
 
-/// The number of a selector's text, which is not interned.
+/// The number of a selector's text. The text is not interned.
 fn selector_named<K: Naming, R: Wait>(
     rt: &R,
     caller: &mut Caller<'_, K, Mailbox>,
@@ -189,7 +190,7 @@ fn close<K: Naming, R: Wait>(rt: &R, caller: &mut Caller<'_, K, Mailbox>, actor:
     }
 }
 
-/// The value of an argument. A symbol is interned.
+/// The value of an argument. A symbol's text is interned.
 fn argument_value<K: Naming, R: Wait>(
     rt: &R,
     alloc: Global,
@@ -215,7 +216,7 @@ fn argument_value<K: Naming, R: Wait>(
     }
 }
 
-/// The values of arguments, from the left up to the first that has none.
+/// The values of arguments, from the left up to the first that is refused.
 fn argument_values<K: Naming, R: Wait>(
     rt: &R,
     alloc: Global,
@@ -317,7 +318,6 @@ fn stats<K: Naming, R: Wait>(
     caller.look(rt, |image| stating::stats(alloc, image, class, selector))
 }
 
-/// Makes a checkpoint.
 fn checkpoint<K: Naming, R: Wait>(
     rt: &R,
     alloc: Global,
@@ -333,7 +333,7 @@ fn checkpoint<K: Naming, R: Wait>(
     }
 }
 
-/// The reply to a command. Workers run the turns, so a run is BadCommand.
+/// The reply to a command. A run is refused by BadCommand, since the workers run the turns.
 pub(crate) fn ask<K: Naming, R: Wait>(
     rt: &R,
     alloc: Global,

@@ -4,7 +4,7 @@ ghost use Rattle.st_server.specs.Scripts.{is_quantum};
 
 use std::marker::Model;
 
-/// How many steps of its own an actor takes before the next one has its turn, from 1 to 1,024. Contracts see this number.
+/// The most steps that an actor takes before the next actor runs: from 1 to 1,024. Contracts see this number.
 #[derive(Clone, Copy)]
 pub struct Quantum {
     steps: u32,
@@ -23,7 +23,7 @@ impl Model for Quantum {
 }
 
 impl Quantum {
-    /// A quantum of so many steps, if it may have so many.
+    /// A quantum of this many steps, if it is in the range.
     pub(crate) fn new(steps: u32) -> Option<Quantum>
         ensures { MatchOption result (is_quantum steps ≡ false) (λ q. (is_quantum steps ≡ true) × (q ≡ steps)) }
     {

@@ -1,4 +1,4 @@
-//! The values that the texts of a command stand for, and the texts of values.
+//! From the texts of a command to values, and back.
 ghost use Rattle.std.specs.Prelude.{◌≡◌, ◌⊎◌, [], Err, IfOk, OnErr, slice_get, true, unwrap_or};
 ghost use Rattle.std.specs.Str.{IsAscii};
 ghost use Rattle.st_classes.specs.declared.refusals.Refusal.TheVariants.{NoMemory};
@@ -17,7 +17,7 @@ use st_wire::replies::Answered;
 use st_wire::text::Text;
 use std::alloc::{AllocError, Global};
 
-/// The value of an argument. A symbol is interned.
+/// The value of an argument. A symbol's text is interned.
 fn argument_value(alloc: Global, image: &mut Image, argument: &Argument) -> Result<Value, Refusal>
     ensures { Resolves image.old argument.now result image.new }
 {
@@ -37,7 +37,7 @@ fn argument_value(alloc: Global, image: &mut Image, argument: &Argument) -> Resu
     }
 }
 
-/// The values of arguments, from the left up to the first that has none.
+/// The values of arguments, from the left up to the first that is refused.
 pub fn argument_values(
     alloc: Global,
     image: &mut Image,
@@ -57,9 +57,9 @@ pub fn argument_values(
     Ok(Seq::from_vec(values))
 }
 
-/// The number of a selector's text, which is not interned.
+/// The number of a selector's text. The text is not interned.
 ///
-/// `BadName` says that the text is no selector, and `NoSuchMethod` that it was never interned: then no class has a method for it.
+/// `BadName` says that the text is not a selector. `NoSuchMethod` says that it was never interned, so no class has a method for it.
 pub fn find_selector(names: &Names, text: &[u8]) -> Result<Selector, Refusal>
     ensures { result ≡ found_selector names.now text.now }
 {
@@ -69,7 +69,7 @@ pub fn find_selector(names: &Names, text: &[u8]) -> Result<Selector, Refusal>
     names.find(text).ok_or(Refusal::NoSuchMethod)
 }
 
-/// A name as a text.
+/// Copies a name into a text.
 #[tactic(auto, using(crate::proofs::Names::utf8_from_ascii))]
 pub(crate) fn text_of(alloc: Global, name: &[u8]) -> Result<Text, AllocError>
     requires { IsAscii name.now }
@@ -81,7 +81,7 @@ pub(crate) fn text_of(alloc: Global, name: &[u8]) -> Result<Text, AllocError>
     }
 }
 
-/// The text of a selector, which is empty where the selector isn't there.
+/// The text of a selector. It is empty if the table has no such selector.
 #[tactic(auto, using(crate::proofs::Names::selector_ascii))]
 pub(crate) fn selector_text(image: &Image, selector: Selector) -> &[u8]
     ensures ascii { IsAscii result.now }
@@ -95,7 +95,7 @@ pub(crate) fn selector_text(image: &Image, selector: Selector) -> &[u8]
     }
 }
 
-/// The name of a class, which is empty where the class isn't there.
+/// The name of a class. It is empty if there is no such class.
 fn class_text(image: &Image, class: ClassId) -> &[u8]
     ensures ascii { IsAscii result.now }
     ensures text { result.now ≡ unwrap_or (class_name (world image.now).edits class) [] }
@@ -108,7 +108,7 @@ fn class_text(image: &Image, class: ClassId) -> &[u8]
     }
 }
 
-/// A value as texts. Memory can run out only for the text of a symbol or a class.
+/// A value with its names as texts. Memory can run out only when a symbol or a class is copied.
 pub fn shown(alloc: Global, image: &Image, value: Value) -> Result<Answered, AllocError>
     ensures told { IfOk result (λ texts. texts ≡ shown_as image.now value) }
     ensures memory { OnErr result (is_told_by_text value ≡ true) }

@@ -1,4 +1,4 @@
-//! An image with the worker that takes the steps of its actors.
+//! An image, with the worker that takes the steps of its actors.
 ghost use Rattle.std.specs.Prelude.{◌≡◌, ◌≤◌, false, Ok, Err, IfOk, IfErr, IfSome, MatchOption, MatchResult};
 ghost use Rattle.st_classes.specs.EditLists.{Begins};
 ghost use Rattle.st_turn.specs.Idle.{is_idle};
@@ -20,7 +20,8 @@ use st_wire::replies::Reply;
 use std::alloc::{AllocError, Global};
 use std::marker::Model;
 
-/// An image, and a worker whose caches keep no edits but first ones of the image. Contracts see the image, and the caches.
+/// An image and a worker. The edits that the worker's caches hold, if any, are a prefix of the image's. Contracts see the image and
+/// the caches.
 #[derive(Drop)]
 pub struct Runner {
     image: Image,
@@ -37,7 +38,7 @@ impl Model for Runner {
     ghost invariant = { λ r. KeepsFirst r.image r.worker };
 }
 
-/// A worker whose caches are new.
+/// A worker with new caches.
 pub(crate) fn new_worker(alloc: Global) -> Result<Worker, AllocError>
     ensures { IfOk result AreNew }
 {
@@ -45,7 +46,8 @@ pub(crate) fn new_worker(alloc: Global) -> Result<Worker, AllocError>
     Ok(Worker::new(caches))
 }
 
-/// Commits a claim, whose edits begin the image's and whose stamp tells its body, and releases it where it is handed back.
+/// Commits a claim, and releases it if the commit hands it back. The claim's edits must be a prefix of the image's, and its stamp
+/// must identify the body with which it began.
 fn settle(alloc: Global, image: &mut Image, claim: Claim) -> Result<u32, Refusal>
     requires begins { Begins claim.edits (world image.old).edits }
     requires body { KnowsBody image.old claim }
@@ -61,7 +63,7 @@ fn settle(alloc: Global, image: &mut Image, claim: Claim) -> Result<u32, Refusal
     }
 }
 
-/// What a quantum answers where its steps and its commit went so.
+/// The answer of a quantum, from the results of its steps and of its commit.
 fn answer(ran: Result<Stop, AllocError>, settled: Result<u32, Refusal>) -> Result<u32, Refusal>
     ensures { result ≡ quantum_answer ran settled }
 {
@@ -72,7 +74,7 @@ fn answer(ran: Result<Stop, AllocError>, settled: Result<u32, Refusal>) -> Resul
     }
 }
 
-/// Takes so many steps of a claim, or fewer where none is next or memory runs out, and commits them.
+/// Takes the steps of a quantum on a claim and commits them. There are fewer if no step is next or memory runs out.
 fn work(
     alloc: Global,
     image: &mut Image,
@@ -94,7 +96,7 @@ fn work(
 }
 
 impl Runner {
-    /// A runner of an image, whose worker's caches are new. For want of memory the image is given back.
+    /// Makes a runner of an image and a worker with new caches. If memory runs out, the image is given back.
     pub fn new(alloc: Global, image: Image) -> Result<Runner, Image>
         ensures ok { IfOk result (λ r. (r.image ≡ image) × AreNew r.caches) }
         ensures err { IfErr result (λ i. i ≡ image) }
@@ -105,14 +107,13 @@ impl Runner {
         }
     }
 
-    /// The image.
     pub fn into_image(self) -> Image
         ensures { result ≡ self.image }
     {
         self.image
     }
 
-    /// The reply to a command that asks the image alone.
+    /// The reply to a command that needs the image alone.
     pub(crate) fn ask(&mut self, alloc: Global, command: Command) -> Reply
         ensures asks { Asks self.old.image command result self.new.image }
         ensures caches { self.new.caches ≡ self.old.caches }
@@ -123,7 +124,8 @@ impl Runner {
         reply
     }
 
-    /// Checks an actor out, takes so many steps of its claim, or fewer where none is next or memory runs out, and commits them.
+    /// Checks an actor out, takes the steps of a quantum on its claim, and commits them. There are fewer if no step is next or
+    /// memory runs out.
     fn advance(&mut self, alloc: Global, actor: ActorId, quantum: Quantum) -> Result<u32, Refusal>
         ensures takes { TakesQuantum quantum self.old actor result self.new }
         ensures some { IfOk result (λ n. 1 ≤ n) }
@@ -136,10 +138,11 @@ impl Runner {
         result
     }
 
-    /// Lets the next ready actor take a quantum, and says how many steps that was, or nothing where none is ready. Where the step
-    /// behind a quantum's own ones is one that the image takes, there is one more.
+    /// Lets the next ready actor take a quantum. The answer is the number of steps, or `None` if no actor is ready. If the step
+    /// after the quantum's own is one that the image takes, it is taken too and counted.
     ///
-    /// Where memory runs out among the steps, those before it are committed. A claim whose commit is refused is released.
+    /// If memory runs out among the steps, the steps before it are committed, and the answer is `NoMemory`. A claim whose commit is
+    /// refused is released.
     pub(crate) fn take_quantum(
         &mut self,
         alloc: Global,

@@ -1,4 +1,4 @@
-//! A script: each line of an input is answered as it comes.
+//! A script: each line of the input is answered as it comes.
 ghost use Rattle.std.specs.Prelude.{◌≡◌, ◌^◌, ℕ, List, []};
 ghost use Rattle.std.specs.Io.KnownBytes.{Appends};
 ghost use Rattle.st_wire.specs.Streams.{input_view};
@@ -37,7 +37,7 @@ fn answer_input<I: Input, O: Output>(
     (handler.runner, result)
 }
 
-/// Runs the commands of an input on an image, with a worker whose caches are new, and writes a reply to each.
+/// Runs the commands of an input on an image with a new worker, and writes a reply to each.
 fn run_script<I: Input, O: Output>(
     alloc: Global,
     input: &mut I,
@@ -61,13 +61,14 @@ fn run_script<I: Input, O: Output>(
     }
 }
 
-/// Runs the commands of an input on an image, and writes a reply to each before more is read than came with it.
+/// Runs the commands of an input on an image. The reply to each line is written before any input is read beyond the piece with that
+/// line.
 ///
-/// Answers the image, and how many lines there were or why the session ended: BadArguments where a number of the
-/// settings is out of its range, or NoMemory where there was none for the caches of the worker, and then nothing is read or
-/// written; TooLong or BadCommand at a line that is over 8,192 bytes or no text, which is replied to; ReadFault where a read
-/// failed or 2^32 of them did not reach the end, WriteFault where a write or a flush failed, and NoMemory where a line, a reply
-/// or the next bytes found none, and then the lines before are answered.
+/// Answers the image, and how many lines there were or why the session ended. BadArguments: a setting is out of its range; nothing
+/// is read or written. NoMemory: there was none for the worker's caches, and nothing is read or written; or none for a line, a
+/// reply or the next bytes, and the lines before are answered. TooLong or BadCommand: a line is over 8,192 bytes or not UTF-8; it
+/// gets this refusal as its reply. ReadFault: a read failed, or 2^32 reads did not reach the end. WriteFault: a write or a flush
+/// failed.
 pub fn script_on<I: Input, O: Output>(
     alloc: Global,
     input: &mut I,

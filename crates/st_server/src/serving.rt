@@ -1,4 +1,4 @@
-//! Commands, served by an image and its worker.
+//! Commands answered by an image and its worker.
 ghost use Rattle.std.specs.Prelude.{◌≡◌};
 ghost use Rattle.st_server.specs.CommandReplies.{Runs, Serves};
 
@@ -9,7 +9,7 @@ use st_wire::commands::Command;
 use st_wire::replies::Reply;
 use std::alloc::Global;
 
-/// So long as quanta are left and an actor is ready, the next ready one takes a quantum.
+/// Takes quanta of ready actors, in turn, until the given number is taken or no actor is ready.
 fn run(alloc: Global, runner: &mut Runner, quantum: Quantum, quanta: u32) -> Reply
     ensures { Runs quantum quanta runner.old 0 0 result runner.new }
 {
@@ -38,7 +38,7 @@ fn serve(alloc: Global, runner: &mut Runner, quantum: Quantum, command: Command)
     }
 }
 
-/// An image and its worker, which answer commands.
+/// An image and its worker, as the handler of a session.
 #[derive(Drop)]
 pub struct ImageHandler {
     pub runner: Runner,

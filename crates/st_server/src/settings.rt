@@ -1,9 +1,9 @@
-//! What a script is set to.
+//! The settings of a script.
 ghost use Rattle.std.specs.Prelude.{◌≡◌};
 
 use st_image::settings::Settings;
 
-/// The steps of a quantum, the capacity of new actors' mailboxes, and the most items of the history.
+/// The steps of a quantum, the capacity of new actors' mailboxes, and the most items that the history holds.
 #[derive(Clone, Copy, PartialEq, Eq, Debug)]
 pub struct ScriptSettings {
     /// From 1 to 1,024.
@@ -21,7 +21,7 @@ impl ScriptSettings {
         history: Settings::DEFAULT.history,
     };
 
-    /// The numbers that are the image's.
+    /// The settings that belong to the image.
     pub fn of_image(self) -> Settings
         ensures { result ≡ record { capacity = self.capacity; history = self.history } }
     {

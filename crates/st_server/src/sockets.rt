@@ -1,4 +1,4 @@
-//! Sessions over a Unix socket, a thread each, on one image whose actors worker threads run.
+//! Sessions over a Unix socket, one thread each, on one image whose actors are run by worker threads.
 ghost use Rattle.std.specs.Prelude.{◌≡◌, ◌⊎◌, ◌+◌, ◌≤◌, ◌↔◌, Err, IfOk, IfErr, IsTrue, length, vec_len, vec_capacity};
 ghost use Rattle.std.specs.Option.{IfSome};
 ghost use Rattle.std.specs.declared.io.ErrorKind.TheVariants.{ConnectionAborted, Interrupted};
@@ -35,19 +35,19 @@ use std::sync::{Mutex, Wait};
 use std::thread;
 use std::thread::{JoinHandle, Scope, Threads};
 
-/// The steps of a quantum: the most there may be, since each quantum takes the lock twice and is an item of the history.
+/// The steps of a quantum: the maximum, since each quantum takes the lock once and adds an item to the history.
 const QUANTUM: u32 = 1024;
 
-/// The most sessions at once.
+/// The most sessions at a time.
 const MOST_SESSIONS: u64 = 64;
 
-/// What is written to a client beyond the sessions that may be at once.
+/// Written to a client that comes while the most sessions are open.
 const TOO_MANY: &[u8] = b"{\"error\":\"TooMany\",\"what\":\"sessions\"}\n";
 
-/// What is written to a client for whose share there is no memory. One for whose session there is no thread gets its end alone.
+/// Written to a client when there is no memory for its share. A client whose session gets no thread is disconnected without a line.
 const NO_MEMORY: &[u8] = b"{\"error\":\"NoMemory\"}\n";
 
-/// How serving ended: the image, what all have done together, and why no more sessions were accepted, where accepting failed.
+/// The result of serving: the image, the totals of what all have done, and the fault that ended accepting, if accepting failed.
 #[derive(Drop)]
 pub struct Served {
     pub image: Image,
@@ -55,7 +55,7 @@ pub struct Served {
     pub fault: Option<Refusal>,
 }
 
-/// What the sessions share: the image, the shares of those that have ended, how many are going on, and where their refusals go.
+/// What the sessions share: the image, the shares of ended sessions, the number of open ones, and where refusals go.
 #[derive(Drop)]
 struct Room<'a, K: Naming> {
     shared: &'a Shared<K, Mailbox>,
@@ -64,7 +64,8 @@ struct Room<'a, K: Naming> {
     faults: Option<&'a Faults<Refusal>>,
 }
 
-/// Takes away what a client has sent and nobody has read, up to some bytes: else the end of its replies would look like a failure.
+/// Reads and drops input that nobody will read, at most 131,072 bytes. With it unread, the client would see a failure at the end of
+/// the replies.
 fn drain(mut stream: &UnixStream) {
     if stream.set_nonblocking(true).is_err() {
         return;
@@ -78,13 +79,13 @@ fn drain(mut stream: &UnixStream) {
     }
 }
 
-/// Tells a client why it has no session.
+/// Tells a client why it gets no session.
 fn turn_away(mut stream: &UnixStream, line: &[u8]) {
     let _ = stream.write_all(line);
     drain(stream);
 }
 
-/// One session over a stream.
+/// Runs a session over a stream.
 fn converse<K: Naming, R: Wait>(
     rt: &R,
     alloc: Global,
@@ -103,7 +104,7 @@ fn converse<K: Naming, R: Wait>(
     }
 }
 
-/// One session, with a caller of its own. Its share goes to the others, where room was made for it.
+/// Runs a session with its own caller, and adds the caller's share to those of ended sessions. Room for it was made before.
 fn talk<K: Naming, R: Wait>(
     rt: &R,
     alloc: Global,
@@ -116,7 +117,7 @@ fn talk<K: Naming, R: Wait>(
     result
 }
 
-/// One session in its thread.
+/// Runs a session in its thread.
 fn host<K: Naming, R: Wait>(rt: &R, alloc: Global, room: &Room<'_, K>, stream: UnixStream) {
     if let Err(refusal) = talk(rt, alloc, room, &stream) {
         drain(&stream);
@@ -128,20 +129,20 @@ fn host<K: Naming, R: Wait>(rt: &R, alloc: Global, room: &Room<'_, K>, stream: U
     room.active.fetch_sub(1, Ordering::SeqCst);
 }
 
-/// Makes room for the shares of as many sessions as may be going on.
+/// Makes room for the shares of as many sessions as can be open.
 fn make_room<K: Naming, R: Wait>(rt: &R, room: &Room<'_, K>) -> bool {
     room.shares.lock(rt).reserve(MOST_SESSIONS as usize).is_ok()
 }
 
-/// Whether it is the connection that failed and not the socket.
+/// Whether the error concerns one connection and not the socket.
 fn is_passing(kind: ErrorKind) -> bool
     ensures { IsTrue result ↔ ((kind ≡ Interrupted) ⊎ (kind ≡ ConnectionAborted)) }
 {
     kind == ErrorKind::Interrupted || kind == ErrorKind::ConnectionAborted
 }
 
-/// Accepts sessions, each in a thread of its own, until there were so many, and waits for their ends. The answer is whether there were:
-/// where accepting fails no more are accepted.
+/// Accepts sessions, each in its own thread, until their number is reached or accepting fails, and waits for their ends. The answer
+/// is whether the number was reached.
 fn accept_all<K: Naming + Send + Sync, R: Threads + Wait + Sync>(
     rt: &R,
     alloc: Global,
@@ -185,7 +186,7 @@ fn accept_all<K: Naming + Send + Sync, R: Threads + Wait + Sync>(
     })
 }
 
-/// So many workers with new caches.
+/// Makes workers with new caches.
 fn new_workers(alloc: Global, count: u32) -> Result<Vec<Worker>, AllocError>
     ensures { IfOk result (λ workers. vec_len workers ≡ count) }
 {
@@ -197,10 +198,10 @@ fn new_workers(alloc: Global, count: u32) -> Result<Vec<Worker>, AllocError>
     Ok(workers)
 }
 
-/// What a worker's thread answers.
+/// The thread of a worker.
 type Ended<K> = JoinHandle<Result<WorkerShare<K>, Refusal>>;
 
-/// Starts workers, each in a thread of its own, up to the first for which there is none.
+/// Starts the workers, each in its own thread, up to the first that gets no thread.
 fn start<'s, E, K: Naming + Send + Sync, R: Threads + Wait + Sync>(
     scope: &Scope<'s, E>,
     rt: &'s R,
@@ -227,7 +228,8 @@ fn start<'s, E, K: Naming + Send + Sync, R: Threads + Wait + Sync>(
     handles
 }
 
-/// The shares of workers that were told to end. There is room for them. One that has none is missing, as settling would say.
+/// Adds the shares of workers that were told to end. `shares` must have room for them. A worker that ended without a share is
+/// refused by `BadArguments`, as settling refuses a missing share.
 fn ended<K: Naming, R: Threads>(
     rt: &R,
     mut handles: Vec<Ended<K>>,
@@ -246,8 +248,8 @@ fn ended<K: Naming, R: Threads>(
     Ok(shares)
 }
 
-/// Lets workers run the image's actors while sessions are accepted, until so many were and have ended. The answer is the threads of the
-/// workers, and whether so many were accepted. Where a worker has no thread nothing is accepted.
+/// Lets workers run the image's actors while sessions are accepted, until the number of sessions is reached and all have ended. The
+/// answer is the threads of the workers, and whether the number was reached. If a worker gets no thread, nothing is accepted.
 fn run_workers<K: Naming + Send + Sync, R: Threads + Wait + Sync>(
     rt: &R,
     alloc: Global,
@@ -268,7 +270,7 @@ fn run_workers<K: Naming + Send + Sync, R: Threads + Wait + Sync>(
     })
 }
 
-/// The same, with the shares of all workers.
+/// The same, with the shares of all workers in place of their threads.
 fn work<K: Naming + Send + Sync, R: Threads + Wait + Sync>(
     rt: &R,
     alloc: Global,
@@ -338,7 +340,7 @@ fn serve<K: Naming + Send + Sync, R: Threads + Wait + Sync>(
     })
 }
 
-/// Whether sessions are served by so many workers until so many of them have ended.
+/// Whether the number of workers and the number of sessions, if any, are in their ranges.
 fn is_served(workers: u32, sessions: Option<u32>) -> bool
     ensures { IsTrue result ↔ AreInRange workers sessions }
 {
@@ -349,18 +351,19 @@ fn is_served(workers: u32, sessions: Option<u32>) -> bool
     1 <= workers && workers <= 16 && is_counted
 }
 
-/// Serves an image over a socket: each session in a thread of its own, at most 64 at once, and its actors by workers, from 1 to 16.
-/// A client beyond 64 is told so and is let go.
+/// Serves an image over a socket. Each session has its own thread, at most 64 at a time, and 1 to 16 workers run the actors. A
+/// client beyond 64 gets a refusal and is disconnected.
 ///
-/// After so many sessions, from 1 to 1,000,000, it waits for their ends, stops the workers, and answers the image and what all have
-/// done together: what it has counted beyond what the image that was handed in had. The refusal of each session that ended by one
-/// goes to `faults`, where there is memory. Without a number it goes on.
+/// `sessions` is how many sessions are accepted, from 1 to 1,000,000. Then the call waits for their ends, stops the workers, and
+/// answers the image and the totals of what all have done: what the image has counted beyond its counts at the start. A session
+/// that ends with a refusal adds it to `faults`, if there is memory. With `None`, serving goes on, and nothing is added to
+/// `faults`.
 ///
-/// Where accepting fails it accepts nobody any more, and ends in the same way once the sessions that are open have ended; the fault
-/// is then `ReadFault`.
+/// If accepting fails, no more sessions are accepted. When the open ones have ended, the call ends in the same way, and the fault
+/// is `ReadFault`.
 ///
-/// It is refused by `BadArguments` exactly where a number is out of its range, or where not all shares are here at the end,
-/// `NoMemory` where there was none to begin, and `Changed` where what the callers have done is not in the history.
+/// Refusals: `BadArguments` if a number is out of its range, or a share is missing at the end; `NoMemory` if there is no memory at
+/// the start, or no thread for a worker; `Changed` if the history lacks something that the callers have done.
 pub fn serve_image<R: Threads + Wait + Sync>(
     rt: &R,
     alloc: Global,
@@ -377,12 +380,15 @@ pub fn serve_image<R: Threads + Wait + Sync>(
     ensures refused { IfErr result (λ e. (e ≡ refusals.BadArguments) ⊎ (e ≡ refusals.NoMemory) ⊎ (e ≡ refusals.Changed)) }
 {
     if !is_served(workers, sessions) {
+        drop(image);
         return Err(Refusal::BadArguments);
     }
     let Some(quantum) = Quantum::new(QUANTUM) else {
+        drop(image);
         return Err(Refusal::BadArguments);
     };
     let Ok(workers) = new_workers(alloc, workers) else {
+        drop(image);
         return Err(Refusal::NoMemory);
     };
     serve::<Brand, R>(
@@ -399,8 +405,8 @@ pub fn serve_image<R: Threads + Wait + Sync>(
     )
 }
 
-/// Serves a new image, set as by default, in the same way, and answers what all have done together. Where accepting failed it is refused
-/// by `ReadFault`.
+/// Serves a new image with the default settings in the same way, and answers the totals. If accepting fails, it is refused by
+/// `ReadFault`.
 pub fn serve_on<R: Threads + Wait + Sync>(
     rt: &R,
     alloc: Global,
@@ -420,6 +426,7 @@ pub fn serve_on<R: Threads + Wait + Sync>(
         fault,
     } = serve_image(rt, alloc, listener, faults, workers, sessions, image)?;
     image.known();
+    drop(image);
     match fault {
         Some(refusal) => Err(refusal),
         None => Ok(totals),

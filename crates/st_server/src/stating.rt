@@ -1,4 +1,4 @@
-//! The statistics of a method's call sites, as a reply tells them.
+//! The statistics of a method's call sites, as a reply.
 ghost use Rattle.std.specs.Prelude.{◌≡◌, All, IfOk, map};
 ghost use Rattle.st_image.specs.Stats.{HasFewSends};
 ghost use Rattle.st_server.specs.SiteReports.{StatesNamed, StatesOf, site_report, state_shown};
@@ -57,7 +57,7 @@ fn reports(alloc: Global, image: &Image, list: &[SiteStats]) -> Result<Vec<SiteR
     Ok(told)
 }
 
-/// The reports of the sites of the method that a class has of its own for a selector.
+/// The reports of the sites of a class's own method for a selector.
 fn sites_of(
     alloc: Global,
     image: &Image,
@@ -73,7 +73,7 @@ fn sites_of(
     }
 }
 
-/// The same for the selector of a text.
+/// The same, with the selector as a text.
 fn sites_named(
     alloc: Global,
     image: &Image,
@@ -88,7 +88,7 @@ fn sites_named(
     }
 }
 
-/// The reply to a question for the statistics of a method.
+/// The reply to a request for the statistics of a method.
 pub(crate) fn stats(alloc: Global, image: &Image, class: &[u8], selector: &[u8]) -> Reply
     ensures { States image.now class.now selector.now result }
 {

@@ -12,19 +12,19 @@ use Rattle.st_session.specs.declared.unread.Cut.{Cut}
 use Rattle.st_session.specs.declared.unread.Cut.TheVariants as cut
 use Rattle.st_session.specs.declared.unread.Unread.{Unread}
 
--- these bytes are unread: the codec over its buffer is where a new one would be that was given them
+-- these bytes are unread: the codec with its buffer is in the state of a new codec that was given them
 abbrev pub Holds : List ℕ → Unread → Type 0
 Holds pending u = Resumes gives_lines (at_line_start 8192) pending u.codec u.bytes.items
 
--- whatever comes behind the bytes, their first parts are these, and the others are those of what is left
+-- whatever follows the bytes, the first parts are those in front, and the others are the parts of what is left
 abbrev pub CutsOff : List ℕ → List (List ℕ) → List ℕ → Type 0
 CutsOff bytes front left = (more : List ℕ) → parts (bytes ++ more) ≡ front ++ parts (left ++ more)
 
--- the bytes have no newline, and are no more than a line may have
+-- the bytes have no newline, and are at most as long as a line may be
 abbrev pub IsOpen : List ℕ → Type 0
 IsOpen bytes = (position (λ b. b == 10) bytes ≡ None) × (length bytes ≤ 8192)
 
--- whatever comes behind the bytes, they have a first line, of which this holds
+-- whatever follows the bytes, there is a first line, and P holds of it
 abbrev pub HasFirst : (List ℕ → Type 0) → List ℕ → Type 0
 HasFirst P bytes = (more : List ℕ) → (line : List ℕ) × (others : List (List ℕ)) × (lines (bytes ++ more) ≡ line ∷ others) × P line
 
@@ -39,7 +39,7 @@ Takes pending cut.TooLong u = HasFirst (λ line. ends_with line ≡ Some TooLong
 Takes pending cut.NoText u = HasFirst (λ line. ends_with line ≡ Some BadCommand) pending
 Takes pending cut.Starved u = HasFirst (λ line. ends_with line ≡ None) pending
 
--- what was taken where the pending bytes have no newline and the input has ended
+-- what was taken when the pending bytes have no newline and the input has ended
 abbrev pub TakesLast : List ℕ → Cut → Type 0
 TakesLast pending (cut.Line text) = (lines pending ≡ pending ∷ [])
     × (ends_with pending ≡ None)
@@ -49,13 +49,13 @@ TakesLast pending cut.NoText = (lines pending ≡ pending ∷ []) × (ends_with 
 TakesLast pending cut.TooLong = ⊥
 TakesLast pending cut.Starved = Unit {0}
 
--- what an error of the codec says
+-- what an error of the codec means
 abbrev pub IsSaidBy : LinesCodecError → Cut → Type 0
 IsSaidBy MaxLineLengthExceeded c = c ≡ cut.TooLong
 IsSaidBy (Io e) c = ((error_kind e ≡ InvalidData) × (c ≡ cut.NoText))
     ⊎ (((error_kind e ≡ InvalidData) → ⊥) × (c ≡ cut.Starved))
 
--- a line takes a byte or more of the buffer
+-- a line consumes at least one byte of the buffer
 abbrev pub IsShorter : Cut → ℕ → ℕ → Type 0
 IsShorter (cut.Line text) before after = after < before
 IsShorter _ before after = Unit {0}

@@ -8,30 +8,30 @@ use Rattle.st_wire.specs.Streams.{InputView, one_more, so_many_more}
 use Rattle.st_session.specs.Lines.{lines, whole_lines}
 use Rattle.st_session.specs.Sessions.{Session}
 
--- an input was read and gave these bytes, the first of those that were left where they are known; it was read no more than 2^32
--- times, and no more than once beside the reads that gave a byte or more
+-- an input gave these bytes, which are the first of those that it had left, if those are known; it was read at most 2^32
+-- times, and at most once more than it gave bytes
 abbrev pub Gives : InputView → InputView → List ℕ → Type 0
 Gives before after taken = Consumes before.remaining after.remaining taken
     × ((n : ℕ) × (n ≤ 2 ^ 32) × (n ≤ length taken + 1) × (after.reads ≡ so_many_more n before.reads))
 
--- the text is all that was left, where that is known, and nothing is left after it
+-- the text is all that was left, if that is known, and nothing is left after it
 abbrev pub IsWhole : Option (List ℕ) → Option (List ℕ) → List ℕ → Type 0
 IsWhole None after text = IsAtEnd after
 IsWhole (Some bytes) after text = (text ≡ bytes) × (after ≡ Some [])
 
--- 2^32 reads were made, and each gave a byte or more
+-- 2^32 reads were made, and each gave at least one byte
 abbrev pub IsEndless : InputView → InputView → List ℕ → Type 0
 IsEndless before after taken = (after.failures ≡ before.failures)
     × (after.reads ≡ so_many_more (2 ^ 32) before.reads)
     × (2 ^ 32 ≤ length taken)
 
--- why the next bytes were not read: memory ran out, or what was written could not be handed on; or a read failed, or there was no
--- end
+-- why the next bytes were not read: memory ran out, or the output failed; or a read failed, or the reads did not
+-- reach the end
 abbrev pub WhyStopped : InputView → InputView → List ℕ → Refusal → Type 0
 WhyStopped before after taken e = (((e ≡ NoMemory) ⊎ (e ≡ WriteFault)) × (after.failures ≡ before.failures))
     ⊎ ((e ≡ ReadFault) × ((after.failures ≡ one_more before.failures) ⊎ IsEndless before after taken))
 
--- the session ended at a line of the bytes that were read, whatever may come behind them; or at a line of all bytes, where the
+-- the session ended at a line of the bytes that were read, whatever follows them; or at a line of all bytes, once the
 -- input has ended
 abbrev pub EndsAtLine : {S : Type 0} → (S → List ℕ → Reply → S → Type 0)
     → S → InputView → InputView → List ℕ → List ℕ → S → Refusal → Type 0
@@ -39,13 +39,13 @@ EndsAtLine replies i before after taken written j e = (after.failures ≡ before
     × (((more : List ℕ) → Session replies i (lines (taken ++ more)) written j (Some e))
     ⊎ (IsWhole before.remaining after.remaining taken × Session replies i (lines taken) written j (Some e)))
 
--- all whole lines that were read are answered, and then the session stopped before it had read on
+-- all whole lines that were read are answered, and then the session stopped before it read on
 abbrev pub StopsBetween : {S : Type 0} → (S → List ℕ → Reply → S → Type 0)
     → S → InputView → InputView → List ℕ → List ℕ → S → Refusal → Type 0
 StopsBetween replies i before after taken written j e = Session replies i (whole_lines taken) written j None
     × WhyStopped before after taken e
 
--- a session over what an input had left: all its lines are answered, and their number is told; or the session ended before
+-- a session over what an input had left: all its lines are answered and counted, or the session ended early
 abbrev pub DeviceSession : {S : Type 0} → (S → List ℕ → Reply → S → Type 0)
     → S → InputView → InputView → List ℕ → S → Result ℕ Refusal → Type 0
 DeviceSession replies i before after written j (Ok count) = (taken : List ℕ) × Gives before after taken
@@ -56,8 +56,8 @@ DeviceSession replies i before after written j (Ok count) = (taken : List ℕ) �
 DeviceSession replies i before after written j (Err e) = (taken : List ℕ) × Gives before after taken
     × (EndsAtLine replies i before after taken written j e ⊎ StopsBetween replies i before after taken written j e)
 
--- the same where the bytes that the input had left are known, and nothing but a lack of an end can fail: what is written depends on
--- them alone
+-- the same for an input of known bytes whose reads do not fail: what is written depends on the bytes alone, and ReadFault
+-- needs at least 2^32 of them
 abbrev pub ByteSession : {S : Type 0} → (S → List ℕ → Reply → S → Type 0)
     → S → List ℕ → List ℕ → S → Result ℕ Refusal → Type 0
 ByteSession replies i bytes written j (Ok count) = Session replies i (lines bytes) written j None × (count ≡ length (lines bytes))
@@ -66,7 +66,8 @@ ByteSession replies i bytes written j (Err e) = Session replies i (lines bytes) 
     × Session replies i (whole_lines taken) written j None
     × (((e ≡ NoMemory) ⊎ (e ≡ WriteFault)) ⊎ ((e ≡ ReadFault) × (2 ^ 32 ≤ length bytes))))
 
--- the input was read no more than so many times, and the output was flushed as often; or once more, where the result is WriteFault
+-- the input was read at most a given number of times, and the output flushed as often, or once more if the result is
+-- WriteFault
 abbrev pub FlushesAsOftenAsReads : {T : Type 0} → ℕ → ℕ → ℕ → ℕ → ℕ → Result T Refusal → Type 0
 FlushesAsOftenAsReads most reads reads_after flushes flushes_after result = (n : ℕ) × (n ≤ most)
     × (reads_after ≡ so_many_more n reads)

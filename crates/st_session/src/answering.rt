@@ -22,7 +22,8 @@ use std::alloc::Global;
 /// The most bytes of a read.
 pub(crate) const PIECE: usize = 8192;
 
-/// Writes that a line ends the session, and says why the session ends.
+/// Writes the refusal that ends the session as a reply. The answer is always an error: that refusal, or why it was not written
+/// whole.
 fn tell<O: Output>(alloc: Global, output: &mut O, last: Refusal) -> Result<bool, Refusal>
     requires { (last ≡ TooLong) ⊎ (last ≡ BadCommand) }
     ensures written { (part : List ℕ) × Appends (O.contents output.old) (O.contents output.new) part
@@ -36,7 +37,7 @@ fn tell<O: Output>(alloc: Global, output: &mut O, last: Refusal) -> Result<bool,
     }
 }
 
-/// Answers a line, and says that it did.
+/// Answers a line. The result is true, or why the reply was not written whole.
 fn answer<H: Handler, O: Output>(
     handler: &mut H,
     reader: &mut LineReader,
@@ -57,7 +58,7 @@ fn answer<H: Handler, O: Output>(
     }
 }
 
-/// Answers what was cut, and says whether it was a line.
+/// Answers what was cut off, and says whether it was a line.
 fn serve<H: Handler, O: Output>(
     handler: &mut H,
     reader: &mut LineReader,
@@ -79,7 +80,7 @@ fn serve<H: Handler, O: Output>(
     }
 }
 
-/// Answers the next line, and says whether there was one.
+/// Answers the next whole line, and says whether there was one.
 fn answer_next<H: Handler, O: Output>(
     handler: &mut H,
     reader: &mut LineReader,
@@ -112,7 +113,7 @@ fn answer_whole<H: Handler, O: Output>(
     ensures failures { O.failures output.new ≡ failures_after (end_of result) (O.failures output.old) }
     ensures unflushed { O.flushes output.new ≡ O.flushes output.old }
 {
-    // A line takes a byte or more of them.
+    // Each line consumes at least one byte.
     let most = unread.len();
     let mut count = 0;
     'lines: loop {
@@ -127,7 +128,7 @@ fn answer_whole<H: Handler, O: Output>(
     }
 }
 
-/// Answers the last line, where the input has ended and no whole line is left, and says whether there was one.
+/// Answers the last line, once the input has ended and no whole line is left. Says whether there was one.
 pub(crate) fn answer_last<H: Handler, O: Output>(
     handler: &mut H,
     reader: &mut LineReader,
@@ -145,8 +146,7 @@ pub(crate) fn answer_last<H: Handler, O: Output>(
     serve(handler, reader, alloc, output, cut)
 }
 
-/// Hands on what has been written, reads the next piece of the input and puts it behind the bytes that are unread. It is empty
-/// only at the end.
+/// Flushes the output, reads the next piece of the input and appends it to the unread bytes. The piece is empty only at the end.
 fn read_piece<I: Input, O: Output>(
     input: &mut I,
     output: &mut O,
@@ -178,7 +178,7 @@ fn read_piece<I: Input, O: Output>(
     Ok(count)
 }
 
-/// Reads the next piece of the input, and answers all whole lines. It says how many there were, or nothing at the end.
+/// Reads the next piece of the input and answers all whole lines. The answer is their number, or `None` at the end.
 pub(crate) fn take_turn<H: Handler, I: Input, O: Output>(
     handler: &mut H,
     reader: &mut LineReader,

@@ -1,4 +1,4 @@
-//! What answers commands.
+//! The handler of a session's commands.
 ghost use Rattle.st_wire.specs.declared.commands.Command.{Command as CommandOf};
 ghost use Rattle.st_wire.specs.declared.replies.Reply.{Reply as ReplyOf};
 ghost use Rattle.st_session.specs.Sessions.{Replies};
@@ -8,9 +8,9 @@ use st_wire::line_readers::LineReader;
 use st_wire::replies::Reply;
 use std::alloc::Global;
 
-/// What answers the commands of a session.
+/// Answers the commands of a session.
 pub trait Handler {
-    /// Which reply it may give to a command, and how that leaves it.
+    /// The replies that it may give to a command, and how a reply leaves it.
     ghost answers: { Self → CommandOf → ReplyOf → Self → Type 0 };
 
     /// The reply to a command.
@@ -18,7 +18,7 @@ pub trait Handler {
         ensures { answers self.old command result self.new };
 }
 
-/// The reply to a line. One that is no command is BadCommand.
+/// The reply to a line. If the line is not a command, the reply is BadCommand.
 pub(crate) fn reply_to<H: Handler>(
     handler: &mut H,
     reader: &mut LineReader,

@@ -1,7 +1,7 @@
 //! Sessions: each line of an input is a command, and gets a reply as it comes.
 //!
-//! [`sessions::session`] reads an input, and writes to an output the reply of a [`handlers::Handler`] to the command of each
-//! line. What is written depends on the bytes alone, however the reads cut them. [`lines`] tells what lines are.
+//! [`sessions::session`] reads an input, and writes the reply of a [`handlers::Handler`] to the command of each line to an output.
+//! What is written depends on the bytes alone, not on how reads split them. [`lines`] says what a line is.
 #![tactic(auto)]
 
 mod answering;

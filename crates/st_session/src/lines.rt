@@ -1,7 +1,7 @@
-//! Lines of a text.
+//! The lines of a text.
 ghost use Rattle.st_session.specs.Lines.{CutsAtNewlines};
 
-/// A text is cut into lines at its newlines: no part has one, and the parts joined by newlines are the text.
+/// A text is cut at its newlines: no part contains a newline, and the parts joined by newlines are the text.
 pub fn cutting()
     ensures { CutsAtNewlines }
 {}

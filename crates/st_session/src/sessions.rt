@@ -16,14 +16,14 @@ use std::alloc::Global;
 /// The most reads of a session.
 const READS: u64 = 1 << 32;
 
-/// Writes to an output a reply to each line of an input, and says how many lines there were. The output is flushed as often as
-/// the input is read, or once more where it ends with WriteFault. What no clause says, and is tested: the flush comes before the
-/// read, and each line is answered before more bytes are read than came with its newline.
+/// Writes a reply to each line of an input to an output, and answers the number of lines. The output is flushed as often as the
+/// input is read, or once more if the session ends with WriteFault. Two things are in no clause, and tested: the flush comes before
+/// the read, and each line is answered before more bytes are read than came with its newline.
 ///
-/// It ends before the last line, and says why: with TooLong or BadCommand at a line that is over 8,192 bytes or no UTF-8, which
-/// is replied to but not handled; with WriteFault where a write or a flush failed; with ReadFault where a read failed or 2^32 of
-/// them found no end, and then the whole lines that were read are answered; and with NoMemory where there was none for the
-/// text of a line or of a reply, or for the bytes that would be read next.
+/// A session that ends early answers the reason. TooLong or BadCommand: a line is over 8,192 bytes or not UTF-8; it gets this reply
+/// and is not handled. WriteFault: a write or a flush failed. ReadFault: a read failed, or 2^32 reads did not reach the end; the
+/// whole lines that were read are answered. NoMemory: there was none for the text of a line or of a reply, or for the bytes to be
+/// read next.
 pub fn session<H: Handler, I: Input, O: Output>(
     handler: &mut H,
     alloc: Global,

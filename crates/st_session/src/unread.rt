@@ -1,4 +1,4 @@
-//! The bytes that were read and are not yet answered.
+//! The bytes that were read and not yet answered.
 ghost use Rattle.std.specs.Prelude.{◌≡◌, ◌≤◌, ℕ, List, [], ◌++◌, length, OnOk};
 ghost use Rattle.st_session.specs.Cuts.{IsSaidBy};
 
@@ -7,25 +7,25 @@ use std::alloc::{AllocError, Global};
 use std::io::ErrorKind;
 use tokio_util::codec::{Decoder, LinesCodec, LinesCodecError};
 
-/// The most bytes of a line, its newline aside.
+/// The most bytes of a line, without its newline.
 const LINE: usize = 8192;
 
-/// What is at the front of the bytes.
+/// What is at the front of the unread bytes.
 #[derive(Drop)]
 pub(crate) enum Cut {
-    /// A line, without the carriage return that may end it.
+    /// A line, without a carriage return at its end.
     Line(String),
-    /// No whole line.
+    /// No whole line yet.
     Partial,
-    /// A line of too many bytes.
+    /// A line with too many bytes.
     TooLong,
     /// A line that is not UTF-8.
     NoText,
-    /// A line for which there was no memory.
+    /// A line for which memory ran out.
     Starved,
 }
 
-/// What a codec found where it gave an error.
+/// What an error of the codec means.
 fn cut_at(error: LinesCodecError) -> Cut
     ensures { IsSaidBy error result }
 {
@@ -36,8 +36,8 @@ fn cut_at(error: LinesCodecError) -> Cut
     }
 }
 
-/// The bytes that were read and are not yet answered, and a codec that takes lines off their front. It remembers how far it has
-/// looked for a newline.
+/// The bytes that were read and not yet answered, and a codec that takes lines off their front. The codec remembers how far it has
+/// searched for a newline.
 #[derive(Drop)]
 pub(crate) struct Unread {
     codec: LinesCodec,
@@ -47,7 +47,7 @@ pub(crate) struct Unread {
 impl Unread {
     ghost use Rattle.st_session.specs.Cuts.{Holds, IsOpen, IsShorter, Takes, TakesLast};
 
-    /// None.
+    /// No bytes.
     pub(crate) fn new(alloc: Global) -> Unread
         ensures { Holds [] result }
     {
@@ -57,14 +57,14 @@ impl Unread {
         }
     }
 
-    /// How many bytes the buffer has.
+    /// The number of bytes in the buffer.
     pub(crate) fn len(&self) -> usize
         ensures { result ≡ length self.now.bytes.items }
     {
         self.bytes.len()
     }
 
-    /// Makes room for so many more bytes.
+    /// Makes room for this many more bytes.
     pub(crate) fn reserve(&mut self, count: usize) -> Result<(), AllocError>
         ensures room { OnOk result (count ≤ self.new.bytes.spare) }
         ensures same { (pending : List ℕ) → Holds pending self.old → Holds pending self.new }
@@ -72,7 +72,7 @@ impl Unread {
         self.bytes.reserve(count)
     }
 
-    /// Puts more bytes behind them, for which there is room.
+    /// Appends bytes. There must be room for them.
     pub(crate) fn push(&mut self, piece: &[u8])
         requires { length piece.now ≤ self.old.bytes.spare }
         ensures { (pending : List ℕ) → Holds pending self.old → Holds (pending ++ piece.now) self.new }
@@ -80,7 +80,7 @@ impl Unread {
         self.bytes.extend_reserved(piece);
     }
 
-    /// Takes the first line off them.
+    /// Takes the first line off the bytes.
     pub(crate) fn take(&mut self) -> Cut
         ensures takes { (pending : List ℕ) → Holds pending self.old → Takes pending result self.new }
         ensures shorter { IsShorter result (length self.old.bytes.items) (length self.new.bytes.items) }
@@ -92,7 +92,7 @@ impl Unread {
         }
     }
 
-    /// Takes the last line, which has no newline, where the input has ended.
+    /// Takes the last line, which has no newline. The input must have ended.
     pub(crate) fn take_last(&mut self) -> Cut
         ensures { (pending : List ℕ) → Holds pending self.old → IsOpen pending → TakesLast pending result }
     {

@@ -9,8 +9,8 @@ use st_wire::replies::{Reply, reply_text};
 use st_wire::streams::{Output, write_all};
 use std::alloc::Global;
 
-/// Writes the line of a reply. It is `NoMemory` where there was none for the line, and nothing is written; `WriteFault` where a write
-/// failed, and a front of the line that lacks some of it is written.
+/// Writes the line of a reply. The refusal is `NoMemory` if there is none for the line, and then nothing is written. It is
+/// `WriteFault` if a write fails, and then a proper prefix of the line is written.
 pub fn write_reply<O: Output>(alloc: Global, output: &mut O, reply: &Reply) -> Result<(), Refusal>
     ensures written { (part : List ℕ) × Appends (O.contents output.old) (O.contents output.new) part
         × MatchResult result (λ _. part ≡ line_of reply.now) (λ e. Breaks (line_of reply.now) part e) }

@@ -67,6 +67,7 @@ none_begun n i j h = record {
   names = ap (λ (x : ImageView). x.names) h;
   settings = ap settings_of h;
   tallies = ap (λ (x : ImageView). x.standing.tallies) h;
+  earlier = ap (λ (x : ImageView). x.standing.earlier) h;
 }
 
 begun_both : (m n : ℕ) (i j k : ImageView) → OnlyBegins m i j → OnlyBegins n j k → OnlyBegins (n + m) i k
@@ -81,6 +82,7 @@ begun_both m n i j k h g = record {
   names = g.names ∙ h.names;
   settings = g.settings ∙ h.settings;
   tallies = g.tallies ∙ h.tallies;
+  earlier = g.earlier ∙ h.earlier;
 }
 
 checked_out : (idle : Bool) (i j : ImageView) (a : ActorId) → j ≡ with_out (let begun : ImageView = if idle then appended i (Begun a ∷ []) else i in record begun { standing = record begun.standing { next_from = a.0 + 1 } }) j → OnlyBegins 1 i j
@@ -92,6 +94,7 @@ checked_out true i j a h = record {
   names = ap (λ (x : ImageView). x.names) h;
   settings = ap settings_of h;
   tallies = ap (λ (x : ImageView). x.standing.tallies) h;
+  earlier = ap (λ (x : ImageView). x.standing.earlier) h;
 }
 checked_out false i j a h = record {
   begun = [];
@@ -101,6 +104,7 @@ checked_out false i j a h = record {
   names = ap (λ (x : ImageView). x.names) h;
   settings = ap settings_of h;
   tallies = ap (λ (x : ImageView). x.standing.tallies) h;
+  earlier = ap (λ (x : ImageView). x.standing.earlier) h;
 }
 
 checks_out_begins : (i j : ImageView) (a : ActorId) (r : Result ClaimView Refusal) → ChecksOut i a r j → OnlyBegins 1 i j

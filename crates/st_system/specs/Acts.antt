@@ -1,4 +1,4 @@
--- What each event makes of a schedule, and rows of events.
+-- What each event does to a schedule, and lists of events.
 use Rattle.std.specs.Prelude.{◌≡◌, ◌⊎◌, List, [], ◌∷◌, Result, slice_get}
 use Rattle.st_classes.specs.declared.refusals.Refusal.{Refusal}
 use Rattle.st_image.specs.Calls.{Closes, Creates, Defines, InstallsIn, Posts, Removes, Reparents}
@@ -12,7 +12,7 @@ use Rattle.st_system.specs.Schedules.{Schedule}
 use Rattle.st_system.specs.ImageEvents.{FindsNoMemory, Interns, OfImage}
 use Rattle.st_system.specs.ClaimEvents.{AtWorker, CommitsClaim, KeepsClaim, OfClaim, ReleasesClaim, StepsClaim, TakesClaim}
 
--- what an event makes of a schedule, and what is answered
+-- what an event does to a schedule, and its answer
 abbrev pub Acts : Schedule → Event → Result Answer Refusal → Schedule → Type 0
 Acts S (Intern text) r T = OfImage Interned (Interns S.image text) S r T
 Acts S (Define name parent slots) r T = OfImage Version (Defines S.image name parent slots) S r T
@@ -30,13 +30,13 @@ Acts S (Commit w) r T = AtWorker (OfClaim CommitsClaim) S w r T (slice_get S.cla
 Acts S (Release w) r T = AtWorker (OfClaim ReleasesClaim) S w r T (slice_get S.claims w)
 Acts S (Forget w) r T = AtWorker KeepsClaim S w r T (slice_get S.claims w)
 
--- events with their answers lead from one schedule to another, one after the other
+-- events, one after the other, lead from one schedule to another with these answers
 abbrev pub Runs : Schedule → List Event → List (Result Answer Refusal) → Schedule → Type 0
 Runs S [] [] T = T ≡ S
 Runs S (e ∷ es) (r ∷ rs) T = (M : Schedule) × Acts S e r M × Runs M es rs T
 Runs S [] (r ∷ rs) T = ⊥
 Runs S (e ∷ es) [] T = ⊥
 
--- there are answers with which the events lead from one schedule to another
+-- with some answers the events lead from one schedule to another
 abbrev pub Leads : Schedule → List Event → Schedule → Type 0
 Leads S es T = (answers : List (Result Answer Refusal)) × Runs S es answers T

@@ -1,4 +1,4 @@
--- Events of a worker: what becomes of the image and of the worker's claim.
+-- Events of a worker: what they do to the image and to the worker's claim.
 use Rattle.std.specs.Prelude.{◌≡◌, ℕ, ◌+◌, List, [], Option, Some, None, Result, Ok, Err, slice_set}
 use Rattle.std.specs.Option.{option_map}
 use Rattle.st_classes.specs.declared.values.ActorId.{ActorId}
@@ -17,8 +17,8 @@ use Rattle.st_system.specs.declared.events.Answer.TheVariants.{Done, Stopped, St
 use Rattle.st_system.specs.Schedules.{BareClaim, Schedule, bare, with_sends}
 use Rattle.st_system.specs.ImageEvents.{told}
 
--- an event of a worker: refused where there is no such worker; else it does this to the image and to the worker's
--- claim, and each other worker keeps its own
+-- an event of a worker: refused if there is no such worker; otherwise it does this to the image and to the worker's claim, and every
+-- other worker keeps its own
 abbrev pub AtWorker : (ImageView → Option BareClaim → Result Answer Refusal → ImageView → Option BareClaim → Type 0)
     → Schedule → ℕ → Result Answer Refusal → Schedule → Option (Option BareClaim) → Type 0
 AtWorker Does S w r T None = (r ≡ Err BadArguments) × (T ≡ S)
@@ -26,7 +26,7 @@ AtWorker Does S w r T (Some claim) = (left : Option BareClaim)
     × Does S.image claim r T.image left
     × (T.claims ≡ slice_set S.claims w left)
 
--- an event of a claim: without one there is nothing to do
+-- an event of a claim; without a claim there is nothing to do
 abbrev pub OfClaim : (ImageView → BareClaim → Result Answer Refusal → ImageView → Option BareClaim → Type 0)
     → ImageView → Option BareClaim → Result Answer Refusal → ImageView → Option BareClaim → Type 0
 OfClaim Does i None r j left = (r ≡ Err NothingToDo) × (j ≡ i) × (left ≡ None)
@@ -39,7 +39,7 @@ abbrev pub handed_out : Result ClaimView Refusal → Option BareClaim
 handed_out (Ok c) = Some (bare c)
 handed_out (Err e) = None
 
--- a worker that has a claim is refused; else it is given the claim of the checkout
+-- a worker that has a claim is refused; another is given the claim of the checkout
 abbrev pub TakesClaim : ActorId → ImageView → Option BareClaim → Result Answer Refusal → ImageView → Option BareClaim
     → Type 0
 TakesClaim a i (Some c) r j left = (r ≡ Err BadArguments) × (j ≡ i) × (left ≡ Some c)
@@ -54,14 +54,14 @@ TakesClaim a i None r j left = (result : Result ClaimView Refusal)
 abbrev pub next_of : BareClaim → StepResult
 next_of c = next_step (with_sends c [] 0)
 
--- a step is taken, where the actor has one of its own next and the claim may have one more; else the claim stays, as it
--- does for want of memory
+-- a step is taken, if the actor's next step is its own and the claim may have one more; otherwise the claim stays, and so it does if
+-- memory runs out
 abbrev pub TakesOne : BareClaim → Result Stop Refusal → BareClaim → Type 0
 TakesOne c (Ok More) d = (next_of c ≡ more d.after) × (d ≡ record c { after = d.after; steps = c.steps + 1 })
 TakesOne c (Ok stop) d = (next_of c ≡ stop_result stop c.after) × (d ≡ c)
 TakesOne c (Err e) d = (e ≡ NoMemory) × (d ≡ c)
 
--- a step of a claim, by which nothing of the image changes
+-- a step of a claim; it does not change the image
 abbrev pub StepsClaim : ImageView → BareClaim → Result Answer Refusal → ImageView → Option BareClaim → Type 0
 StepsClaim i c r j left = (result : Result Stop Refusal)
     × (d : BareClaim)
@@ -82,7 +82,7 @@ abbrev pub handed_back : Result ℕ (Refusal × Option ClaimView) → Option Bar
 handed_back (Ok n) = None
 handed_back (Err refused) = option_map bare refused.1
 
--- a claim, with what became of its sends and its stamp, is committed or refused; the worker keeps what is handed back
+-- a claim is committed or refused, with some sends and a stamp; the worker keeps what is handed back
 abbrev pub CommitsClaim : ImageView → BareClaim → Result Answer Refusal → ImageView → Option BareClaim → Type 0
 CommitsClaim i c r j left = (sends : List Sent)
     × (stamp : ℕ)

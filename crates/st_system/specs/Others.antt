@@ -1,4 +1,4 @@
--- What an event leaves of workers that it is not about.
+-- What an event leaves as it was: the caches and the claims of other workers.
 use Rattle.std.specs.Prelude.{◌≡◌, ◌≢◌, ℕ, List, map, slice_get, Bool, true, false, Option, Some, None}
 use Rattle.st_guard.specs.Moves.{CachesView}
 use Rattle.st_system.specs.declared.events.Event.{Event}
@@ -14,7 +14,7 @@ worker_of (Release w) = Some w
 worker_of (Forget w) = Some w
 worker_of _ = None
 
--- an event that asks caches or empties them: a step, and forgetting
+-- an event that uses or empties caches: a step, and forgetting
 abbrev pub is_of_caches : Event → Bool
 is_of_caches (Local w) = true
 is_of_caches (Forget w) = true
@@ -24,8 +24,8 @@ is_of_caches _ = false
 abbrev pub caches_of : {G : Type 0} → SeatView G → CachesView G
 caches_of s = s.caches
 
--- each worker but the one whose event it is has the caches and the claim that it had; and all workers have the caches
--- that they had, unless the event asks caches or empties them
+-- every worker but the one whose event it is keeps its caches and its claim; and all workers keep their caches, unless the event uses
+-- or empties caches
 pub record LeavesOthers {G : Type 0} (e : Event) (old new : List (SeatView G)) : Type 0 where
   pub seats : (place : ℕ) → worker_of e ≢ Some place → slice_get new place ≡ slice_get old place
   pub caches : is_of_caches e ≡ false → map caches_of new ≡ map caches_of old

@@ -1,4 +1,4 @@
--- What a schedule of events is told of: an image, and the claim of each worker.
+-- What a schedule of events sees: an image, and the claim of each worker.
 use Rattle.std.specs.Prelude.{ℕ, List, Option, map}
 use Rattle.std.specs.Option.{option_map}
 use Rattle.st_classes.specs.declared.values.ActorId.{ActorId}
@@ -9,8 +9,7 @@ use Rattle.st_turn.specs.Claims.{ClaimView}
 use Rattle.st_image.specs.Images.{ImageView}
 use Rattle.st_system.specs.Seats.{SeatView, SystemView}
 
--- a claim without what became of its sends and without its stamp: the steps of an actor at the edits of a class table,
--- and the bodies from which and to which they lead
+-- a claim without its sends and its stamp: the steps of an actor at the edits of a class table, and the bodies before and after them
 pub record BareClaim : Type 0 where
   pub actor : ActorId
   pub edits : List Edit

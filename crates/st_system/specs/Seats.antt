@@ -1,4 +1,4 @@
--- Workers of a system, and what is true of each.
+-- Workers of a system, and what holds of each.
 use Rattle.std.specs.Prelude.{◌≡◌, ◌⊎◌, ℕ, List, [], Option, None, All}
 use Rattle.std.specs.Option.{IfSome}
 use Rattle.st_classes.specs.declared.edits.Edit.{Edit}
@@ -20,15 +20,15 @@ pub record SystemView (G : Type 0) : Type 0 where
   pub image : ImageView
   pub seats : List (SeatView G)
 
--- the list of edits that caches keep, where they keep one, begins another
+-- if the caches keep a list of edits, it is a prefix of this one
 abbrev pub KeepsBeginning : {G : Type 0} → List Edit → CachesView G → Type 0
 KeepsBeginning edits v = IfSome v.kept (λ k. Begins k edits)
 
--- caches can follow a claim, where there is one: what they keep begins its edits
+-- if there is a claim, the caches can follow it: the list that they keep is a prefix of its edits
 abbrev pub CanFollow : {G : Type 0} → CachesView G → Option ClaimView → Type 0
 CanFollow v claim = IfSome claim (λ c. KeepsBeginning c.edits v)
 
--- a worker's claim fits an image, and the edits that its caches keep begin those of the class table
+-- a worker's claim fits an image, and the list that its caches keep is a prefix of the class table's edits
 pub record FitsSeat {G : Type 0} (i : ImageView) (s : SeatView G) : Type 0 where
   pub claim : IfSome s.claim (FitsClaim i)
   pub kept : KeepsBeginning (world i).edits s.caches
@@ -43,12 +43,12 @@ pub record HaveNothing {G : Type 0} (v : CachesView G) : Type 0 where
   pub recent : v.recent ≡ []
   pub kept : v.kept ≡ None
 
--- a worker takes a seat in a new system without a claim: as it is where what its caches keep begins the class table's
--- edits, and else with nothing in its caches
+-- a worker takes a seat in a new system, without a claim: its caches stay if the list that they keep is a prefix of the class table's
+-- edits, and are emptied otherwise
 pub record TakesSeat {G : Type 0} (edits : List Edit) (v : CachesView G) (s : SeatView G) : Type 0 where
   pub claim : s.claim ≡ None
   pub caches : (KeepsBeginning edits v × (s.caches ≡ v)) ⊎ ((¬ KeepsBeginning edits v) × HaveNothing s.caches)
 
--- caches are valid at the list of edits that they keep, where they keep one
+-- if the caches keep a list of edits, they are valid at it
 abbrev pub AreValidWhereKept : {G : Type 0} → (G → ℕ) → (G → Selector → ℕ) → CachesView G → Type 0
 AreValidWhereKept count floor v = IfSome v.kept (λ k. IsAt (count v.guard) (floor v.guard) v.sites v.recent v.edits k)

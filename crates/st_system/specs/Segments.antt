@@ -8,16 +8,16 @@ use Rattle.st_image.specs.WorldInvariant.{IsLawful}
 use Rattle.st_image.specs.Delivery.{HasDelivered, IsPrefixOf}
 use Rattle.st_image.specs.RanTargets.{EachStepRan}
 
--- A segment, by the image at its end: that is the replay of the history since the base, over each prefix of which the
--- messages were delivered, and each send in it has run what the walk finds at its place.
+-- A segment, by the image at its end: the image is the replay of the history since the base, the messages were delivered over each
+-- prefix of that history, and each send in it has run what the walk finds at its place.
 pub record IsSegment (i : ImageView) : Type 0 where
   pub replay : IsLawful i
   pub delivered : HasDelivered i
   pub sent : EachStepRan i
 
--- Segments follow one another up to an image: the first began with this base and has this history already; each later one
--- begins with the world where the one before it ended, as a base, and with no history. Those that ended are told in order,
--- and the last one ends with the image.
+-- Segments follow one another up to an image. The first one began with this base and has this history already. Each later one begins
+-- with the world where the one before it ended, as a base, and with no history. The list has the segments that ended, in order; the
+-- last segment ends with the image.
 abbrev pub Follow : World → List Item → List ImageView → ImageView → Type 0
 Follow base before [] j = (j.base ≡ base) × IsPrefixOf before j.history
 Follow base before (e ∷ es) j = (e.base ≡ base) × IsPrefixOf before e.history × Follow (rebase (world e)) [] es j

@@ -1,4 +1,4 @@
--- What the events of workers leave in the image, where nothing is committed.
+-- What the events of workers leave in the image if nothing is committed.
 use Rattle.std.specs.Prelude.{◌≡◌, ◌≤◌, ◌+◌, ◌++◌, ℕ, List, [], ◌∷◌, length, map, Bool, true, false, Result}
 use Rattle.std.specs.List.{list_all}
 use Rattle.st_classes.specs.declared.values.ActorId.{ActorId}
@@ -20,7 +20,7 @@ is_apart (Release w) = true
 is_apart (Forget w) = true
 is_apart _ = false
 
--- an event of a worker that is no commit
+-- an event of a worker that is not a commit
 abbrev pub is_uncommitted : Event → Bool
 is_uncommitted (Checkout w a) = true
 is_uncommitted e = is_apart e
@@ -31,8 +31,8 @@ checkouts [] = 0
 checkouts (Checkout w a ∷ es) = checkouts es + 1
 checkouts (_ ∷ es) = checkouts es
 
--- turns have begun, no more than so many, and nothing else has happened: the history has their beginnings behind it, and
--- the base, the names, the settings and the statistics are the same. What may differ besides is from where the next ready
+-- At most this many turns have begun, and nothing else has happened: their beginnings are appended to the history, and the base, the
+-- names, the settings, the statistics and what was counted before the base are the same. It is left open from where the next ready
 -- actor is looked for, and how many claims are out.
 pub record OnlyBegins (most : ℕ) (i j : ImageView) : Type 0 where
   pub begun : List ActorId
@@ -42,10 +42,10 @@ pub record OnlyBegins (most : ℕ) (i j : ImageView) : Type 0 where
   pub names : j.names ≡ i.names
   pub settings : settings_of j ≡ settings_of i
   pub tallies : j.standing.tallies ≡ i.standing.tallies
+  pub earlier : j.standing.earlier ≡ i.standing.earlier
 
--- Whatever workers do with claims that they have, nothing of the image changes but how many claims are out. A checkout
--- adds the beginning of one turn at most. So events of workers without commits leave the beginnings of turns in the
--- image, one for each checkout at most, and nothing else.
+-- Without checkouts and commits, workers change nothing of the image but how many claims are out. A checkout begins one turn at most.
+-- So without commits the events of workers leave only turns that were begun, at most one for each checkout.
 pub record LeavesNothing : Type 0 where
   pub apart : (S T : Schedule) (es : List Event) →
       list_all is_apart es ≡ true → Leads S es T → T.image ≡ with_out S.image T.image

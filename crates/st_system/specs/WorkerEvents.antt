@@ -1,5 +1,5 @@
--- What the events of a worker do to the whole of it: to its caches, and to its claim with the sends and the stamp, which a
--- schedule does not see.
+-- What the events of a worker do to its caches and to its whole claim.
+-- The whole claim has the sends and the stamp, which a schedule does not see.
 use Rattle.std.specs.Prelude.{◌≡◌, ℕ, Bool, Option, Some, None, Result, Ok, Err, slice_get, slice_set}
 use Rattle.st_classes.specs.declared.edits.Edit.{Edit}
 use Rattle.st_classes.specs.declared.values.ActorId.{ActorId}
@@ -19,8 +19,7 @@ use Rattle.st_system.specs.ImageEvents.{told}
 use Rattle.st_system.specs.ClaimEvents.{told_of_commit}
 use Rattle.st_system.specs.Seats.{SeatView, SystemView}
 
--- An event of a worker does this to the image and to the worker, and nothing to the others; where there is no such
--- worker, nothing to any.
+-- An event of a worker does this to the image and to the worker, and nothing to the others. If there is no such worker, it changes none.
 abbrev pub AtSeat : {G : Type 0}
     → (ImageView → SeatView G → Result Answer Refusal → ImageView → SeatView G → Type 0)
     → SystemView G → ℕ → Result Answer Refusal → SystemView G → Option (SeatView G) → Type 0
@@ -36,7 +35,7 @@ abbrev pub taken_out : Result ClaimView Refusal → Option ClaimView
 taken_out (Ok c) = Some c
 taken_out (Err e) = None
 
--- a worker without a claim is given the claim of the checkout; one with a claim stays as it is
+-- a worker without a claim is given the claim of the checkout; a worker with a claim stays as it is
 abbrev pub ChecksOutSeat : {G : Type 0} → ActorId → ImageView → SeatView G → Option ClaimView → Result Answer Refusal
     → ImageView → SeatView G → Type 0
 ChecksOutSeat a i s (Some c) r j t = t ≡ s
@@ -47,7 +46,7 @@ ChecksOutSeat a i s None r j t = (result : Result ClaimView Refusal)
 
 -- ---- a step
 
--- the caches are moved to the edits of a claim, and with them one step of it is taken, or none
+-- the caches are moved to the edits of a claim, and at most one step of the claim is taken with them
 pub record MovesAndSteps {G : Type 0} (count : G → ℕ) (floor : G → Selector → ℕ) (raises : Edit → Selector → Bool)
     (v : CachesView G) (c : ClaimView) (r : Result Answer Refusal) (w : CachesView G) (d : ClaimView) : Type 0 where
   pub moved : CachesView G
@@ -71,8 +70,8 @@ abbrev pub given_back : Result ℕ (Refusal × Option ClaimView) → Option Clai
 given_back (Ok n) = None
 given_back (Err refused) = refused.1
 
--- a worker commits its claim, with the sends and the stamp that it has, and keeps its caches and what is handed back;
--- without a claim it stays as it is
+-- a worker commits its claim, with its sends and its stamp, and keeps its caches and what is handed back; without a claim it stays as
+-- it is
 abbrev pub CommitsSeat : {G : Type 0} → ImageView → SeatView G → Option ClaimView → Result Answer Refusal → ImageView
     → SeatView G → Type 0
 CommitsSeat i s None r j t = t ≡ s
@@ -83,7 +82,7 @@ CommitsSeat i s (Some c) r j t = (result : Result ℕ (Refusal × Option ClaimVi
 
 -- ---- events
 
--- what an event does to the whole of its worker; a release takes the claim alone, and forgetting leaves it
+-- what an event does to the whole of its worker; a release takes only the claim, and forgetting keeps it
 abbrev pub TellsWork : {G : Type 0} → (G → ℕ) → (G → Selector → ℕ) → (Edit → Selector → Bool) → SystemView G → Event
     → Result Answer Refusal → SystemView G → Type 0
 TellsWork count floor raises S (Checkout w a) r T =

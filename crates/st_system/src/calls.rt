@@ -1,4 +1,5 @@
-//! The image's calls, as events make them: the image before goes on in the one after.
+//! The image's calls, as events make them. After each of them the image goes on in the new one (`GoesOnIn`): its edits are a prefix of
+//! the new edits, and a body changes only if its count of changes does.
 ghost use Rattle.std.specs.Prelude.{◌≡◌, ◌⊎◌, None, Some, Ok, Err, IfOk, IfErr};
 ghost use Rattle.st_classes.specs.declared.refusals.Refusal.TheVariants.{NoMemory};
 ghost use Rattle.st_image.specs.Calls.{Closes, Creates, Defines, InstallsIn, Posts, Removes, Reparents};
@@ -166,7 +167,7 @@ pub(crate) fn check_out<M: Mailbox>(
     answer
 }
 
-/// Commits a claim that fits the image. What is handed back is the claim.
+/// Commits a claim that fits the image. If the claim is handed back, it is unchanged.
 pub(crate) fn commit<M: Mailbox>(
     alloc: Global,
     image: &mut Image<M>,

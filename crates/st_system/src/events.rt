@@ -41,7 +41,7 @@ pub enum Event {
     },
     /// A mailbox is closed.
     Close(ActorId),
-    /// The present world becomes the one that the image begins with, and the history is emptied.
+    /// The present world becomes the image's base, and the history is emptied.
     Checkpoint,
     /// A worker is given a claim of an actor.
     Checkout {

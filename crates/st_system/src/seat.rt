@@ -25,9 +25,9 @@ use st_turn::worker::Worker;
 use std::alloc::Global;
 use std::marker::Model;
 
-/// A worker, and its claim, or none. Contracts see its caches, and the claim.
+/// A worker, with its claim if it has one. Contracts see its caches and the claim.
 ///
-/// The caches can follow the claim: the edits that they keep begin the claim's.
+/// The caches can follow the claim: if they keep a list of edits, it is a prefix of the claim's edits.
 #[derive(Drop)]
 pub struct Seat<G: Guard> {
     worker: Worker<G>,
@@ -44,7 +44,7 @@ impl<G: Guard> Model for Seat<G> {
     ghost invariant = { λ s. CanFollow s.worker s.claim };
 }
 
-/// Whether what a worker's caches keep, where they keep a list of edits, begins the edits of a version.
+/// Whether a worker's caches keep no list of edits, or one that is a prefix of a version's edits.
 fn keeps_beginning<G: Guard>(worker: &Worker<G>, version: &Version) -> bool
     ensures { IsTrue result ↔ KeepsBeginning version.now worker.now }
 {
@@ -73,8 +73,8 @@ fn take_one<G: Guard>(
 }
 
 impl<G: Guard> Seat<G> {
-    /// A worker without a claim, in a system whose class table this is. Where what its caches keep does not begin the table's edits,
-    /// they are emptied.
+    /// A worker without a claim, in a system with this class table. Its caches are emptied if they keep a list of edits that is not a
+    /// prefix of the table's.
     pub fn new(mut worker: Worker<G>, version: &Version) -> Seat<G>
         ensures { TakesSeat version.now worker result }
     {
@@ -91,14 +91,14 @@ impl<G: Guard> Seat<G> {
         }
     }
 
-    /// The caches are valid at the list of edits that they keep, where they keep one.
+    /// If the caches keep a list of edits, they are valid at it.
     pub fn caches_known(&self)
         ensures { AreValidWhereKept G.count G.floor self.now.caches }
     {
         self.worker.caches().known();
     }
 
-    /// Gives the worker a claim of an actor, where it has none.
+    /// Gives the worker a claim of an actor, if it has none.
     pub(crate) fn check_out<M: Mailbox>(
         &mut self,
         alloc: Global,
@@ -120,7 +120,7 @@ impl<G: Guard> Seat<G> {
         Ok(Answer::Done)
     }
 
-    /// Takes one step of the claim. The image isn't asked.
+    /// Takes one step of the claim. The image is not asked.
     pub(crate) fn step(&mut self, alloc: Global) -> Result<Answer, Refusal>
         ensures acts { (image : ImageView) → OfClaim StepsClaim image (claim_of self.old) result image (claim_of self.new) }
         ensures whole { StepsSeat G.count G.floor G.raises self.old self.old.claim result self.new }
@@ -132,7 +132,7 @@ impl<G: Guard> Seat<G> {
         }
     }
 
-    /// Commits the claim, which the worker keeps where it is handed back.
+    /// Commits the claim. The worker keeps the claim if it is handed back.
     pub(crate) fn commit<M: Mailbox>(
         &mut self,
         alloc: Global,

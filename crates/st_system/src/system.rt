@@ -28,7 +28,7 @@ use st_turn::worker::Worker;
 use std::alloc::{AllocError, Global};
 use std::marker::Model;
 
-/// One image and many workers, each of which has at most one claim. Contracts see the image, and each worker's caches and claim.
+/// One image and many workers, each with at most one claim. Contracts see the image, and each worker's caches and claim.
 #[derive(Drop)]
 pub struct System<M: Mailbox, G: Guard> {
     image: Image<M>,
@@ -46,7 +46,7 @@ impl<M: Mailbox, G: Guard> Model for System<M, G> {
     ghost invariant = { λ s. All (FitsSeat s.image) s.seats.items };
 }
 
-/// A seat for each worker, in a system whose class table this is.
+/// A seat for each worker, in a system with this class table.
 fn seats_of<G: Guard>(
     alloc: Global,
     workers: Vec<Worker<G>>,
@@ -62,8 +62,8 @@ fn seats_of<G: Guard>(
 }
 
 impl<M: Mailbox, G: Guard> System<M, G> {
-    /// An image, and workers without claims. A worker whose caches keep a list of edits that does not begin the image's forgets what
-    /// it found; the others stay as they are.
+    /// An image, and workers without claims. A worker's caches are emptied if they keep a list of edits that is not a prefix of the
+    /// image's; all others stay as they are.
     pub fn new(
         alloc: Global,
         image: Image<M>,
@@ -90,7 +90,7 @@ impl<M: Mailbox, G: Guard> System<M, G> {
         self.seats.len()
     }
 
-    /// Each worker's caches are valid at the list of edits that they keep, where they keep one.
+    /// If a worker's caches keep a list of edits, they are valid at it.
     fn caches_known(&self)
         ensures { All (λ s. AreValidWhereKept G.count G.floor s.caches) self.now.seats }
     {
@@ -99,9 +99,9 @@ impl<M: Mailbox, G: Guard> System<M, G> {
         }
     }
 
-    /// What is true of every system: its image is the replay of its history and has delivered; each step in that history which
-    /// sent a message has run what the walk finds at the class table of its place; and each worker's caches are valid at the list
-    /// of edits that they keep.
+    /// What holds of every system: its image is the replay of its history and has delivered; each step in that history that sent a
+    /// message has run what the walk finds at the class table of its place; and if a worker's caches keep a list of edits, they are
+    /// valid at it.
     pub fn known(&self)
         ensures replay { IsLawful self.now.image }
         ensures delivered { HasDelivered self.now.image }
@@ -116,11 +116,13 @@ impl<M: Mailbox, G: Guard> System<M, G> {
 
     /// Lets one event happen.
     ///
-    /// An event of a worker is refused by `BadArguments` where there is no such worker, as is a checkout by a worker that has a
-    /// claim; a step, a commit and a release are refused by `NothingToDo` where it has none. Then come the refusals of the image's
-    /// call. After a refused commit the worker keeps its claim, unless it was refused by `Stale` or `Changed`. Else a
-    /// refused event changes nothing but names. A worker that forgets has empty caches. An event of a worker leaves the caches and the
-    /// claims of all others as they were, and one of the image those of all workers.
+    /// An event of a worker is refused with `BadArguments` if there is no such worker, and so is a checkout by a worker that has a claim. A
+    /// step, a commit and a release are refused with `NothingToDo` if the worker has no claim. Then come the refusals of the image's call.
+    ///
+    /// A commit that is refused with `Stale` or `Changed` takes the claim from the worker; after any other refused commit the worker keeps
+    /// it. Otherwise a refused event changes nothing but names, empty rows of tallies and, if it is a step, the worker's caches. A worker
+    /// that forgets has empty caches. An event of a worker leaves the caches and the claims of all others as they were, and an event of the
+    /// image leaves those of all workers.
     ///
     /// A step moves the worker's caches to its claim's edits, and takes the step with them. A commit commits the worker's whole claim,
     /// with its sends and its stamp.
@@ -158,7 +160,7 @@ impl<M: Mailbox, G: Guard> System<M, G> {
         }
     }
 
-    /// What is true of the image of every system, as the end of a segment.
+    /// What holds of the image of every system, as the end of a segment.
     fn segment_known(&self)
         ensures { IsSegment self.now.image }
     {
@@ -167,11 +169,11 @@ impl<M: Mailbox, G: Guard> System<M, G> {
         self.image.sends_ran();
     }
 
-    /// Lets events happen in their order. After a refused one it goes on.
+    /// Lets events happen in order. It goes on after a refused one.
     ///
-    /// A checkpoint ends a segment, and the next begins with the world where it ended. Of every segment it is true that the image at its
-    /// end is the replay of the history since its beginning, that its messages were delivered, and that its sends ran what the walk
-    /// finds. So it is of the one that the system is in.
+    /// A checkpoint ends a segment, and the next one begins with the world where it ended. For every segment, also for the one that the
+    /// system is in, the image at its end is the replay of the history since its beginning, its messages were delivered, and its sends ran
+    /// what the walk finds.
     pub fn run(&mut self, alloc: Global, events: &[Event])
         ensures led { Leads (schedule self.old) events.now (schedule self.new) }
         ensures segments { HasSegments self.old.image self.new.image }

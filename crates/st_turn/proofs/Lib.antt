@@ -17,6 +17,7 @@ pub mod StackMoves
 pub mod StackDetermined
 pub mod StackMade
 pub mod WaitingFrames
+pub mod Summing
 pub mod ClaimSteps
 pub mod Busy
 pub mod WorkerSteps

@@ -10,6 +10,7 @@ pub mod Needs
 pub mod Idle
 pub mod StepResults
 pub mod Lookups
+pub mod Tallies
 pub mod Claims
 pub mod Surviving
 pub mod UsedSelectors

@@ -1,4 +1,4 @@
--- Claims whose steps still are what they were, at a class table with more edits.
+-- Claims whose steps are still what they were, at a class table with more edits.
 use Rattle.std.specs.Prelude.{◌≡◌, List, length, drop, Bool, false, Some}
 use Rattle.std.specs.List.{list_any}
 use Rattle.st_classes.specs.declared.values.Selector.{Selector}
@@ -8,7 +8,7 @@ use Rattle.st_guard.specs.Touching.{touches}
 use Rattle.st_turn.specs.Claims.{ClaimView, IsSound, own_asked, used}
 use Rattle.st_turn.specs.Steps.{act_in, asked, own_steps, step}
 
--- one of some edits touches a selector
+-- one of the edits touches a selector
 abbrev pub touched : List Edit → Selector → Bool
 touched edits s = list_any (λ e. touches e s) edits
 
@@ -16,17 +16,17 @@ touched edits s = list_any (λ e. touches e s) edits
 abbrev pub touches_used : ClaimView → Edit → Bool
 touches_used c e = list_any (touches e) (used c)
 
--- the edits of a table behind those of a claim
+-- the edits of a table after those of a claim
 abbrev pub edits_since : ClaimView → List Edit → List Edit
 edits_since c edits = drop (length c.edits) edits
 
--- A claim survives at a table whose edits its own begin, where none of the later ones touches a selector that its steps used.
+-- A claim survives at a table if its edits are a prefix of the table's, and no later edit touches a selector that its steps used.
 pub record SurvivesAt (edits : List Edit) (c : ClaimView) : Type 0 where
   pub begins : Begins c.edits edits
   pub untouched : list_any (touched (edits_since c edits)) (used c) ≡ false
 
--- The steps of a claim at another table: they lead from the body before to the body after, they ask for the same, and what
--- comes next asks for the same, and is the same act or none.
+-- The steps of a claim at another table: they lead from the body before to the body after, they ask for the same, and what comes next
+-- asks for the same, and is the same act or none.
 pub record SameSteps (edits : List Edit) (c : ClaimView) : Type 0 where
   pub taken : own_steps edits c.actor c.steps c.before ≡ Some c.after
   pub asks : own_asked edits c.actor c.steps c.before ≡ own_asked c.edits c.actor c.steps c.before

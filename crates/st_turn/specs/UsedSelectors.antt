@@ -9,7 +9,7 @@ use Rattle.st_guard.specs.ValidCaches.{asks}
 use Rattle.st_turn.specs.declared.body.Phase.{Phase}
 use Rattle.st_turn.specs.declared.body.Phase.TheVariants.{Start}
 
--- an edit that is for one selector touches another
+-- an edit for one selector touches another
 abbrev pub touches_from : Selector → Selector → Bool
 touches_from t s = (t.0 == s.0) || (t.0 == does_not_understand.0)
 
@@ -22,7 +22,7 @@ touches_key t (Some q) = touches_from t q.1
 abbrev pub touches_asked : List Edit → Selector → SiteId → Bool
 touches_asked edits t id = touches_key t (asks edits id)
 
--- it touches the message with which a turn begins, where the first of so many steps dispatches it
+-- it touches the message with which a turn begins, if the first of this many steps dispatches it
 abbrev pub first_touched : Selector → ℕ → Phase → Bool
 first_touched t zero phase = false
 first_touched t (suc n) (Start s args) = touches_from t s

@@ -1,5 +1,5 @@
 //! What a step asks of the image.
-ghost use Rattle.std.specs.Prelude.{◌≡◌, List, length, is_some, slice_get, Some, IfOk};
+ghost use Rattle.std.specs.Prelude.{◌≡◌, ◌&&◌, List, length, is_some, nat_le, slice_get, Some, IfOk};
 ghost use Rattle.st_classes.specs.declared.values.Value.{Value as ValueOf};
 ghost use Rattle.st_turn.specs.declared.acts.Act.{Act as ActOf};
 ghost use Rattle.st_turn.specs.BodyFits.{FitsSome};
@@ -10,6 +10,7 @@ use crate::body::{Body, Outcome, Phase};
 use crate::general::fetch;
 use st_classes::faults::Fault;
 use st_classes::instructions::Instruction;
+use st_classes::kernel::{CLOSE, NEW_ACTOR, POST, POST_WITH, POST_WITH_WITH};
 use st_classes::keys::SiteId;
 use st_classes::seq::Seq;
 use st_classes::values::{ActorId, ClassId, Selector, Value, Values};
@@ -27,16 +28,22 @@ pub enum Act {
     Create(ClassId),
 }
 
+/// Whether a selector is one of the three that post to an actor.
+#[inline(always)]
+fn is_post(selector: Selector) -> bool
+    ensures { result ≡ (nat_le 16 selector.0 && nat_le selector.0 18) }
+{
+    matches!(selector, POST | POST_WITH | POST_WITH_WITH)
+}
+
 /// Whether a message with so many arguments asks something of the image: a post to an actor, its close, or a new actor.
 #[inline(always)]
 pub(crate) fn is_act(receiver: Value, selector: Selector, count: u8) -> bool
     ensures { (args : List ValueOf) → length args ≡ count → result ≡ is_some (act_for receiver selector args) }
 {
     match receiver {
-        Value::Actor(_) => {
-            16 <= selector.0 && selector.0 <= 18 || selector.0 == 19 && count == 0
-        }
-        Value::Class(_) => selector.0 == 21 && count == 0,
+        Value::Actor(_) => is_post(selector) || selector == CLOSE && count == 0,
+        Value::Class(_) => selector == NEW_ACTOR && count == 0,
         _ => false,
     }
 }
@@ -51,12 +58,14 @@ fn act_of(
     ensures { IfOk result (λ act. act ≡ act_for receiver selector args.now) }
 {
     match receiver {
-        Value::Actor(actor) if 16 <= selector.0 && selector.0 <= 18 => Ok(Some(Act::Post {
+        Value::Actor(actor) if is_post(selector) => Ok(Some(Act::Post {
             actor,
             args: Seq::from_vec(args.to_vec(alloc)?),
         })),
-        Value::Actor(actor) if selector.0 == 19 && args.is_empty() => Ok(Some(Act::Close(actor))),
-        Value::Class(class) if selector.0 == 21 && args.is_empty() => Ok(Some(Act::Create(class))),
+        Value::Actor(actor) if selector == CLOSE && args.is_empty() => Ok(Some(Act::Close(actor))),
+        Value::Class(class) if selector == NEW_ACTOR && args.is_empty() => Ok(Some(Act::Create(
+            class,
+        ))),
         _ => Ok(None),
     }
 }

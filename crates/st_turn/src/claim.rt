@@ -1,15 +1,17 @@
 //! Steps of an actor that are taken apart from the image.
-ghost use Rattle.std.specs.Prelude.{◌≡◌, [], Some, IfOk, IfErr, OnOk};
+ghost use Rattle.std.specs.Prelude.{◌≡◌, ◌<◌, [], Some, IfOk, IfErr, OnOk, length};
 ghost use Rattle.std.specs.Option.{unwrap_or};
 ghost use Rattle.st_turn.specs.BodyFits.{FitsSome};
 ghost use Rattle.st_turn.specs.Claims.{IsSound};
 ghost use Rattle.st_turn.specs.Steps.{is_outer, step};
+ghost use Rattle.st_turn.specs.Tallies.{AreSums};
 
 pub(crate) mod stepping;
 mod using;
 
 use crate::acts::is_act_next;
 use crate::body::Body;
+use crate::sums::{SiteSum, sum_sends};
 use st_classes::keys::SiteId;
 use st_classes::token::Token;
 use st_classes::values::ActorId;
@@ -54,6 +56,8 @@ pub struct ClaimParts {
     pub before: Body,
     pub steps: u32,
     pub sends: Vec<Sent>,
+    /// The sends by their sites, if they were summed up.
+    pub sums: Vec<SiteSum>,
     pub stamp: u64,
 }
 
@@ -70,19 +74,21 @@ pub struct Claim {
     after: Option<Body>,
     steps: u32,
     sends: Vec<Sent>,
+    /// The sums of the sends by their sites. None are made until they are asked for, and a step more takes them away.
+    sums: Vec<SiteSum>,
     /// Stands for the body before, as whoever made the claim says.
     stamp: u64,
 }
 
 impl Model for Claim {
     ghost use Rattle.std.specs.Option.{unwrap_or};
-    ghost use Rattle.st_turn.specs.Claims.{ClaimView, IsSound};
+    ghost use Rattle.st_turn.specs.Claims.{ClaimView, KeepsClaim};
 
     ghost Value = { ClaimView };
 
     ghost view = { λ c. record { actor = c.actor; edits = c.token; before = c.before; after = unwrap_or c.after c.before; steps = c.steps; sends = c.sends.items; stamp = c.stamp } };
 
-    ghost invariant = { λ c. IsSound c.actor c.token c.before (unwrap_or c.after c.before) c.steps c.sends.items };
+    ghost invariant = { λ c. KeepsClaim c.actor c.token c.before (unwrap_or c.after c.before) c.steps c.sends.items c.sums.items };
 }
 
 impl Claim {
@@ -99,6 +105,7 @@ impl Claim {
             after: None,
             steps: 0,
             sends: Vec::new(alloc),
+            sums: Vec::new(alloc),
             stamp,
         }
     }
@@ -175,6 +182,14 @@ impl Claim {
         is_act_next(self.after(), self.actor, self.token.shown())
     }
 
+    /// Sums the sends up by their sites, so that there is less to do for who counts them. It does nothing where that is not worth it,
+    /// or there is no memory for it.
+    pub fn sum_up(&mut self)
+        ensures { self.new ≡ self.old }
+    {
+        sum_sends(&mut self.sums, self.sends.as_slice());
+    }
+
     /// Gives the body to which the steps lead, and the other parts. It takes no memory where steps were taken, and else that for the
     /// body: where there is none, the claim is handed back.
     pub fn into_parts(self, alloc: Global) -> Result<(ClaimParts, Body), Claim>
@@ -183,6 +198,7 @@ impl Claim {
         ensures before { IfOk result (λ r. r.0.before ≡ self.before) }
         ensures steps { IfOk result (λ r. r.0.steps ≡ self.steps) }
         ensures sends { IfOk result (λ r. r.0.sends.items ≡ self.sends) }
+        ensures sums { IfOk result (λ r. 0 < length r.0.sums.items → AreSums r.0.sums.items self.sends) }
         ensures stamp { IfOk result (λ r. r.0.stamp ≡ self.stamp) }
         ensures after { IfOk result (λ r. r.1 ≡ self.after) }
         ensures back { IfErr result (λ c. c ≡ self) }
@@ -194,6 +210,7 @@ impl Claim {
             after,
             steps,
             sends,
+            sums,
             stamp,
         } = self;
         let after = match after {
@@ -208,6 +225,7 @@ impl Claim {
                         after: None,
                         steps,
                         sends,
+                        sums,
                         stamp,
                     });
                 }
@@ -219,12 +237,13 @@ impl Claim {
             before,
             steps,
             sends,
+            sums,
             stamp,
         };
         Ok((parts, after))
     }
 
-    /// Puts the parts of a claim together again. No memory is taken.
+    /// Puts the parts of a claim together again, without the sums. No memory is taken.
     pub fn from_parts(parts: ClaimParts, after: Body) -> Claim
         requires { IsSound parts.actor parts.token parts.before after parts.steps parts.sends.items }
         ensures { result ≡ record { actor = parts.actor; edits = parts.token; before = parts.before; after = after; steps = parts.steps; sends = parts.sends.items; stamp = parts.stamp } }
@@ -235,8 +254,10 @@ impl Claim {
             before,
             steps,
             sends,
+            mut sums,
             stamp,
         } = parts;
+        sums.clear();
         Claim {
             actor,
             token,
@@ -244,6 +265,7 @@ impl Claim {
             after: Some(after),
             steps,
             sends,
+            sums,
             stamp,
         }
     }

@@ -3,21 +3,12 @@ ghost use Rattle.std.specs.Prelude.{◌≡◌};
 ghost use Rattle.st_turn.specs.KernelMethods.{and_answer, binary_answer, integer_answer, is_nil, is_same, kernel_answer, not_answer};
 ghost use Rattle.st_turn.specs.Needs.{IsAmong};
 ghost use Rattle.st_turn.specs.Steps.{is_new as makes_object};
-ghost use Rattle.st_classes.specs.EditRules.{is_value_class as closed};
 
 use crate::arithmetic::{difference, product, quotient, remainder, sum};
 use crate::body::Objects;
 use st_classes::faults::Fault;
-use st_classes::kernel::{KERNEL_CLASSES, Kernel};
-use st_classes::values::{ClassId, Value};
-
-/// Whether a class has no instances that a message makes: one of the kernel's, Object aside.
-#[inline(always)]
-pub(crate) fn is_closed(class: ClassId) -> bool
-    ensures { result ≡ closed class }
-{
-    1 <= class.0 && class.0 < KERNEL_CLASSES
-}
+use st_classes::kernel::Kernel;
+use st_classes::values::Value;
 
 /// Whether a method of the kernel is `new`.
 #[inline(always)]

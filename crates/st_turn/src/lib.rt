@@ -20,6 +20,8 @@ pub mod lookup;
 pub mod plain;
 mod quick;
 pub mod stack;
+pub mod sums;
 pub mod surviving;
+pub mod tally;
 mod value_lists;
 pub mod worker;

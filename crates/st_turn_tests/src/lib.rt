@@ -3,6 +3,8 @@
 #![tactic(auto)]
 
 #[cfg(test)]
+mod alike;
+#[cfg(test)]
 mod dice;
 #[cfg(test)]
 mod edits;
@@ -22,6 +24,8 @@ mod refused;
 mod rows;
 #[cfg(test)]
 mod sends;
+#[cfg(test)]
+mod sums;
 #[cfg(test)]
 mod trials;
 #[cfg(test)]

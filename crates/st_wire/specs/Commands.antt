@@ -12,16 +12,16 @@ use Rattle.st_wire.specs.declared.commands.Command.{Command}
 use Rattle.st_wire.specs.declared.commands.Command.TheVariants.{Define, Method, Remove, Reparent, Actor, Post, Close, Run, Outcome, Stats, Checkpoint}
 use Rattle.st_wire.specs.Fields.{size, text_at, texts_at, actor_at, sender_at, number_at, quanta_at, arguments_at}
 
--- all of some keys are there
+-- a value has all of these keys
 abbrev pub has_all : List (List ℕ) → Data → Bool
 has_all [] d = true
 has_all (key ∷ keys) d = is_some (get key d) && has_all keys d
 
--- a value is an object of just these keys, which differ: all are there, and no more keys than these
+-- a value is an object with exactly these keys, which differ: it has all of them, and as many keys as there are
 abbrev pub has_just : List (List ℕ) → Data → Bool
 has_just keys d = size d == length keys && has_all keys d
 
--- the part that is there, where an object has just these keys
+-- the command, if the object has exactly these keys
 abbrev pub of_keys : List (List ℕ) → Data → Option Command → Option Command
 of_keys keys d command = if has_just keys d then command else None
 
@@ -81,7 +81,7 @@ post_in d =
 abbrev pub close_in : Data → Option Command
 close_in d = of_keys (codes "actor" ∷ codes "cmd" ∷ []) d (option_map Close (actor_at (codes "actor") d))
 
--- 1,000 quanta where none are given
+-- 1,000 quanta if no number is given
 abbrev pub run_in : Data → Option Command
 run_in d =
     if has_just (codes "cmd" ∷ []) d then Some (Run 1000)
@@ -132,14 +132,14 @@ command_in d = option_and_then (form_in d) (text_at (codes "cmd") d)
 abbrev pub value_of : List ℕ → Option Data
 value_of line = if is_utf8 line then read line else None
 
--- the command of a line, where its JSON value is one
+-- the command of a line, if its JSON value is one
 abbrev pub command_of : List ℕ → Option Command
 command_of line = option_and_then command_in (value_of line)
 
--- a carriage return behind a line changes nothing of its command
+-- a carriage return at the end of a line does not change its command
 abbrev pub ReturnsMeanNothing : Type 0
 ReturnsMeanNothing = (line : List ℕ) → command_of (line ++ 13 ∷ []) ≡ command_of line
 
--- the refusal of a line that is none
+-- the refusal of a line that is not a command
 abbrev pub command_rules : List ℕ → List Rule
 command_rules line = (not (is_some (command_of line)), BadCommand) ∷ []

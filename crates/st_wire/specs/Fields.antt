@@ -1,4 +1,4 @@
--- The fields of a command's object, by their keys.
+-- The fields of a command's object, by key.
 use Rattle.std.specs.Prelude.{ℕ, ◌^◌, ◌-◌, ◌==◌, ◌&&◌, List, [], ◌∷◌, codes, nat_le, if◌then◌else◌, Option, Some, None, option_map, option_and_then}
 use Rattle.serde_json.specs.Data.{Data, null, boolean, number, string, array, object, Items, no_items, item}
 use Rattle.serde_json.specs.Events.{members_len}
@@ -7,7 +7,7 @@ use Rattle.st_classes.specs.declared.values.ActorId.{ActorId}
 use Rattle.st_wire.specs.declared.commands.Argument.{Argument}
 use Rattle.st_wire.specs.declared.commands.Argument.TheVariants.{Int, Bool as Boolean, Nil, Symbol, Class, Actor}
 
--- the number of keys of an object; 0 for another value
+-- the number of keys of an object; 0 for any other value
 abbrev pub size : Data → ℕ
 size (object members) = members_len members
 size null = 0
@@ -20,26 +20,26 @@ size (array items) = 0
 abbrev pub text : Data → Option (List ℕ)
 text = as_str
 
--- the text of a key
+-- the text at a key
 abbrev pub text_at : List ℕ → Data → Option (List ℕ)
 text_at key d = option_and_then text (get key d)
 
--- one more, where both are there
+-- an item and a list in one list, if both exist
 abbrev pub cons_of : {T : Type 0} → Option T → Option (List T) → Option (List T)
 cons_of (Some one) (Some rest) = Some (one ∷ rest)
 cons_of None rest = None
 cons_of (Some one) None = None
 
--- what each item of an array is
+-- the results of f on the items of an array, if each has one
 abbrev pub each_of : {T : Type 0} → (Data → Option T) → Items → Option (List T)
 each_of f no_items = Some []
 each_of f (item d ds) = cons_of (f d) (each_of f ds)
 
--- the texts of a key
+-- the texts at a key
 abbrev pub texts_at : List ℕ → Data → Option (List (List ℕ))
 texts_at key d = option_and_then (each_of text) (option_and_then as_array (get key d))
 
--- a number in its range
+-- a number, if it is in its range
 abbrev pub within : ℕ → ℕ → Option ℕ → Option ℕ
 within least most None = None
 within least most (Some n) = if nat_le least n && nat_le n most then Some n else None
@@ -52,23 +52,23 @@ whole_at key least most d = within least most (option_and_then as_u64 (option_an
 abbrev pub actor : ℕ → ActorId
 actor n = record { 0 = n }
 
--- the actor of a key
+-- the actor at a key
 abbrev pub actor_at : List ℕ → Data → Option ActorId
 actor_at key d = option_map actor (whole_at key 0 (2 ^ 32 - 1) d)
 
--- a client's number of a key, to 65,535
+-- the number of a client at a key, at most 65,535
 abbrev pub sender_at : List ℕ → Data → Option ℕ
 sender_at key = whole_at key 0 65535
 
--- a number of 64 bits
+-- a number of 64 bits at a key
 abbrev pub number_at : List ℕ → Data → Option ℕ
 number_at key = whole_at key 0 (2 ^ 64 - 1)
 
--- a number of quanta of a key, from 1 to 1,000,000
+-- a number of quanta at a key, from 1 to 1,000,000
 abbrev pub quanta_at : List ℕ → Data → Option ℕ
 quanta_at key = whole_at key 1 1000000
 
--- `{"ref":n}`, `{"sym":"at:put:"}` or `{"class":"Counter"}`, by what stands at these keys
+-- `{"ref":n}`, `{"sym":"at:put:"}` or `{"class":"Counter"}`, by which of these keys the object has
 abbrev pub named_by : Data → Option Data → Option Data → Option Argument
 named_by d (Some r) sym = option_map Actor (actor_at (codes "ref") d)
 named_by d None (Some s) = option_map Symbol (text_at (codes "sym") d)
@@ -78,7 +78,7 @@ named_by d None None = option_map Class (text_at (codes "class") d)
 abbrev pub named : Data → Option Argument
 named d = if size d == 1 then named_by d (get (codes "ref") d) (get (codes "sym") d) else None
 
--- the value that an argument is
+-- the argument that a value is
 abbrev pub argument : Data → Option Argument
 argument null = Some Nil
 argument (boolean b) = Some (Boolean b)
@@ -87,6 +87,6 @@ argument (string s) = None
 argument (array items) = None
 argument (object members) = named (object members)
 
--- the arguments of a key
+-- the arguments at a key
 abbrev pub arguments_at : List ℕ → Data → Option (List Argument)
 arguments_at key d = option_and_then (each_of argument) (option_and_then as_array (get key d))

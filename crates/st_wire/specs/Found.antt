@@ -41,17 +41,17 @@ part_at key f =
     else (if bytes_eq key (codes "turn") then whole_part f.turn
     else nothing)))))))
 
--- a part is that of the value that stands there
+-- a part is that of the value at the key, if there is one
 abbrev pub IsPartOf : Part → Option Data → Type 0
 IsPartOf nothing there = there ≡ None
 IsPartOf (whole n) there = there ≡ Some (number (unsigned n))
 IsPartOf (text s) there = there ≡ Some (string s)
 IsPartOf (arguments args) there = option_and_then (each_of argument) (option_and_then as_array there) ≡ Some args
 
--- at each key the part of what these members have there, and as many keys as these
+-- each key has the part of its value in these members, and the count is their number
 abbrev pub IsFoundIn : Found → Members → Type 0
 IsFoundIn f ms = ((key : List ℕ) → IsPartOf (part_at key f) (get_member key ms)) × (members_len ms ≡ f.count)
 
--- a command that was made of what was found is what a form says of an object with these members
+-- a command made from what was found is that of the form, for an object with these members
 abbrev pub IsOfForm : (Data → Option Command) → Found → Command → Type 0
 IsOfForm form f c = (ms : Members) → IsFoundIn f ms → form (object ms) ≡ Some c

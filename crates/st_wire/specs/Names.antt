@@ -1,4 +1,4 @@
--- Refusals and faults by their names on the wire.
+-- The names of refusals and faults on the wire.
 use Rattle.std.specs.Prelude.{ℕ, List, codes}
 use Rattle.st_classes.specs.declared.faults.Fault.{Fault}
 use Rattle.st_classes.specs.declared.faults.Fault.TheVariants.{NotUnderstood, Overflow, ZeroDivide, BadArgument, MustBeBoolean, StackOverflow, HeapFull, LocalArgument, TooManyActors}
@@ -35,7 +35,7 @@ kind_name ReadOnly = codes "ReadOnly"
 kind_name BlockEscapes = codes "BlockEscapes"
 kind_name UnknownName = codes "UnknownName"
 
--- what there may be too many of
+-- what can be too many
 abbrev pub limited_name : Limited → List ℕ
 limited_name Classes = codes "classes"
 limited_name Slots = codes "slots"
@@ -44,7 +44,7 @@ limited_name Names = codes "names"
 limited_name Actors = codes "actors"
 limited_name Sessions = codes "sessions"
 
--- the places of an image file
+-- the parts of an image file
 abbrev pub place_name : ImagePlace → List ℕ
 place_name place.Json = codes "json"
 place_name place.Shape = codes "shape"

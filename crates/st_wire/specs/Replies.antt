@@ -20,11 +20,11 @@ use Rattle.st_wire.specs.Names.{fault_name, kind_name, limited_name, place_name,
 abbrev pub whole : ℕ → Data
 whole n = number (unsigned n)
 
--- an object of one key
+-- an object with one key
 abbrev pub only : List ℕ → Data → Data
 only key d = object (member key d no_members)
 
--- a value that an answer shows
+-- a value in an answer
 abbrev pub answered_data : Answered → Data
 answered_data (Int z) = number (of_integer z)
 answered_data (Boolean b) = boolean b
@@ -53,7 +53,7 @@ site_data s = object
     (member (codes "walk") (whole s.walk)
     no_members)))))))
 
--- the reports of sites, one after the other
+-- the reports of sites, in their order
 abbrev pub site_items : List SiteReport → Items
 site_items [] = no_items
 site_items (s ∷ sites) = item (site_data s) (site_items sites)
@@ -68,7 +68,7 @@ refusal_fields (TooMany what) = member (codes "what") (string (limited_name what
 refusal_fields (BadImage place) = member (codes "place") (string (place_name place)) no_members
 refusal_fields _ = no_members
 
--- a reply that is no refusal
+-- a reply that is not a refusal
 abbrev pub ok : Data → Data
 ok = only (codes "ok")
 
@@ -100,12 +100,12 @@ line_of r = compact_text (reply_data r) ++ 10 ∷ []
 
 -- ---- keys in byte order
 
--- a key comes before the next one, if there is a next one
+-- a key comes before the next one, if there is one
 abbrev pub comes_first : List ℕ → Members → Bool
 comes_first k no_members = true
 comes_first k (member l d ms) = match_ordering (slice_cmp nat_cmp k l) true false false
 
--- in each object, at every level, the keys rise in byte order
+-- in each object, at every level, the keys are in byte order
 abbrev mutual
   pub keys_rise : Data → Bool
   keys_rise null = true
@@ -123,6 +123,6 @@ abbrev mutual
   keys_rise_in_members no_members = true
   keys_rise_in_members (member k d ms) = keys_rise d && comes_first k ms && keys_rise_in_members ms
 
--- so they do in each reply
+-- the keys of every reply are in byte order
 abbrev pub RepliesHaveKeysInOrder : Type 0
 RepliesHaveKeysInOrder = (r : Reply) → keys_rise (reply_data r) ≡ true

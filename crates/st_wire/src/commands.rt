@@ -1,4 +1,4 @@
-//! Commands, and how they are read.
+//! Commands, and how they are read from lines.
 ghost use Rattle.std.specs.Prelude.{◌≡◌, Some, Ok, Err, map, if◌then◌else◌};
 ghost use Rattle.serde_json.specs.View.{view};
 ghost use Rattle.st_classes.specs.Refusals.{Answers, first_of};
@@ -15,10 +15,10 @@ use st_classes::seq::Seq;
 use st_classes::values::ActorId;
 use std::alloc::Global;
 
-/// How many quanta a `run` takes that does not say.
+/// The quanta of a `run` that gives no number.
 pub const DEFAULT_QUANTA: u32 = 1_000;
 
-/// A value in a command. Names are texts: whether there is such a selector or class is not decided here.
+/// A value in a command. Names are texts: whether such a selector or class exists is not checked here.
 #[derive(Drop)]
 pub enum Argument {
     Int(i64),
@@ -43,12 +43,12 @@ pub enum Command {
         class: Seq<u8>,
         source: Seq<u8>,
     },
-    /// No method of the class's own for the selector any more.
+    /// Removes the class's own method for a selector.
     Remove {
         class: Seq<u8>,
         selector: Seq<u8>,
     },
-    /// Another superclass for a class. On the wire the parent's key is `super`.
+    /// Gives a class another superclass. On the wire the parent's key is `super`.
     Reparent {
         class: Seq<u8>,
         parent: Seq<u8>,
@@ -57,7 +57,7 @@ pub enum Command {
     Actor {
         class: Seq<u8>,
     },
-    /// A message to an actor. The number is the sender's own.
+    /// A message to an actor. `seq` is the sender's own number for it.
     Post {
         actor: ActorId,
         args: Seq<Argument>,
@@ -65,30 +65,30 @@ pub enum Command {
         sender: u16,
         seq: u64,
     },
-    /// No more messages to an actor.
+    /// Closes an actor's mailbox: it accepts no more messages.
     Close {
         actor: ActorId,
     },
-    /// Take quanta until no actor is ready, but no more than this number, which is from 1 to 1,000,000.
+    /// Takes quanta until no actor is ready, at most this number: from 1 to 1,000,000.
     Run {
         quanta: u32,
     },
-    /// How a turn of an actor ended.
+    /// Asks how a turn of an actor ended.
     Outcome {
         actor: ActorId,
         turn: u64,
     },
-    /// The send sites of a method.
+    /// Asks for the send sites of a method.
     Stats {
         class: Seq<u8>,
         selector: Seq<u8>,
     },
-    /// A new beginning with the present world, and an empty history.
+    /// Begins a new history with the current world.
     Checkpoint,
 }
 
-/// The command that a line is. BadCommand where the line is none: no UTF-8, no JSON, other keys than those of one
-/// form, or a value of another kind or out of its range.
+/// The command of a line. The refusal is BadCommand if the line is not UTF-8 or not JSON, its keys are not those of one form, or a
+/// value has the wrong kind or is out of its range.
 pub fn read_command(alloc: Global, line: &[u8]) -> Result<Command, Refusal>
     ensures { Answers (first_of (command_rules line.now)) result
         (λ c. command_of line.now ≡ Some c) }
@@ -102,7 +102,7 @@ pub fn read_command(alloc: Global, line: &[u8]) -> Result<Command, Refusal>
     }
 }
 
-/// A carriage return behind a line changes nothing of its command.
+/// A carriage return at the end of a line does not change its command.
 pub fn returns_mean_nothing()
     ensures { ReturnsMeanNothing }
 {}
@@ -126,14 +126,14 @@ fn read_object(alloc: Global, object: &Value) -> Result<Command, Refusal>
     }
 }
 
-/// Whether a value is an object of just these keys.
+/// Whether a value is an object with exactly these keys.
 fn has_just(object: &Value, keys: &[&str]) -> bool
     ensures { result ≡ has_just_keys (map (λ key. key.now) keys.now) (view object.now) }
 {
     size(object) == keys.len() && has_all(object, keys)
 }
 
-/// Whether all of some keys are there.
+/// Whether a value has all of these keys.
 fn has_all(object: &Value, keys: &[&str]) -> bool
     ensures { result ≡ has_all_keys (map (λ key. key.now) keys.now) (view object.now) }
 {
@@ -145,7 +145,7 @@ fn has_all(object: &Value, keys: &[&str]) -> bool
     true
 }
 
-/// Refuses an object of other keys than these.
+/// Refuses a value that is not an object with exactly these keys.
 fn just_keys(object: &Value, keys: &[&str]) -> Result<(), Refusal>
     ensures { result ≡ (if has_just_keys (map (λ key. key.now) keys.now) (view object.now) then Ok tt else Err BadCommand) }
 {

@@ -12,7 +12,7 @@ use st_classes::seq::Seq;
 use st_classes::values::ActorId;
 use std::alloc::{AllocError, Global};
 
-/// The number of keys of an object, and 0 for another value.
+/// The number of keys of an object. It is 0 for any other value.
 pub(crate) fn size(object: &Value) -> usize
     ensures { result ≡ spec.size (view object.now) }
 {
@@ -22,7 +22,7 @@ pub(crate) fn size(object: &Value) -> usize
     }
 }
 
-/// A text.
+/// The text at a key.
 pub(crate) fn text_at(alloc: Global, object: &Value, key: &str) -> Result<Seq<u8>, Refusal>
     ensures { Reads (spec.text_at key.now (view object.now)) result }
 {
@@ -32,7 +32,7 @@ pub(crate) fn text_at(alloc: Global, object: &Value, key: &str) -> Result<Seq<u8
     }
 }
 
-/// A list of texts.
+/// The texts at a key.
 pub(crate) fn texts_at(alloc: Global, object: &Value, key: &str) -> Result<Seq<Seq<u8>>, Refusal>
     ensures { Reads (spec.texts_at key.now (view object.now)) result }
 {
@@ -42,7 +42,7 @@ pub(crate) fn texts_at(alloc: Global, object: &Value, key: &str) -> Result<Seq<S
     }
 }
 
-/// A list of values.
+/// The arguments at a key.
 pub(crate) fn arguments_at(
     alloc: Global,
     object: &Value,
@@ -56,7 +56,7 @@ pub(crate) fn arguments_at(
     }
 }
 
-/// A whole number in a range, with both ends in it.
+/// The whole number at a key, from `least` to `most`, both included.
 pub(crate) fn whole_at(object: &Value, key: &str, least: u64, most: u64) -> Result<u64, Refusal>
     ensures read { Reads (spec.whole_at key.now least most (view object.now)) result }
     ensures within { IfOk result (λ n. n ≤ most) }
@@ -67,7 +67,7 @@ pub(crate) fn whole_at(object: &Value, key: &str, least: u64, most: u64) -> Resu
     }
 }
 
-/// An actor's number.
+/// The number of an actor at a key.
 pub(crate) fn actor_at(object: &Value, key: &str) -> Result<ActorId, Refusal>
     ensures { Reads (spec.actor_at key.now (view object.now)) result }
 {
@@ -75,7 +75,7 @@ pub(crate) fn actor_at(object: &Value, key: &str) -> Result<ActorId, Refusal>
     Ok(ActorId(number as u32))
 }
 
-/// A client's number.
+/// The number of a client at a key, at most 65,535.
 pub(crate) fn sender_at(object: &Value, key: &str) -> Result<u16, Refusal>
     ensures { Reads (spec.sender_at key.now (view object.now)) result }
 {
@@ -83,7 +83,7 @@ pub(crate) fn sender_at(object: &Value, key: &str) -> Result<u16, Refusal>
     Ok(number as u16)
 }
 
-/// A number of quanta.
+/// The number of quanta at a key, from 1 to 1,000,000.
 pub(crate) fn quanta_at(object: &Value, key: &str) -> Result<u32, Refusal>
     ensures { Reads (spec.quanta_at key.now (view object.now)) result }
 {
@@ -144,7 +144,7 @@ fn argument(alloc: Global, value: &Value) -> Result<Argument, Refusal>
     }
 }
 
-/// An actor, a symbol or a class, as an object of one key.
+/// An actor, a symbol or a class: an object with one key.
 fn named(alloc: Global, object: &Value) -> Result<Argument, Refusal>
     ensures { Reads (spec.named (view object.now)) result }
 {

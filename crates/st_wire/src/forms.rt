@@ -1,4 +1,4 @@
-//! The commands of what was found at the keys of a line's object.
+//! The command of a line, from what was found at its keys.
 ghost use Rattle.std.specs.Prelude.{◌≡◌, ◌≤◌, Some, IfOk, IfSome};
 ghost use Rattle.st_wire.specs.Commands.{close_in, command_in, outcome_in, post_in, run_in};
 ghost use Rattle.st_wire.specs.Found.{IsOfForm};
@@ -8,7 +8,7 @@ use crate::found::Found;
 use crate::tokens::{Miss, actor_of, copied};
 use std::alloc::Global;
 
-/// The command of what was found, if it is one that is read here.
+/// The command, if it is of a form that is read from tokens: `post`, `run`, `outcome` or `close`.
 pub(crate) fn command_of(alloc: Global, found: Found<'_>) -> Result<Command, Miss>
     ensures { IfOk result (IsOfForm command_in found.entry) }
 {

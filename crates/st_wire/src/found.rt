@@ -1,4 +1,4 @@
-//! What stands at the keys of a line's object.
+//! What is at the keys of a line's object.
 ghost use Rattle.std.specs.Prelude.{◌≡◌, ◌+◌, ◌<◌, ◌≤◌, length, None, Some, OnOk, IfOk, IfSome};
 ghost use Rattle.serde_json.specs.Data.{Data, Members, no_members, put};
 ghost use Rattle.st_wire.specs.Found.{IsFoundIn};
@@ -13,7 +13,7 @@ use std::alloc::Global;
 /// The most keys of a command.
 const MOST_KEYS: usize = 6;
 
-/// What was found at the keys of a line's object, and how many keys there are.
+/// What was found at the keys of a line's object, and the number of keys.
 #[derive(Drop)]
 pub(crate) struct Found<'a> {
     pub(crate) count: usize,
@@ -27,7 +27,7 @@ pub(crate) struct Found<'a> {
     pub(crate) turn: Option<u64>,
 }
 
-/// Keeps what was found at a key, unless the key was there before.
+/// Stores what was found at a key. A key that occurs twice is left undecided.
 fn keep<T: Drop>(place: &mut Option<T>, part: T) -> Result<(), Miss>
     ensures { OnOk result ((place.old ≡ None) × (place.new ≡ Some part)) }
 {
@@ -39,7 +39,7 @@ fn keep<T: Drop>(place: &mut Option<T>, part: T) -> Result<(), Miss>
 }
 
 impl<'a> Found<'a> {
-    /// Nothing yet.
+    /// No keys yet.
     fn new() -> Found<'a>
         ensures { IsFoundIn result no_members }
     {
@@ -56,7 +56,7 @@ impl<'a> Found<'a> {
         }
     }
 
-    /// Reads what stands at a key.
+    /// Reads the value of a key.
     fn read(&mut self, alloc: Global, reader: &mut Reader<'a>, key: &str) -> Result<(), Miss>
         ensures read { OnOk result ((d : Data) × BeginsWith 126 reader.old d reader.new
             × ((ms : Members) → IsFoundIn self.old ms → IsFoundIn self.new (put key.now d ms))) }
@@ -79,7 +79,7 @@ impl<'a> Found<'a> {
         }
     }
 
-    /// Reads the members of an object behind its opening brace.
+    /// Reads the members of an object, after its opening brace.
     pub(crate) fn read_all(alloc: Global, reader: &mut Reader<'a>) -> Result<Found<'a>, Miss>
         ensures { IfOk result (λ found. (ms : Members) × BeginsWithMembers 126 reader.old ms reader.new × IsFoundIn found ms) }
     {

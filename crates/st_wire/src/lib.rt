@@ -1,8 +1,8 @@
-//! Lines: commands are read from them and replies are written to them.
+//! Lines: commands are read from them, and replies are written to them.
 //!
-//! A line is one JSON object. [`commands::read_command`] gives the command of a line, and [`replies::reply_text`] the
-//! line of a reply. [`line_readers::LineReader`] reads lines one after the other. [`text`] has the texts in replies, and
-//! [`streams`] what lines come from and go to.
+//! A line is one JSON object. [`commands::read_command`] gives the command of a line, and [`replies::reply_text`] the line of a
+//! reply. [`line_readers::LineReader`] reads many lines. [`text`] has the texts in replies, and [`streams`] the devices from which
+//! lines are read and to which they are written.
 #![tactic(auto)]
 
 pub mod commands;

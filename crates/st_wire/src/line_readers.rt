@@ -1,4 +1,4 @@
-//! Lines that are read one after the other.
+//! A reader of many lines.
 ghost use Rattle.std.specs.Prelude.{◌≡◌, Some, IfOk};
 ghost use Rattle.st_classes.specs.Refusals.{Answers, first_of};
 ghost use Rattle.st_wire.specs.Commands.{command_of, command_rules};
@@ -12,14 +12,14 @@ use st_classes::refusals::Refusal;
 use std::alloc::Global;
 use std::str;
 
-/// Reads lines as commands. It keeps the memory that reading needs, 16 KB, from line to line, so that this is made once.
+/// Reads lines as commands. It keeps the 16 KB that reading needs from line to line, so that they are allocated once.
 #[derive(Drop)]
 pub struct LineReader {
     scratch: Option<Box<Scratch>>,
 }
 
 impl LineReader {
-    /// A reader. If there is no memory for what it would keep, it keeps nothing, and each line takes its own.
+    /// Makes a reader. If there is no memory for what it would keep, it keeps nothing, and each line allocates its own.
     pub fn new(alloc: Global) -> LineReader {
         match Box::new(alloc, Scratch::new(alloc)) {
             Ok(scratch) => LineReader {
@@ -29,7 +29,7 @@ impl LineReader {
         }
     }
 
-    /// The command that a line is, as [`read_command`] says.
+    /// The command of a line, as [`read_command`] gives it.
     pub fn read(&mut self, alloc: Global, line: &[u8]) -> Result<Command, Refusal>
         ensures { Answers (first_of (command_rules line.now)) result
             (λ c. command_of line.now ≡ Some c) }
@@ -45,7 +45,7 @@ impl LineReader {
     }
 }
 
-/// The command that a line is, if it is one that is read from the tokens.
+/// The command of a line, if it can be read from the tokens.
 fn read_tokens(alloc: Global, scratch: &mut Scratch, line: &[u8]) -> Result<Command, Miss>
     ensures { IfOk result (λ c. command_of line.now ≡ Some c) }
 {

@@ -1,4 +1,4 @@
-//! Whole numbers, as JSON writes them.
+//! Whole numbers as JSON writes them.
 ghost use Rattle.std.specs.Prelude.{◌≡◌, ◌<◌, ◌==◌, length, slice_index, true, false, IsTrue, Some, IfSome, option_and_then};
 ghost use Rattle.fast_float.specs.Text.{scan};
 ghost use Rattle.serde_json.specs.Data.{unsigned, negative};
@@ -7,7 +7,7 @@ ghost use Rattle.serde_json.specs.Read.{number_from, number_of};
 
 use fast_float::Numeral;
 
-/// A whole number of 64 bits. There is none also where the number is written with a minus, a point or an exponent.
+/// A whole number of 64 bits. It is `None` also for a number with a minus, a point or an exponent.
 #[tactic(auto, unfolding(serde_json::specs::Read::number_of))]
 pub(crate) fn whole(text: &str) -> Option<u64>
     ensures { IfSome result (λ n. number_of text.now ≡ Some (unsigned n)) }
@@ -19,8 +19,7 @@ pub(crate) fn whole(text: &str) -> Option<u64>
     unsigned_of(bytes)
 }
 
-/// A whole number of 64 bits, with its sign. There is none also where the number is written with a point or an exponent,
-/// or as `-0`.
+/// A signed whole number of 64 bits. It is `None` also for a number with a point or an exponent, and for `-0`.
 pub(crate) fn integer(text: &str) -> Option<i64>
     ensures { IfSome result (λ n. option_and_then as_i64 (number_of text.now) ≡ Some n) }
 {

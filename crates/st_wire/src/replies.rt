@@ -1,4 +1,4 @@
-//! Replies, and how they are written.
+//! Replies, and how they are written as lines.
 ghost use Rattle.std.specs.Prelude.{◌≡◌, [], ◌∷◌, IfOk, codes, decimal};
 ghost use Rattle.json.specs.Token.{key, string, number, begin_object, end_object};
 ghost use Rattle.st_wire.specs.declared.replies.Reply.TheVariants.{Closed as ClosedReply, Ran, Counted, Checked, Answer, Fault as FaultReply, Sites, Refused};
@@ -23,11 +23,11 @@ pub enum Answered {
     Symbol(Text),
     Class(Text),
     Actor(ActorId),
-    /// An object of the actor's own, by its place in the actor's list.
+    /// An object of the actor's own, by its index in the actor's list.
     Local(u32),
 }
 
-/// What a send site has met: no class, one, several, or too many to remember.
+/// The classes that a send site has met: none, one, several, or too many to remember.
 #[derive(Clone, Copy, PartialEq, Eq, Debug)]
 pub enum SiteState {
     Empty,
@@ -36,8 +36,8 @@ pub enum SiteState {
     Mega,
 }
 
-/// The counts of one send site of a method: how many of its sends were answered by the global cache, by the site's
-/// own cache and by a walk.
+/// The counts of one send site of a method: how many of its sends were answered by the global cache, by the site's own cache, and
+/// by a walk.
 #[derive(Drop)]
 pub struct SiteReport {
     pub global: u64,
@@ -56,21 +56,21 @@ pub enum Reply {
     Version(u32),
     /// A new actor.
     Actor(ActorId),
-    /// The number of the turn that a post is to have.
+    /// The number of the turn that will handle the posted message.
     Turn(u64),
-    /// No more messages are accepted.
+    /// The actor accepts no more messages.
     Closed,
-    /// What a run took.
+    /// The quanta and steps that a run took.
     Ran {
         quanta: u32,
         steps: u64,
     },
-    /// How many posts and steps an image has counted at a checkpoint.
+    /// The posts and steps that an image has counted at a checkpoint.
     Counted {
         posts: u64,
         steps: u64,
     },
-    /// What an image file holds. The kernel's classes are counted.
+    /// What an image file holds. The kernel's classes count too.
     Checked {
         actors: u32,
         classes: u32,
@@ -82,7 +82,7 @@ pub enum Reply {
     Fault(Fault),
     /// The send sites of a method.
     Sites(Seq<SiteReport>),
-    /// Why a command was not done.
+    /// Why a command was refused.
     Refused(Refusal),
 }
 
@@ -97,7 +97,7 @@ pub fn reply_text(alloc: Global, reply: &Reply) -> Result<Vec<u8>, AllocError>
     Ok(line)
 }
 
-/// In each object that a reply writes, the keys stand in byte order.
+/// In each object of a reply, the keys are in byte order.
 pub fn key_order()
     ensures { RepliesHaveKeysInOrder }
 {}
@@ -172,7 +172,7 @@ impl SiteState {
     }
 }
 
-/// A key, and a number as its value.
+/// Writes a key with a number as its value.
 fn number_at(writer: &mut Writer, name: &str, n: u64) -> Result<(), AllocError>
     ensures { Adds result writer.old writer.new (key name.now ∷ number (decimal n) ∷ []) }
 {
@@ -180,7 +180,7 @@ fn number_at(writer: &mut Writer, name: &str, n: u64) -> Result<(), AllocError>
     writer.u64(n)
 }
 
-/// A key, and a text as its value.
+/// Writes a key with a text as its value.
 fn text_at(writer: &mut Writer, name: &str, text: &str) -> Result<(), AllocError>
     ensures { Adds result writer.old writer.new (key name.now ∷ string text.now ∷ []) }
 {
@@ -188,7 +188,7 @@ fn text_at(writer: &mut Writer, name: &str, text: &str) -> Result<(), AllocError
     writer.string(text)
 }
 
-/// An object of one number.
+/// Writes an object with one key, whose value is a number.
 fn write_whole(writer: &mut Writer, name: &str, n: u64) -> Result<(), AllocError>
     ensures { Adds result writer.old writer.new (begin_object ∷ key name.now ∷ number (decimal n) ∷ end_object ∷ []) }
 {
@@ -197,7 +197,7 @@ fn write_whole(writer: &mut Writer, name: &str, n: u64) -> Result<(), AllocError
     writer.end_object()
 }
 
-/// An object of one text.
+/// Writes an object with one key, whose value is a text.
 fn write_text(writer: &mut Writer, name: &str, text: &str) -> Result<(), AllocError>
     ensures { Adds result writer.old writer.new (begin_object ∷ key name.now ∷ string text.now ∷ end_object ∷ []) }
 {
@@ -206,7 +206,7 @@ fn write_text(writer: &mut Writer, name: &str, text: &str) -> Result<(), AllocEr
     writer.end_object()
 }
 
-/// The start of a reply that is no refusal, up to the brackets in which it says what was done.
+/// Writes the start of a reply that is not a refusal, up to the opening brace of its result.
 fn begin_ok(writer: &mut Writer) -> Result<(), AllocError>
     ensures { Adds result writer.old writer.new (begin_object ∷ key (codes "ok") ∷ begin_object ∷ []) }
 {
@@ -215,7 +215,7 @@ fn begin_ok(writer: &mut Writer) -> Result<(), AllocError>
     writer.begin_object()
 }
 
-/// The end of such a reply.
+/// Writes the end of such a reply.
 fn end_ok(writer: &mut Writer) -> Result<(), AllocError>
     ensures { Adds result writer.old writer.new (end_object ∷ end_object ∷ []) }
 {
@@ -223,7 +223,7 @@ fn end_ok(writer: &mut Writer) -> Result<(), AllocError>
     writer.end_object()
 }
 
-/// A reply of one number.
+/// Writes a reply whose result is one number.
 fn write_number(writer: &mut Writer, name: &str, n: u64) -> Result<(), AllocError>
     ensures { Adds result writer.old writer.new (data_tokens (ok (only name.now (whole n)))) }
 {
@@ -299,7 +299,7 @@ fn write_sites(writer: &mut Writer, sites: &[SiteReport]) -> Result<(), AllocErr
     end_ok(writer)
 }
 
-/// The items of the list, and its closing bracket.
+/// Writes the items of the list, and its closing bracket.
 fn write_reports(writer: &mut Writer, sites: &[SiteReport]) -> Result<(), AllocError>
     ensures { Adds result writer.old writer.new (items_tokens (site_items sites.now)) }
 {
@@ -317,7 +317,7 @@ fn write_refusal(writer: &mut Writer, refusal: Refusal) -> Result<(), AllocError
     write_fields(writer, refusal)
 }
 
-/// The fields of a refusal behind its name, and the closing bracket.
+/// Writes the fields of a refusal after its name, and the closing brace.
 fn write_fields(writer: &mut Writer, refusal: Refusal) -> Result<(), AllocError>
     ensures { Adds result writer.old writer.new (members_tokens (refusal_fields refusal)) }
 {

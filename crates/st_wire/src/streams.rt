@@ -1,8 +1,8 @@
-//! What bytes are read from and written to.
+//! Devices from which bytes are read and to which they are written.
 //!
-//! A device may fail. Each failure is counted, so that a caller who answers one can show it, and so is each read, so
-//! that a caller who gives up after many can, and each flush. [`Reader`] and [`Writer`] are devices over what std reads from and writes
-//! to, as standard input and output, files and sockets; [`MemoryInput`] and [`MemoryOutput`] are bytes in memory.
+//! A device may fail. It counts its failures, so that a caller can show that it answered each one. It counts reads, so that a
+//! caller can show that it gives up after many, and flushes. [`Reader`] and [`Writer`] are devices over std's readers and writers,
+//! such as standard input and output, files and sockets. [`MemoryInput`] and [`MemoryOutput`] are bytes in memory.
 ghost use Rattle.std.specs.Prelude.{◌≡◌, ◌≤◌, ◌<◌, ℕ, List, Option, length, take, IfOk, OnOk, OnErr};
 ghost use Rattle.std.specs.Io.{ReadsAtMost, WritesAtMost};
 ghost use Rattle.std.specs.Io.KnownBytes.{Appends, Keeps, ReadConsumes, WriteAppends};
@@ -22,19 +22,19 @@ pub struct ReadFailed;
 #[derive(Clone, Copy, PartialEq, Eq, Debug)]
 pub struct WriteFailed;
 
-/// What bytes are read from.
+/// A source of bytes.
 pub trait Input {
-    /// The bytes that it will give from here on, where they are known.
+    /// The bytes that it has left to give, if they are known.
     ghost remaining: { Self → Option (List ℕ) };
 
-    /// How often it has failed.
+    /// The number of failures.
     ghost failures: { Self → ℕ };
 
-    /// How often it has been read, failures among them.
+    /// The number of reads, including those that failed.
     ghost reads: { Self → ℕ };
 
-    /// Gives some of the next bytes, at the front of the buffer, and says how many. None are given only at the end, or
-    /// where the buffer is empty. A failure takes no byte away.
+    /// Copies some of the next bytes to the front of the buffer, and answers how many. It answers 0 only at the end, or if the
+    /// buffer is empty. A failure consumes no byte.
     fn read(&mut self, buffer: &mut [u8]) -> Result<usize, ReadFailed>
         ensures fits { ReadsAtMost result buffer.new }
         ensures gives { ReadConsumes (remaining self.old) (remaining self.new) result buffer.new }
@@ -43,18 +43,19 @@ pub trait Input {
         ensures counted { reads self.new ≡ one_more (reads self.old) };
 }
 
-/// What bytes are written to.
+/// A destination of bytes.
 pub trait Output {
-    /// The bytes that have been written, where they are known.
+    /// The bytes that have been written, if they are known.
     ghost contents: { Self → Option (List ℕ) };
 
-    /// How often it has failed.
+    /// The number of failures.
     ghost failures: { Self → ℕ };
 
-    /// How often it has been flushed, failures among them.
+    /// The number of flushes, including those that failed.
     ghost flushes: { Self → ℕ };
 
-    /// Writes the first bytes, at least one, and says how many. To write nothing is a failure. A failure writes no byte.
+    /// Writes a prefix of the bytes, at least one byte, and answers how many. An empty write is a failure. A failure writes no
+    /// byte.
     fn write(&mut self, bytes: &[u8]) -> Result<usize, WriteFailed>
         ensures some { IfOk result (λ n. 1 ≤ n) }
         ensures within { WritesAtMost result bytes.now }
@@ -63,7 +64,7 @@ pub trait Output {
         ensures failed { OnErr result (failures self.new ≡ one_more (failures self.old)) }
         ensures unflushed { flushes self.new ≡ flushes self.old };
 
-    /// Hands on what has been written and is held back, so that it can be read at the other end.
+    /// Passes on the bytes that are held back, so that they can be read at the other end.
     fn flush(&mut self) -> Result<(), WriteFailed>
         ensures keeps { Keeps (contents self.old) (contents self.new) }
         ensures unfailed { OnOk result (failures self.new ≡ failures self.old) }
@@ -71,8 +72,7 @@ pub trait Output {
         ensures counted { flushes self.new ≡ one_more (flushes self.old) };
 }
 
-/// Writes all bytes. It fails while some of them are unwritten: then the first of them are written, and one failure is
-/// counted.
+/// Writes all bytes. If it fails, a shorter prefix of them is written, and one failure is counted.
 pub fn write_all<O: Output>(output: &mut O, bytes: &[u8]) -> Result<(), WriteFailed>
     ensures all { OnOk result (Appends (O.contents output.old) (O.contents output.new) bytes.now) }
     ensures unfailed { OnOk result (O.failures output.new ≡ O.failures output.old) }

@@ -2,7 +2,7 @@
 use std::alloc::{AllocError, Global};
 use std::marker::Model;
 
-/// A text in a reply. Contracts see its bytes, so that replies which have one are compared as plain values.
+/// A text in a reply. Contracts see its bytes, so that replies that hold one are compared by value.
 #[derive(Drop)]
 pub struct Text {
     string: String,

@@ -12,10 +12,10 @@ use st_classes::seq::Seq;
 use st_classes::values::ActorId;
 use std::alloc::{AllocError, AllocFailed, Global};
 
-/// Why a command was not read from the tokens of a line.
+/// Why a command could not be read from the tokens of a line.
 #[derive(Clone, Copy, Drop)]
 pub(crate) enum Miss {
-    /// Whether the line is a command is not decided here.
+    /// This reader does not decide whether the line is a command.
     Undecided,
     NoMemory,
 }
@@ -38,7 +38,7 @@ impl<T: Drop> From<AllocFailed<T>> for Miss {
     }
 }
 
-/// A whole number.
+/// Reads a whole number.
 #[tactic(auto, using(crate::proofs::Fronts::number_first))]
 pub(crate) fn read_whole(reader: &mut Reader<'_>) -> Result<u64, Miss>
     ensures read { IfOk result (λ n. (depth : ℕ) → BeginsWith depth reader.old (number (unsigned n)) reader.new) }
@@ -53,7 +53,7 @@ pub(crate) fn read_whole(reader: &mut Reader<'_>) -> Result<u64, Miss>
     }
 }
 
-/// A text.
+/// Reads a text.
 #[tactic(auto, using(crate::proofs::Fronts::string_first))]
 pub(crate) fn read_text<'a>(reader: &mut Reader<'a>) -> Result<&'a str, Miss>
     ensures read { IfOk result (λ s. (depth : ℕ) → BeginsWith depth reader.old (string s.now) reader.new) }
@@ -73,7 +73,7 @@ pub(crate) fn copied(alloc: Global, text: &str) -> Result<Seq<u8>, Miss>
     Ok(Seq::from_vec(bytes))
 }
 
-/// The actor of a number.
+/// The actor with a given number.
 pub(crate) fn actor_of(number: u64) -> Result<ActorId, Miss>
     ensures { IfOk result (λ actor. (actor ≡ spec.actor number) × (number ≤ 2 ^ 32 - 1)) }
 {
@@ -83,7 +83,7 @@ pub(crate) fn actor_of(number: u64) -> Result<ActorId, Miss>
     Ok(ActorId(number as u32))
 }
 
-/// The arguments of a post, as an array.
+/// The arguments of a post: an array.
 pub(crate) fn read_arguments(alloc: Global, reader: &mut Reader<'_>) -> Result<Seq<Argument>, Miss>
     ensures read { IfOk result (λ args. (ds : Items) × BeginsWith 126 reader.old (array ds) reader.new × (each_of spec.argument ds ≡ Some args)) }
     ensures shorter { OnOk result (length reader.new < length reader.old) }
@@ -94,7 +94,7 @@ pub(crate) fn read_arguments(alloc: Global, reader: &mut Reader<'_>) -> Result<S
     read_items(alloc, reader)
 }
 
-/// The arguments behind an opening bracket.
+/// The arguments after an opening bracket.
 fn read_items(alloc: Global, reader: &mut Reader<'_>) -> Result<Seq<Argument>, Miss>
     ensures read { IfOk result (λ args. (ds : Items) × BeginsWithItems 125 reader.old ds reader.new × (each_of spec.argument ds ≡ Some args)) }
     ensures shorter { OnOk result (length reader.new < length reader.old) }
@@ -123,7 +123,7 @@ fn read_argument(alloc: Global, reader: &mut Reader<'_>) -> Result<Argument, Mis
     }
 }
 
-/// An actor, a symbol or a class, behind an opening brace.
+/// An actor, a symbol or a class, after an opening brace.
 fn read_named(alloc: Global, reader: &mut Reader<'_>) -> Result<Argument, Miss>
     ensures read { IfOk result (λ arg. (ms : Members) × BeginsWithMembers 124 reader.old ms reader.new × (spec.named (object ms) ≡ Some arg)) }
     ensures shorter { OnOk result (length reader.new < length reader.old) }
@@ -138,7 +138,7 @@ fn read_named(alloc: Global, reader: &mut Reader<'_>) -> Result<Argument, Miss>
     Ok(named)
 }
 
-/// What a name's key says, where it is the only one of an object.
+/// The argument that an object with this one key stands for.
 fn read_name(alloc: Global, reader: &mut Reader<'_>, key: &str) -> Result<Argument, Miss>
     ensures read { IfOk result (λ arg. (d : Data) × BeginsWith 124 reader.old d reader.new
         × (spec.named (object (member key.now d no_members)) ≡ Some arg)) }

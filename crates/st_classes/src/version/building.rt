@@ -1,4 +1,4 @@
-//! How class tables are built: the kernel's, and one with an edit more.
+//! How class tables are built: the kernel's, and a table with one more edit.
 ghost use Rattle.std.specs.Prelude.{◌≡◌, ◌≤◌, ℕ, List, [], ◌∷◌, ◌++◌, IfOk, IfErr, length, map, true, false, None};
 ghost use Rattle.std.specs.Arc.{arc_value};
 ghost use Rattle.st_classes.specs.declared.edits.Edit.{Edit as EditOf};
@@ -24,7 +24,7 @@ use crate::version::Version;
 use std::alloc::{AllocError, Global};
 use std::sync::Arc;
 
-/// The kernel's classes by their numbers: the name of each, and its superclass.
+/// The kernel's classes by number: the name and the superclass of each.
 const KERNEL: [(&[u8], Option<ClassId>); 8] = [
     (b"Object", None),
     (b"SmallInteger", Some(OBJECT)),
@@ -37,7 +37,7 @@ const KERNEL: [(&[u8], Option<ClassId>); 8] = [
 ];
 
 impl Version {
-    /// The rows of classes without methods and instance variables, no two of one name, and their index.
+    /// The rows of classes without methods and instance variables, and the index of their names. The names must be different.
     fn plain_tables(
         alloc: Global,
         classes: &[(&[u8], Option<ClassId>)],
@@ -56,7 +56,7 @@ impl Version {
         Ok((rows, index))
     }
 
-    /// The class table of the kernel, with no edits.
+    /// The kernel's class table. It has no edits.
     pub fn kernel(alloc: Global) -> Result<Version, AllocError>
         ensures { IfOk result (λ version. version ≡ []) }
     {
@@ -72,7 +72,7 @@ impl Version {
         })
     }
 
-    /// The same edits, with room for one more.
+    /// A copy of the list of edits, with room for one more.
     fn edits_again(&self, alloc: Global) -> Result<Vec<SharedEdit>, AllocError>
         ensures { IfOk result (λ edits. edits.items ≡ self.now) }
     {
@@ -83,7 +83,8 @@ impl Version {
         Ok(edits)
     }
 
-    /// The same table once more. The edits, the rows, the depths and the names are shared; memory is taken for their pointers.
+    /// A second table with the same edits. It shares the edits, the rows, the depths and the names, and takes memory for pointers
+    /// only.
     pub fn again(&self, alloc: Global) -> Result<Version, AllocError>
         ensures { IfOk result (λ version. version ≡ self.now) }
     {
@@ -99,7 +100,7 @@ impl Version {
         })
     }
 
-    /// The edits with one more.
+    /// The edits with one appended.
     fn edits_with(&self, alloc: Global, edit: SharedEdit) -> Result<Vec<SharedEdit>, AllocError>
         ensures { IfOk result (λ edits. edits.items ≡ self.now ++ edit ∷ []) }
     {
@@ -108,7 +109,7 @@ impl Version {
         Ok(edits)
     }
 
-    /// The rows with that of a new class.
+    /// The rows with that of a new class appended.
     fn rows_with_class(
         &self,
         alloc: Global,
@@ -125,7 +126,7 @@ impl Version {
         Ok(rows)
     }
 
-    /// The rows with a method of a class for a selector, or with none there.
+    /// The rows after a class's method for a selector changes to this one, or to none.
     fn rows_with_method(
         &self,
         alloc: Global,
@@ -141,7 +142,7 @@ impl Version {
         Ok(rows)
     }
 
-    /// The rows with another superclass of a class.
+    /// The rows after a class gets another superclass.
     fn rows_with_parent(
         &self,
         alloc: Global,
@@ -157,7 +158,7 @@ impl Version {
         Ok(rows)
     }
 
-    /// The rows with an accepted edit more.
+    /// The rows after an accepted edit.
     fn rows_with(&self, alloc: Global, edit: &Edit) -> Result<ClassRows, AllocError>
         requires { first_of (edit_rules self.now edit.now) ≡ None }
         ensures { IfOk result (λ rows. AreRows (self.now ++ edit.now ∷ []) rows) }
@@ -179,7 +180,7 @@ impl Version {
         }
     }
 
-    /// The depths with that of a new class.
+    /// The depths with that of a new class appended.
     fn depths_with_class(
         &self,
         alloc: Global,
@@ -197,7 +198,7 @@ impl Version {
         Ok(depths)
     }
 
-    /// The depths with another superclass of a class.
+    /// The depths after a class gets another superclass.
     fn depths_with_parent(
         &self,
         alloc: Global,
@@ -217,7 +218,7 @@ impl Version {
         Ok(depths)
     }
 
-    /// The same depths, for a table with a method more or less.
+    /// The same depths, for a table with the same classes.
     fn depths_again(&self) -> Result<Arc<Depths>, AllocError>
         ensures { IfOk result (λ depths. (e : EditOf) → ((cs : List ClassDef) → classes_after cs e ≡ cs) → AreDepths (self.now ++ e ∷ []) (arc_value depths)) }
     {
@@ -225,7 +226,7 @@ impl Version {
         Ok(depths)
     }
 
-    /// The depths with an accepted edit more.
+    /// The depths after an accepted edit.
     fn depths_with(&self, alloc: Global, edit: &Edit) -> Result<Arc<Depths>, AllocError>
         requires { first_of (edit_rules self.now edit.now) ≡ None }
         ensures { IfOk result (λ depths. AreDepths (self.now ++ edit.now ∷ []) (arc_value depths)) }
@@ -242,7 +243,7 @@ impl Version {
         }
     }
 
-    /// The names with that of a new class.
+    /// The names with that of a new class added.
     fn named_with_class(
         &self,
         alloc: Global,
@@ -268,7 +269,7 @@ impl Version {
         Ok(named)
     }
 
-    /// The names with an accepted edit more.
+    /// The names after an accepted edit.
     fn named_with(&self, alloc: Global, edit: &Edit) -> Result<Arc<ClassIndex>, AllocError>
         requires { first_of (edit_rules self.now edit.now) ≡ None }
         ensures { IfOk result (λ named. IsNaming (self.now ++ edit.now ∷ []) (arc_value named)) }
@@ -285,8 +286,8 @@ impl Version {
         }
     }
 
-    /// The table with an edit more that no rule refuses: `refusal` is the test. This table stays as it is, and the two share what
-    /// the edit leaves alone. A method is to suit its class for the names of the image, whatever they are.
+    /// The table with one more edit, which no rule may refuse: `refusal` is the test. This table is unchanged, and shares with the
+    /// new one what the edit leaves alone. An installed method must suit its class for the names of the image, whatever they are.
     pub fn with_accepted(&self, alloc: Global, edit: SharedEdit) -> Result<Version, AllocError>
         requires accepted { first_of (edit_rules self.now edit) ≡ None }
         requires suits { (names : List (List ℕ)) × (edit_suits names self.now edit ≡ true) }
@@ -308,15 +309,15 @@ impl Version {
         })
     }
 
-    /// The table with one edit more, or the first refusal that applies. This table stays as it is, and the two share what
-    /// the edit leaves alone. A method is to suit its class for the names of the image, whatever they are. A refused edit
-    /// is spent. Memory can run out only where no rule refuses the edit.
+    /// The table with one more edit, or the first refusal that applies. This table is unchanged, and shares with the new one what
+    /// the edit leaves alone. An installed method must suit its class for the names of the image, whatever they are. A refused edit
+    /// is lost. Memory can run out only if no rule refuses the edit.
     ///
-    /// Refusals of a definition, in this order: `UnknownClass`, `BadName`, `KernelClass`, `ClassExists`, `SlotClash`,
-    /// `TooDeep`, `TooMany` classes, instance variables or edits. Of an install: `UnknownClass`, `KernelMethod`, `TooMany`
-    /// edits. Of a removal: `UnknownClass`, `KernelMethod`, `NoSuchMethod` where the class has no method of its own for the
-    /// selector, `TooMany` edits. Of a reparent: `UnknownClass` of the class and then of the superclass, `KernelClass`, `Cycle`,
-    /// `SlotsDiffer`, `TooDeep` where a chain through the class would have over 64 classes, `TooMany` edits.
+    /// Refusals of a definition, in this order: `UnknownClass`, `BadName`, `KernelClass`, `ClassExists`, `SlotClash`, `TooDeep`,
+    /// `TooMany` classes, instance variables or edits. Of an install: `UnknownClass`, `KernelMethod`, `TooMany` edits. Of a
+    /// removal: `UnknownClass`, `KernelMethod`, `NoSuchMethod` if the class has no method of the user's for the selector, `TooMany`
+    /// edits. Of a reparent: `UnknownClass` of the class and then of the superclass, `KernelClass`, `Cycle`, `SlotsDiffer`,
+    /// `TooDeep` if a chain through the class would have over 64 classes, `TooMany` edits.
     pub fn with_edit(&self, alloc: Global, edit: Edit) -> Result<Version, Refusal>
         requires { (names : List (List ℕ)) × (edit_suits names self.now edit ≡ true) }
         ensures answers { Answers (first_of (edit_rules self.now edit)) result (λ version. version ≡ self.now ++ edit ∷ []) }

@@ -23,13 +23,14 @@ impl Tells<ActorText> for ActorPart {
         names: &Names,
         version: &Version,
     ) -> Result<ActorText, AllocError> {
+        // The body comes last, so that it is not let go where another part fails, which keeps the proof short.
         Ok(ActorText {
-            body: self.body.tell(alloc, names, version)?,
             capacity: self.capacity as u64,
             class: class_text(alloc, version, self.class)?,
             last: self.last,
             is_open: self.is_open,
             pending: tell_all(alloc, names, version, self.pending.as_slice())?,
+            body: self.body.tell(alloc, names, version)?,
         })
     }
 }

@@ -55,7 +55,7 @@ fn tell_frame(
     })
 }
 
-/// The texts of the frames that wait.
+/// The texts of the waiting frames.
 fn tell_waiting(
     alloc: Global,
     names: &Names,

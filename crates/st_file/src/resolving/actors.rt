@@ -18,13 +18,14 @@ impl Means<ActorPart> for ActorText {
         names: &Names,
         version: &Version,
     ) -> Result<ActorPart, Refusal> {
+        // The body comes last, so that it is not let go where another part is refused, which keeps the proof short.
         Ok(ActorPart {
             class: class_of(version, self.class.as_slice())?,
             capacity: word(self.capacity)?,
             is_open: self.is_open,
-            body: self.body.resolve(alloc, names, version)?,
             last: self.last,
             pending: resolve_all(alloc, names, version, self.pending.as_slice())?,
+            body: self.body.resolve(alloc, names, version)?,
         })
     }
 }

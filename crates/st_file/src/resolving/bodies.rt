@@ -35,7 +35,7 @@ fn method_of(place: u64) -> Result<MethodId, Refusal>
     Ok(MethodId(word(place)?))
 }
 
-/// The place of an instruction.
+/// The place of an instruction, if it fits in 16 bits.
 fn pc_of(place: u64) -> Result<u16, Refusal>
     ensures { Finds Actors (spec.below (2 ^ 16) place) result }
 {
@@ -76,7 +76,7 @@ fn start_of(
     })
 }
 
-/// Frames of which the last runs.
+/// Makes a stack of frames. The last one runs, so there has to be one.
 fn stacked(alloc: Global, frames: Seq<Frame>) -> Result<Stack, Refusal>
     ensures { Finds Actors (spec.frames_of frames) result }
 {

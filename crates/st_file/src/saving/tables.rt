@@ -1,4 +1,4 @@
-//! The texts of a class table: of its names and of its edits.
+//! The texts of a class table: of its names and its edits.
 ghost use Rattle.std.specs.Prelude.{◌≡◌, IfOk, All, drop};
 ghost use Rattle.st_image.specs.CompiledEdits.{AllCompiled};
 ghost use Rattle.st_image.specs.Loading as spec;
@@ -16,7 +16,7 @@ use std::alloc::{AllocError, Global};
 /// How many names the kernel has.
 const KERNEL_NAMES: u16 = 22;
 
-/// Texts in memory of their own.
+/// Copies texts.
 fn copies(alloc: Global, texts: &[Seq<u8>]) -> Result<Seq<Seq<u8>>, AllocError>
     ensures { IfOk result (λ ts. ts ≡ texts.now) }
 {
@@ -27,7 +27,7 @@ fn copies(alloc: Global, texts: &[Seq<u8>]) -> Result<Seq<Seq<u8>>, AllocError>
     Ok(Seq::from_vec(copies))
 }
 
-/// The text of a name, empty where there is none of this number.
+/// The text of a name; empty if no name has this number.
 fn name_text(alloc: Global, names: &Names, name: Selector) -> Result<Seq<u8>, AllocError>
     ensures { IfOk result (λ t. t ≡ spec.selector_text names.now name) }
 {
@@ -38,7 +38,7 @@ fn name_text(alloc: Global, names: &Names, name: Selector) -> Result<Seq<u8>, Al
     }
 }
 
-/// The name of a class, empty where there is none of this number.
+/// The name of a class; empty if no class has this number.
 fn class_text(alloc: Global, version: &Version, class: ClassId) -> Result<Seq<u8>, AllocError>
     ensures { IfOk result (λ t. t ≡ spec.class_text version.now class) }
 {
@@ -48,7 +48,7 @@ fn class_text(alloc: Global, version: &Version, class: ClassId) -> Result<Seq<u8
     }
 }
 
-/// An edit as text. Only want of memory is an error.
+/// An edit as text. Fails only if memory runs out.
 fn edit_text(
     alloc: Global,
     names: &Names,
@@ -82,7 +82,7 @@ fn edit_text(
     }
 }
 
-/// The names behind the kernel's. Only want of memory is an error.
+/// The names after the kernel's. Fails only if memory runs out.
 pub(crate) fn name_texts(alloc: Global, names: &Names) -> Result<Seq<Seq<u8>>, AllocError>
     ensures texts { IfOk result (λ ts. ts ≡ drop 22 names.now) }
     ensures text { IfOk result (λ ts. All IsText ts) }
@@ -95,7 +95,7 @@ pub(crate) fn name_texts(alloc: Global, names: &Names) -> Result<Seq<Seq<u8>>, A
     Ok(Seq::from_vec(texts))
 }
 
-/// The edits as texts. Their methods are compiled from their sources, so these are UTF-8. Only want of memory is an error.
+/// The edits as texts. Sources are UTF-8, because the methods are compiled from them. Fails only if memory runs out.
 pub(crate) fn edit_texts(
     alloc: Global,
     names: &Names,

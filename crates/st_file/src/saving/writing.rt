@@ -1,4 +1,4 @@
-//! How a file's value is written.
+//! Writes the value of a file.
 ghost use Rattle.std.specs.Prelude.{◌≡◌, ◌≤◌, ℕ, List, false, IfOk, MatchResult, OnOk, OnErr};
 ghost use Rattle.std.specs.Io.KnownBytes.{Appends};
 ghost use mathlib.Core.List.{IsPrefix};
@@ -14,7 +14,7 @@ use st_classes::refusals::Refusal;
 use st_wire::streams::{Output, WriteFailed, write_all};
 use std::alloc::{AllocError, Global};
 
-/// The line of a value, which is read as the value again.
+/// The line of a value. It is read as the value again.
 fn line_of(alloc: Global, value: &Value) -> Result<Vec<u8>, AllocError>
     requires whole { has_float (view value.now) ≡ false }
     requires shallow { depth (view value.now) ≤ max_depth }
@@ -25,7 +25,7 @@ fn line_of(alloc: Global, value: &Value) -> Result<Vec<u8>, AllocError>
     Ok(line)
 }
 
-/// Writes a line, and hands on what has been written.
+/// Writes a line and flushes the output.
 fn write_line<O: Output>(output: &mut O, line: &[u8]) -> Result<(), WriteFailed>
     ensures written { (part : List ℕ) × Appends (O.contents output.old) (O.contents output.new) part
         × MatchResult result (λ _. part ≡ line.now) (λ _. IsPrefix part line.now) }
@@ -39,9 +39,8 @@ fn write_line<O: Output>(output: &mut O, line: &[u8]) -> Result<(), WriteFailed>
     }
 }
 
-/// Writes the line of a value, and hands on what has been written. The refusal is `NoMemory`, and then nothing was written; or
-/// `WriteFault` where the output failed, and then the first bytes were written, which are all bytes where the line could not be
-/// handed on.
+/// Writes the line of a value and flushes the output. Fails with `NoMemory` before anything is written, or with `WriteFault` if the
+/// output failed. After `WriteFault` a prefix of the line is written, which is all of it if only the flush failed.
 pub(crate) fn write_value<O: Output>(
     alloc: Global,
     output: &mut O,

@@ -12,7 +12,7 @@ use st_mailbox::mailboxes::Mailbox;
 use st_mailbox::messages::Message;
 use std::alloc::{AllocError, Global};
 
-/// Puts copies of messages in an empty mailbox that has room for them.
+/// Puts copies of messages into an empty mailbox that is open and has room for them.
 fn fill<M: Mailbox>(alloc: Global, mailbox: &mut M, messages: &[Message]) -> Result<(), AllocError>
     requires opened { (M.shown mailbox.old).is_open ≡ true }
     requires empty { (M.shown mailbox.old).items ≡ [] }
@@ -44,7 +44,7 @@ fn copied<M: Mailbox>(alloc: Global, mailbox: &M) -> Result<Seq<Message>, AllocE
 }
 
 impl<M: Mailbox> Actor<M> {
-    /// The actor as plain data, in memory of its own.
+    /// A copy of the actor as plain data.
     pub(crate) fn part(&self, alloc: Global) -> Result<ActorPart, AllocError>
         ensures { IfOk result (λ part. part ≡ view_part self.now) }
     {
@@ -74,7 +74,7 @@ impl<M: Mailbox> Actor<M> {
         self.results = results;
     }
 
-    /// The actor of a part, in memory of its own.
+    /// The actor of a copy of a part.
     pub(crate) fn from_part(alloc: Global, part: &ActorPart) -> Result<Actor<M>, AllocError>
         requires some { 1 ≤ part.now.capacity }
         requires few { part.now.capacity ≤ 1024 }

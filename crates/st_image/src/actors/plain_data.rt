@@ -11,7 +11,7 @@ use st_mailbox::mailboxes::Mailbox;
 use std::alloc::{AllocError, Global};
 
 impl<M: Mailbox> Actors<M> {
-    /// Puts an actor last. No claim of it is out.
+    /// Appends an actor of which no claim is out.
     fn add(&mut self, actor: Actor<M>) -> Result<(), AllocError>
         requires few { length self.old.kept < 65536 }
         ensures { OnOk result (self.new ≡ record { kept = self.old.kept ++ actor ∷ []; out = self.old.out ++ 0 ∷ [] }) }
@@ -27,7 +27,7 @@ impl<M: Mailbox> Actors<M> {
         Ok(())
     }
 
-    /// The actors of parts, in memory of their own. No claim is out.
+    /// The actors of copies of these parts. No claim is out.
     pub(crate) fn from_parts(alloc: Global, parts: &[ActorPart]) -> Result<Actors<M>, AllocError>
         requires few { length parts.now ≤ 65536 }
         requires fit { All FitsMailbox parts.now }

@@ -1,4 +1,4 @@
-//! The actors as they begin anew.
+//! How actors begin anew.
 ghost use Rattle.std.specs.Prelude.{◌≡◌, map, IfOk};
 ghost use Rattle.st_image.specs.ActorViews.{last_kept, view_anew};
 ghost use Rattle.st_image.specs.Newest.{kept_in};
@@ -33,7 +33,7 @@ impl<M: Mailbox> Actors<M> {
         Ok(all)
     }
 
-    /// All actors begin anew, with these results. The claims that are out stay so.
+    /// All actors begin anew, with these results. The claims that are out stay out.
     pub(crate) fn begin_anew(&mut self, results: Vec<Results>)
         requires { map kept_in results.items ≡ map last_kept self.old.kept }
         ensures { self.new ≡ record self.old { kept = map view_anew self.old.kept } }

@@ -16,7 +16,7 @@ use st_classes::values::{ClassId, Value};
 use st_classes::version::Version;
 use st_turn::body::{Object, Phase};
 
-/// Whether a message that is to be dispatched has no object of the actor's own.
+/// Whether a message that is yet to be dispatched has none of the actor's own objects.
 fn starts_without_locals(phase: &Phase) -> bool
     ensures { Decides result (StartsWithoutLocals phase.now) }
 {
@@ -33,7 +33,7 @@ fn is_itself(objects: &[Object], class: ClassId) -> bool
     class_of(objects, Value::Local(0)) == class
 }
 
-/// Whether an actor is one of a world with these names, this class table and so many actors.
+/// Whether an actor is one of a world with these names, this class table and this many actors.
 pub(crate) fn actor_fits(names: &Names, version: &Version, actors: u32, actor: &ActorPart) -> bool
     ensures { Decides result (IsWorldActor names.now version.now actors (actor_of actor.now)) }
 {
@@ -55,7 +55,7 @@ pub(crate) fn actor_fits(names: &Names, version: &Version, actors: u32, actor: &
     messages_fit(names, version, actors, actor.pending.as_slice())
 }
 
-/// Whether actors are those of a world with so many.
+/// Whether actors are those of a world with this many.
 pub(crate) fn actors_fit(names: &Names, version: &Version, count: u32, actors: &[ActorPart]) -> bool
     ensures { Decides result (All (λ (a : PartOf). IsWorldActor names.now version.now count (actor_of a)) actors.now) }
 {

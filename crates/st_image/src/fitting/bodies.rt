@@ -23,7 +23,7 @@ fn has_arity(names: &Names, selector: Selector, count: usize) -> bool
     u32::from(selector.0) < names.len() && usize::from(names.arity(selector)) == count
 }
 
-/// Whether the frames that wait for answers fit.
+/// Whether the waiting frames fit.
 fn all_wait(
     names: &Names,
     version: &Version,
@@ -44,7 +44,7 @@ fn all_wait(
     true
 }
 
-/// Whether the place of a turn fits.
+/// Whether the phase of a turn fits.
 fn phase_fits(
     names: &Names,
     version: &Version,
@@ -72,7 +72,7 @@ fn phase_fits(
     }
 }
 
-/// Whether a body fits a class table, for names and a number of actors.
+/// Whether a body fits a class table, with names and a number of actors.
 pub(super) fn body_fits(names: &Names, version: &Version, actors: u32, body: &Body) -> bool
     ensures { Decides result (Fits (given names.now actors) version.now body.now) }
 {

@@ -14,7 +14,7 @@ use st_classes::version::Version;
 use st_turn::body::Object;
 use st_turn::frame::FrameRef;
 
-/// Whether a frame is one of its method, whose receiver suits it and whose values are there.
+/// Whether a frame is one of its method, its receiver suits the method, and what its values name exists.
 fn frame_fits(
     names: &Names,
     version: &Version,
@@ -42,7 +42,7 @@ fn frame_fits(
         && are_there(names, version, actors, objects.len(), frame.operands)
 }
 
-/// Whether a method has so many operands at a place.
+/// Whether a method has this many operands at a place.
 fn has_depth(method: &Method, place: u16, depth: usize) -> bool
     ensures { Decides result (DepthAt method.now.depths place depth) }
 {
@@ -52,7 +52,7 @@ fn has_depth(method: &Method, place: u16, depth: usize) -> bool
     }
 }
 
-/// Whether a method has one operand more than so many at a place.
+/// Whether a method has one operand more than this at a place.
 fn has_depth_above(method: &Method, place: u16, depth: usize) -> bool
     ensures { Decides result (DepthAt method.now.depths place (depth + 1)) }
 {

@@ -13,7 +13,7 @@ use st_classes::values::{Selector, Value};
 use st_classes::version::Version;
 use st_mailbox::messages::Message;
 
-/// Whether an argument names no object, and what it names is there.
+/// Whether what an argument names exists, and is not an object.
 fn argument_fits(names: &Names, version: &Version, actors: u32, value: Value) -> bool
     ensures { result ≡ fits_argument names.now (class_count version.now) actors value }
 {
@@ -27,7 +27,7 @@ fn arguments_fit(names: &Names, version: &Version, actors: u32, args: &[Value]) 
         .all(|value| argument_fits(names, version, actors, *value))
 }
 
-/// Whether a selector is there and takes so many arguments.
+/// Whether a selector exists and takes this many arguments.
 pub(super) fn takes(names: &Names, selector: Selector, count: usize) -> bool
     ensures { result ≡ is_number (arity_at names.now selector) count }
 {
@@ -41,7 +41,7 @@ fn message_fits(names: &Names, version: &Version, actors: u32, message: &Message
     takes(names, message.selector, args.len()) && arguments_fit(names, version, actors, args)
 }
 
-/// Whether each of some messages fits.
+/// Whether all of the messages fit.
 pub(super) fn messages_fit(
     names: &Names,
     version: &Version,
@@ -64,7 +64,7 @@ fn is_local(value: Value) -> bool
     matches!(value, Value::Local(_))
 }
 
-/// Whether one of some arguments names an object of the actor's own.
+/// Whether an argument is an object of the actor's own.
 pub(super) fn has_local(args: &[Value]) -> bool
     ensures { result ≡ list_any local args.now }
 {

@@ -7,7 +7,7 @@ ghost use Rattle.st_image.specs.WorldInvariant.{given};
 
 use crate::fitting::values::are_there;
 use st_classes::kernel::{
-    ACTOR_REF, CLASS, FALSE, KERNEL_CLASSES, SMALL_INTEGER, SYMBOL, TRUE, UNDEFINED_OBJECT,
+    ACTOR_REF, CLASS, FALSE, SMALL_INTEGER, SYMBOL, TRUE, UNDEFINED_OBJECT, is_value_class,
 };
 use st_classes::names::Names;
 use st_classes::seq::Seq;
@@ -19,10 +19,10 @@ use st_turn::body::Object;
 fn has_instances(version: &Version, class: ClassId) -> bool
     ensures { result ≡ instances version.now class }
 {
-    version.is_class(class) && !(1 <= class.0 && class.0 < KERNEL_CLASSES)
+    version.is_class(class) && !is_value_class(class)
 }
 
-/// The instance variables of a class; none where it is no class.
+/// The instance variables of a class; none if it is no class.
 fn slots_of(version: &Version, class: ClassId) -> &[Seq<u8>]
     ensures { result.now ≡ slots version.now class }
 {
@@ -39,7 +39,7 @@ fn same_text(a: &[u8], b: &[u8]) -> bool
     a == b
 }
 
-/// Whether texts begin with others.
+/// Whether the first texts are a prefix of all.
 fn begins_with(all: &[Seq<u8>], first: &[Seq<u8>]) -> bool
     ensures { Decides result ((rest : List (List ℕ)) × (all.now ≡ first.now ++ rest)) }
 {
@@ -54,14 +54,14 @@ fn begins_with(all: &[Seq<u8>], first: &[Seq<u8>]) -> bool
     true
 }
 
-/// Whether the instance variables of a class begin with those of another.
+/// Whether the instance variables of the holder are a prefix of those of a class.
 pub(super) fn has_slots_of(version: &Version, class: ClassId, holder: ClassId) -> bool
     ensures { Decides result (HasSlotsOf version.now class holder) }
 {
     begins_with(slots_of(version, class), slots_of(version, holder))
 }
 
-/// Whether an object, one of so many, fits its class.
+/// Whether an object, one of this many, fits its class.
 fn object_fits(
     names: &Names,
     version: &Version,
@@ -88,7 +88,7 @@ pub(super) fn objects_fit(names: &Names, version: &Version, actors: u32, objects
     true
 }
 
-/// The class of a value; Object where it names an object that is not there.
+/// The class of a value; Object if it names an object that does not exist.
 pub(super) fn class_of(objects: &[Object], value: Value) -> ClassId
     ensures { result ≡ class_in objects.now value }
 {

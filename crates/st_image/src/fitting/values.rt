@@ -1,4 +1,4 @@
-//! Values that name something that is there.
+//! Values that name what exists.
 ghost use Rattle.std.specs.Prelude.{◌≡◌, All, Decides};
 ghost use Rattle.st_classes.specs.Classes.{class_count};
 ghost use Rattle.st_classes.specs.MethodSuits.{is_there as there};
@@ -9,7 +9,7 @@ use st_classes::names::Names;
 use st_classes::values::Value;
 use st_classes::version::Version;
 
-/// Whether what a value names is there, among so many objects.
+/// Whether what a value names exists, with this many objects.
 pub(super) fn is_there(
     names: &Names,
     version: &Version,
@@ -28,7 +28,7 @@ pub(super) fn is_there(
     }
 }
 
-/// Whether what each of some values names is.
+/// Whether what each of the values names exists.
 pub(super) fn are_there(
     names: &Names,
     version: &Version,

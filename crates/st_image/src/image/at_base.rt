@@ -22,7 +22,7 @@ impl<M: Mailbox> Image<M> {
     ghost use Rattle.st_image.specs.Counts.{CanBeCounted};
     ghost use Rattle.st_image.specs.Loaded.{AreBaseActors, AreBaseSenders, loaded_image};
 
-    /// The image at a base, with the counts of posts and steps before it, set as by default.
+    /// The image at a base, with the counts of posts and steps before it and the default settings.
     pub(crate) fn at_base(
         alloc: Global,
         names: Names,

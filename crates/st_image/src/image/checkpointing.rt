@@ -1,4 +1,4 @@
-//! Image::checkpoint: the present world becomes the one that the image begins with.
+//! Image::checkpoint: the present world becomes the image's base.
 use crate::base::Base;
 use crate::changes::Changes;
 use crate::counts::Counts;
@@ -28,12 +28,13 @@ impl<M: Mailbox> Image<M> {
         self.earlier.with(alloc, &self.changes, edits, counts)
     }
 
-    /// The present world becomes the one that the image begins with, and the history is emptied. How turns ended and the statistics
-    /// are forgotten. Messages that are pending are the turns 1 and on, and a turn that an actor is in, or behind, is turn 0. Senders'
-    /// numbers, the edits, the count of edits of the run, the place from which the next ready actor is looked for, the posts and
-    /// steps that are counted, and the claims that are out all stay.
+    /// The present world becomes the one that the image begins with, and the history is emptied. Earlier results and the statistics are
+    /// forgotten. Pending messages are turns 1 and on, and the turn that an actor is in, or has ended last, is turn 0. These stay: senders'
+    /// numbers, the edits, the count of edits of the run, the place from which the next ready actor is looked for, the counts of posts and
+    /// steps, and the claims that are out.
     ///
-    /// It takes time and memory as the actors' bodies and pending messages are large. An error says that nothing changed.
+    /// It takes time and memory in proportion to the actors, their bodies and pending messages, and the clients. After an error nothing has
+    /// changed.
     pub fn checkpoint(&mut self, alloc: Global) -> Result<(), AllocError>
         ensures ok { OnOk result (BeginsAnew self.old self.new) }
         ensures err { OnErr result (self.new ≡ self.old) }

@@ -25,11 +25,10 @@ impl<M: Mailbox> Image<M> {
         self.room_refusal(1)
     }
 
-    /// Closes the mailbox of an actor: it accepts no more messages. What it accepted before
-    /// may still be begun.
+    /// Closes the mailbox of an actor: it accepts no more messages. Those that it accepted before may still be begun.
     ///
-    /// Refusals, in this order: `UnknownActor`; `Closed` where it is closed already; `HistoryFull`. Memory can run out
-    /// only where none of these applies. A refused call changes nothing.
+    /// Refusals, in this order: `UnknownActor`; `Closed` if it is closed already; `HistoryFull`. Memory can run out only if none of these
+    /// applies. A refused call changes nothing.
     pub fn close(&mut self, actor: ActorId) -> Result<(), Refusal>
         ensures { Closes self.old actor result self.new }
     {

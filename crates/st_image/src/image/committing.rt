@@ -146,7 +146,8 @@ impl<M: Mailbox> Image<M> {
             &mut leavings.body,
         ) {
             Ok(_) => {
-                self.tallies.count(parts.sends.as_slice(), site);
+                let sums = parts.sums.as_slice();
+                self.tallies.count(parts.sends.as_slice(), sums, site);
                 self.actors.release(actor);
                 self.changes.raise(actor);
                 self.history.push(Item::Ran { actor, steps }).unwrap();

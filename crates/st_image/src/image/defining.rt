@@ -19,7 +19,7 @@ impl<M: Mailbox> Image<M> {
     ghost use Rattle.st_image.specs.CompiledEdits.{IsCompiledEdit};
     ghost use Rattle.st_image.specs.Images.{run_rules, world};
 
-    /// Why an edit more is refused, if it is.
+    /// Why one more edit is refused, if it is.
     fn run_refusal(&self) -> Option<Refusal>
         ensures { result ≡ first_of (run_rules self.now) }
     {
@@ -41,7 +41,8 @@ impl<M: Mailbox> Image<M> {
         }
     }
 
-    /// Makes an edit; the method of an install is compiled from its source. The answer is the number of edits. Memory can run out only where no rule refuses it.
+    /// Makes an edit; the method of an install must be compiled from its source. The answer is the number of edits. Memory can run out only
+    /// if no rule refuses the edit.
     pub(super) fn edit(&mut self, alloc: Global, edit: Edit) -> Result<u32, Refusal>
         requires suits { edit_suits self.old.names (world self.old).edits edit ≡ true }
         requires compiled { IsCompiledEdit self.old.names (world self.old).edits edit }
@@ -75,10 +76,10 @@ impl<M: Mailbox> Image<M> {
 
     /// A new class under another, with its own instance variables. The answer is the number of edits.
     ///
-    /// Refusals, in this order: `UnknownClass`; `BadName` where the name of the class or of an instance variable is none;
-    /// `KernelClass` for a parent that is a kernel class but Object; `ClassExists`; `SlotClash` where an instance variable is
-    /// inherited or named twice; `TooDeep`; `TooMany` classes, instance variables or edits; `HistoryFull`. A refused call changes
-    /// nothing.
+    /// Refusals, in this order: `UnknownClass`; `BadName` if the name of the class or of an instance variable is not one; `KernelClass` for
+    /// a parent that is a kernel class other than Object; `ClassExists`; `SlotClash` if an instance variable is inherited or named twice;
+    /// `TooDeep`; `TooMany` classes, instance variables or edits; `HistoryFull`. Memory can run out before any of these. A refused call
+    /// changes nothing.
     pub fn define(
         &mut self,
         alloc: Global,

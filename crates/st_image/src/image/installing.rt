@@ -26,7 +26,7 @@ impl<M: Mailbox> Image<M> {
     ghost use Rattle.st_image.specs.Images.{world};
     ghost use Rattle.st_image.specs.Installs.{AnswersInstall, Installs, LeavesNames, image_install_rules, is_kernel_text};
 
-    /// Whether the kernel has a method in the class for the selector.
+    /// Whether the kernel has a method of the class for the selector.
     fn has_kernel_method(&self, class: ClassId, selector: &[u8]) -> bool
         ensures { result ≡ is_kernel_text class selector.now }
     {
@@ -58,7 +58,7 @@ impl<M: Mailbox> Image<M> {
         })
     }
 
-    /// The method of a tree in a class. Its selectors and symbols are interned.
+    /// Compiles the method of a tree in a class. Its selectors and symbols are interned.
     fn compiled(
         &mut self,
         alloc: Global,
@@ -78,7 +78,7 @@ impl<M: Mailbox> Image<M> {
         compile(alloc, tree, class, self.token.shown(), &mut self.names)
     }
 
-    /// Installs the method of a tree whose selector is no kernel method's in the class, and answers the number of edits.
+    /// Installs the method of a tree, for whose selector the kernel has no method of the class. Answers the number of edits.
     fn install_free(
         &mut self,
         alloc: Global,
@@ -120,12 +120,12 @@ impl<M: Mailbox> Image<M> {
         self.install_free(alloc, class, tree)
     }
 
-    /// Installs a method in a class, in place of the one that it has for the selector. The answer is the number of edits.
+    /// Installs a method in a class, in place of the class's own method for the selector, if it has one. The answer is the number of edits.
     ///
-    /// Refusals, in this order: `UnknownClass`; `BadSource` where the source spells no method; `KernelMethod` where the kernel
-    /// has a method in the class for the selector; `BadSource` where the tree has no code in the class; `TooMany` names or
-    /// edits; `HistoryFull`. A refused install changes nothing but names: where it is refused for names,
-    /// those that fitted stay; for edits or the history, all that the method needs; for want of memory, some of them.
+    /// Refusals, in this order: `UnknownClass`; `BadSource` if the source spells no method; `KernelMethod` if the kernel has a method of
+    /// the class for the selector; `BadSource` if the tree has no code in the class; `TooMany` names or edits; `HistoryFull`. A refused
+    /// install changes nothing but names. Of those that the method needs, these are added: the ones that fitted, if there are too many
+    /// names; all, if the edit or the history is refused; none, the first ones or all, if memory ran out.
     pub fn install(&mut self, alloc: Global, class: ClassId, source: &[u8]) -> Result<u32, Refusal>
         ensures answers { AnswersInstall self.old class source.now self.new result }
         ensures refused { IfErr result (λ e. LeavesNames self.old class source.now e self.new) }

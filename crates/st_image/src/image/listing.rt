@@ -1,4 +1,4 @@
-//! Image::clients and counted: the clients that have sent a message, and how much there was of posts and steps.
+//! Image::clients and counted: the clients that have sent a message, and the counts of posts and steps.
 use crate::counts::Counts;
 use crate::image::Image;
 use st_mailbox::mailboxes::Mailbox;
@@ -9,16 +9,15 @@ impl<M: Mailbox> Image<M> {
     ghost use Rattle.st_image.specs.Counts.{CanBeCounted};
     ghost use Rattle.st_image.specs.Images.{counts_of, world};
 
-    /// The clients that have sent a message, rising by their numbers, each with the number of its last message, which
-    /// is at least 1.
+    /// The clients that have sent a message, in rising order, each with the number of its last message, which is at least 1.
     pub fn clients(&self, alloc: Global) -> Result<Vec<(u16, u64)>, AllocError>
         ensures { IfOk result (λ clients. clients.items ≡ (world self.now).clients) }
     {
         self.clients.list(alloc)
     }
 
-    /// How many messages of clients were accepted, and how many steps were taken, since the image was new, and before it was loaded.
-    /// Neither is more than 2^63 - 1. Checkpoints leave them.
+    /// How many messages of clients were accepted, and how many steps were taken, since the image was new, also before it was loaded.
+    /// Neither is more than 2^63 - 1. Checkpoints do not change them.
     pub fn counted(&self) -> Counts
         ensures counts { result ≡ counts_of self.now }
         ensures few { CanBeCounted result }

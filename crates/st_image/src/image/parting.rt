@@ -1,4 +1,4 @@
-//! Image::part and parts: actors as plain data, and the world as one that an image can begin with.
+//! Image::part and parts: actors as plain data, and the world as a base.
 use crate::actor_part::ActorPart;
 use crate::image::Image;
 use st_classes::refusals::Refusal;
@@ -15,8 +15,8 @@ impl<M: Mailbox> Image<M> {
     ghost use Rattle.st_image.specs.Loaded.{AreBaseActors, AreBaseSenders};
     ghost use Rattle.st_image.specs.Parts.{part_of, part_rules};
 
-    /// An actor as plain data, in memory of its own: its class, its mailbox with what is pending, its body, and the number of the
-    /// last message that it sent. `UnknownActor` says that there is none of this number.
+    /// A copy of an actor as plain data: its class, its mailbox with what is pending, its body, and the number of the last message that it
+    /// sent. `UnknownActor` if there is none with this number.
     pub fn part(&self, alloc: Global, actor: ActorId) -> Result<ActorPart, Refusal>
         ensures { AnswersExactly (first_of (part_rules (slice_get (world self.now).actors actor.0))) result (λ part. option_map part_of (slice_get (world self.now).actors actor.0) ≡ Some part) }
     {
@@ -29,7 +29,7 @@ impl<M: Mailbox> Image<M> {
         }
     }
 
-    /// All actors as plain data, in memory of their own.
+    /// Copies of all actors as plain data.
     pub fn parts(&self, alloc: Global) -> Result<Vec<ActorPart>, AllocError>
         ensures { IfOk result (λ parts. parts.items ≡ map part_of (world self.now).actors) }
     {
@@ -43,8 +43,8 @@ impl<M: Mailbox> Image<M> {
         Ok(parts)
     }
 
-    /// An image can begin with the present world: the parts of the actors are those of the actors of a base, and the numbers of the
-    /// senders hold together.
+    /// An image can begin with the present world: the parts of the actors are those of the actors of a base, and the numbers of the senders
+    /// are consistent.
     pub fn can_be_base(&self)
         ensures actors { AreBaseActors self.now.names (world self.now).edits (map part_of (world self.now).actors) }
         ensures senders { AreBaseSenders (world self.now).edits (map part_of (world self.now).actors) (world self.now).clients }

@@ -16,7 +16,7 @@ impl<M: Mailbox> Image<M> {
     ghost use Rattle.st_image.specs.Images.{image_post_rules, no_room, too_many_posts, world};
     ghost use Rattle.st_image.specs.PostRules.{IsClients, from_client};
 
-    /// Why a post more has no place in the history or in the count of posts, if it has none.
+    /// Why there is no room for one more post, in the history or in the count of posts, if there is none.
     fn post_room_refusal(&self) -> Option<Refusal>
         ensures { result ≡ first_of (no_room self.now 1 ∷ too_many_posts self.now ∷ []) }
     {
@@ -45,8 +45,8 @@ impl<M: Mailbox> Image<M> {
         }
     }
 
-    /// Puts a client's message last in the mailbox of an actor. The answer is its place among the messages that the actor
-    /// accepted, from 1.
+    /// Appends a client's message to the mailbox of an actor. The answer is its place, from 1, among the messages that the actor
+    /// accepted.
     fn accept(&mut self, alloc: Global, actor: ActorId, message: Message) -> Result<u64, Refusal>
         requires { IsClients message.sender }
         ensures { Posts self.old actor message result self.new }
@@ -79,13 +79,12 @@ impl<M: Mailbox> Image<M> {
         Ok(place)
     }
 
-    /// Puts a client's message, with the client's own number for it, last in the mailbox of an actor. The answer is its place, from 1,
-    /// among the messages that were pending at the last checkpoint and those accepted since, which is also the number of its turn.
+    /// Appends a client's message, with the client's own number for it, to the mailbox of an actor. The answer is its place, from 1, among
+    /// the messages that were pending at the last checkpoint and those accepted since. This is also the number of its turn.
     ///
-    /// Refusals, in this order: `UnknownActor`; `BadArguments` where the selector isn't there or takes another number of
-    /// arguments, or an argument is a local or names nothing; `Old` where the number is not above the client's last one; `Closed`;
-    /// `Full`; `HistoryFull`, also where 2^63 - 1 posts were counted. Memory can run out only where none of these applies. A refused
-    /// call changes nothing.
+    /// Refusals, in this order: `UnknownActor`; `BadArguments` if the selector does not exist or takes another number of arguments, or an
+    /// argument is a local or names nothing; `Old` if the number is not above the client's last one; `Closed`; `Full`; `HistoryFull`, also
+    /// if 2^63 - 1 posts were counted. Memory can run out only if none of these applies. A refused call changes nothing.
     pub fn post(
         &mut self,
         alloc: Global,

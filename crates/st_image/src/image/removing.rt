@@ -9,11 +9,11 @@ use std::alloc::Global;
 impl<M: Mailbox> Image<M> {
     ghost use Rattle.st_image.specs.Calls.{Removes};
 
-    /// Takes away the method that a class has of its own for a selector. The answer is the number of edits.
+    /// Removes the method that a class has of its own for a selector. The answer is the number of edits.
     ///
-    /// Refusals, in this order: `UnknownClass`; `KernelMethod` where the kernel has a method in the class for the selector;
-    /// `NoSuchMethod` where the class has no method of its own for it; `TooMany` edits; `HistoryFull`. Memory can run out only
-    /// where none of these applies. A refused call changes nothing.
+    /// Refusals, in this order: `UnknownClass`; `KernelMethod` if the kernel has a method of the class for the selector; `NoSuchMethod` if
+    /// the class has no method of its own for it; `TooMany` edits; `HistoryFull`. Memory can run out only if none of these applies. A
+    /// refused call changes nothing.
     pub fn remove(
         &mut self,
         alloc: Global,

@@ -1,10 +1,10 @@
-//! Image::stats: what was counted of the call sites of a method.
+//! Image::stats: the statistics of a method's call sites.
 ghost use Rattle.std.specs.Prelude.{◌≡◌, slice_get};
 ghost use Rattle.std.specs.Option.{option_copied};
 ghost use Rattle.st_image.specs.Stats.{stats_with};
 
 use crate::image::Image;
-use crate::tallies::{SiteStats, Tally};
+use crate::tallies::SiteStats;
 use st_classes::counted_rows::{ClassRows, CountedRows};
 use st_classes::instructions::Instruction;
 use st_classes::kernel::Found;
@@ -13,9 +13,10 @@ use st_classes::methods::Method;
 use st_classes::refusals::Refusal;
 use st_classes::values::{ClassId, MethodId, Selector};
 use st_mailbox::mailboxes::Mailbox;
+use st_turn::tally::Tally;
 use std::alloc::{AllocError, Global};
 
-/// What is told of a send with a tally.
+/// The statistics of a send with a tally; none for another instruction.
 fn stats_of(tally: Tally, instruction: Option<&Instruction>) -> Option<SiteStats>
     ensures { result ≡ stats_with tally (option_copied instruction.entry) }
 {
@@ -31,7 +32,7 @@ fn stats_of(tally: Tally, instruction: Option<&Instruction>) -> Option<SiteStats
     })
 }
 
-/// The instruction at a place of a code, if there is one.
+/// The instruction at a place of a method's code, if there is one.
 fn instruction_at(code: &[Instruction], place: usize) -> Option<&Instruction>
     ensures { option_copied result ≡ slice_get code.now place }
 {
@@ -47,7 +48,7 @@ impl<M: Mailbox> Image<M> {
     ghost use Rattle.st_image.specs.Images.{world};
     ghost use Rattle.st_image.specs.Stats.{HasCounted, HasFewSends, installed_own, method_stats, site_stats, stats_rules};
 
-    /// The method that is installed in a class for a selector, if there is one.
+    /// The user's method of a class for a selector, if there is one.
     fn installed(&self, class: ClassId, selector: Selector) -> Option<MethodId>
         requires { is_class (world self.now).edits class ≡ true }
         ensures { result ≡ installed_own (world self.now).edits class selector }
@@ -58,7 +59,7 @@ impl<M: Mailbox> Image<M> {
         }
     }
 
-    /// What is told of the send at a place of a method, if there is one.
+    /// The statistics of the send at a place of a method, if there is one.
     fn site_stats(&self, id: MethodId, method: &Method, place: u16) -> Option<SiteStats>
         ensures { result ≡ site_stats self.now.standing.tallies id method.now.code place }
     {
@@ -66,7 +67,7 @@ impl<M: Mailbox> Image<M> {
         stats_of(tally, instruction_at(method.code(), usize::from(place)))
     }
 
-    /// What is told of the sites of a method.
+    /// The statistics of a method's sites.
     fn method_sites(
         &self,
         alloc: Global,
@@ -108,20 +109,20 @@ impl<M: Mailbox> Image<M> {
         }
     }
 
-    /// Shows that the tallies count the sends of the history: the sends of each site are its send steps in the history, by the
-    /// definitions of a step.
+    /// The tallies count the sends of the history: the sends of each site are its send steps in the history, by the definitions of a
+    /// step.
     pub fn sends_counted(&self)
         ensures { HasCounted self.now }
     {
         let _tallies = &self.tallies;
     }
 
-    /// What was counted since the last checkpoint of the call sites of the method that a class has of its own for a selector, in the
-    /// order of its code: the committed sends, how their targets were found, and the state of the site after the last that used a
-    /// worker's caches. The sends of a site are below 2^64.
+    /// The statistics, since the last checkpoint, of the call sites of the method that a class has of its own for a selector, in the order
+    /// of its code: the committed sends, how their targets were found, and the state of the site after the last send that used a worker's
+    /// caches. The sends of a site are below 2^64.
     ///
-    /// Refusals, in this order: `UnknownClass`; `NoSuchMethod` where the class has no method of its own for the selector, or one of
-    /// the kernel's. Memory can run out only where neither applies.
+    /// Refusals, in this order: `UnknownClass`; `NoSuchMethod` if the class has no method of its own for the selector, or one of the
+    /// kernel's. Memory can run out only if neither applies.
     pub fn stats(
         &self,
         alloc: Global,

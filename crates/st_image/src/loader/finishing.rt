@@ -27,12 +27,13 @@ fn are_base_actors(names: &Names, version: &Version, parts: &[ActorPart]) -> boo
 }
 
 impl Loader {
-    /// The image whose base has the names and the class table that were loaded, these actors, and these clients with the numbers of
-    /// their last messages, and which goes on from these counts of posts and steps. It is set as by default, and its history is empty.
+    /// The image that begins with the names and the class table that were loaded, these actors, and these clients with the numbers of
+    /// their last messages. It goes on from these counts of posts and steps, has the default settings, and its history is empty.
     ///
-    /// Refusals, in this order: `BadImage` of the actors where there are more than 65,536, one is none of a world with these names,
-    /// this table and so many actors, or an actor that sent a message is not there; `BadImage` of the senders where clients do not rise, a client's last number is 0, the
-    /// numbers of a sender do not rise in a mailbox, one is 0 or above its sender's last, or one stands in two mailboxes.
+    /// Refusals, in this order: `BadImage` at the actors, if there are more than 65,536, one is not an actor of a world with these names,
+    /// this table and this many actors, or an actor that sent a message does not exist; `BadImage` at the senders, if clients do not
+    /// rise, a client's last number is 0, the numbers of a sender do not rise in a mailbox, one is 0 or above its sender's last, or one
+    /// is in two mailboxes.
     pub fn finish<M: Mailbox>(
         self,
         alloc: Global,

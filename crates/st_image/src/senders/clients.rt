@@ -22,7 +22,7 @@ pub(super) fn are_rising(clients: &[(u16, u64)]) -> bool
     true
 }
 
-/// The last numbers of clients by their numbers. Of a client that stands in the list twice the first one counts.
+/// The last numbers of clients, by the clients' numbers. If a client is in the list twice, the first one counts.
 pub(crate) fn last_numbers(alloc: Global, clients: &[(u16, u64)]) -> Result<Clients, AllocError>
     ensures { IfOk result (λ lasts. (s : ℕ) → number_of lasts s ≡ client_last s clients.now) }
 {

@@ -81,7 +81,7 @@ fn is_mailed(lasts: &Clients, actors: &[ActorPart], actor: &ActorPart) -> bool
     are_rising(actor.pending.as_slice()) && are_numbered(lasts, actors, actor.pending.as_slice())
 }
 
-/// The same of each actor's.
+/// The same for each actor.
 pub(super) fn are_mailed(lasts: &Clients, actors: &[ActorPart]) -> bool
     ensures { Decides result (All (IsMailed lasts.now actors.now) actors.now) }
 {

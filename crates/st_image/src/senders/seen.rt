@@ -1,4 +1,4 @@
-//! Whether a number of a sender stands in two mailboxes.
+//! Whether a number of a sender is in two mailboxes.
 ghost use Rattle.std.specs.Prelude.{◌≡◌, ◌⊎◌, ℕ, true, false, All, Decides, IfOk, OnOk};
 ghost use Rattle.st_mailbox.specs.declared.messages.Message.{Message as MessageOf};
 ghost use Rattle.st_mailbox.specs.declared.messages.Sender.{Sender as SenderOf};
@@ -35,7 +35,7 @@ impl SeenNumbers {
         }
     }
 
-    /// A number is seen.
+    /// Adds a number.
     fn add(&mut self, sender: Sender, number: u64) -> Result<(), AllocError>
         ensures { OnOk result (AreSeen self.new (λ s n. (has_number self.old s n ≡ true) ⊎ ((s ≡ sender) × (n ≡ number)))) }
     {
@@ -50,7 +50,7 @@ impl SeenNumbers {
         Ok(())
     }
 
-    /// The numbers of some messages are seen.
+    /// Adds the numbers of some messages.
     fn add_all(&mut self, messages: &[Message]) -> Result<(), AllocError>
         ensures { OnOk result (AreSeen self.new (λ s n. (has_number self.old s n ≡ true) ⊎ IsIn messages.now s n)) }
     {
@@ -75,7 +75,7 @@ impl SeenNumbers {
     }
 }
 
-/// Whether no number of a sender stands in the mailboxes of two actors.
+/// Whether no number of a sender is in the mailboxes of two actors.
 pub(super) fn are_apart(alloc: Global, actors: &[ActorPart]) -> Result<bool, AllocError>
     ensures { IfOk result (λ are. Decides are (AfterOthers IsApart actors.now)) }
 {

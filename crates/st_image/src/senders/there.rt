@@ -1,4 +1,4 @@
-//! Whether the senders of messages are there.
+//! Whether the senders of messages exist.
 ghost use Rattle.std.specs.Prelude.{length, All, Decides};
 ghost use Rattle.st_mailbox.specs.declared.messages.Message.{Message as MessageOf};
 ghost use Rattle.st_image.specs.SenderNumbers.{HasSenders, IsSenderAmong};
@@ -6,7 +6,7 @@ ghost use Rattle.st_image.specs.SenderNumbers.{HasSenders, IsSenderAmong};
 use crate::actor_part::ActorPart;
 use st_mailbox::messages::{Message, Sender};
 
-/// Whether a sender is a client, or one of so many actors.
+/// Whether a sender is a client, or one of this many actors.
 fn is_there(actors: usize, sender: Sender) -> bool
     ensures { Decides result (IsSenderAmong actors sender) }
 {

@@ -1,16 +1,16 @@
-//! The bytes that a source may not have.
+//! The bytes that a source may not contain.
 use crate::characters;
 use st_classes::selectors;
 
-/// Where a byte is: in the code or in a comment.
+/// The region of a byte: code or comment.
 #[derive(Clone, Copy)]
 enum Region {
     Code,
-    /// After a quote that opens a comment, which may never be closed.
+    /// After a quote that opens a comment. The comment may never be closed.
     Comment,
 }
 
-/// Whether white space, a comment or a token begins with a byte.
+/// Whether white space, a comment or a token can begin with a byte.
 fn begins_piece(b: u8) -> bool {
     match b {
         b'"' | b'#' | b':' | b'(' | b')' | b'[' | b']' | b'^' | b'.' | b';' | b'|' => true,
@@ -31,7 +31,7 @@ impl Region {
         }
     }
 
-    /// Where the byte after a quote is.
+    /// The region after a quote.
     fn behind_quote(self) -> Self {
         match self {
             Region::Code => Region::Comment,
@@ -40,8 +40,8 @@ impl Region {
     }
 }
 
-/// The offset of the first byte that is no ASCII, a control byte that isn't white space, or, outside comments, a byte that
-/// begins no token.
+/// The offset of the first byte that is not ASCII, is a control byte other than white space, or is outside comments and begins
+/// neither white space nor a comment nor a token.
 pub fn bad_character(source: &[u8]) -> Option<u16> {
     let mut region = Region::Code;
     let mut offset = 0u16;

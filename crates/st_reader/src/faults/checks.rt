@@ -3,26 +3,26 @@ ghost use Rattle.st_reader.specs.Faults.{IsBadSource, IsWithin};
 
 use st_classes::refusals::{Refusal, SourceFault};
 
-/// The checks, in the order in which they are made.
+/// The checks, in the order in which they count.
 #[derive(Clone, Copy, PartialEq, Eq, PartialOrd, Ord)]
 pub enum Check {
-    /// The source isn't too long.
+    /// The source is not too long.
     Length,
-    /// No byte is one that a source may not have at its place.
+    /// No byte is one that may not be at its place.
     Characters,
-    /// A token begins wherever one must, and those after the pattern go on as the grammar says.
+    /// A token begins wherever one must, the tokens after the pattern follow the grammar, and `super` gets a message.
     Tokens,
     /// The tokens begin with a pattern.
     Pattern,
-    /// Brackets aren't nested too deep.
+    /// Brackets do not nest too deep.
     Nesting,
-    /// No token is too long or out of range, and there are no more keywords, arguments and temporaries than a method may have.
+    /// No token is too long or out of range, and there are not too many keywords, arguments and temporaries.
     Sizes,
-    /// Arguments and temporaries have names of their own.
+    /// Arguments and temporaries have different names, and none that is reserved.
     Names,
-    /// What is assigned to can change.
+    /// What is assigned to can be changed.
     Assignments,
-    /// Each block is part of a message that is compiled in place.
+    /// Each block is part of a message that is compiled inline.
     Blocks,
 }
 
@@ -41,7 +41,7 @@ impl Check {
     }
 }
 
-/// A check that fails, and the offset of the byte where it does. The one that counts is the least.
+/// A check that fails, and the offset of the byte at which it fails. The least fault counts.
 #[derive(Clone, Copy, PartialEq, Eq, PartialOrd, Ord)]
 pub struct Fault {
     check: Check,
@@ -53,8 +53,8 @@ impl Fault {
         Fault { check, offset }
     }
 
-    /// The refusal of a source of this length. All offsets lie within it; taking the lesser of the two proves that here, without
-    /// a clause on each step of the pass.
+    /// The refusal of a source of this length. All offsets are within it. The minimum of the two proves that here, so that the
+    /// steps of the pass need no clause about it.
     pub fn refusal_within(self, length: usize) -> Refusal
         ensures source { IsBadSource result }
         ensures offset { IsWithin length result }
@@ -66,14 +66,14 @@ impl Fault {
     }
 }
 
-/// The fault that counts of those found so far.
+/// The least of the faults found so far.
 #[derive(Clone, Copy)]
 pub struct Faults {
     first: Option<Fault>,
 }
 
 impl Faults {
-    /// None so far.
+    /// No fault so far.
     pub fn new() -> Self {
         Faults { first: None }
     }

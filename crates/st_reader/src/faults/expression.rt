@@ -1,4 +1,4 @@
-//! An expression, token by token.
+//! An expression, read token by token.
 ghost use Rattle.std.specs.Prelude.{◌≡◌, IfErr};
 
 use crate::faults::checks::Faults;
@@ -6,16 +6,16 @@ use crate::faults::keywords::{Keywords, Selector};
 use crate::faults::stop::Stop;
 use crate::faults::term::Term;
 
-/// What an operand is to the messages of its expression.
+/// The role of an operand in its expression.
 #[derive(Clone, Copy, PartialEq, Eq)]
 enum Role {
-    /// The first operand, which all messages go to.
+    /// The first operand, the receiver of the messages.
     Receiver,
     /// After a binary selector.
     BinaryArgument,
     /// After a keyword.
     KeywordArgument,
-    /// After a binary selector that follows a semicolon. No binary selector or keyword can follow.
+    /// After a binary selector that follows a semicolon. Neither a binary selector nor a keyword can follow.
     CascadeArgument,
 }
 
@@ -23,23 +23,23 @@ enum Role {
 #[derive(Clone, Copy)]
 enum Sent {
     Nothing,
-    /// Messages, the last of them to this.
+    /// Messages. The last one was sent to this term.
     To(Term),
     Cascade,
 }
 
-/// An expression after its assignments, up to the last token that was read.
+/// An expression without its assignments, up to the last token that was read.
 #[derive(Clone, Copy)]
 pub struct Expression {
     sent: Sent,
     keywords: Option<Keywords>,
     role: Role,
-    /// The last operand with its unary messages.
+    /// The last operand, with its unary messages.
     operand: Term,
 }
 
 impl Expression {
-    /// Before its first operand.
+    /// A new expression. Nothing of it has been read.
     pub fn new() -> Self {
         Expression {
             sent: Sent::Nothing,
@@ -63,7 +63,7 @@ impl Expression {
         self.operand = Term::Other;
     }
 
-    /// The binary expression that ends here, as a receiver or an argument of keywords, or as a whole expression.
+    /// The binary expression that ends here. It is a receiver or an argument of keywords, or the whole expression.
     fn binary_expression(&self, faults: &mut Faults) -> Term {
         match self.role {
             Role::Receiver | Role::KeywordArgument => self.operand,
@@ -90,7 +90,7 @@ impl Expression {
         Ok(())
     }
 
-    /// Reads a keyword, and its offset.
+    /// Reads a keyword at an offset.
     pub fn keyword(&mut self, keyword: &[u8], offset: u16, faults: &mut Faults) -> Result<(), Stop>
         ensures { IfErr result (λ e. e ≡ Stop.Stuck) }
     {
@@ -145,7 +145,7 @@ impl Expression {
         self.role = Role::KeywordArgument;
     }
 
-    /// Ends the expression after its last operand.
+    /// Ends the expression. Its last operand has been read.
     pub fn end(&self, faults: &mut Faults) {
         let last = self.binary_expression(faults);
         match self.keywords {
@@ -157,7 +157,7 @@ impl Expression {
         }
     }
 
-    /// Breaks off after an operand.
+    /// Ends early, after an operand: the rest cannot be read.
     pub fn break_off(&self, faults: &mut Faults) {
         self.operand.go_without_message(faults);
     }

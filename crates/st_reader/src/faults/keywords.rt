@@ -1,10 +1,10 @@
-//! Keyword messages, and which of them are compiled in place.
+//! Keyword messages, and which of them are compiled inline.
 use crate::faults::checks::{Check, Faults};
 use crate::faults::term::Term;
 use crate::inlining::Inlining;
 use st_classes::limits;
 
-/// What the keywords so far say of compiling in place.
+/// What the keywords so far say about compiling inline.
 #[derive(Clone, Copy)]
 pub enum Selector {
     /// `ifTrue:`
@@ -22,7 +22,7 @@ pub enum Selector {
 }
 
 impl Selector {
-    /// Of a first keyword.
+    /// The selector of a first keyword.
     pub fn new(keyword: &[u8]) -> Self {
         match Inlining::of_one(keyword) {
             Some(Inlining::IfTrue) => Selector::IfTrue,
@@ -42,7 +42,7 @@ impl Selector {
         }
     }
 
-    /// Whether a message whose arguments are blocks is compiled in place.
+    /// Whether a message whose arguments are blocks is compiled inline.
     fn is_inlined(self, receiver: Term) -> bool {
         match (self, receiver) {
             (Selector::Sent, _) => false,
@@ -54,21 +54,21 @@ impl Selector {
     }
 }
 
-/// What the arguments so far are.
+/// The sort of the arguments so far.
 #[derive(Clone, Copy, PartialEq, Eq)]
 enum Arguments {
     Blocks,
     Mixed,
 }
 
-/// A keyword message up to its last keyword.
+/// A keyword message, up to its last keyword.
 #[derive(Clone, Copy)]
 pub struct Keywords {
     receiver: Term,
     selector: Selector,
     count: usize,
     arguments: Arguments,
-    /// The offset of the first block among receiver and arguments.
+    /// The offset of the first block among the receiver and the arguments.
     block: Option<u16>,
 }
 
@@ -87,7 +87,7 @@ impl Keywords {
         }
     }
 
-    /// A further keyword, and its offset.
+    /// Adds a further keyword, at an offset.
     pub fn add_keyword(&mut self, keyword: &[u8], offset: u16, faults: &mut Faults) {
         if self.count >= limits::ARGUMENTS {
             faults.note(Check::Sizes, offset);
@@ -96,7 +96,7 @@ impl Keywords {
         self.selector = self.selector.followed_by(keyword);
     }
 
-    /// The argument of the last keyword.
+    /// Adds the argument of the last keyword.
     pub fn add_argument(&mut self, argument: Term, faults: &mut Faults) {
         argument.go_without_message(faults);
         match argument {
@@ -105,12 +105,12 @@ impl Keywords {
         }
     }
 
-    /// Takes the message into a cascade.
+    /// Makes the message part of a cascade.
     pub fn cascade(&mut self) {
         self.selector = Selector::Sent;
     }
 
-    /// Notes the blocks of a message that is sent.
+    /// Notes the first block of a message that is sent, if it has one.
     pub fn end(&self, faults: &mut Faults) {
         if self.arguments == Arguments::Blocks && self.selector.is_inlined(self.receiver) {
             return;

@@ -1,16 +1,16 @@
-//! A level: what was read between a pair of brackets.
+//! A level: what is between a pair of brackets.
 use crate::faults::expression::Expression;
 
-/// The brackets round a level.
+/// The brackets around a level.
 #[derive(Clone, Copy, PartialEq, Eq)]
 pub enum Bracket {
-    /// The whole method, which has none.
+    /// None: the level is the whole method.
     Method,
     Parenthesis,
     Block,
 }
 
-/// What happens with the value of a statement.
+/// What happens to the value of a statement.
 #[derive(Clone, Copy)]
 pub enum Statement {
     Kept,
@@ -18,7 +18,7 @@ pub enum Statement {
     Answered,
 }
 
-/// What was read between a pair of brackets, the second of which is still to come.
+/// What was read since an opening bracket. The closing one is still to come.
 #[derive(Clone, Copy)]
 pub struct Level {
     pub bracket: Bracket,
@@ -27,7 +27,7 @@ pub struct Level {
 }
 
 impl Level {
-    /// After the opening bracket.
+    /// A new level, after its opening bracket.
     pub fn new(bracket: Bracket) -> Self {
         Level {
             bracket,
@@ -36,7 +36,7 @@ impl Level {
         }
     }
 
-    /// Forgets the expression before.
+    /// Starts a new expression.
     pub fn begin_expression(&mut self) {
         self.expression = Expression::new();
     }

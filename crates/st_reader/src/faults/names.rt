@@ -1,4 +1,4 @@
-//! The arguments and temporaries that were read, and what is wrong with their names.
+//! The arguments and temporaries read so far, and what is wrong with their names.
 use crate::faults::checks::{Check, Faults};
 use crate::faults::stop::Stop;
 use crate::tokens::text;
@@ -6,7 +6,7 @@ use crate::trees::Span;
 use st_classes::{limits, selectors};
 use std::alloc::Global;
 
-/// The arguments and temporaries that were read, by the places of their names. Those over the limit are left out.
+/// The arguments and temporaries read so far, by the spans of their names. Those over the limit are left out.
 #[derive(Drop)]
 pub struct Names {
     arguments: Vec<Span>,
@@ -20,7 +20,7 @@ fn is_among(source: &[u8], name: Span, names: &[Span]) -> bool {
 }
 
 impl Names {
-    /// None so far.
+    /// No names so far.
     pub fn new(alloc: Global) -> Self {
         Names {
             arguments: Vec::new(alloc),
@@ -77,7 +77,7 @@ impl Names {
         Ok(())
     }
 
-    /// Notes an assignment to what never changes: an argument, a reserved name or a class.
+    /// Notes an assignment to a name that cannot change: an argument, a reserved name or a class.
     pub fn assign(&self, source: &[u8], name: Span, faults: &mut Faults) {
         let written = text(source, name);
         if selectors::begins_upper(written)

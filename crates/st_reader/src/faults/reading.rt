@@ -12,7 +12,7 @@ use crate::trees::Span;
 use st_classes::{limits, selectors};
 use std::alloc::Global;
 
-/// What may come next, by what was read last.
+/// What may come next.
 #[derive(Clone, Copy)]
 enum State {
     /// The pattern.
@@ -21,36 +21,36 @@ enum State {
     BinaryArgument,
     /// The argument of a keyword of the pattern.
     KeywordArgument,
-    /// A further keyword of the pattern, or what follows a pattern.
+    /// Another keyword of the pattern, or what follows a pattern.
     Keywords,
-    /// The temporaries, or a statement, or the end.
+    /// The temporaries, a statement, or the end.
     Body,
-    /// A temporary, or the closing bar.
+    /// A temporary or the closing bar.
     Temporaries,
-    /// A statement, or the end of the level.
+    /// A statement or the end of the level.
     Statement,
     /// An expression.
     Expression,
-    /// `:=` after this name, or what follows it as an operand.
+    /// `:=` after this name, or what follows the name as an operand.
     Name(Span),
     /// An operand.
     Operand,
-    /// Digits, after their minus.
+    /// The digits after a minus.
     Digits,
-    /// A message, or what follows an expression.
+    /// A message or what follows an expression.
     Message,
     /// A message after a semicolon.
     Cascade,
-    /// A semicolon, or what follows an expression.
+    /// A semicolon or what follows an expression.
     Semicolon,
-    /// The end of the level, after the period of an answer.
+    /// The end of the level, after the period of an answered expression.
     End,
-    /// Nothing: the grammar could not go on.
+    /// Nothing: the tokens do not follow the grammar.
     Stuck,
 }
 
 impl State {
-    /// The check that fails where nothing of this comes.
+    /// The check that fails if nothing of this sort comes.
     fn check(self) -> Check {
         match self {
             State::Pattern | State::BinaryArgument | State::KeywordArgument => Check::Pattern,
@@ -59,13 +59,13 @@ impl State {
     }
 }
 
-/// Reads tokens, one after another.
+/// Reads the tokens in order.
 #[derive(Drop)]
 struct Reader<'s> {
     source: &'s [u8],
     state: State,
     level: Level,
-    /// The levels around this one, the outermost first.
+    /// The enclosing levels, the outermost first.
     outer: Vec<Level>,
     names: Names,
     faults: Faults,
@@ -299,7 +299,7 @@ impl Reader<'_> {
         }
     }
 
-    /// Opens a bracket. The pair is an operand of the level around it.
+    /// Opens a bracket. The bracketed part is an operand of the enclosing level.
     fn open(&mut self, bracket: Bracket, opening: Lexeme, operand: Term) -> Result<(), Stop> {
         self.level.expression.operand(operand);
         self.outer.push(self.level)?;
@@ -344,7 +344,7 @@ impl Reader<'_> {
         }
     }
 
-    /// Where the grammar can't go on, or no token begins.
+    /// Stops at an offset: the token there does not follow the grammar, or no token begins there.
     fn stick(&mut self, offset: u16) {
         self.faults.note(self.state.check(), offset);
         if let State::Name(_) | State::Message = self.state {
@@ -365,7 +365,7 @@ impl Reader<'_> {
         Ok(())
     }
 
-    /// Where there are no more tokens.
+    /// Ends the pass after the last token.
     fn finish(&mut self, offset: u16) {
         match self.state {
             State::Name(_) | State::Message | State::Semicolon => {
@@ -380,7 +380,7 @@ impl Reader<'_> {
     }
 }
 
-/// The first fault of a source that was cut into tokens; none where it has a method.
+/// The first fault of a source that was cut into tokens, or `None` if it has a method.
 pub fn first_fault(alloc: Global, source: &[u8], cut: &Tokens) -> Result<Option<Fault>, Stop>
     requires { length source.now ≤ 4096 }
 {

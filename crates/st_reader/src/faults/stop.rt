@@ -1,7 +1,7 @@
-//! Why the pass over the tokens goes no further.
+//! Why the pass over the tokens stops early.
 use std::alloc::AllocFailed;
 
-/// Why no next state follows a token.
+/// Why no state follows a token.
 #[derive(Clone, Copy)]
 pub enum Stop {
     /// No method has this token at this place.

@@ -1,12 +1,12 @@
-//! What a message goes to, or has as an argument.
+//! The receiver or an argument of a message.
 use crate::faults::checks::{Check, Faults};
 
-/// An operand with the messages that it got, as far as later checks ask for it.
+/// An operand with the messages that it got, reduced to what later checks need.
 #[derive(Clone, Copy)]
 pub enum Term {
-    /// A block and no message to it. The offset is that of its bracket.
+    /// A block that got no message. The offset is that of its bracket.
     Block(u16),
-    /// `super` and no message to it, at an offset.
+    /// `super` that got no message, at an offset.
     Super(u16),
     Other,
 }
@@ -26,7 +26,7 @@ impl Term {
         }
     }
 
-    /// Notes a block, and a `super`, that gets no message and is no argument of keywords.
+    /// Notes a block or a `super` that gets no message and is not the argument of a keyword.
     pub fn stand_alone(self, faults: &mut Faults) {
         self.receive(faults);
         self.go_without_message(faults);

@@ -1,4 +1,4 @@
-//! Makes trees from their parts, each part as the parser returned it.
+//! Makes trees from the parts that the parser read.
 ghost use Rattle.std.specs.Prelude.{◌≡◌, IfErr, MatchResult, ℕ, List, option_map};
 ghost use Rattle.st_reader.specs.Lexemes.{tokens_of, seen, name_at};
 ghost use Rattle.st_reader.specs.Syntax.{Message as Shown, send, parenthesis, block};
@@ -13,7 +13,7 @@ use crate::trees::{Chain, Expression, Message, Name, Operand, Span, Statements, 
 use st_classes::seq::Seq;
 use std::alloc::Global;
 
-/// Sends one message more.
+/// Adds one message to a chain.
 #[tactic(auto, using(crate::proofs::Seen::push_is))]
 pub fn push(chain: Chain, message: Message) -> Result<Chain, Wrong>
     ensures { MatchResult result (λ c. chain_view c ≡ send (chain_view chain) (message_view message)) (λ e. e ≡ Wrong.NoMemory) }
@@ -28,7 +28,7 @@ pub fn push(chain: Chain, message: Message) -> Result<Chain, Wrong>
     }
 }
 
-/// Sends a binary message, whose selector is at a place.
+/// Adds a binary message to a chain. The span is that of its selector.
 pub fn push_binary(
     alloc: Global,
     source: &[u8],
@@ -44,7 +44,7 @@ pub fn push_binary(
     }
 }
 
-/// Sends a keyword message, where there are keywords.
+/// Adds a keyword message to a chain, if there are keywords.
 pub fn with_parts(chain: Chain, parts: Vec<(Name, Chain)>) -> Result<Chain, Wrong>
     ensures { MatchResult result (λ c. chain_view c ≡ with_parts (chain_view chain) (seen_parts parts.items)) (λ e. e ≡ Wrong.NoMemory) }
 {
@@ -54,7 +54,7 @@ pub fn with_parts(chain: Chain, parts: Vec<(Name, Chain)>) -> Result<Chain, Wron
     push(chain, Message::Keyword(parts))
 }
 
-/// Makes a cascade, where there are further messages: the receiver is that of the last message so far.
+/// Makes a cascade if there are further messages. Their receiver is that of the last message so far.
 #[tactic(auto, using(crate::proofs::Seen::none_further, crate::proofs::Seen::further_is, crate::proofs::Seen::chain_expression))]
 pub fn with_further(
     targets: Seq<Target>,
@@ -85,7 +85,7 @@ pub fn with_further(
     })
 }
 
-/// Statements that end with an answered expression, and with a period where there is one.
+/// Statements that end with an answered expression, and with a period if one follows.
 pub fn answered(
     before: Vec<(Expression, Span)>,
     caret: Span,

@@ -1,4 +1,4 @@
-//! Reads operands, messages, expressions and statements, one function for each form of the grammar.
+//! Reads operands, messages, expressions and statements, with one function for each form of the grammar.
 ghost use Rattle.std.specs.Prelude.{◌≡◌, length, map, MatchResult};
 ghost use Rattle.st_reader.specs.Lexemes.{tokens_of, seen};
 ghost use Rattle.st_reader.specs.TreeViews.{operand_view, chain_view, message_view, expression_view, statements_view, sends, seen_parts, seen_further};
@@ -48,7 +48,7 @@ fn targets<'t>(alloc: Global, source: &[u8], lexemes: &'t [Lexeme]) -> Parsed<'t
     Ok((Seq::from_vec(targets), rest))
 }
 
-/// An operand. Brackets may nest so deep after it.
+/// An operand. Brackets may nest `nesting` deep in it.
 #[cycle(read)]
 fn operand<'t>(
     alloc: Global,
@@ -96,7 +96,7 @@ fn group<'t>(
     }
 }
 
-/// A block, after the opening bracket.
+/// A block, after its opening bracket.
 #[tactic(auto, unfolding(crate::specs::Parser::block_with))]
 #[cycle(read)]
 fn block<'t>(
@@ -124,7 +124,7 @@ fn block<'t>(
     filled_block(alloc, source, nesting - 1, opening, lexemes)
 }
 
-/// A block with statements, in which brackets may nest so deep, after the opening bracket.
+/// A block with statements, after its opening bracket. Brackets may nest `nesting` deep in it.
 #[tactic(auto, unfolding(crate::specs::Parser::filled_block_with))]
 #[cycle(read)]
 fn filled_block<'t>(
@@ -196,7 +196,7 @@ fn parts<'t>(
     Ok((parts, rest))
 }
 
-/// A message by itself.
+/// A single message.
 #[tactic(auto, unfolding(crate::specs::Parser::message_of))]
 #[cycle(read)]
 fn message<'t>(
@@ -249,7 +249,7 @@ fn further<'t>(
     Ok((further, rest))
 }
 
-/// An expression, in which brackets may nest so deep.
+/// An expression. Brackets may nest `nesting` deep in it.
 #[cycle(read)]
 fn expression<'t>(
     alloc: Global,
@@ -267,7 +267,7 @@ fn expression<'t>(
     Ok((with_further(targets, receiver, further)?, rest))
 }
 
-/// Statements, in whose expressions brackets may nest so deep.
+/// Statements. Brackets may nest `nesting` deep in their expressions.
 #[cycle(read)]
 pub fn statements<'t>(
     alloc: Global,

@@ -1,4 +1,4 @@
-//! Looks at the first tokens: of which kind the next one is, and what ends a group, a block or statements.
+//! Looks at the first tokens: their kinds, and what ends a group, a block or statements.
 ghost use Rattle.std.specs.Prelude.{◌≡◌, ◌∷◌, MatchOption, IfErr, ℕ, List};
 ghost use Rattle.st_reader.specs.Lexemes.{tokens_of, Lacks, LacksTarget, IsTarget, seen};
 ghost use Rattle.st_reader.specs.Parser.{Gives, parenthesis_end, block_end, is_end};
@@ -7,7 +7,7 @@ use crate::parser::Wrong;
 use crate::tokens::{Kind, Lexeme, Mark};
 use crate::trees::Span;
 
-/// The token at the front and those after it, where it is of a kind.
+/// The first token and those after it, if it is of a given kind.
 pub fn next(kind: Kind, lexemes: &[Lexeme]) -> Option<(Lexeme, &[Lexeme])>
     ensures { MatchOption result (Lacks kind lexemes.now) (λ x. (lexemes.now ≡ x.0 ∷ x.1.now) × (x.0.kind ≡ kind)) }
 {
@@ -15,7 +15,7 @@ pub fn next(kind: Kind, lexemes: &[Lexeme]) -> Option<(Lexeme, &[Lexeme])>
     (first.kind == kind).then_some((*first, rest))
 }
 
-/// The variable and the `:=` at the front, and the tokens after them.
+/// The variable and the `:=` at the front, and the tokens after them, if they are there.
 pub fn next_target(lexemes: &[Lexeme]) -> Option<(Lexeme, Span, &[Lexeme])>
     ensures { MatchOption result (LacksTarget lexemes.now) (λ x. IsTarget lexemes.now x.0 x.1 x.2.now) }
 {

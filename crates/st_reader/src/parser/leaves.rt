@@ -12,7 +12,7 @@ use crate::trees::{Name, Operand, Span};
 use st_classes::seq::Seq;
 use std::alloc::Global;
 
-/// The name at a place.
+/// The name at a span.
 pub fn name(alloc: Global, source: &[u8], span: Span) -> Result<Name, Wrong>
     ensures { MatchResult result (λ n. n ≡ name_at source.now span) (λ e. e ≡ Wrong.NoMemory) }
 {
@@ -25,7 +25,7 @@ pub fn name(alloc: Global, source: &[u8], span: Span) -> Result<Name, Wrong>
     })
 }
 
-/// A symbol's name, without its `#`.
+/// The name of a symbol, without its `#`.
 pub fn symbol(alloc: Global, source: &[u8], span: Span) -> Result<Name, Wrong>
     ensures { MatchResult result (λ n. n ≡ symbol_at source.now span) (λ e. e ≡ Wrong.NoMemory) }
 {
@@ -39,7 +39,7 @@ pub fn symbol(alloc: Global, source: &[u8], span: Span) -> Result<Name, Wrong>
     })
 }
 
-/// Digits, with the minus before them.
+/// A number: its digits, and its minus if it has one.
 pub fn number(source: &[u8], minus: Option<Span>, digits: Span) -> Result<Operand, Wrong>
     ensures gives { Gives operand_view result (literal_of minus (digits_value (text_at source.now digits)) digits) }
     ensures err { IfErr result (λ e. e ≡ Wrong.NoTree) }
@@ -61,7 +61,7 @@ pub fn number(source: &[u8], minus: Option<Span>, digits: Span) -> Result<Operan
     }
 }
 
-/// Digits directly after a minus.
+/// The digits directly after a minus.
 pub fn negative<'t>(source: &[u8], minus: Span, lexemes: &'t [Lexeme]) -> Parsed<'t, Operand>
     ensures gives { Gives (seen operand_view source.now) result (negative_of minus (tokens_of source.now lexemes.now)) }
     ensures err { IfErr result (λ e. e ≡ Wrong.NoTree) }

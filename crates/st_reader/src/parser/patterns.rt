@@ -12,7 +12,7 @@ use st_classes::limits;
 use st_classes::seq::Seq;
 use std::alloc::Global;
 
-/// A name after a selector or a keyword of a pattern.
+/// The argument after a selector or a keyword of a pattern.
 fn parameter<'t>(alloc: Global, source: &[u8], lexemes: &'t [Lexeme]) -> Parsed<'t, Name>
     ensures { Gives (seen (λ n. n) source.now) result (parameter_of (tokens_of source.now lexemes.now)) }
 {
@@ -80,7 +80,7 @@ fn names<'t>(alloc: Global, source: &[u8], lexemes: &'t [Lexeme]) -> Parsed<'t, 
     Ok((Seq::from_vec(names), rest))
 }
 
-/// The temporaries, where there are bars.
+/// The temporaries, if there are bars.
 #[tactic(auto, unfolding(crate::specs::Parser::temporaries_of))]
 pub fn temporaries<'t>(
     alloc: Global,

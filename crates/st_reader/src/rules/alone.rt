@@ -1,4 +1,4 @@
-//! Whether an expression is a block or `super` by itself, or a value.
+//! Whether an expression is a block or `super` by itself, or another value.
 ghost use Rattle.std.specs.Prelude.{◌≡◌, codes};
 ghost use Rattle.std.specs.List.{list_any};
 ghost use Rattle.std.specs.Str.{bytes_eq};
@@ -9,7 +9,7 @@ ghost use Rattle.st_reader.specs.ExpressionKinds.{expression_kind, name_alone as
 
 use crate::trees::{Chain, Expression, Message, Name, Operand, Span, Statements};
 
-/// What an expression is by itself: a block, `super`, or anything else.
+/// What an expression is by itself: a block, `super`, or something else.
 #[derive(Clone, Copy, PartialEq, Eq, Debug)]
 pub enum Alone {
     Block,
@@ -27,7 +27,7 @@ fn name_alone(name: &Name) -> Alone
     }
 }
 
-/// What an operand is.
+/// What an operand is by itself.
 pub fn operand_alone(operand: &Operand) -> Alone
     ensures { result ≡ expression_kind (operand_view operand.now) }
 {
@@ -38,7 +38,7 @@ pub fn operand_alone(operand: &Operand) -> Alone
     }
 }
 
-/// What an operand with its messages is: what got a message is neither a block nor `super`.
+/// What an operand with its messages is by itself. If it gets a message, it is neither a block nor `super`.
 #[tactic(auto, using(crate::proofs::Alone::chain_plain, crate::proofs::Alone::chain_sent))]
 fn chain_alone(chain: &Chain) -> Alone
     ensures { result ≡ expression_kind (chain_view chain.now) }
@@ -66,7 +66,7 @@ pub(crate) fn is_loose(chain: &Chain) -> bool
     chain_alone(chain) != Alone::Other
 }
 
-/// What a value is: what a cascade gives is neither a block nor `super`.
+/// What a value is by itself. A cascade is neither a block nor `super`.
 pub(crate) fn value_alone(
     receiver: &Chain,
     cascade: &Option<(Message, Vec<(Span, Message)>)>,
@@ -79,7 +79,7 @@ pub(crate) fn value_alone(
     }
 }
 
-/// What an expression is: an assignment is neither a block nor `super`.
+/// What an expression is by itself. An assignment is neither a block nor `super`.
 #[tactic(auto, using(crate::proofs::Alone::expression_value, crate::proofs::Alone::expression_assigns))]
 pub(crate) fn expression_alone(expression: &Expression) -> Alone
     ensures { result ≡ expression_kind (expression_view expression.now) }
@@ -99,7 +99,7 @@ fn is_loose_expression(expression: &Expression) -> bool
     expression_alone(expression) != Alone::Other
 }
 
-/// Whether a statement that another follows is a block or `super` by itself.
+/// Whether a statement before the last one is a block or `super` by itself.
 fn is_any_loose(before: &[(Expression, Span)]) -> bool
     ensures { result ≡ list_any (λ s. loose (expression_view s.0)) before.now }
 {

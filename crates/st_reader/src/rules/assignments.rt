@@ -1,4 +1,4 @@
-//! A rule: only instance variables and temporaries are assigned to.
+//! The rule that only instance variables and temporaries are assigned to.
 ghost use Rattle.std.specs.Prelude.{◌≡◌};
 ghost use Rattle.std.specs.List.{list_all};
 ghost use Rattle.st_reader.specs.Syntax.{Expression as Shown};
@@ -11,7 +11,7 @@ use crate::rules::variables::is_argument;
 use crate::trees::{Expression, Name, Pattern, Target};
 use st_classes::selectors::is_slot_name;
 
-/// Whether a variable by its name may be assigned to.
+/// Whether a name may be assigned to: it is that of a variable, and not of an argument.
 fn may_change(pattern: &Pattern, name: &Name) -> bool
     ensures { result ≡ changes (argument_texts pattern.now) name.now }
 {
@@ -26,7 +26,7 @@ fn may_change_all(pattern: &Pattern, targets: &[Target]) -> bool
         .all(|target| may_change(pattern, &target.name))
 }
 
-/// Whether a value may be assigned to the targets, where there are any.
+/// Whether a value may be assigned to the targets, if there are any.
 #[tactic(auto, using(crate::proofs::Alone::loose_alone))]
 fn takes(pattern: &Pattern, targets: &[Target], value: Alone) -> bool
     ensures { (e : Shown) → expression_kind e ≡ value → result ≡ assigns_well (argument_texts pattern.now) targets.now e }
@@ -34,7 +34,7 @@ fn takes(pattern: &Pattern, targets: &[Target], value: Alone) -> bool
     targets.is_empty() || value == Alone::Other && may_change_all(pattern, targets)
 }
 
-/// Whether an expression assigns, where it does, a value that is neither a block nor `super` to variables and to no argument.
+/// Whether an expression assigns nothing, or assigns a value that is neither a block nor `super` to variables other than arguments.
 pub fn may_assign(pattern: &Pattern, expression: &Expression) -> bool
     ensures { result ≡ assigns (argument_texts pattern.now) expression.now }
 {

@@ -1,4 +1,4 @@
-//! A rule: where a message may have a block or `super`.
+//! The rule for blocks and `super` in messages.
 ghost use Rattle.std.specs.Prelude.{◌≡◌, ◌&&◌, ◌||◌, not};
 ghost use Rattle.std.specs.List.{list_all, list_any};
 ghost use Rattle.st_reader.specs.Syntax.{Expression, Message as Shown, keywords, send, cascade};
@@ -25,7 +25,7 @@ fn is_any_loose(parts: &[(Name, Chain)]) -> bool
     parts.iter().any(|part| is_loose(&part.1))
 }
 
-/// How a message of these keywords is inlined, where it is.
+/// How a message with these keywords is inlined, if it is.
 #[tactic(auto, using(crate::proofs::Messages::inlining_many))]
 fn inlining_of(parts: &[(Name, Chain)]) -> Option<Inlining>
     ensures { result ≡ inlining (part_texts (parts_of (seen_parts parts.now))) }
@@ -37,7 +37,7 @@ fn inlining_of(parts: &[(Name, Chain)]) -> Option<Inlining>
     }
 }
 
-/// Whether the receiver of an inlined message is as it has to be.
+/// Whether the receiver of an inlined message is of the right sort.
 #[tactic(auto, using(crate::proofs::Messages::suits))]
 fn suits(receiver: Alone, inlining: Option<Inlining>) -> bool
     ensures { (e : Expression) → expression_kind e ≡ receiver → result ≡ suits_receiver inlining e }
@@ -49,7 +49,7 @@ fn suits(receiver: Alone, inlining: Option<Inlining>) -> bool
     }
 }
 
-/// Whether a message of keywords is inlined.
+/// Whether a keyword message is inlined.
 #[tactic(auto, using(crate::proofs::Messages::all_blocks))]
 pub fn is_inlined(receiver: Alone, parts: &[(Name, Chain)]) -> bool
     ensures { (e : Expression) → expression_kind e ≡ receiver → result ≡ inlined e (keywords (parts_of (seen_parts parts.now))) }
@@ -57,7 +57,7 @@ pub fn is_inlined(receiver: Alone, parts: &[(Name, Chain)]) -> bool
     suits(receiver, inlining_of(parts)) && are_blocks(parts)
 }
 
-/// Whether a message of keywords may go to a receiver.
+/// Whether a keyword message may go to a receiver.
 #[tactic(auto, using(crate::proofs::Messages::any_loose, crate::proofs::Alone::block_alone))]
 fn may_send(receiver: Alone, parts: &[(Name, Chain)]) -> bool
     ensures { (e : Expression) → expression_kind e ≡ receiver → result ≡ is_well_placed (send e (keywords (parts_of (seen_parts parts.now)))) }
@@ -89,7 +89,7 @@ pub(crate) fn stands(receiver: Alone, message: &Message) -> bool
     }
 }
 
-/// Whether an argument of a message after a semicolon is a block or `super`.
+/// Whether an argument of the messages after semicolons is a block or `super`.
 fn is_any_further_loose(further: &[(Span, Message)]) -> bool
     ensures { result ≡ list_any (λ f. list_any loose (arguments (message_view f.1))) further.now }
 {

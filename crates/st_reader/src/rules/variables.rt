@@ -1,4 +1,4 @@
-//! A rule: the names that arguments and temporaries may have.
+//! The rule for the names of arguments and temporaries.
 ghost use Rattle.std.specs.Prelude.{◌≡◌, ◌++◌, length, map, nat_le};
 ghost use Rattle.std.specs.List.{list_all, list_any};
 ghost use Rattle.std.specs.Str.{bytes_eq};
@@ -36,7 +36,7 @@ fn is_among(text: &[u8], names: &[Name]) -> bool
     names.iter().any(|name| text == name.text.as_slice())
 }
 
-/// Whether two of the names are alike.
+/// Whether two of the names are equal.
 #[tactic(auto, using(crate::proofs::Variables::any_name))]
 fn has_twice(names: &[Name]) -> bool
     ensures { result ≡ twice (texts names.now) }
@@ -51,7 +51,7 @@ fn has_twice(names: &[Name]) -> bool
     false
 }
 
-/// Whether two of the arguments and names are alike.
+/// Whether two of the arguments and names are equal.
 #[tactic(auto, using(crate::proofs::Variables::any_either))]
 fn have_twice(parameters: &[Parameter], names: &[Name]) -> bool
     ensures { result ≡ twice (texts (map (λ p. p.argument) parameters.now ++ names.now)) }
@@ -67,7 +67,7 @@ fn have_twice(parameters: &[Parameter], names: &[Name]) -> bool
     has_twice(names)
 }
 
-/// Whether two of a method's arguments and temporaries are alike.
+/// Whether two of a method's arguments and temporaries are equal.
 #[tactic(auto, using(crate::proofs::Variables::any_name))]
 fn clash(pattern: &Pattern, temporaries: &[Name]) -> bool
     ensures { result ≡ twice (texts (arguments_of pattern.now ++ temporaries.now)) }
@@ -81,21 +81,21 @@ fn clash(pattern: &Pattern, temporaries: &[Name]) -> bool
     }
 }
 
-/// Whether each can be the name of a variable.
+/// Whether each name may be that of a variable.
 fn are_names(names: &[Name]) -> bool
     ensures { result ≡ list_all (λ n. slot_name n.text) names.now }
 {
     names.iter().all(|name| is_slot_name(name.text.as_slice()))
 }
 
-/// Whether each argument can be the name of a variable.
+/// Whether each argument's name may be that of a variable.
 fn are_arguments(parameters: &[Parameter]) -> bool
     ensures { result ≡ list_all (λ p. slot_name p.argument.text) parameters.now }
 {
     parameters.iter().all(|parameter| is_slot_name(parameter.argument.text.as_slice()))
 }
 
-/// Whether each argument of a method can be the name of a variable.
+/// Whether the name of each argument of a method may be that of a variable.
 #[tactic(auto, using(crate::proofs::Variables::all_arguments))]
 fn arguments_are_names(pattern: &Pattern) -> bool
     ensures { result ≡ list_all slot_name (argument_texts pattern.now) }
@@ -117,7 +117,7 @@ fn argument_count(pattern: &Pattern) -> usize
     }
 }
 
-/// Whether arguments and temporaries are no more than a method may have.
+/// Whether there are at most 64 arguments and temporaries together.
 #[tactic(auto, using(crate::proofs::Variables::long))]
 fn are_few(pattern: &Pattern, temporaries: &[Name]) -> bool
     ensures { result ≡ nat_le (length (arguments_of pattern.now ++ temporaries.now)) 64 }
@@ -125,7 +125,7 @@ fn are_few(pattern: &Pattern, temporaries: &[Name]) -> bool
     argument_count(pattern).saturating_add(temporaries.len()) <= limits::TEMPORARIES
 }
 
-/// The temporaries of a method, none where it has no bars.
+/// The temporaries of a method. There are none without bars.
 fn names_of(temporaries: &Option<Temporaries>) -> &[Name]
     ensures { result.now ≡ temporaries_of temporaries.now }
 {
@@ -135,13 +135,13 @@ fn names_of(temporaries: &Option<Temporaries>) -> &[Name]
     }
 }
 
-/// Whether arguments and temporaries have names of their own, each that of a variable, and are no more than a method may have.
+/// Whether arguments and temporaries have different names, each of which may be that of a variable, and are at most 64.
 #[tactic(auto, using(crate::proofs::Variables::all_names, crate::proofs::Variables::all_slots))]
 pub fn are_variables(pattern: &Pattern, temporaries: &Option<Temporaries>) -> bool
     ensures { result ≡ variables (arguments_of pattern.now ++ temporaries_of temporaries.now) }
 {
     let names = names_of(temporaries);
-    // Names are compared with one another only where they are few.
+    // Names are compared with one another only if they are few.
     if !are_few(pattern, names) {
         return false;
     }

@@ -13,6 +13,9 @@ use std::alloc::{AllocError, Global};
 /// The most values above the top for which a copy has room.
 const SPARE: usize = 320;
 
+/// What a copy has above the top.
+static NILS: [Value; SPARE] = [Value::Nil; SPARE];
+
 impl Stack {
     /// The frames of a turn by their parts: those that wait, the last called last, and the running one. Only want of memory
     /// is an error.
@@ -43,8 +46,9 @@ impl Stack {
     {
         let size = usize::min(self.values.len(), self.top.saturating_add(SPARE));
         let mut values = Vec::with_capacity(alloc, size)?;
-        // What lies above the top is copied too, as room: that is faster than to write nil there.
-        values.extend_from_slice(&self.values[..size])?;
+        // What lies above the top is not read, since another processor may have written it. The room is copied from nils.
+        values.extend_from_slice(&self.values[..self.top])?;
+        values.extend_from_slice(&NILS[..size - self.top])?;
         let callers = self.callers.copy(alloc)?;
         Ok(Stack {
             values,

@@ -1,4 +1,4 @@
-//! Devices over what std reads from and writes to.
+//! Devices over std's readers and writers.
 ghost use Rattle.std.specs.Prelude.{◌≡◌, ◌≤◌, IfOk};
 ghost use Rattle.std.specs.Io.{ReadsAtMost, WritesAtMost};
 ghost use Rattle.std.specs.Io.KnownBytes.{Keeps, ReadConsumes, WriteAppends};
@@ -7,7 +7,7 @@ ghost use Rattle.std.specs.Io.Buffered.{writer_contents};
 use super::{Input, Output, ReadFailed, WriteFailed};
 use std::io::{self, BufWriter, ErrorKind};
 
-/// One read, tried again where a signal interrupts it.
+/// Reads once. A read that a signal interrupts is tried again.
 fn read_from<R: io::Read>(reader: &mut R, buffer: &mut [u8]) -> Result<usize, ReadFailed>
     ensures fits { ReadsAtMost result buffer.new }
     ensures gives { ReadConsumes (R.remaining reader.old) (R.remaining reader.new) result buffer.new }
@@ -25,7 +25,7 @@ fn read_from<R: io::Read>(reader: &mut R, buffer: &mut [u8]) -> Result<usize, Re
     Err(ReadFailed)
 }
 
-/// One write, tried again where a signal interrupts it. It fails where the writer takes none of the bytes.
+/// Writes once. A write that a signal interrupts is tried again. It fails if the writer takes none of the bytes.
 fn write_to<W: io::Write>(writer: &mut W, bytes: &[u8]) -> Result<usize, WriteFailed>
     ensures some { IfOk result (λ n. 1 ≤ n) }
     ensures within { WritesAtMost result bytes.now }
@@ -45,7 +45,7 @@ fn write_to<W: io::Write>(writer: &mut W, bytes: &[u8]) -> Result<usize, WriteFa
     Err(WriteFailed)
 }
 
-/// One flush, tried again where a signal interrupts it.
+/// Flushes once. A flush that a signal interrupts is tried again.
 fn flush_of<W: io::Write>(writer: &mut W) -> Result<(), WriteFailed>
     ensures { Keeps (W.contents writer.old) (W.contents writer.new) }
 {
@@ -62,10 +62,10 @@ fn flush_of<W: io::Write>(writer: &mut W) -> Result<(), WriteFailed>
     Err(WriteFailed)
 }
 
-/// What std reads from, as standard input, a file or a socket. What it will give is known where std knows it.
+/// A device over a reader of std, such as standard input, a file or a socket. What it has left to give is known if std knows it.
 ///
-/// A read that a signal interrupts is no failure and is not counted apart: it is tried again within the same read, as
-/// std's own `read_to_end` does, and only a read that is interrupted 2^64 - 1 times is a failure. Every other error is one.
+/// A read that a signal interrupts is not a failure and not counted apart: it is tried again within the same read, as std's own
+/// `read_to_end` does. Only a read that is interrupted 2^64 - 1 times is a failure. Every other error is a failure.
 #[derive(Drop)]
 pub struct Reader<R> {
     inner: R,
@@ -74,7 +74,7 @@ pub struct Reader<R> {
 }
 
 impl<R: io::Read> Reader<R> {
-    /// A device that has not been read.
+    /// A device from which nothing has been read.
     pub fn new(inner: R) -> Reader<R>
         ensures inner { result.inner ≡ inner }
         ensures unfailed { result.failures ≡ 0 }
@@ -105,12 +105,11 @@ impl<R: io::Read> Input for Reader<R> {
     }
 }
 
-/// What std writes to, as standard output, a file or a socket. What has been written is known where std knows it.
+/// A device over a writer of std, such as standard output, a file or a socket. What has been written is known if std knows it.
 ///
-/// A write that a signal interrupts is no failure: it is tried again, and only a write that is interrupted 2^64 - 1
-/// times is a failure. Every other error is one, and so is a write of which no byte is taken. A writer with a buffer fails where
-/// the buffer cannot be written out, and that may be after the write that filled it: at a later write, at a flush or in
-/// [`Writer::finish`].
+/// A write that a signal interrupts is not a failure: it is tried again. Only a write that is interrupted 2^64 - 1 times is a
+/// failure. Every other error is a failure, and so is a write that takes no byte. A buffered writer fails when its buffer cannot be
+/// written out. That may be after the write that filled the buffer: in a later write, in a flush or in [`Writer::finish`].
 #[derive(Drop)]
 pub struct Writer<W> {
     inner: W,
@@ -119,7 +118,7 @@ pub struct Writer<W> {
 }
 
 impl<W: io::Write> Writer<W> {
-    /// A device that has not been written to.
+    /// A device to which nothing has been written.
     pub fn new(inner: W) -> Writer<W>
         ensures inner { result.inner ≡ inner }
         ensures unfailed { result.failures ≡ 0 }
@@ -134,8 +133,7 @@ impl<W: io::Write> Writer<W> {
 }
 
 impl<W: io::Write + Drop> Writer<BufWriter<W>> {
-    /// Writes out what the buffer holds back, and gives the writer behind it, which has then taken all that was written to
-    /// the device.
+    /// Writes out what the buffer holds, and answers the inner writer, which has then taken all that was written to the device.
     pub fn finish(self) -> Result<W, WriteFailed>
         ensures { IfOk result (λ w. Keeps (writer_contents W.contents self.inner) (W.contents w)) }
     {

@@ -1,10 +1,10 @@
-//! Bytes in memory, to be read and as they are written.
+//! Devices in memory.
 ghost use Rattle.std.specs.Prelude.{◌≡◌, ◌≤◌, [], Some, drop, vec_len};
 
 use super::{Input, Output, ReadFailed, WriteFailed};
 use std::alloc::Global;
 
-/// Bytes in memory, to be read. It never fails, and what it will give is always known: the bytes from its place on.
+/// An input of bytes in memory. It never fails. What it has left to give is always known: the bytes from its position on.
 #[derive(Drop)]
 pub struct MemoryInput {
     bytes: Vec<u8>,
@@ -46,7 +46,7 @@ impl Input for MemoryInput {
     }
 }
 
-/// Bytes in memory, as they are written, which are always known. Want of memory is a failure.
+/// An output to bytes in memory. What has been written is always known. It fails if memory runs out.
 #[derive(Drop)]
 pub struct MemoryOutput {
     bytes: Vec<u8>,
@@ -90,7 +90,7 @@ impl Output for MemoryOutput {
         Err(WriteFailed)
     }
 
-    /// It holds nothing back, so it never fails.
+    /// Nothing is held back, so this never fails.
     fn flush(&mut self) -> Result<(), WriteFailed> {
         self.flushes = self.flushes.wrapping_add(1);
         Ok(())

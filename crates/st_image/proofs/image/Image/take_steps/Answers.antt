@@ -17,8 +17,9 @@ use Rattle.st_image.specs.ActResults.{TakesOuter, constants_of}
 use Rattle.st_image.specs.Changes.{change_count}
 use Rattle.st_image.specs.ClaimsOut.{one_less}
 use Rattle.st_image.specs.Commits.{CommitAllowed, HasCommitted, act_site}
-use Rattle.st_image.specs.Tallies.{Covers, Tallied, after_act_at, after_sends, tally_at}
-use Rattle.st_image.specs.declared.tallies.Tally.{Tally}
+use Rattle.st_turn.specs.Tallies.{after_sends}
+use Rattle.st_image.specs.Tallies.{Covers, Tallied, after_act_at, tally_at}
+use Rattle.st_turn.specs.declared.tally.Tally.{Tally}
 use Rattle.st_image.specs.declared.items.Item.{Item}
 use Rattle.st_image.specs.declared.items.Item.TheVariants.{Ran}
 use Rattle.st_image.proofs.Posting.{seen, standing_of}

@@ -10,5 +10,5 @@ pub is_act_next-requires : goal.is_act_next-requires
 is_act_next-requires c =
     let i = c.self.inside in
     let shown : c.after.result.now ≡ unwrap_or i.after i.before = c.after.ensures ∙ ap (λ (v : ClaimView). v.after) (sym c.self.view_is) in
-    let fits : FitsSome i.token i.actor c.after.result.now = subst (λ (b : Body). FitsSome i.token i.actor b) (sym shown) c.self.invariant.fits in
+    let fits : FitsSome i.token i.actor c.after.result.now = subst (λ (b : Body). FitsSome i.token i.actor b) (sym shown) c.self.invariant.sound.fits in
     subst (λ (es : List Edit). FitsSome es i.actor c.after.result.now) (sym c.shown.ensures) fits

@@ -1,0 +1,63 @@
+//! When a worker is in the way of others: its quanta are short, and it finds the lock held each time.
+//!
+//! A short quantum takes no longer than the hold that ends it. Then more workers bring nothing: each hold takes longer, as what it
+//! reads was written by another processor.
+
+/// A quantum of fewer steps is short.
+const SHORT: u32 = 256;
+
+/// A short quantum that finds the lock held counts so much, one that does not takes one away, and one that is not short takes all away.
+const MET: u32 = 2;
+
+/// At so much a worker is to rest.
+const MOST: u32 = 64;
+
+/// How much the short quanta count that found the lock held, and whether the worker is to rest.
+#[derive(Drop)]
+pub(crate) struct Crowding {
+    met: u32,
+    rests: bool,
+}
+
+impl Crowding {
+    ghost use Rattle.std.specs.Prelude.{◌<◌, ◌↔◌, IsTrue};
+
+    /// No quantum was taken yet.
+    pub(crate) fn none() -> Crowding {
+        Crowding {
+            met: 0,
+            rests: false,
+        }
+    }
+
+    /// Notes a quantum of so many steps, and whether the lock was free behind it. The answer is whether it is short.
+    pub(crate) fn note(&mut self, steps: u32, was_free: bool) -> bool
+        ensures { IsTrue result ↔ steps < 256 }
+    {
+        let is_short = steps < SHORT;
+        self.met = if !is_short {
+            0
+        } else if was_free {
+            self.met.saturating_sub(1)
+        } else {
+            self.met.saturating_add(MET)
+        };
+        is_short
+    }
+
+    /// Whether the worker is to rest, which it is not where no other is awake.
+    pub(crate) fn asks_for_rest(&mut self, has_helpers: bool) -> bool
+        ensures { IsTrue result → IsTrue has_helpers }
+    {
+        self.rests = self.met >= MOST && has_helpers;
+        self.rests
+    }
+
+    /// Whether the worker is to rest. It is asked once.
+    pub(crate) fn takes_rest(&mut self) -> bool {
+        let rests = self.rests;
+        self.met = 0;
+        self.rests = false;
+        rests
+    }
+}

@@ -15,8 +15,6 @@ mod limits;
 #[cfg(test)]
 mod mailboxes;
 #[cfg(test)]
-mod refused;
-#[cfg(test)]
 mod scripts;
 #[cfg(test)]
 mod sessions;

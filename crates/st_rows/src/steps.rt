@@ -8,7 +8,7 @@ ghost use Rattle.st_image.specs.Images.{world};
 
 use crate::calls::{FIRST, define, install, new_image, number_of};
 use st_classes::faults::Fault;
-use st_classes::kernel::{Kernel, OBJECT, is_value_class};
+use st_classes::kernel::{KERNEL_CLASSES, Kernel, OBJECT};
 use st_classes::names::Names;
 use st_classes::refusals::Refusal;
 use st_classes::seq::Seq;
@@ -32,7 +32,7 @@ fn is_plain(version: &Version, class: ClassId) -> bool
     ensures instances { OnTrue result (has_instances version.now class ≡ true) }
     ensures slots { OnTrue result (length (slots version.now class) ≡ 0) }
 {
-    if is_value_class(class) || !version.is_class(class) {
+    if 1 <= class.0 && class.0 < KERNEL_CLASSES || !version.is_class(class) {
         return false;
     }
     version.slots(class).is_empty()

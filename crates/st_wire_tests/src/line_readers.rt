@@ -147,8 +147,10 @@ fn both_readers_read_unusual_lines(rt: HostRuntime) -> Result<(), Fail> {
     let mut reader = LineReader::new(alloc);
     for (line, wanted) in unusual() {
         assert!(rt; is_answer(&read(alloc, line), wanted), "{line}");
-        let answer = reader.read(alloc, line.as_bytes());
-        assert!(rt; is_answer(&answer, wanted), "{line} by a reader");
+        assert!(rt;
+            is_answer(&reader.read(alloc, line.as_bytes()), wanted),
+            "{line} by a reader"
+        );
     }
     Ok(())
 }
@@ -169,95 +171,64 @@ fn repeated(
     Ok(line)
 }
 
-/// A line of a front, a part again and again, and a back; and what it is to be.
-struct Long {
-    front: &'static str,
-    part: &'static str,
-    count: usize,
-    back: &'static str,
-    wanted: Option<Wanted>,
-}
-
-/// Lines of about 8,192 bytes: white space, arguments, arrays in arrays, one key again and again, and long texts and numbers.
-const LONG: &[Long] = &[
-    Long {
-        front: "{",
-        part: " ",
-        count: 8_179,
-        back: "\"cmd\":\"run\"}",
-        wanted: Some(Wanted::Run(1_000)),
-    },
-    Long {
-        front: FRONT,
-        part: "true,",
-        count: 1_600,
-        back: BACK,
-        wanted: Some(Wanted::Post(0, 1_601, "a", 0, 0)),
-    },
-    Long {
-        front: FRONT,
-        part: r#"{"sym":"b"},"#,
-        count: 650,
-        back: BACK,
-        wanted: Some(Wanted::Post(0, 651, "a", 0, 0)),
-    },
-    Long {
-        front: "{",
-        part: r#""actor":1,"#,
-        count: 800,
-        back: r#""cmd":"close"}"#,
-        wanted: Some(Wanted::Close(1)),
-    },
-    Long {
-        front: "",
-        part: "[",
-        count: 8_192,
-        back: "",
-        wanted: None,
-    },
-    Long {
-        front: r#"{"cmd":"run","quanta":"#,
-        part: "[",
-        count: 127,
-        back: "",
-        wanted: None,
-    },
-    Long {
-        front: r#"{"cmd":"run","quanta":"#,
-        part: "9",
-        count: 8_000,
-        back: "}",
-        wanted: None,
-    },
-    Long {
-        front: r#"{"cmd":""#,
-        part: "\\u0072",
-        count: 1_300,
-        back: "\"}",
-        wanted: None,
-    },
-];
-
 const FRONT: &str = r#"{"actor":0,"args":["#;
 
 const BACK: &str = r#"null],"cmd":"post","selector":"a","sender":0,"seq":0}"#;
 
-fn long_lines() -> &'static [Long] {
-    LONG
-}
-
+/// Lines of about 8,192 bytes: white space, arguments, a long selector, arrays in arrays, and one key again and again.
 #[test]
 fn both_readers_read_long_lines(rt: HostRuntime) -> Result<(), Fail> {
     let alloc = rt.alloc();
+    let long = repeated(alloc, "", "s", 8_000, "")?;
+    let selector = repeated(
+        alloc,
+        r#"{"actor":0,"args":[],"cmd":"post","selector":""#,
+        "s",
+        8_000,
+        r#"","sender":0,"seq":0}"#,
+    )?;
+    let lines = [
+        (
+            repeated(alloc, "{", " ", 8_179, "\"cmd\":\"run\"}")?,
+            Some(Wanted::Run(1_000)),
+        ),
+        (
+            repeated(alloc, FRONT, "true,", 1_600, BACK)?,
+            Some(Wanted::Post(0, 1_601, "a", 0, 0)),
+        ),
+        (
+            repeated(alloc, FRONT, "{\"ref\":1},", 800, BACK)?,
+            Some(Wanted::Post(0, 801, "a", 0, 0)),
+        ),
+        (repeated(alloc, "", "[", 8_192, "")?, None),
+        (
+            repeated(alloc, "{\"cmd\":\"run\",\"quanta\":", "[", 127, "")?,
+            None,
+        ),
+        (
+            repeated(alloc, "{", "\"actor\":1,", 800, "\"cmd\":\"close\"}")?,
+            Some(Wanted::Close(1)),
+        ),
+        (
+            repeated(alloc, "{\"cmd\":\"run\",\"quanta\":", "9", 8_000, "}")?,
+            None,
+        ),
+    ];
     let mut reader = LineReader::new(alloc);
-    for it in long_lines() {
-        let line = repeated(alloc, it.front, it.part, it.count, it.back)?;
+    for (line, wanted) in &lines {
+        assert!(rt; is_answer(&read(alloc, line.as_str()), wanted), "{line}");
         assert!(rt;
-            is_answer(&read(alloc, line.as_str()), &it.wanted),
-            "{line}"
+            is_answer(&reader.read(alloc, line.as_str().as_bytes()), wanted),
+            "{line} by a reader"
         );
-        let answer = reader.read(alloc, line.as_str().as_bytes());
-        assert!(rt; is_answer(&answer, &it.wanted), "{line} by a reader");
+    }
+    for read in [
+        read(alloc, selector.as_str()),
+        reader.read(alloc, selector.as_str().as_bytes()),
+    ] {
+        assert!(rt;
+            matches!(&read, Ok(Command::Post { selector, .. }) if selector.as_slice() == long.as_str().as_bytes())
+        );
     }
     Ok(())
 }

@@ -64,7 +64,8 @@ PostsOnce start d a m result e = ((result ≡ Err NoMemory) × (e ≡ d))
 -- cannot be checked out; else it has a claim of the next ready actor
 abbrev pub Takes : ImageView → Work ClaimView → ImageView → Type 0
 Takes i Stop j = j ≡ i
-Takes i (Wait moves) j = (j ≡ i) × (((a : ℕ) → is_free_at i a ≡ false) ⊎ ((a : ActorId) × (e : Refusal) × IsNextReady i a.0 × ChecksOut i a (Err e) j))
+Takes i (Wait moves) j =
+    (j ≡ i) × (((a : ℕ) → is_free_at i a ≡ false) ⊎ ((a : ActorId) × (e : Refusal) × IsNextReady i a.0 × ChecksOut i a (Err e) j))
 Takes i (Turn c) j = (a : ActorId) × IsNextReady i a.0 × ChecksOut i a (Ok c) j
 
 -- a claim that was handed back is released

@@ -160,6 +160,8 @@ fn take_quantum<G: Guard, K: Naming, M: Mailbox, T: Gate, R: Wait>(
 /// A claim that is refused by `Stale` or `Changed` is dropped, and the worker goes on. Where nothing is ready, where memory ran out
 /// or where the history is full, it sleeps until another call may have changed that: an accepted post, an edit, a new actor or a close
 /// (refused ones too), a checkpoint, a commit of steps behind which another actor is ready, or the stop. A refused post, `intern`, `outcome`, `stats` and `look` wake nobody.
+///
+/// A worker whose quanta are short and that often finds the lock held rests while another worker is awake, although actors are ready.
 pub fn worker_loop<G: Guard, K: Naming, M: Mailbox, T: Gate, R: Wait>(
     rt: &R,
     alloc: Global,

@@ -15,4 +15,5 @@ BeginsWithItems depth tokens ds rest = converted of_items (json.items (json.valu
 
 -- the rest of an object after its opening brace
 abbrev pub BeginsWithMembers : ℕ → List Token → Members → List Token → Type 0
-BeginsWithMembers depth tokens ms rest = converted (λ js. of_members js no_members) (json.members (json.value depth) (length tokens) tokens) ≡ Some (ms, rest)
+BeginsWithMembers depth tokens ms rest =
+    converted (λ js. of_members js no_members) (json.members (json.value depth) (length tokens) tokens) ≡ Some (ms, rest)

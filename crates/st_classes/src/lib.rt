@@ -7,6 +7,7 @@
 mod accepting;
 mod class_index;
 mod class_rows;
+pub mod code;
 pub mod counted_rows;
 mod depths;
 pub mod edits;
@@ -19,6 +20,7 @@ pub mod limits;
 mod method_map;
 pub mod methods;
 pub mod names;
+pub mod operations;
 pub mod refusals;
 mod same;
 pub mod selectors;

@@ -19,6 +19,7 @@ use crate::resolve::resolve;
 use crate::scope::Scope;
 use crate::sites::sites_of;
 use crate::words::Line;
+use st_classes::code::Code;
 use st_classes::instructions::Instruction;
 use st_classes::methods::{Method, MethodParts};
 use st_classes::names::Names;
@@ -73,7 +74,7 @@ fn parts_of(
         selector,
         arguments: argument_count(tree.pattern()),
         temporaries: temporary_count(tree.temporaries()),
-        code: Seq::from_vec(code),
+        code: Code::new(alloc, code)?,
         depths: Seq::from_vec(depths),
         sites: Seq::from_vec(sites),
         source: Seq::from_vec(source),

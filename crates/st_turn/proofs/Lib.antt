@@ -24,6 +24,7 @@ pub mod WorkerSteps
 pub mod ActSites
 pub mod PushRows
 pub mod QuickRows
+pub mod QuickOperations
 pub mod QuickSteps
 pub mod ClaimBeginnings
 pub mod WorkerMoves

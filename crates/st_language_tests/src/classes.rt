@@ -4,6 +4,7 @@ ghost use Rattle.st_classes.specs.MethodSuits.{suits};
 ghost use Rattle.st_classes.specs.declared.values.Value.TheVariants.{Int};
 ghost use Rattle.st_classes.specs.declared.instructions.Instruction.TheVariants.{PushLit, Answer};
 
+use st_classes::code::Code;
 use st_classes::edits::{Edit, SharedEdit};
 use st_classes::instructions::Instruction;
 use st_classes::kernel::{ACTOR_REF, CLASS, Kernel, OBJECT, SMALL_INTEGER, TRUE, Target};
@@ -45,7 +46,7 @@ fn answering(
         selector,
         arguments: 0,
         temporaries: 0,
-        code: Seq::from_vec(code),
+        code: Code::new(alloc, code)?,
         depths: Seq::from_vec(depths),
         sites: Seq::from_vec(Vec::new(alloc)),
         source: Seq::from_vec(Vec::new(alloc)),

@@ -7,6 +7,7 @@ ghost use Rattle.st_guard.specs.Moves.{IsAt};
 ghost use Rattle.st_guard.specs.ValidCaches.{asks};
 
 use crate::classes::{boxed, define, kernel_version, remove, reparent};
+use st_classes::code::Code;
 use st_classes::counted_rows::CountedRows;
 use st_classes::edits::Edit;
 use st_classes::instructions::Instruction;
@@ -60,7 +61,7 @@ fn asking(
         selector,
         arguments: 0,
         temporaries: 0,
-        code: Seq::from_vec(code),
+        code: Code::new(alloc, code)?,
         depths: Seq::from_vec(depths),
         sites: Seq::from_vec(sites),
         source: Seq::from_vec(Vec::new(alloc)),

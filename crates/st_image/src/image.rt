@@ -140,18 +140,10 @@ impl<M: Mailbox> Image<M> {
         if let Some(refusal) = settings.refusal() {
             return Err(refusal);
         }
-        let Ok(names) = Names::kernel(alloc) else {
-            return Err(Refusal::NoMemory);
-        };
-        let Ok(version) = Version::kernel(alloc) else {
-            return Err(Refusal::NoMemory);
-        };
-        let Ok(token) = Token::publish(alloc, version) else {
-            return Err(Refusal::NoMemory);
-        };
-        let Ok(table) = token.again() else {
-            return Err(Refusal::NoMemory);
-        };
+        let names = Names::kernel(alloc)?;
+        let version = Version::kernel(alloc)?;
+        let token = Token::publish(alloc, version)?;
+        let table = token.again()?;
         Ok(Image {
             base: Base::new(table, Vec::new(alloc), Vec::new(alloc)),
             names,
@@ -369,21 +361,13 @@ impl<M: Mailbox> Image<M> {
         if let Some(refusal) = self.create_refusal(class) {
             return Err(refusal);
         }
-        if self.history.reserve(1).is_err() {
-            return Err(Refusal::NoMemory);
-        }
+        self.history.reserve(1)?;
         let slots = self.token.shown().slots(class).len();
-        let Ok(body) = Body::fresh(alloc, class, slots) else {
-            return Err(Refusal::NoMemory);
-        };
+        let body = Body::fresh(alloc, class, slots)?;
         let capacity = self.settings.capacity;
         let number = self.actors.len() as u32;
-        let Ok(actor) = Actor::new(alloc, class, capacity, body) else {
-            return Err(Refusal::NoMemory);
-        };
-        let Ok(()) = self.actors.push(actor) else {
-            return Err(Refusal::NoMemory);
-        };
+        let actor = Actor::new(alloc, class, capacity, body)?;
+        self.actors.push(actor)?;
         self.history.push(Item::Created(class)).unwrap();
         Ok(ActorId(number))
     }

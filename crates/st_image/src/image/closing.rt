@@ -35,9 +35,7 @@ impl<M: Mailbox> Image<M> {
         if let Some(refusal) = self.close_refusal(actor) {
             return Err(refusal);
         }
-        if self.history.reserve(1).is_err() {
-            return Err(Refusal::NoMemory);
-        }
+        self.history.reserve(1)?;
         self.actors.close(actor);
         self.history.push(Item::Closed(actor)).unwrap();
         Ok(())

@@ -23,10 +23,7 @@ impl<M: Mailbox> Image<M> {
         let Some(kept) = self.actor(actor) else {
             return Err(Refusal::UnknownActor);
         };
-        match kept.part(alloc) {
-            Ok(part) => Ok(part),
-            Err(_) => Err(Refusal::NoMemory),
-        }
+        Ok(kept.part(alloc)?)
     }
 
     /// Copies of all actors as plain data.

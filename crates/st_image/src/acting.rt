@@ -274,25 +274,27 @@ fn perform<M: Mailbox>(
 
 // ---- the image's step
 
-/// Takes the next step of an actor where it is the image's to take. The answer is whether it was.
-pub(crate) fn take_outer<M: Mailbox>(
+/// Takes the next step of an actor if it is the image's to take, as the caller knows. The answer is whether it was.
+fn take_outer<M: Mailbox>(
     alloc: Global,
     names: &Names,
     version: &Version,
     capacity: u32,
     actors: &mut Actors<M>,
     actor: ActorId,
+    is_act_next: bool,
 ) -> Result<bool, AllocError>
     requires there { actor.0 < length actors.old.kept }
     requires few { FewAccepted actors.old.kept }
     requires shown { (w : World) × IsShown names.now capacity version.now actors.old.kept w }
+    requires act { (w : World) → IsShown names.now capacity version.now actors.old.kept w → StandsBefore actor w is_act_next }
     ensures ok { IfOk result (λ outer. (w : World) → IsShown names.now capacity version.now actors.old.kept w → TakesOuter (constants_of names.now capacity) version.now actors.old.kept actors.new.kept actor w outer) }
     ensures stands { OnErr result ((w : World) → IsShown names.now capacity version.now actors.old.kept w → StandsBefore actor w true) }
     ensures grown { OnOk result (GrowsByOne actors.old.kept actors.new.kept) }
     ensures out { OnOk result (SameOut actors.old.out actors.new.out) }
     ensures err { OnErr result (actors.new ≡ actors.old) }
 {
-    if !actors.is_act_next(version, actor) {
+    if !is_act_next {
         return Ok(false);
     }
     let Some(act) = actors.next_act(alloc, version, actor)? else {
@@ -305,8 +307,8 @@ pub(crate) fn take_outer<M: Mailbox>(
     Ok(true)
 }
 
-/// Steps of an actor's own have led to a body, and the image's step is taken where it comes next. The answer is whether it was. For
-/// want of memory nothing changes, and the body is given back. Else the body before is left.
+/// Steps of an actor's own have led to a body, and the image's step is taken if it comes next, as the caller knows. The answer is
+/// whether it was. If memory runs out, nothing changes and the body is given back. Otherwise the body before is left.
 pub(crate) fn put_steps<M: Mailbox>(
     alloc: Global,
     names: &Names,
@@ -315,12 +317,14 @@ pub(crate) fn put_steps<M: Mailbox>(
     actors: &mut Actors<M>,
     actor: ActorId,
     after: Body,
+    is_act_next: bool,
     left: &mut Option<Body>,
 ) -> Result<bool, Body>
     requires there { actor.0 < length actors.old.kept }
     requires few { FewAccepted actors.old.kept }
     requires busy { (k : ActorView) → slice_get actors.old.kept actor.0 ≡ Some k → idle k.body.phase ≡ false }
     requires shown { (w : World) × IsShown names.now capacity version.now (change_at (view_after_steps after) actor.0 actors.old.kept) w }
+    requires act { (w : World) → IsShown names.now capacity version.now (change_at (view_after_steps after) actor.0 actors.old.kept) w → StandsBefore actor w is_act_next }
     ensures ok { IfOk result (λ outer. (w : World) → IsShown names.now capacity version.now (change_at (view_after_steps after) actor.0 actors.old.kept) w → TakesOuter (constants_of names.now capacity) version.now (change_at (view_after_steps after) actor.0 actors.old.kept) actors.new.kept actor w outer) }
     ensures grown { OnOk result (GrowsByOne actors.old.kept actors.new.kept) }
     ensures out { OnOk result (SameOut actors.old.out actors.new.out) }
@@ -331,7 +335,7 @@ pub(crate) fn put_steps<M: Mailbox>(
         Ok(was) => was,
         Err(after) => return Err(after),
     };
-    match take_outer(alloc, names, version, capacity, actors, actor) {
+    match take_outer(alloc, names, version, capacity, actors, actor, is_act_next) {
         Ok(outer) => {
             *left = Some(was);
             Ok(outer)

@@ -12,7 +12,7 @@ use st_classes::version::Version;
 use st_flags::flags::Flags;
 use st_mailbox::mailboxes::Mailbox;
 use st_mailbox::messages::Message;
-use st_turn::acts::{Act, is_act_next, next_act};
+use st_turn::acts::{Act, next_act};
 use st_turn::body::Body;
 use std::alloc::{AllocError, Global};
 use std::marker::Model;
@@ -61,7 +61,7 @@ fn one_less(out: u32) -> u32
 }
 
 impl<M: Mailbox> Actors<M> {
-    ghost use Rattle.std.specs.Prelude.{◌≡◌, ◌+◌, ◌<◌, ◌≤◌, ◌^◌, ◌++◌, [], ◌∷◌, ℕ, length, slice_get, Some, true, false, IfOk, IfErr, IfSome, IfNone, OnOk, OnErr, Ok, Err, is_some};
+    ghost use Rattle.std.specs.Prelude.{◌≡◌, ◌+◌, ◌<◌, ◌≤◌, ◌^◌, ◌++◌, [], ◌∷◌, ℕ, length, slice_get, Some, true, false, IfOk, IfErr, IfSome, IfNone, OnOk, OnErr, Ok, Err};
     ghost use Rattle.std.specs.Option.{option_copied};
     ghost use Rattle.st_turn.specs.declared.acts.Act.{Act as ActOf};
     ghost use Rattle.st_turn.specs.Idle.{is_idle as idle};
@@ -224,16 +224,6 @@ impl<M: Mailbox> Actors<M> {
     {
         let kept = &mut self.items[actor.0 as usize];
         kept.put_back(body)
-    }
-
-    /// Whether the next step of an actor asks something of the image.
-    pub(crate) fn is_act_next(&self, version: &Version, actor: ActorId) -> bool
-        requires there { actor.0 < length self.now.kept }
-        requires fits { (k : ActorView) → slice_get self.now.kept actor.0 ≡ Some k → FitsSome version.now actor k.body }
-        ensures { (k : ActorView) → slice_get self.now.kept actor.0 ≡ Some k → result ≡ is_some (act_in (step version.now actor k.body)) }
-    {
-        let kept = &self.items[actor.0 as usize];
-        is_act_next(kept.body(), actor, version)
     }
 
     /// What the next step of an actor asks of the image, if it does.

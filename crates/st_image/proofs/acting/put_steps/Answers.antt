@@ -10,6 +10,12 @@ use Rattle.st_image.proofs.Acts.{kept_is}
 use Rattle.st_image.proofs.Committing.{own_accepts, restored, stood_busy}
 use Rattle.st_image.proofs.acting.put_steps.Goals as goal
 
+pub take_outer-requires-clause-act : goal.take_outer-requires-clause-act
+take_outer-requires-clause-act g c = λ w shown.
+    let mid : List ActorView = change_at (view_after_steps c.args.after) c.args.actor.0 c.args.actors.now.kept in
+    let put : c.put_body.new.self.kept ≡ mid = kept_is _ _ c.in-Ok.ensures.ok in
+    c.requires.act w (subst (λ (xs : List ActorView). IsShown c.args.names.now c.args.capacity c.args.version.now xs w) put shown)
+
 pub put_back-requires-clause-busy : goal.put_back-requires-clause-busy
 put_back-requires-clause-busy g c = λ l e.
     let ks : List ActorView = c.args.actors.now.kept in

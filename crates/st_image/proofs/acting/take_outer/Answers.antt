@@ -9,21 +9,16 @@ use Rattle.st_image.proofs.Acts.{kept_is, then_out}
 use Rattle.st_image.proofs.Outer.{Performed, kept_there, next_names, on_err, performed, performed_busy, performed_fits, performed_given, performed_grows, performed_next, shown_runs, stands_by}
 use Rattle.st_image.proofs.acting.take_outer.Goals as goal
 
-pub is_act_next-requires-clause-fits : goal.is_act_next-requires-clause-fits
-is_act_next-requires-clause-fits g c = λ k at. fits_some c.args.version.now c.args.actor k.body (shown_runs c.args.names.now c.args.capacity c.args.version.now c.args.actors.now.kept c.requires.shown.0 c.args.actor k c.requires.shown.1 at)
-
 pub next_act-requires-clause-fits : goal.next_act-requires-clause-fits
 next_act-requires-clause-fits g c = λ k at. fits_some c.args.version.now c.args.actor k.body (shown_runs c.args.names.now c.args.capacity c.args.version.now c.args.actors.now.kept c.requires.shown.0 c.args.actor k c.requires.shown.1 at)
 
 pub returns-then-not-is_act_next-clause-ok : goal.returns-then-not-is_act_next-clause-ok
 returns-then-not-is_act_next-clause-ok g c = λ w i.
-    let k = kept_there c.args.actors.now.kept c.args.actor.0 c.requires.there in
-    (stands_by c.args.version.now c.args.actors.now.kept w c.args.actor k.0 false i.shows k.1 (sym (c.is_act_next.ensures k.0 k.1) ∙ c.if-not-is_act_next.true), refl)
+    (subst (StandsBefore c.args.actor w) c.if-not-is_act_next.true (c.requires.act w i), refl)
 
 pub returns-in_err-act-clause-stands : goal.returns-in_err-act-clause-stands
 returns-in_err-act-clause-stands g c = on_err c.from_residual.result ((w : World) → IsShown c.args.names.now c.args.capacity c.args.version.now c.args.actors.now.kept w → StandsBefore c.args.actor w true) (λ w i.
-    let k = kept_there c.args.actors.now.kept c.args.actor.0 c.requires.there in
-    stands_by c.args.version.now c.args.actors.now.kept w c.args.actor k.0 true i.shows k.1 (sym (c.is_act_next.ensures k.0 k.1) ∙ c.if-not-is_act_next.false))
+    subst (StandsBefore c.args.actor w) c.if-not-is_act_next.false (c.requires.act w i))
 
 pub returns-in_default-clause-ok : goal.returns-in_default-clause-ok
 returns-in_default-clause-ok g c = λ w i.
@@ -37,13 +32,11 @@ perform-requires-clause-class g c =
 
 pub returns-in_err-value-clause-stands : goal.returns-in_err-value-clause-stands
 returns-in_err-value-clause-stands g c = on_err c.from_residual-in_err-value.result ((w : World) → IsShown c.args.names.now c.args.capacity c.args.version.now c.args.actors.now.kept w → StandsBefore c.args.actor w true) (λ w i.
-    let k = kept_there c.args.actors.now.kept c.args.actor.0 c.requires.there in
-    stands_by c.args.version.now c.args.actors.now.kept w c.args.actor k.0 true i.shows k.1 (sym (c.is_act_next.ensures k.0 k.1) ∙ c.if-not-is_act_next.false))
+    subst (StandsBefore c.args.actor w) c.if-not-is_act_next.false (c.requires.act w i))
 
 pub returns-in_err-fail-in-Err-clause-stands : goal.returns-in_err-fail-in-Err-clause-stands
 returns-in_err-fail-in-Err-clause-stands g c = on_err c.from_residual-in_err-fail-in-Err.result ((w : World) → IsShown c.args.names.now c.args.capacity c.args.version.now c.args.actors.now.kept w → StandsBefore c.args.actor w true) (λ w i.
-    let k = kept_there c.args.actors.now.kept c.args.actor.0 c.requires.there in
-    stands_by c.args.version.now c.args.actors.now.kept w c.args.actor k.0 true i.shows k.1 (sym (c.is_act_next.ensures k.0 k.1) ∙ c.if-not-is_act_next.false))
+    subst (StandsBefore c.args.actor w) c.if-not-is_act_next.false (c.requires.act w i))
 
 pub give-requires-clause-there : goal.give-requires-clause-there
 give-requires-clause-there g c =
@@ -100,7 +93,7 @@ returns-in-Ok-clause-ok g c = λ w i.
     let k = kept_there c.args.actors.now.kept c.args.actor.0 c.requires.there in
     let does : Does c.args.version.now c.perform.new.actors.kept (act_result (constants_of c.args.names.now c.args.capacity) c.args.actor w c.in-Some.act) (Ok c.in-Ok.value) = subst (Does c.args.version.now c.perform.new.actors.kept (act_result (constants_of c.args.names.now c.args.capacity) c.args.actor w c.in-Some.act)) c.in-Ok.is (c.in_ok-value.ensures.ok w i) in
     let p : Performed c.args.names.now c.args.capacity c.args.version.now c.perform.new.actors.kept c.args.actor w c.in-Some.act (Ok c.in-Ok.value) = performed c.args.names.now c.args.capacity c.args.version.now c.args.actors.now.kept c.perform.new.actors.kept w c.args.actor k.0 c.in-Some.act (Ok c.in-Ok.value) i k.1 (sym (c.in_ok-act.ensures k.0 k.1) ∙ c.in-Some.is) does in
-    (stands_by c.args.version.now c.args.actors.now.kept w c.args.actor k.0 true i.shows k.1 (sym (c.is_act_next.ensures k.0 k.1) ∙ c.if-not-is_act_next.false), performed_given c.args.names.now c.args.capacity c.args.version.now c.perform.new.actors.kept c.give.new.self.kept c.args.actor w c.in-Some.act (Ok c.in-Ok.value) p (λ k x e f. kept_is _ _ (c.give.ensures k x e f)))
+    (subst (StandsBefore c.args.actor w) c.if-not-is_act_next.false (c.requires.act w i), performed_given c.args.names.now c.args.capacity c.args.version.now c.perform.new.actors.kept c.give.new.self.kept c.args.actor w c.in-Some.act (Ok c.in-Ok.value) p (λ k x e f. kept_is _ _ (c.give.ensures k x e f)))
 
 pub returns-in-Ok-clause-grown : goal.returns-in-Ok-clause-grown
 returns-in-Ok-clause-grown g c =
@@ -114,7 +107,7 @@ returns-in_ok-fail-in-Err-clause-ok g c = λ w i.
     let k = kept_there c.args.actors.now.kept c.args.actor.0 c.requires.there in
     let does : Does c.args.version.now c.perform.new.actors.kept (act_result (constants_of c.args.names.now c.args.capacity) c.args.actor w c.in-Some.act) (Err c.in-Err.fault) = subst (Does c.args.version.now c.perform.new.actors.kept (act_result (constants_of c.args.names.now c.args.capacity) c.args.actor w c.in-Some.act)) c.in-Err.is (c.in_ok-value.ensures.ok w i) in
     let p : Performed c.args.names.now c.args.capacity c.args.version.now c.perform.new.actors.kept c.args.actor w c.in-Some.act (Err c.in-Err.fault) = performed c.args.names.now c.args.capacity c.args.version.now c.args.actors.now.kept c.perform.new.actors.kept w c.args.actor k.0 c.in-Some.act (Err c.in-Err.fault) i k.1 (sym (c.in_ok-act.ensures k.0 k.1) ∙ c.in-Some.is) does in
-    (stands_by c.args.version.now c.args.actors.now.kept w c.args.actor k.0 true i.shows k.1 (sym (c.is_act_next.ensures k.0 k.1) ∙ c.if-not-is_act_next.false), performed_given c.args.names.now c.args.capacity c.args.version.now c.perform.new.actors.kept c.fail.new.self.kept c.args.actor w c.in-Some.act (Err c.in-Err.fault) p (λ k x e f. kept_is _ _ (c.in_ok-fail-in-Err.ensures.ok k x e f)))
+    (subst (StandsBefore c.args.actor w) c.if-not-is_act_next.false (c.requires.act w i), performed_given c.args.names.now c.args.capacity c.args.version.now c.perform.new.actors.kept c.fail.new.self.kept c.args.actor w c.in-Some.act (Err c.in-Err.fault) p (λ k x e f. kept_is _ _ (c.in_ok-fail-in-Err.ensures.ok k x e f)))
 
 pub returns-in_ok-fail-in-Err-clause-grown : goal.returns-in_ok-fail-in-Err-clause-grown
 returns-in_ok-fail-in-Err-clause-grown g c =

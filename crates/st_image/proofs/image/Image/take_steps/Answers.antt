@@ -25,7 +25,7 @@ use Rattle.st_image.specs.declared.items.Item.TheVariants.{Ran}
 use Rattle.st_image.proofs.Posting.{seen, standing_of}
 use Rattle.st_image.proofs.Showing.{kept_at}
 use Rattle.st_image.proofs.Acts.{kept_is, out_same, some_kept}
-use Rattle.st_image.proofs.Committing.{HasTaken, MayCommit, has_taken, items_are, may_commit, steps_room}
+use Rattle.st_image.proofs.Committing.{HasTaken, MayCommit, has_taken, items_are, may_commit, stands_after, steps_room}
 use Rattle.st_image.proofs.CountingOut.{counts_same_out}
 use Rattle.st_image.proofs.ClientNumbers.{kept_other}
 use Rattle.st_image.proofs.CountingChanges.{counts_one}
@@ -52,6 +52,15 @@ put_steps-requires-clause-shown g c =
     let allowed : CommitAllowed (seen i.base i.names i.history.items i.settings beside) d = subst (λ (v : ImageView). CommitAllowed v d) (sym c.self.view_is) c.requires.allowed in
     let may : MayCommit i.base i.names i.token i.actors.kept i.history.items i.settings d = may_commit i.base i.names i.token i.actors.kept i.history.items i.edits_made i.settings beside d c.self.invariant.image allowed c.known.ensures (subst (λ (n : ℕ). 0 < n) c.requires.steps c.requires.some) in
     (change (with_body d.after) d.actor (world_of (constants_of i.names i.settings.capacity) i.base i.history.items), rw (c.shown-version.ensures, c.actor-actor.ensures, c.in-Ok-into_parts.ensures.after) may.went.shown)
+
+pub put_steps-requires-clause-act : goal.put_steps-requires-clause-act
+put_steps-requires-clause-act g c =
+    let i = c.self.inside in
+    let d : ClaimView = c.args.claim in
+    let beside : Standing = standing_of i.earlier i.next_from i.actors.out i.tallies in
+    let allowed : CommitAllowed (seen i.base i.names i.history.items i.settings beside) d = subst (λ (v : ImageView). CommitAllowed v d) (sym c.self.view_is) c.requires.allowed in
+    let may : MayCommit i.base i.names i.token i.actors.kept i.history.items i.settings d = may_commit i.base i.names i.token i.actors.kept i.history.items i.edits_made i.settings beside d c.self.invariant.image allowed c.known.ensures (subst (λ (n : ℕ). 0 < n) c.requires.steps c.requires.some) in
+    rw (c.shown-version.ensures, c.actor-actor.ensures, c.in-Ok-into_parts.ensures.after) (stands_after i.base i.names i.token i.actors.kept i.history.items i.settings d c.args.is_act_next may c.self.invariant.image.shows.edits_are c.requires.act)
 
 pub count-requires-clause-places : goal.count-requires-clause-places
 count-requires-clause-places g c =

@@ -31,7 +31,7 @@ pub new-claim-requires : goal.new-claim-requires
 new-claim-requires g c =
     let i = c.self.inside in
     let beside : Standing = standing_of i.earlier i.next_from i.actors.out i.tallies in
-    let allowed : first_of (checkout_rules (seen i.base i.names i.history.items i.settings beside) (slice_get (world_of (constants_of i.names i.settings.capacity) i.base i.history.items).actors c.args.actor.0)) ≡ None = subst (λ (v : ImageView). first_of (checkout_rules v (slice_get (world v).actors c.args.actor.0)) ≡ None) (sym c.self.view_is) c.requires in
+    let allowed : first_of (checkout_rules (seen i.base i.names i.history.items i.settings beside) (slice_get (world_of (constants_of i.names i.settings.capacity) i.base i.history.items).actors c.args.actor.0)) ≡ None = subst (λ (v : ImageView). first_of (checkout_rules v (slice_get (world v).actors c.args.actor.0)) ≡ None) (sym c.self.view_is) c.requires.allowed in
     let k = hands i.base i.names i.token i.actors.kept i.history.items i.edits_made i.settings beside c.args.actor c.self.invariant.image allowed in
     let out : IsOut i.base i.names i.token (change_at view_checked_out c.args.actor.0 i.actors.kept) _ i.edits_made i.settings c.args.actor (view_checked_out k.0).body = outs i.base i.names i.token i.actors.kept i.history.items i.edits_made i.settings beside c.args.actor k.0 (is_idle k.0.body.phase) c.self.invariant.image allowed k.1 refl in
     let fits : FitsSome i.token c.args.actor (view_checked_out k.0).body = fits_some i.token c.args.actor (view_checked_out k.0).body out.runs in
@@ -46,7 +46,7 @@ pub check_out-next-requires : goal.check_out-next-requires
 check_out-next-requires g c =
     let i = c.self.inside in
     let beside : Standing = standing_of i.earlier i.next_from i.actors.out i.tallies in
-    let allowed : first_of (checkout_rules (seen i.base i.names i.history.items i.settings beside) (slice_get (world_of (constants_of i.names i.settings.capacity) i.base i.history.items).actors c.args.actor.0)) ≡ None = subst (λ (v : ImageView). first_of (checkout_rules v (slice_get (world v).actors c.args.actor.0)) ≡ None) (sym c.self.view_is) c.requires in
+    let allowed : first_of (checkout_rules (seen i.base i.names i.history.items i.settings beside) (slice_get (world_of (constants_of i.names i.settings.capacity) i.base i.history.items).actors c.args.actor.0)) ≡ None = subst (λ (v : ImageView). first_of (checkout_rules v (slice_get (world v).actors c.args.actor.0)) ≡ None) (sym c.self.view_is) c.requires.allowed in
     let k = hands i.base i.names i.token i.actors.kept i.history.items i.edits_made i.settings beside c.args.actor c.self.invariant.image allowed in
     let same : c.if-begins.self-inside.actors ≡ i.actors = elim c.if-begins.branch [ then-begins+in_ok-reserve w ↦ ap (λ (x : Inside _). x.actors) w.self-inside-is | else-begins w ↦ ap (λ (x : Inside _). x.actors) w.self-inside-is ] in
     subst (λ (v : ActorsView). c.args.actor.0 < length v.kept) (sym same) (slice_get_within i.actors.kept c.args.actor.0 k.0 k.1)
@@ -55,11 +55,11 @@ pub invariant_of-self-2 : goal.invariant_of-self-2
 invariant_of-self-2 g c =
     let i = c.self.inside in
     let beside : Standing = standing_of i.earlier i.next_from i.actors.out i.tallies in
-    let allowed : first_of (checkout_rules (seen i.base i.names i.history.items i.settings beside) (slice_get (world_of (constants_of i.names i.settings.capacity) i.base i.history.items).actors c.args.actor.0)) ≡ None = subst (λ (v : ImageView). first_of (checkout_rules v (slice_get (world v).actors c.args.actor.0)) ≡ None) (sym c.self.view_is) c.requires in
+    let allowed : first_of (checkout_rules (seen i.base i.names i.history.items i.settings beside) (slice_get (world_of (constants_of i.names i.settings.capacity) i.base i.history.items).actors c.args.actor.0)) ≡ None = subst (λ (v : ImageView). first_of (checkout_rules v (slice_get (world v).actors c.args.actor.0)) ≡ None) (sym c.self.view_is) c.requires.allowed in
     let k = hands i.base i.names i.token i.actors.kept i.history.items i.edits_made i.settings beside c.args.actor c.self.invariant.image allowed in
     let same : c.if-begins.self-inside.actors ≡ i.actors = elim c.if-begins.branch [ then-begins+in_ok-reserve w ↦ ap (λ (x : Inside _). x.actors) w.self-inside-is | else-begins w ↦ ap (λ (x : Inside _). x.actors) w.self-inside-is ] in
     let put : c.check_out-next.new.self ≡ (let v : ActorsView = record { kept = change_at view_checked_out c.args.actor.0 i.actors.kept; out = change_at one_more c.args.actor.0 i.actors.out } in v) = c.check_out-next.ensures.checked ∙ ap (λ (x : ActorsView). let v : ActorsView = record { kept = change_at view_checked_out c.args.actor.0 x.kept; out = change_at one_more c.args.actor.0 x.out } in v) same in
-    let phase : c.is_idle-begins.result ≡ is_idle k.0.body.phase = c.is_idle-begins.ensures ∙ ap (λ (v : ImageView). idle_at (slice_get (world v).actors c.args.actor.0)) (sym c.self.view_is) ∙ idle_there i.token i.actors.kept (world_of (constants_of i.names i.settings.capacity) i.base i.history.items) c.args.actor k.0 c.self.invariant.image.shows k.1 in
+    let phase : c.args.begins ≡ is_idle k.0.body.phase = c.requires.begins ∙ ap (λ (v : ImageView). idle_at (slice_get (world v).actors c.args.actor.0)) (sym c.self.view_is) ∙ idle_there i.token i.actors.kept (world_of (constants_of i.names i.settings.capacity) i.base i.history.items) c.args.actor k.0 c.self.invariant.image.shows k.1 in
     elim c.if-begins.branch [
       | then-begins+in_ok-reserve w ↦ (
           let out : IsOut i.base i.names i.token (change_at view_checked_out c.args.actor.0 i.actors.kept) (i.history.items ++ begun_items true c.args.actor) i.edits_made i.settings c.args.actor (view_checked_out k.0).body = outs i.base i.names i.token i.actors.kept i.history.items i.edits_made i.settings beside c.args.actor k.0 true c.self.invariant.image allowed k.1 (sym phase ∙ w.if-begins.true) in
@@ -76,11 +76,11 @@ pub returns-clause-ok : goal.returns-clause-ok
 returns-clause-ok g c =
     let i = c.self.inside in
     let beside : Standing = standing_of i.earlier i.next_from i.actors.out i.tallies in
-    let allowed : first_of (checkout_rules (seen i.base i.names i.history.items i.settings beside) (slice_get (world_of (constants_of i.names i.settings.capacity) i.base i.history.items).actors c.args.actor.0)) ≡ None = subst (λ (v : ImageView). first_of (checkout_rules v (slice_get (world v).actors c.args.actor.0)) ≡ None) (sym c.self.view_is) c.requires in
+    let allowed : first_of (checkout_rules (seen i.base i.names i.history.items i.settings beside) (slice_get (world_of (constants_of i.names i.settings.capacity) i.base i.history.items).actors c.args.actor.0)) ≡ None = subst (λ (v : ImageView). first_of (checkout_rules v (slice_get (world v).actors c.args.actor.0)) ≡ None) (sym c.self.view_is) c.requires.allowed in
     let k = hands i.base i.names i.token i.actors.kept i.history.items i.edits_made i.settings beside c.args.actor c.self.invariant.image allowed in
     let same : c.if-begins.self-inside.actors ≡ i.actors = elim c.if-begins.branch [ then-begins+in_ok-reserve w ↦ ap (λ (x : Inside _). x.actors) w.self-inside-is | else-begins w ↦ ap (λ (x : Inside _). x.actors) w.self-inside-is ] in
     let put : c.check_out-next.new.self ≡ (let v : ActorsView = record { kept = change_at view_checked_out c.args.actor.0 i.actors.kept; out = change_at one_more c.args.actor.0 i.actors.out } in v) = c.check_out-next.ensures.checked ∙ ap (λ (x : ActorsView). let v : ActorsView = record { kept = change_at view_checked_out c.args.actor.0 x.kept; out = change_at one_more c.args.actor.0 x.out } in v) same in
-    let phase : c.is_idle-begins.result ≡ is_idle k.0.body.phase = c.is_idle-begins.ensures ∙ ap (λ (v : ImageView). idle_at (slice_get (world v).actors c.args.actor.0)) (sym c.self.view_is) ∙ idle_there i.token i.actors.kept (world_of (constants_of i.names i.settings.capacity) i.base i.history.items) c.args.actor k.0 c.self.invariant.image.shows k.1 in
+    let phase : c.args.begins ≡ is_idle k.0.body.phase = c.requires.begins ∙ ap (λ (v : ImageView). idle_at (slice_get (world v).actors c.args.actor.0)) (sym c.self.view_is) ∙ idle_there i.token i.actors.kept (world_of (constants_of i.names i.settings.capacity) i.base i.history.items) c.args.actor k.0 c.self.invariant.image.shows k.1 in
     let claim : c.new-claim.result ≡ new_claim i.token c.args.actor (view_checked_out k.0).body c.stamp_after-stamp.result = c.new-claim.ensures ∙ ap (λ (es : List Edit). new_claim es c.args.actor c.in_ok-body.body c.stamp_after-stamp.result) c.in_ok-again.ensures ∙ ap (λ (b : Body). new_claim i.token c.args.actor b c.stamp_after-stamp.result) (c.in_ok-body.ensures k.0 k.1) in
     let within : c.args.actor.0 < length i.actors.out = subst (λ (v : ActorsView). c.args.actor.0 < length v.out) same c.check_out-next.ensures.counted in
     elim c.if-begins.branch [

@@ -110,7 +110,7 @@ impl<M: Mailbox> Model for Image<M> {
 
     ghost view = { λ i. record { base = i.base; names = i.names; history = i.history.items; capacity = i.settings.capacity; most_items = i.settings.history; standing = record { next_from = i.next_from; claims_out = trimmed i.actors.out; tallies = i.tallies; earlier = i.earlier } } };
 
-    ghost invariant = { λ i. HoldsImage i.base i.names i.token i.actors.kept i.history.items i.edits_made i.settings i.clients i.tallies i.covered i.changes i.counts i.earlier };
+    ghost invariant = { λ i. HoldsImage i.base i.names i.token i.actors.list i.history.items i.edits_made i.settings i.clients i.tallies i.covered i.changes i.counts i.earlier };
 }
 
 impl<M: Mailbox> Image<M> {
@@ -259,7 +259,7 @@ impl<M: Mailbox> Image<M> {
         ensures { result ≡ image_outcome self.now actor turn }
     {
         match self.actors.get(actor) {
-            Some(kept) => kept.outcome(self.base.first_turn(actor), turn),
+            Some(found) => found.outcome(self.base.first_turn(actor), turn),
             None => Err(Refusal::UnknownActor),
         }
     }

@@ -20,13 +20,13 @@ impl<M: Mailbox> Image<M> {
             (λ begins. (first_of (checkout_rules self.now (slice_get (world self.now).actors actor.0)) ≡ None) × (begins ≡ idle_at (slice_get (world self.now).actors actor.0)))
             (λ e. first_of (checkout_rules self.now (slice_get (world self.now).actors actor.0)) ≡ Some e) }
     {
-        let Some(kept) = self.actor(actor) else {
+        let Some(found) = self.actor(actor) else {
             return Err(Refusal::UnknownActor);
         };
-        if !kept.is_idle() {
+        if !found.is_idle() {
             return Ok(false);
         }
-        if !kept.has_pending() {
+        if !found.has_pending() {
             return Err(Refusal::NothingToDo);
         }
         match self.room_refusal(1) {

@@ -31,7 +31,7 @@ impl<M: Mailbox> Image<M> {
         ensures { IsTrue result ↔ IsUnchanged self.now claim.now }
     {
         match self.actor(claim.actor()) {
-            Some(kept) => kept.body().is_same(claim.before()),
+            Some(found) => found.body().is_same(claim.before()),
             None => false,
         }
     }

@@ -44,8 +44,8 @@ invariant_of-self-2 g c =
     let items : c.push.new.self.items ≡ i.history.items ++ Edited c.args.edit ∷ [] = subst (λ (x : Edit). c.push.new.self.items ≡ i.history.items ++ Edited x ∷ []) item put in
     let here : IsCompiledEdit i.names i.token c.args.edit = subst (λ (es : List Edit). IsCompiledEdit i.names es c.args.edit) (sym c.self.invariant.image.shows.edits_are) (subst (λ (v : ImageView). IsCompiledEdit v.names (world v).edits c.args.edit) (sym c.self.view_is) c.requires.compiled) in
     let compiled : AllCompiled i.names c.in_ok-token.token = subst (AllCompiled i.names) (sym (after ∙ ap (λ (es : List Edit). es ++ c.args.edit ∷ []) (sym c.self.invariant.image.shows.edits_are))) (all_with i.names i.token c.args.edit c.self.invariant.compiled here) in
-    let e : IsEdited i.base i.names c.in_ok-token.token i.actors.kept (i.history.items ++ Edited c.args.edit ∷ []) (i.edits_made + 1) i.settings = edited i.base i.names i.token c.in_ok-token.token i.actors.kept i.history.items i.edits_made i.settings (standing_of i.earlier i.next_from i.actors.out i.tallies) c.args.edit c.self.invariant.image c.known.ensures suits allowed after in
-    rw items (record { image = e.image; numbers_of_clients = kept_other i.clients i.base.clients i.history.items (Edited c.args.edit) (λ qs. refl) c.self.invariant.numbers_of_clients; sends = sends_other i.base i.names i.token i.actors.kept i.history.items i.edits_made i.settings i.tallies (Edited c.args.edit) c.self.invariant.image c.self.invariant.sends refl; places = covers_push i.tallies i.covered i.token c.in_ok-token.token c.args.edit (after ∙ ap (λ (es : List Edit). es ++ c.args.edit ∷ []) (sym c.self.invariant.image.shows.edits_are)) c.self.invariant.places; counts = counts_other i.changes i.history.items (Edited c.args.edit) (λ a. refl) c.self.invariant.counts; totals = items_other i.counts i.earlier i.history.items (Edited c.args.edit) refl refl c.self.invariant.totals; compiled = compiled; before = c.self.invariant.before })
+    let e : IsEdited i.base i.names c.in_ok-token.token i.actors.list (i.history.items ++ Edited c.args.edit ∷ []) (i.edits_made + 1) i.settings = edited i.base i.names i.token c.in_ok-token.token i.actors.list i.history.items i.edits_made i.settings (standing_of i.earlier i.next_from i.actors.out i.tallies) c.args.edit c.self.invariant.image c.known.ensures suits allowed after in
+    rw items (record { image = e.image; numbers_of_clients = kept_other i.clients i.base.clients i.history.items (Edited c.args.edit) (λ qs. refl) c.self.invariant.numbers_of_clients; sends = sends_other i.base i.names i.token i.actors.list i.history.items i.edits_made i.settings i.tallies (Edited c.args.edit) c.self.invariant.image c.self.invariant.sends refl; places = covers_push i.tallies i.covered i.token c.in_ok-token.token c.args.edit (after ∙ ap (λ (es : List Edit). es ++ c.args.edit ∷ []) (sym c.self.invariant.image.shows.edits_are)) c.self.invariant.places; counts = counts_other i.changes i.history.items (Edited c.args.edit) (λ a. refl) c.self.invariant.counts; totals = items_other i.counts i.earlier i.history.items (Edited c.args.edit) refl refl c.self.invariant.totals; compiled = compiled; before = c.self.invariant.before })
 
 pub returns : goal.returns
 returns g c =
@@ -58,6 +58,6 @@ returns g c =
     let item : c.in_ok-item.item ≡ c.args.edit = c.in_ok-item.ensures ∙ c.in_ok-shared.ensures in
     let put : c.push.new.self.items ≡ i.history.items ++ Edited c.in_ok-item.item ∷ [] = grind (arith, common_steps) in
     let items : c.push.new.self.items ≡ i.history.items ++ Edited c.args.edit ∷ [] = subst (λ (x : Edit). c.push.new.self.items ≡ i.history.items ++ Edited x ∷ []) item put in
-    let e : IsEdited i.base i.names c.in_ok-token.token i.actors.kept (i.history.items ++ Edited c.args.edit ∷ []) (i.edits_made + 1) i.settings = edited i.base i.names i.token c.in_ok-token.token i.actors.kept i.history.items i.edits_made i.settings (standing_of i.earlier i.next_from i.actors.out i.tallies) c.args.edit c.self.invariant.image c.known.ensures suits allowed after in
+    let e : IsEdited i.base i.names c.in_ok-token.token i.actors.list (i.history.items ++ Edited c.args.edit ∷ []) (i.edits_made + 1) i.settings = edited i.base i.names i.token c.in_ok-token.token i.actors.list i.history.items i.edits_made i.settings (standing_of i.earlier i.next_from i.actors.out i.tallies) c.args.edit c.self.invariant.image c.known.ensures suits allowed after in
     let count : c.edits-edits.result ≡ length (world_of (constants_of i.names i.settings.capacity) i.base (i.history.items ++ Edited c.args.edit ∷ [])).edits = c.edits-edits.ensures ∙ ap (λ (es : List Edit). length es) (sym c.in_ok-token.ensures) ∙ ap (λ (es : List Edit). length es) (sym e.edits_are) in
     ((sym c.in_default.ensures, (rw (items, ← c.self.view_is) refl, rw items count)), tt)

@@ -20,9 +20,9 @@ invariant_of-self-2 g c =
     let m : Message = from_client c.args.sender c.args.seq c.args.selector c.args.args in
     let allowed : first_of (image_post_rules (seen i.base i.names i.history.items i.settings (standing_of i.earlier i.next_from i.actors.out i.tallies)) c.args.actor m) ≡ None = subst (λ (v : ImageView). first_of (image_post_rules v c.args.actor m) ≡ None) (sym c.self.view_is) (sym c.in_default.ensures.value) in
     let items : c.push.new.self.items ≡ i.history.items ++ Posted c.args.actor m ∷ [] = grind (arith, common_steps) in
-    let p : IsPosted i.base i.names i.token c.deliver-place.new.self.kept (i.history.items ++ Posted c.args.actor m ∷ []) i.edits_made i.settings c.args.actor c.deliver-place.result = posted i.base i.names i.token i.actors.kept c.deliver-place.new.self.kept i.history.items i.edits_made i.settings (standing_of i.earlier i.next_from i.actors.out i.tallies) c.deliver-place.result c.args.actor m c.self.invariant.image allowed tt (kept_is _ _ c.deliver-place.ensures.message) c.deliver-place.ensures.count in
+    let p : IsPosted i.base i.names i.token c.deliver-place.new.self.list (i.history.items ++ Posted c.args.actor m ∷ []) i.edits_made i.settings c.args.actor c.deliver-place.result = posted i.base i.names i.token i.actors.list c.deliver-place.new.self.list i.history.items i.edits_made i.settings (standing_of i.earlier i.next_from i.actors.out i.tallies) c.deliver-place.result c.args.actor m c.self.invariant.image allowed tt (kept_is _ _ c.deliver-place.ensures.message) c.deliver-place.ensures.count in
     let set : (s : ℕ) → number_of c.set.new.self s ≡ cond (s == c.args.sender) c.args.seq (number_of i.clients s) = λ s. c.set.ensures s ∙ ap (λ (j : ℕ). cond (s == c.args.sender) c.args.seq j) (c.make_room.ensures.same s) in
-    rw items (record { image = p.image; numbers_of_clients = kept_post i.clients c.set.new.self i.base.clients i.history.items c.args.actor m c.args.sender refl set c.self.invariant.numbers_of_clients; sends = sends_other i.base i.names i.token i.actors.kept i.history.items i.edits_made i.settings i.tallies (Posted c.args.actor m) c.self.invariant.image c.self.invariant.sends refl; places = c.self.invariant.places; counts = counts_other i.changes i.history.items (Posted c.args.actor m) (λ a. refl) c.self.invariant.counts; totals = items_posted i.counts i.earlier i.history.items c.args.actor m (posts_room (seen i.base i.names i.history.items i.settings (standing_of i.earlier i.next_from i.actors.out i.tallies)) c.args.actor m allowed) c.self.invariant.totals; compiled = c.self.invariant.compiled; before = c.self.invariant.before })
+    rw items (record { image = p.image; numbers_of_clients = kept_post i.clients c.set.new.self i.base.clients i.history.items c.args.actor m c.args.sender refl set c.self.invariant.numbers_of_clients; sends = sends_other i.base i.names i.token i.actors.list i.history.items i.edits_made i.settings i.tallies (Posted c.args.actor m) c.self.invariant.image c.self.invariant.sends refl; places = c.self.invariant.places; counts = counts_other i.changes i.history.items (Posted c.args.actor m) (λ a. refl) c.self.invariant.counts; totals = items_posted i.counts i.earlier i.history.items c.args.actor m (posts_room (seen i.base i.names i.history.items i.settings (standing_of i.earlier i.next_from i.actors.out i.tallies)) c.args.actor m allowed) c.self.invariant.totals; compiled = c.self.invariant.compiled; before = c.self.invariant.before })
 
 pub returns : goal.returns
 returns g c =
@@ -30,5 +30,5 @@ returns g c =
     let m : Message = from_client c.args.sender c.args.seq c.args.selector c.args.args in
     let allowed : first_of (image_post_rules (seen i.base i.names i.history.items i.settings (standing_of i.earlier i.next_from i.actors.out i.tallies)) c.args.actor m) ≡ None = subst (λ (v : ImageView). first_of (image_post_rules v c.args.actor m) ≡ None) (sym c.self.view_is) (sym c.in_default.ensures.value) in
     let items : c.push.new.self.items ≡ i.history.items ++ Posted c.args.actor m ∷ [] = grind (arith, common_steps) in
-    let p : IsPosted i.base i.names i.token c.deliver-place.new.self.kept (i.history.items ++ Posted c.args.actor m ∷ []) i.edits_made i.settings c.args.actor c.deliver-place.result = posted i.base i.names i.token i.actors.kept c.deliver-place.new.self.kept i.history.items i.edits_made i.settings (standing_of i.earlier i.next_from i.actors.out i.tallies) c.deliver-place.result c.args.actor m c.self.invariant.image allowed tt (kept_is _ _ c.deliver-place.ensures.message) c.deliver-place.ensures.count in
+    let p : IsPosted i.base i.names i.token c.deliver-place.new.self.list (i.history.items ++ Posted c.args.actor m ∷ []) i.edits_made i.settings c.args.actor c.deliver-place.result = posted i.base i.names i.token i.actors.list c.deliver-place.new.self.list i.history.items i.edits_made i.settings (standing_of i.earlier i.next_from i.actors.out i.tallies) c.deliver-place.result c.args.actor m c.self.invariant.image allowed tt (kept_is _ _ c.deliver-place.ensures.message) c.deliver-place.ensures.count in
     ((sym c.in_default.ensures.value, (rw (items, out_same _ _ c.deliver-place.ensures.message, ← c.self.view_is) refl, rw items p.place)), tt)

@@ -18,7 +18,7 @@ mod parting;
 mod posting;
 mod removing;
 mod reparenting;
-mod stating;
+mod statistics;
 
 use crate::actor::Actor;
 use crate::actors::Actors;

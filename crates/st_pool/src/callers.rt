@@ -107,12 +107,8 @@ impl<'a, K: Naming, M: Mailbox> Caller<'a, K, M> {
             edited,
             ..
         } = share;
-        let Ok(copy) = copied(alloc, &args) else {
-            return Err(Refusal::NoMemory);
-        };
-        if receipts.reserve(1).is_err() {
-            return Err(Refusal::NoMemory);
-        }
+        let copy = copied(alloc, &args)?;
+        receipts.reserve(1)?;
         let (answer, place) = shared
             .enter(rt)
             .post(alloc, posted, edited, sender, seq, actor, selector, args);

@@ -160,10 +160,8 @@ pub(crate) fn checkpoint<M: Mailbox>(alloc: Global, image: &mut Image<M>) -> Res
     ensures later { GoesOnIn image.old image.new }
     ensures grows { Grows 0 0 0 image.old image.new }
 {
-    match image.checkpoint(alloc) {
-        Ok(()) => Ok(()),
-        Err(_) => Err(Refusal::NoMemory),
-    }
+    image.checkpoint(alloc)?;
+    Ok(())
 }
 
 /// Hands out a claim, which fits the image.

@@ -10,7 +10,7 @@ ghost use Rattle.st_server.specs.CommandReplies.{RepliesTo, RepliesFor, RemovesN
 
 use crate::images::Image;
 use crate::resolving::{argument_values, find_selector, shown};
-use crate::stating::stats;
+use crate::statistics::stats;
 use st_classes::refusals::Refusal;
 use st_classes::seq::Seq;
 use st_classes::values::{ActorId, ClassId, Selector, Values};

@@ -16,5 +16,5 @@ pub mod scripts;
 mod serving;
 pub mod settings;
 pub mod sockets;
-mod stating;
+mod statistics;
 pub mod totals;

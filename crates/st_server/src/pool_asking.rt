@@ -17,7 +17,7 @@ ghost use Rattle.st_server.specs.PoolReplies.{Attends, CallsOnce, ClassNamed, Fi
 
 use crate::images::Mailbox;
 use crate::resolving::find_selector;
-use crate::{asking, stating};
+use crate::{asking, statistics};
 use st_classes::refusals::Refusal;
 use st_classes::seq::Seq;
 use st_classes::values::{ActorId, ClassId, Selector, Value, Values};
@@ -315,7 +315,7 @@ fn stats<K: Naming, R: Wait>(
     ensures replies { Finds K.start caller.old (λ i. States i class.now selector.now result) }
     ensures same { caller.new ≡ caller.old }
 {
-    caller.look(rt, |image| stating::stats(alloc, image, class, selector))
+    caller.look(rt, |image| statistics::stats(alloc, image, class, selector))
 }
 
 fn checkpoint<K: Naming, R: Wait>(

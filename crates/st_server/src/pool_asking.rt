@@ -226,9 +226,7 @@ fn argument_values<K: Naming, R: Wait>(
     ensures values { (result ≡ Err NoMemory) ⊎ HaveValues K.start caller.old arguments.now result }
     ensures same { caller.new ≡ caller.old }
 {
-    let Ok(mut values) = Vec::with_capacity(alloc, arguments.len()) else {
-        return Err(Refusal::NoMemory);
-    };
+    let mut values = Vec::with_capacity(alloc, arguments.len())?;
     for argument in arguments {
         match argument_value(rt, alloc, caller, argument) {
             Ok(value) => values.push(value).unwrap(),

@@ -9,6 +9,7 @@ ghost use Rattle.st_wire.specs.declared.replies.Reply.TheVariants as replies;
 ghost use Rattle.st_server.specs.CommandReplies.{RepliesTo, RepliesFor, RemovesNamed, ReparentsNamed, PostsArguments, PostsNamed, Tells, Asks, counted_reply};
 
 use crate::images::Image;
+use crate::postings::Posting;
 use crate::resolving::{argument_values, find_selector, shown};
 use crate::statistics::stats;
 use st_classes::refusals::Refusal;
@@ -16,7 +17,7 @@ use st_classes::seq::Seq;
 use st_classes::values::{ActorId, ClassId, Selector, Values};
 use st_image::counts::Counts;
 use st_turn::body::Outcome;
-use st_wire::commands::{Argument, Command};
+use st_wire::commands::Command;
 use st_wire::replies::Reply;
 use std::alloc::Global;
 
@@ -138,14 +139,15 @@ fn checkpoint(alloc: Global, image: &mut Image) -> Reply
 fn post_values(
     alloc: Global,
     image: &mut Image,
-    actor: ActorId,
-    args: Values,
+    posting: &Posting<'_>,
     selector: Selector,
-    sender: u16,
-    seq: u64,
+    args: Values,
 ) -> Reply
-    ensures { RepliesTo replies.Turn (Posts image.old actor (from_client sender seq selector args)) result image.new }
+    ensures { RepliesTo replies.Turn (Posts image.old posting.now.actor (from_client posting.now.sender posting.now.seq selector args)) result image.new }
 {
+    let Posting {
+        actor, sender, seq, ..
+    } = *posting;
     match image.post(alloc, sender, seq, actor, selector, args) {
         Ok(turn) => Reply::Turn(turn),
         Err(refusal) => Reply::Refused(refusal),
@@ -155,33 +157,22 @@ fn post_values(
 fn post_arguments(
     alloc: Global,
     image: &mut Image,
-    actor: ActorId,
-    arguments: &[Argument],
+    posting: &Posting<'_>,
     selector: Selector,
-    sender: u16,
-    seq: u64,
 ) -> Reply
-    ensures { PostsArguments image.old actor arguments.now selector sender seq result image.new }
+    ensures { PostsArguments image.old posting.now.actor posting.now.arguments.now selector posting.now.sender posting.now.seq result image.new }
 {
-    match argument_values(alloc, image, arguments) {
-        Ok(args) => post_values(alloc, image, actor, args, selector, sender, seq),
+    match argument_values(alloc, image, posting.arguments) {
+        Ok(args) => post_values(alloc, image, posting, selector, args),
         Err(refusal) => Reply::Refused(refusal),
     }
 }
 
-fn post(
-    alloc: Global,
-    image: &mut Image,
-    actor: ActorId,
-    arguments: &[Argument],
-    selector: &[u8],
-    sender: u16,
-    seq: u64,
-) -> Reply
-    ensures { PostsNamed image.old actor arguments.now selector.now sender seq result image.new }
+fn post(alloc: Global, image: &mut Image, posting: &Posting<'_>) -> Reply
+    ensures { PostsNamed image.old posting.now.actor posting.now.arguments.now posting.now.selector.now posting.now.sender posting.now.seq result image.new }
 {
-    match image.intern(alloc, selector) {
-        Ok(selector) => post_arguments(alloc, image, actor, arguments, selector, sender, seq),
+    match image.intern(alloc, posting.selector) {
+        Ok(selector) => post_arguments(alloc, image, posting, selector),
         Err(refusal) => Reply::Refused(refusal),
     }
 }
@@ -225,15 +216,16 @@ pub(crate) fn ask(alloc: Global, image: &mut Image, command: Command) -> Reply
             selector,
             sender,
             seq,
-        } => post(
-            alloc,
-            image,
-            actor,
-            args.as_slice(),
-            selector.as_slice(),
-            sender,
-            seq,
-        ),
+        } => {
+            let posting = Posting {
+                actor,
+                arguments: args.as_slice(),
+                selector: selector.as_slice(),
+                sender,
+                seq,
+            };
+            post(alloc, image, &posting)
+        }
         Command::Outcome { actor, turn } => outcome(alloc, image, actor, turn),
         Command::Close { actor } => close(image, actor),
         Command::Stats { class, selector } => {

@@ -9,6 +9,7 @@ pub mod attending;
 pub mod checking;
 pub mod images;
 mod pool_asking;
+mod postings;
 mod quantum;
 mod resolving;
 pub mod runner;

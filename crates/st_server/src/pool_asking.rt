@@ -16,6 +16,7 @@ ghost use Rattle.st_server.specs.CommandReplies.{States, Tells, reply_by, counte
 ghost use Rattle.st_server.specs.PoolReplies.{Attends, CallsOnce, ClassNamed, Finds, HasValue, HaveValues, PostsText, PostsWith, RemovesText, ReparentsText, RepliesOn, after_edit};
 
 use crate::images::Mailbox;
+use crate::postings::Posting;
 use crate::resolving::find_selector;
 use crate::{asking, statistics};
 use st_classes::refusals::Refusal;
@@ -240,15 +241,15 @@ fn post_arguments<K: Naming, R: Wait>(
     rt: &R,
     alloc: Global,
     caller: &mut Caller<'_, K, Mailbox>,
-    actor: ActorId,
-    arguments: &[Argument],
+    posting: &Posting<'_>,
     selector: Selector,
-    sender: u16,
-    seq: u64,
 ) -> Result<u64, Refusal>
-    ensures posts { PostsWith K.start caller.old actor arguments.now selector sender seq result caller.new }
+    ensures posts { PostsWith K.start caller.old posting.now.actor posting.now.arguments.now selector posting.now.sender posting.now.seq result caller.new }
 {
-    match argument_values(rt, alloc, caller, arguments) {
+    let Posting {
+        actor, sender, seq, ..
+    } = *posting;
+    match argument_values(rt, alloc, caller, posting.arguments) {
         Ok(args) => caller.post(rt, alloc, sender, seq, actor, selector, args),
         Err(refusal) => Err(refusal),
     }
@@ -258,16 +259,12 @@ fn post_named<K: Naming, R: Wait>(
     rt: &R,
     alloc: Global,
     caller: &mut Caller<'_, K, Mailbox>,
-    actor: ActorId,
-    arguments: &[Argument],
-    selector: &[u8],
-    sender: u16,
-    seq: u64,
+    posting: &Posting<'_>,
 ) -> Result<u64, Refusal>
-    ensures posts { PostsText K.start caller.old actor arguments.now selector.now sender seq result caller.new }
+    ensures posts { PostsText K.start caller.old posting.now.actor posting.now.arguments.now posting.now.selector.now posting.now.sender posting.now.seq result caller.new }
 {
-    match caller.intern(rt, alloc, selector) {
-        Ok(selector) => post_arguments(rt, alloc, caller, actor, arguments, selector, sender, seq),
+    match caller.intern(rt, alloc, posting.selector) {
+        Ok(selector) => post_arguments(rt, alloc, caller, posting, selector),
         Err(refusal) => Err(refusal),
     }
 }
@@ -276,15 +273,11 @@ fn post<K: Naming, R: Wait>(
     rt: &R,
     alloc: Global,
     caller: &mut Caller<'_, K, Mailbox>,
-    actor: ActorId,
-    arguments: &[Argument],
-    selector: &[u8],
-    sender: u16,
-    seq: u64,
+    posting: &Posting<'_>,
 ) -> Reply
-    ensures posts { (answer : _) × PostsText K.start caller.old actor arguments.now selector.now sender seq answer caller.new × (result ≡ reply_by replies.Turn answer) }
+    ensures posts { (answer : _) × PostsText K.start caller.old posting.now.actor posting.now.arguments.now posting.now.selector.now posting.now.sender posting.now.seq answer caller.new × (result ≡ reply_by replies.Turn answer) }
 {
-    match post_named(rt, alloc, caller, actor, arguments, selector, sender, seq) {
+    match post_named(rt, alloc, caller, posting) {
         Ok(turn) => Reply::Turn(turn),
         Err(refusal) => Reply::Refused(refusal),
     }
@@ -362,16 +355,16 @@ pub(crate) fn ask<K: Naming, R: Wait>(
             selector,
             sender,
             seq,
-        } => post(
-            rt,
-            alloc,
-            caller,
-            actor,
-            args.as_slice(),
-            selector.as_slice(),
-            sender,
-            seq,
-        ),
+        } => {
+            let posting = Posting {
+                actor,
+                arguments: args.as_slice(),
+                selector: selector.as_slice(),
+                sender,
+                seq,
+            };
+            post(rt, alloc, caller, &posting)
+        }
         Command::Outcome { actor, turn } => outcome(rt, alloc, caller, actor, turn),
         Command::Close { actor } => close(rt, caller, actor),
         Command::Stats { class, selector } => {

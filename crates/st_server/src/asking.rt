@@ -6,7 +6,7 @@ ghost use Rattle.st_image.specs.Images.{counts_of};
 ghost use Rattle.st_image.specs.PostRules.{from_client};
 ghost use Rattle.st_image.specs.Outcomes.{image_outcome};
 ghost use Rattle.st_wire.specs.declared.replies.Reply.TheVariants as replies;
-ghost use Rattle.st_server.specs.CommandReplies.{RepliesTo, RepliesFor, RemovesNamed, ReparentsNamed, PostsArguments, PostsNamed, Tells, Asks, counted_reply};
+ghost use Rattle.st_server.specs.CommandReplies.{RepliesTo, RepliesFor, RemovesNamed, ReparentsNamed, PostsArguments, PostsNamed, Tells, Asks, counted_reply, reply_by};
 
 use crate::images::Image;
 use crate::postings::Posting;
@@ -21,6 +21,16 @@ use st_wire::commands::Command;
 use st_wire::replies::Reply;
 use std::alloc::Global;
 
+/// The reply to an edit.
+pub(crate) fn edit_reply(answer: Result<u32, Refusal>) -> Reply
+    ensures { result ≡ reply_by replies.Version answer }
+{
+    match answer {
+        Ok(version) => Reply::Version(version),
+        Err(refusal) => Reply::Refused(refusal),
+    }
+}
+
 fn define(
     alloc: Global,
     image: &mut Image,
@@ -33,10 +43,8 @@ fn define(
     let Some(parent) = image.version().class_named(parent) else {
         return Reply::Refused(Refusal::UnknownClass);
     };
-    match image.define(alloc, name, parent, slots) {
-        Ok(version) => Reply::Version(version),
-        Err(refusal) => Reply::Refused(refusal),
-    }
+    let answer = image.define(alloc, name, parent, slots);
+    edit_reply(answer)
 }
 
 fn install(alloc: Global, image: &mut Image, class: &[u8], source: &[u8]) -> Reply
@@ -45,10 +53,8 @@ fn install(alloc: Global, image: &mut Image, class: &[u8], source: &[u8]) -> Rep
     let Some(class) = image.version().class_named(class) else {
         return Reply::Refused(Refusal::UnknownClass);
     };
-    match image.install(alloc, class, source) {
-        Ok(version) => Reply::Version(version),
-        Err(refusal) => Reply::Refused(refusal),
-    }
+    let answer = image.install(alloc, class, source);
+    edit_reply(answer)
 }
 
 fn remove_named(
@@ -71,10 +77,8 @@ fn remove(alloc: Global, image: &mut Image, class: &[u8], selector: &[u8]) -> Re
     let Some(class) = image.version().class_named(class) else {
         return Reply::Refused(Refusal::UnknownClass);
     };
-    match remove_named(alloc, image, class, selector) {
-        Ok(version) => Reply::Version(version),
-        Err(refusal) => Reply::Refused(refusal),
-    }
+    let answer = remove_named(alloc, image, class, selector);
+    edit_reply(answer)
 }
 
 fn reparent_named(
@@ -97,10 +101,8 @@ fn reparent(alloc: Global, image: &mut Image, class: &[u8], parent: &[u8]) -> Re
     let Some(class) = image.version().class_named(class) else {
         return Reply::Refused(Refusal::UnknownClass);
     };
-    match reparent_named(alloc, image, class, parent) {
-        Ok(version) => Reply::Version(version),
-        Err(refusal) => Reply::Refused(refusal),
-    }
+    let answer = reparent_named(alloc, image, class, parent);
+    edit_reply(answer)
 }
 
 fn create(alloc: Global, image: &mut Image, class: &[u8]) -> Reply
@@ -146,7 +148,10 @@ fn post_values(
     ensures { RepliesTo replies.Turn (Posts image.old posting.now.actor (from_client posting.now.sender posting.now.seq selector args)) result image.new }
 {
     let Posting {
-        actor, sender, seq, ..
+        actor,
+        sender,
+        seq,
+        ..
     } = *posting;
     match image.post(alloc, sender, seq, actor, selector, args) {
         Ok(turn) => Reply::Turn(turn),

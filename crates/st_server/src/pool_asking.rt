@@ -56,10 +56,8 @@ fn define<K: Naming, R: Wait>(
     let Some(parent) = class_named(rt, caller, parent) else {
         return Reply::Refused(Refusal::UnknownClass);
     };
-    match caller.define(rt, alloc, name, parent, slots) {
-        Ok(version) => Reply::Version(version),
-        Err(refusal) => Reply::Refused(refusal),
-    }
+    let answer = caller.define(rt, alloc, name, parent, slots);
+    asking::edit_reply(answer)
 }
 
 fn install<K: Naming, R: Wait>(
@@ -75,10 +73,8 @@ fn install<K: Naming, R: Wait>(
     let Some(class) = class_named(rt, caller, class) else {
         return Reply::Refused(Refusal::UnknownClass);
     };
-    match caller.install(rt, alloc, class, source) {
-        Ok(version) => Reply::Version(version),
-        Err(refusal) => Reply::Refused(refusal),
-    }
+    let answer = caller.install(rt, alloc, class, source);
+    asking::edit_reply(answer)
 }
 
 /// The number of a selector's text. The text is not interned.
@@ -122,10 +118,8 @@ fn remove<K: Naming, R: Wait>(
     let Some(class) = class_named(rt, caller, class) else {
         return Reply::Refused(Refusal::UnknownClass);
     };
-    match remove_named(rt, alloc, caller, class, selector) {
-        Ok(version) => Reply::Version(version),
-        Err(refusal) => Reply::Refused(refusal),
-    }
+    let answer = remove_named(rt, alloc, caller, class, selector);
+    asking::edit_reply(answer)
 }
 
 fn reparent_named<K: Naming, R: Wait>(
@@ -157,10 +151,8 @@ fn reparent<K: Naming, R: Wait>(
     let Some(class) = class_named(rt, caller, class) else {
         return Reply::Refused(Refusal::UnknownClass);
     };
-    match reparent_named(rt, alloc, caller, class, parent) {
-        Ok(version) => Reply::Version(version),
-        Err(refusal) => Reply::Refused(refusal),
-    }
+    let answer = reparent_named(rt, alloc, caller, class, parent);
+    asking::edit_reply(answer)
 }
 
 fn create<K: Naming, R: Wait>(
@@ -247,7 +239,10 @@ fn post_arguments<K: Naming, R: Wait>(
     ensures posts { PostsWith K.start caller.old posting.now.actor posting.now.arguments.now selector posting.now.sender posting.now.seq result caller.new }
 {
     let Posting {
-        actor, sender, seq, ..
+        actor,
+        sender,
+        seq,
+        ..
     } = *posting;
     match argument_values(rt, alloc, caller, posting.arguments) {
         Ok(args) => caller.post(rt, alloc, sender, seq, actor, selector, args),

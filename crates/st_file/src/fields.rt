@@ -1,8 +1,7 @@
 //! The parts of a JSON value.
-ghost use Rattle.std.specs.Prelude.{◌≡◌, ◌≤◌, IfOk, map};
+ghost use Rattle.std.specs.Prelude.{◌≡◌, ◌≤◌, IfOk};
 ghost use Rattle.serde_json.specs.View.{view, items_view};
 ghost use Rattle.st_wire.specs.Fields as spec;
-ghost use Rattle.st_wire.specs.Commands.{has_just as has_just_keys, has_all as has_all_keys};
 ghost use Rattle.st_classes.specs.declared.refusals.ImagePlace.TheVariants.{Shape};
 ghost use Rattle.st_file.specs.Answers.{Finds};
 ghost use Rattle.st_file.specs.Shapes as shapes;
@@ -11,7 +10,7 @@ use serde_json::Value;
 use st_classes::refusals::{ImagePlace, Refusal};
 use st_classes::seq::Seq;
 use st_classes::values::ActorId;
-use std::alloc::{AllocError, Global};
+use std::alloc::Global;
 
 /// The refusal of a value that does not have the form of an image file.
 pub(crate) const SHAPE: Refusal = Refusal::BadImage {
@@ -38,10 +37,8 @@ impl Readable for Seq<u8> {
         let Some(text) = value.as_str() else {
             return Err(SHAPE);
         };
-        match Vec::from_slice(alloc, text.as_bytes()) {
-            Ok(bytes) => Ok(Seq::from_vec(bytes)),
-            Err(AllocError) => Err(Refusal::NoMemory),
-        }
+        let bytes = Vec::from_slice(alloc, text.as_bytes())?;
+        Ok(Seq::from_vec(bytes))
     }
 }
 
@@ -89,16 +86,6 @@ pub(crate) fn text_at(alloc: Global, object: &Value, key: &str) -> Result<Seq<u8
     one_at(alloc, object, key)
 }
 
-/// The number of keys of an object; 0 for any other value.
-pub(crate) fn size(object: &Value) -> usize
-    ensures { result ≡ spec.size (view object.now) }
-{
-    match object.as_object() {
-        Some(members) => members.len(),
-        None => 0,
-    }
-}
-
 /// The number of items of an array; 0 for any other value.
 pub(crate) fn count(array: &Value) -> usize
     ensures { result ≡ shapes.count (view array.now) }
@@ -107,25 +94,6 @@ pub(crate) fn count(array: &Value) -> usize
         Some(items) => items.len(),
         None => 0,
     }
-}
-
-/// Whether a value is an object with exactly these keys.
-pub(crate) fn has_just(object: &Value, keys: &[&str]) -> bool
-    ensures { result ≡ has_just_keys (map (λ key. key.now) keys.now) (view object.now) }
-{
-    size(object) == keys.len() && has_all(object, keys)
-}
-
-/// Whether a value has all of these keys.
-fn has_all(object: &Value, keys: &[&str]) -> bool
-    ensures { result ≡ has_all_keys (map (λ key. key.now) keys.now) (view object.now) }
-{
-    for key in keys {
-        if object.get(*key).is_none() {
-            return false;
-        }
-    }
-    true
 }
 
 /// Checks that a number is in a range, both ends included.
@@ -144,10 +112,7 @@ pub(crate) fn whole_at(object: &Value, key: &str, least: u64, most: u64) -> Resu
     ensures read { Finds Shape (spec.whole_at key.now least most (view object.now)) result }
     ensures within { IfOk result (λ n. n ≤ most) }
 {
-    match object.get(key).and_then(Value::as_u64) {
-        Some(n) if least <= n && n <= most => Ok(n),
-        _ => Err(SHAPE),
-    }
+    within(object.get(key).and_then(Value::as_u64), least, most)
 }
 
 /// Reads the unsigned 64-bit number at a key.

@@ -58,17 +58,10 @@ fn load_value<M: Mailbox>(alloc: Global, value: &Value) -> Result<Image<M>, Refu
 fn load_table(alloc: Global, text: &ImageText) -> Result<Loader, Refusal>
     ensures { LoadsTable text.now result }
 {
-    let Ok(mut loader) = Loader::new(alloc) else {
-        return Err(Refusal::NoMemory);
-    };
-    match add_names(&mut loader, alloc, text.names.as_slice()) {
-        Ok(()) => {}
-        Err(refusal) => return Err(refusal),
-    }
-    match add_edits(&mut loader, alloc, text.edits.as_slice()) {
-        Ok(()) => Ok(loader),
-        Err(refusal) => Err(refusal),
-    }
+    let mut loader = Loader::new(alloc)?;
+    add_names(&mut loader, alloc, text.names.as_slice())?;
+    add_edits(&mut loader, alloc, text.edits.as_slice())?;
+    Ok(loader)
 }
 
 /// Makes the image of a file whose names and class table are loaded.

@@ -33,10 +33,8 @@ fn read_piece<I: Input>(
     let Ok(count) = input.read(buffer) else {
         return Err(Refusal::ReadFault);
     };
-    match text.extend_from_slice(&buffer[..count]) {
-        Ok(()) => Ok(count),
-        Err(_) => Err(Refusal::NoMemory),
-    }
+    text.extend_from_slice(&buffer[..count])?;
+    Ok(count)
 }
 
 /// Reads an input to its end. Fails with `ReadFault` if a read failed, or if 2^32 reads found no end.

@@ -11,8 +11,8 @@ ghost use Rattle.st_file.specs.Shapes as shapes;
 
 use crate::faults::fault_of;
 use crate::fields::{
-    Readable, SHAPE, actor_at, client_number, count, has_just, last_number, list_at, number_at,
-    one_at, size, text_at, whole_at,
+    Readable, SHAPE, actor_at, client_number, count, last_number, list_at, number_at, one_at,
+    text_at, whole_at,
 };
 use crate::texts::{
     ActorText, BodyText, FrameText, ImageText, MessageText, ObjectText, PhaseText, ValueText,
@@ -23,6 +23,7 @@ use st_classes::refusals::Refusal;
 use st_image::counts::{Counts, MOST_COUNTED};
 use st_image::edit_text::EditText;
 use st_mailbox::messages::Sender;
+use st_wire::keys::{has_just, size};
 use std::alloc::Global;
 
 /// Reads what a file says. A value of another form is refused as `BadImage` with the place `Shape`.

@@ -77,8 +77,6 @@ pub fn save<M: Mailbox, O: Output>(
     ensures failures { O.failures output.new ≡ failures_after result (O.failures output.old) }
     ensures flushed { OnOk result (O.flushes output.new ≡ one_more (O.flushes output.old)) }
 {
-    let Ok(value) = image_value(alloc, image) else {
-        return Err(Refusal::NoMemory);
-    };
+    let value = image_value(alloc, image)?;
     write_value(alloc, output, &value)
 }

@@ -144,8 +144,8 @@ pub close_grows : (actors after : List ActorView) (a : ℕ) → after ≡ change
 close_grows actors after a put = λ bound h. subst (All (λ (k : ActorView). k.accepted ≤ bound + 1)) (sym put) (All-change (λ (k : ActorView). k.accepted ≤ bound + 1) (λ (x : ActorView). record x { is_open = false }) a actors (λ k at l. l) (accept_more bound actors h))
 
 -- the actors of two lists that are the same
-pub kept_is : (v w : ActorsView) → v ≡ w → v.kept ≡ w.kept
-kept_is v w e = ap (λ (x : ActorsView). x.kept) e
+pub kept_is : (v w : ActorsView) → v ≡ w → v.list ≡ w.list
+kept_is v w e = ap (λ (x : ActorsView). x.list) e
 
 -- and the counts of their claims
 pub out_same : (v w : ActorsView) → v ≡ w → v.out ≡ w.out

@@ -34,13 +34,14 @@ use Rattle.st_turn.specs.Tallies.{after_sends}
 use Rattle.st_image.specs.Tallies.{CountsSends, Tallied, after_act_at, asked_by_item, tally_at}
 use Rattle.st_image.specs.Commits.{CommitAllowed, CommitRefused, HasCommitted, IsUnchanged, Survives, act_site, commit_room, items_of, stands_before_act, steps_of}
 use Rattle.st_image.specs.Newest.{Kept, kept_with}
-use Rattle.st_image.specs.ActorViews.{ActorView, Shows, view_after_steps}
+use Rattle.st_image.specs.ActorViews.{ActorView, Shows, actor_view, view_after_steps}
 use Rattle.st_image.specs.ActResults.{GrowsByOne, IsShown, StandsBefore, TakesOuter, constants_of, world_after}
 use Rattle.st_image.proofs.Lists.{off, set_at_same, set_twice}
 use Rattle.st_image.proofs.Changing.{All-change, change_here, get-change}
 use Rattle.st_image.proofs.Stepping.{after_then, mapped}
 use Rattle.st_image.proofs.NewestResults.{view_steps}
-use Rattle.st_image.proofs.Showing.{being_at_kept, shows_change}
+use Rattle.st_image.proofs.Showing.{being_at_kept, kept_at, shows_change}
+use Rattle.st_image.proofs.Outer.{stands_by}
 use Rattle.st_image.proofs.Lasting.{after_keeps}
 use Rattle.st_image.proofs.OwnSteps.{outer_goes_on, own_busy, own_world, some_body}
 use Rattle.st_image.proofs.Keeping.{has_room, ran_kept}
@@ -218,6 +219,18 @@ may_commit base names edits actors h made s beside c k allowed sound some =
       before = b.2;
       same = same;
     }
+
+-- an actor with the body after a claim stands before the image's step if the claim does
+pub stands_after : (base : World) (names : List (List ℕ)) (edits : List Edit) (actors : List ActorView) (h : List Item) (s : Settings) (c : ClaimView) (t : Bool)
+    → (g : MayCommit base names edits actors h s c) → edits ≡ (world_of (constants_of names s.capacity) base h).edits → t ≡ stands_before_act c
+    → (w : World) → IsShown names s.capacity edits (change_at (view_after_steps c.after) c.actor.0 actors) w → StandsBefore c.actor w t
+stands_after base names edits actors h s c t g here stands w i =
+    let was : World = world_of (constants_of names s.capacity) base h in
+    let mid : List ActorView = change_at (view_after_steps c.after) c.actor.0 actors in
+    let after : WorldActor = with_body c.after g.went.being in
+    let at : slice_get mid c.actor.0 ≡ Some (actor_view after) = kept_at edits mid (change (with_body c.after) c.actor was) c.actor.0 after g.went.shown.shows g.went.there in
+    let next : is_outer (step edits c.actor c.after) ≡ t = ap (λ (es : List Edit). is_outer (step es c.actor c.after)) here ∙ ap (λ (x : Option Act). is_some x) g.same.act ∙ sym stands in
+    stands_by edits mid w c.actor (actor_view after) t i.shows at next
 
 steps_at : (c : ClaimView) (es : List Edit) → SameSteps es c → steps_of c ≡ c.steps + (if is_outer (step es c.actor c.after) then 1 else 0)
 steps_at c es e = ap (λ (x : Option Act). c.steps + (if is_some x then 1 else 0)) (sym e.act)

@@ -74,12 +74,12 @@ spent i c _ j r n h = absurd r
 
 -- ---- the actors that may be checked out
 
-pub free_is : (edits : List Edit) (v : ActorsView) (i : ImageView) (a : ℕ) → Shows edits v.kept (world i) → i.standing.claims_out ≡ trimmed v.out → is_free_in v a ≡ is_free_at i a
+pub free_is : (edits : List Edit) (v : ActorsView) (i : ImageView) (a : ℕ) → Shows edits v.list (world i) → i.standing.claims_out ≡ trimmed v.out → is_free_in v a ≡ is_free_at i a
 free_is edits v i a s e =
-    ap (λ (t : Bool). t && (claims_of v.out a == 0)) (ready_is edits v.kept (world i) a s)
+    ap (λ (t : Bool). t && (claims_of v.out a == 0)) (ready_is edits v.list (world i) a s)
     ∙ ap (λ (n : ℕ). is_ready_at (world i) a && (n == 0)) (sym (claims_trimmed v.out a) ∙ ap (λ (ns : List ℕ). claims_of ns a) (sym e))
 
-pub next_free : (edits : List Edit) (v : ActorsView) (i : ImageView) (a : ℕ) → Shows edits v.kept (world i) → i.standing.claims_out ≡ trimmed v.out → IsNextFree v i.standing.next_from a → IsNextReady i a
+pub next_free : (edits : List Edit) (v : ActorsView) (i : ImageView) (a : ℕ) → Shows edits v.list (world i) → i.standing.claims_out ≡ trimmed v.out → IsNextFree v i.standing.next_from a → IsNextReady i a
 next_free edits v i a s e n = record {
   free = sym (free_is edits v i a s e) ∙ n.free;
   first = λ b h. n.first b (free_is edits v i b s e ∙ h);

@@ -70,62 +70,62 @@ one_of true r s f n m h = refl
 one_of false r s f n m h = h
 
 -- an actor and the count of its claims in the place of others, with its flag
-pub put_free : (v : ActorsView) (free : List Bool) (a : ℕ) (k : ActorView) (n : ℕ) → AreActors v free → a < length v.kept → AreActors (record { kept = slice_set v.kept a k; out = slice_set v.out a n }) (slice_set free a (is_ready_view k && (n == 0)))
+pub put_free : (v : ActorsView) (free : List Bool) (a : ℕ) (k : ActorView) (n : ℕ) → AreActors v free → a < length v.list → AreActors (record { list = slice_set v.list a k; out = slice_set v.out a n }) (slice_set free a (is_ready_view k && (n == 0)))
 put_free v free a k n h there =
-    let old = within_back v.kept a (length v.kept) there refl in
+    let old = within_back v.list a (length v.list) there refl in
     record {
       flags = λ q.
           index_set free a q (is_ready_view k && (n == 0)) false (omega (arith, h.each_flag, there))
-          ∙ one_of (nat_eq a q) (is_ready_in v.kept q) (is_ready_view k) (is_raised free q) n (claims_of v.out q) (h.flags q)
-          ∙ ap (λ (t : Bool). t && (cond (nat_eq a q) n (claims_of v.out q) == 0)) (sym (ready_set v.kept a q old.0 k old.1))
-          ∙ ap (λ (m : ℕ). is_ready_in (slice_set v.kept a k) q && (m == 0)) (sym (index_set v.out a q n 0 (omega (arith, h.each_count, there))));
-      each_flag = omega (arith, h.each_flag, length-set free a (is_ready_view k && (n == 0)), length-set v.kept a k);
-      each_count = omega (arith, h.each_count, length-set v.out a n, length-set v.kept a k);
-      few = omega (arith, h.few, length-set v.kept a k);
+          ∙ one_of (nat_eq a q) (is_ready_in v.list q) (is_ready_view k) (is_raised free q) n (claims_of v.out q) (h.flags q)
+          ∙ ap (λ (t : Bool). t && (cond (nat_eq a q) n (claims_of v.out q) == 0)) (sym (ready_set v.list a q old.0 k old.1))
+          ∙ ap (λ (m : ℕ). is_ready_in (slice_set v.list a k) q && (m == 0)) (sym (index_set v.out a q n 0 (omega (arith, h.each_count, there))));
+      each_flag = omega (arith, h.each_flag, length-set free a (is_ready_view k && (n == 0)), length-set v.list a k);
+      each_count = omega (arith, h.each_count, length-set v.out a n, length-set v.list a k);
+      few = omega (arith, h.few, length-set v.list a k);
     }
 
 -- with the count as it was
-pub put_kept : (v : ActorsView) (free : List Bool) (a : ℕ) (k : ActorView) → AreActors v free → a < length v.kept → AreActors (record { kept = slice_set v.kept a k; out = v.out }) (slice_set free a (is_ready_view k && (claims_of v.out a == 0)))
-put_kept v free a k h there = subst (λ (ns : List ℕ). AreActors (record { kept = slice_set v.kept a k; out = ns }) (slice_set free a (is_ready_view k && (claims_of v.out a == 0)))) (set-get_or v.out a 0) (put_free v free a k (claims_of v.out a) h there)
+pub put_kept : (v : ActorsView) (free : List Bool) (a : ℕ) (k : ActorView) → AreActors v free → a < length v.list → AreActors (record { list = slice_set v.list a k; out = v.out }) (slice_set free a (is_ready_view k && (claims_of v.out a == 0)))
+put_kept v free a k h there = subst (λ (ns : List ℕ). AreActors (record { list = slice_set v.list a k; out = ns }) (slice_set free a (is_ready_view k && (claims_of v.out a == 0)))) (set-get_or v.out a 0) (put_free v free a k (claims_of v.out a) h there)
 
 -- the count of an actor that is there
 pub count_here : (ns : List ℕ) (a n : ℕ) → a < length ns → n ≡ get_or ns a n → n ≡ claims_of ns a
 count_here ns a n h e = get_or_read ns a n h e 0
 
 -- the same, with the flag by its parts
-pub mark_kept : (v : ActorsView) (free free' : List Bool) (a : ℕ) (k : ActorView) (r t : Bool) (n : ℕ) → AreActors v free → a < length v.kept → n ≡ get_or v.out a n → r ≡ is_ready_view k → t ≡ (r && (n == 0)) → free' ≡ slice_set free a t → AreActors (record { kept = slice_set v.kept a k; out = v.out }) free'
+pub mark_kept : (v : ActorsView) (free free' : List Bool) (a : ℕ) (k : ActorView) (r t : Bool) (n : ℕ) → AreActors v free → a < length v.list → n ≡ get_or v.out a n → r ≡ is_ready_view k → t ≡ (r && (n == 0)) → free' ≡ slice_set free a t → AreActors (record { list = slice_set v.list a k; out = v.out }) free'
 mark_kept v free free' a k r t n h there e f g put =
     let count : n ≡ claims_of v.out a = count_here v.out a n (omega (arith, h.each_count, there)) e in
     let flag : t ≡ (is_ready_view k && (claims_of v.out a == 0)) = g ∙ ap (λ (b : Bool). b && (n == 0)) f ∙ ap (λ (m : ℕ). is_ready_view k && (m == 0)) count in
-    subst (AreActors (record { kept = slice_set v.kept a k; out = v.out })) (sym (put ∙ ap (slice_set free a) flag)) (put_kept v free a k h there)
+    subst (AreActors (record { list = slice_set v.list a k; out = v.out })) (sym (put ∙ ap (slice_set free a) flag)) (put_kept v free a k h there)
 
 -- with the actor as it was
-pub put_out : (v : ActorsView) (free : List Bool) (a : ℕ) (k : ActorView) (n : ℕ) → AreActors v free → slice_get v.kept a ≡ Some k → a < length v.kept → AreActors (record { kept = v.kept; out = slice_set v.out a n }) (slice_set free a (is_ready_view k && (n == 0)))
-put_out v free a k n h at there = subst (λ (ks : List ActorView). AreActors (record { kept = ks; out = slice_set v.out a n }) (slice_set free a (is_ready_view k && (n == 0)))) (set_at_same v.kept a k at) (put_free v free a k n h there)
+pub put_out : (v : ActorsView) (free : List Bool) (a : ℕ) (k : ActorView) (n : ℕ) → AreActors v free → slice_get v.list a ≡ Some k → a < length v.list → AreActors (record { list = v.list; out = slice_set v.out a n }) (slice_set free a (is_ready_view k && (n == 0)))
+put_out v free a k n h at there = subst (λ (ks : List ActorView). AreActors (record { list = ks; out = slice_set v.out a n }) (slice_set free a (is_ready_view k && (n == 0)))) (set_at_same v.list a k at) (put_free v free a k n h there)
 
 stays_by : (ks : List ActorView) (a q : ℕ) (k : ActorView) (b t : Bool) → nat_eq a q ≡ t → slice_get ks a ≡ Some k → b ≡ is_ready_view k → is_ready_in ks q ≡ cond t b (is_ready_in ks q)
 stays_by ks a q k b true e at same = sym (ap (is_ready_in ks) (same_number a q e)) ∙ ready_at ks a k at ∙ sym same
 stays_by ks a q k b false e at same = refl
 
 -- an actor in the place of another that was as ready
-pub same_free : (v : ActorsView) (free : List Bool) (a : ℕ) (k k' : ActorView) → AreActors v free → slice_get v.kept a ≡ Some k → is_ready_view k' ≡ is_ready_view k → AreActors (record { kept = slice_set v.kept a k'; out = v.out }) free
+pub same_free : (v : ActorsView) (free : List Bool) (a : ℕ) (k k' : ActorView) → AreActors v free → slice_get v.list a ≡ Some k → is_ready_view k' ≡ is_ready_view k → AreActors (record { list = slice_set v.list a k'; out = v.out }) free
 same_free v free a k k' h at same = record {
-  flags = λ q. h.flags q ∙ ap (λ (t : Bool). t && (claims_of v.out q == 0)) (stays_by v.kept a q k (is_ready_view k') (nat_eq a q) refl at same ∙ sym (ready_set v.kept a q k k' at));
-  each_flag = omega (arith, h.each_flag, length-set v.kept a k');
-  each_count = omega (arith, h.each_count, length-set v.kept a k');
-  few = omega (arith, h.few, length-set v.kept a k');
+  flags = λ q. h.flags q ∙ ap (λ (t : Bool). t && (claims_of v.out q == 0)) (stays_by v.list a q k (is_ready_view k') (nat_eq a q) refl at same ∙ sym (ready_set v.list a q k k' at));
+  each_flag = omega (arith, h.each_flag, length-set v.list a k');
+  each_count = omega (arith, h.each_count, length-set v.list a k');
+  few = omega (arith, h.few, length-set v.list a k');
 }
 
 -- a new actor that is not ready
-pub push_free : (v : ActorsView) (free : List Bool) (k : ActorView) → AreActors v free → length v.kept < 65536 → is_ready_view k ≡ false → AreActors (record { kept = v.kept ++ k ∷ []; out = v.out ++ 0 ∷ [] }) (free ++ false ∷ [])
+pub push_free : (v : ActorsView) (free : List Bool) (k : ActorView) → AreActors v free → length v.list < 65536 → is_ready_view k ≡ false → AreActors (record { list = v.list ++ k ∷ []; out = v.out ++ 0 ∷ [] }) (free ++ false ∷ [])
 push_free v free k h few idle = record {
   flags = λ q.
       index_push free false q ∙ h.flags q
-      ∙ ap (λ (t : Bool). t && (claims_of v.out q == 0)) (sym (ready_push v.kept k q idle))
-      ∙ ap (λ (m : ℕ). is_ready_in (v.kept ++ k ∷ []) q && (m == 0)) (sym (index_push v.out 0 q));
-  each_flag = omega (arith, h.each_flag, length-append free (false ∷ []), length-append v.kept (k ∷ []));
-  each_count = omega (arith, h.each_count, length-append v.out (0 ∷ []), length-append v.kept (k ∷ []));
-  few = omega (arith, few, length-append v.kept (k ∷ []));
+      ∙ ap (λ (t : Bool). t && (claims_of v.out q == 0)) (sym (ready_push v.list k q idle))
+      ∙ ap (λ (m : ℕ). is_ready_in (v.list ++ k ∷ []) q && (m == 0)) (sym (index_push v.out 0 q));
+  each_flag = omega (arith, h.each_flag, length-append free (false ∷ []), length-append v.list (k ∷ []));
+  each_count = omega (arith, h.each_count, length-append v.out (0 ∷ []), length-append v.list (k ∷ []));
+  few = omega (arith, few, length-append v.list (k ∷ []));
 }
 
 or_true : (b : Bool) → (b || true) ≡ true
@@ -148,18 +148,18 @@ pub ready_begun : (k : ActorView) → is_ready_view (view_after_begin k) ≡ is_
 ready_begun k = ready_by k k.pending refl
 
 -- a change of an actor that is there, as callers see it
-pub put_view : (f : ActorView → ActorView) (v old : ActorsView) (a : ℕ) (k k' : ActorView) → v ≡ old → slice_get v.kept a ≡ Some k → k' ≡ f k → (let new : ActorsView = record { kept = slice_set v.kept a k'; out = v.out } in new) ≡ (let after : ActorsView = record old { kept = change_at f a old.kept } in after)
+pub put_view : (f : ActorView → ActorView) (v old : ActorsView) (a : ℕ) (k k' : ActorView) → v ≡ old → slice_get v.list a ≡ Some k → k' ≡ f k → (let new : ActorsView = record { list = slice_set v.list a k'; out = v.out } in new) ≡ (let after : ActorsView = record old { list = change_at f a old.list } in after)
 put_view f v old a k k' same at e =
-    let put : slice_set v.kept a k' ≡ change_at f a v.kept = ap (slice_set v.kept a) e ∙ sym (change_here f a v.kept k at) in
-    ap (λ (ks : List ActorView). let new : ActorsView = record { kept = ks; out = v.out } in new) put ∙ ap (λ (x : ActorsView). let new : ActorsView = record x { kept = change_at f a x.kept } in new) same
+    let put : slice_set v.list a k' ≡ change_at f a v.list = ap (slice_set v.list a) e ∙ sym (change_here f a v.list k at) in
+    ap (λ (ks : List ActorView). let new : ActorsView = record { list = ks; out = v.out } in new) put ∙ ap (λ (x : ActorsView). let new : ActorsView = record x { list = change_at f a x.list } in new) same
 
 -- ---- the counts of claims
 
 -- the same, with another count and the flag by its parts
-pub mark_out : (v : ActorsView) (free free' : List Bool) (a : ℕ) (k : ActorView) (r t : Bool) (n : ℕ) → AreActors v free → slice_get v.kept a ≡ Some k → a < length v.kept → r ≡ is_ready_view k → t ≡ (r && (n == 0)) → free' ≡ slice_set free a t → AreActors (record { kept = v.kept; out = slice_set v.out a n }) free'
+pub mark_out : (v : ActorsView) (free free' : List Bool) (a : ℕ) (k : ActorView) (r t : Bool) (n : ℕ) → AreActors v free → slice_get v.list a ≡ Some k → a < length v.list → r ≡ is_ready_view k → t ≡ (r && (n == 0)) → free' ≡ slice_set free a t → AreActors (record { list = v.list; out = slice_set v.out a n }) free'
 mark_out v free free' a k r t n h at there e f put =
     let flag : t ≡ (is_ready_view k && (n == 0)) = f ∙ ap (λ (b : Bool). b && (n == 0)) e in
-    subst (AreActors (record { kept = v.kept; out = slice_set v.out a n })) (sym (put ∙ ap (slice_set free a) flag)) (put_out v free a k n h at there)
+    subst (AreActors (record { list = v.list; out = slice_set v.out a n })) (sym (put ∙ ap (slice_set free a) flag)) (put_out v free a k n h at there)
 
 and_no : (b : Bool) → (b && false) ≡ false
 and_no true = refl
@@ -169,10 +169,10 @@ some_out : (m : ℕ) → (one_more m == 0) ≡ false
 some_out m = grind (arith, nat_tests)
 
 -- an actor with a claim more out is not free
-pub mark_more : (v : ActorsView) (free free' : List Bool) (a : ℕ) (k : ActorView) (m n : ℕ) → AreActors v free → a < length v.kept → n ≡ one_more m → free' ≡ slice_set free a false → AreActors (record { kept = slice_set v.kept a k; out = slice_set v.out a n }) free'
+pub mark_more : (v : ActorsView) (free free' : List Bool) (a : ℕ) (k : ActorView) (m n : ℕ) → AreActors v free → a < length v.list → n ≡ one_more m → free' ≡ slice_set free a false → AreActors (record { list = slice_set v.list a k; out = slice_set v.out a n }) free'
 mark_more v free free' a k m n h there e put =
     let none : (is_ready_view k && (n == 0)) ≡ false = ap (λ (x : ℕ). is_ready_view k && (x == 0)) e ∙ ap (λ (b : Bool). is_ready_view k && b) (some_out m) ∙ and_no (is_ready_view k) in
-    subst (AreActors (record { kept = slice_set v.kept a k; out = slice_set v.out a n })) (sym (put ∙ ap (slice_set free a) (sym none))) (put_free v free a k n h there)
+    subst (AreActors (record { list = slice_set v.list a k; out = slice_set v.out a n })) (sym (put ∙ ap (slice_set free a) (sym none))) (put_free v free a k n h there)
 
 -- a count that was changed
 pub put_count : (f : ℕ → ℕ) (ns : List ℕ) (a m n : ℕ) → a < length ns → m ≡ get_or ns a m → n ≡ f m → slice_set ns a n ≡ change_at f a ns
@@ -193,12 +193,12 @@ and_none : (b : Bool) → (b && (0 == 0)) ≡ b
 and_none true = refl
 and_none false = refl
 
-pub push_any : (v : ActorsView) (free free' : List Bool) (k : ActorView) (n : ℕ) (r : Bool) → AreActors v free → length v.kept < 65536 → n ≡ length v.kept → r ≡ is_ready_view k → free' ≡ slice_set (free ++ false ∷ []) n r → AreActors (record { kept = v.kept ++ k ∷ []; out = v.out ++ 0 ∷ [] }) free'
+pub push_any : (v : ActorsView) (free free' : List Bool) (k : ActorView) (n : ℕ) (r : Bool) → AreActors v free → length v.list < 65536 → n ≡ length v.list → r ≡ is_ready_view k → free' ≡ slice_set (free ++ false ∷ []) n r → AreActors (record { list = v.list ++ k ∷ []; out = v.out ++ 0 ∷ [] }) free'
 push_any v free free' k n r h few place ready set =
-    let rest : AreActors (record { kept = v.kept ++ at_rest k ∷ []; out = v.out ++ 0 ∷ [] }) (free ++ false ∷ []) = push_free v free (at_rest k) h few refl in
-    let within : n < length (v.kept ++ at_rest k ∷ []) = omega (arith, place, length-append v.kept (at_rest k ∷ [])) in
-    let put = put_free (record { kept = v.kept ++ at_rest k ∷ []; out = v.out ++ 0 ∷ [] }) (free ++ false ∷ []) n k 0 rest within in
-    let kept : slice_set (v.kept ++ at_rest k ∷ []) n k ≡ v.kept ++ k ∷ [] = set_last v.kept (at_rest k) k n place in
+    let rest : AreActors (record { list = v.list ++ at_rest k ∷ []; out = v.out ++ 0 ∷ [] }) (free ++ false ∷ []) = push_free v free (at_rest k) h few refl in
+    let within : n < length (v.list ++ at_rest k ∷ []) = omega (arith, place, length-append v.list (at_rest k ∷ [])) in
+    let put = put_free (record { list = v.list ++ at_rest k ∷ []; out = v.out ++ 0 ∷ [] }) (free ++ false ∷ []) n k 0 rest within in
+    let kept : slice_set (v.list ++ at_rest k ∷ []) n k ≡ v.list ++ k ∷ [] = set_last v.list (at_rest k) k n place in
     let out : slice_set (v.out ++ 0 ∷ []) n 0 ≡ v.out ++ 0 ∷ [] = set_last v.out 0 0 n (place ∙ sym h.each_count) in
     let flags : slice_set (free ++ false ∷ []) n (is_ready_view k && (0 == 0)) ≡ free' = ap (slice_set (free ++ false ∷ []) n) (and_none (is_ready_view k) ∙ sym ready) ∙ sym set in
     rw (kept, out, flags) at put

@@ -45,7 +45,7 @@ ready_anew ks n = by (slice_get ks n) refl
     by (Some k) e = let there : slice_get (map view_anew ks) n ≡ Some (view_anew k) = slice_get-map view_anew ks n ∙ ap (option_map view_anew) e in rw (there, e) refl
 
 -- as many are free as before
-pub free_anew : (ks : List ActorView) (out : List ℕ) (free : List Bool) → AreActors (record { kept = ks; out = out }) free → AreActors (record { kept = map view_anew ks; out = out }) free
+pub free_anew : (ks : List ActorView) (out : List ℕ) (free : List Bool) → AreActors (record { list = ks; out = out }) free → AreActors (record { list = map view_anew ks; out = out }) free
 free_anew ks out free h = record {
   flags = λ n. h.flags n ∙ ap (λ (t : Bool). t && (claims_of out n == 0)) (sym (ready_anew ks n));
   each_flag = omega (arith, h.each_flag, length-map ks view_anew);

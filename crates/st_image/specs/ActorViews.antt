@@ -113,19 +113,19 @@ is_ready_in ks n = ready_kept (slice_get ks n)
 
 -- the actors, and how many claims of each are out
 pub record ActorsView : Type 0 where
-  pub kept : List ActorView
+  pub list : List ActorView
   pub out : List ℕ
 
 -- an actor may be checked out next: it is ready, and no claim of it is out
 abbrev pub is_free_in : ActorsView → ℕ → Bool
-is_free_in v a = is_ready_in v.kept a && (claims_of v.out a == 0)
+is_free_in v a = is_ready_in v.list a && (claims_of v.out a == 0)
 
 -- the flags of the actors that may be checked out are raised; there are as many flags and counts as actors, and at most 65,536
 pub record AreActors (v : ActorsView) (free : List Bool) : Type 0 where
   pub flags : (n : ℕ) → is_raised free n ≡ is_free_in v n
-  pub each_flag : length free ≡ length v.kept
-  pub each_count : length v.out ≡ length v.kept
-  pub few : length v.kept ≤ 65536
+  pub each_flag : length free ≡ length v.list
+  pub each_count : length v.out ≡ length v.list
+  pub few : length v.list ≤ 65536
 
 -- a free actor that comes no later than any other free one, counted from a number
 pub record IsNextFree (v : ActorsView) (from a : ℕ) : Type 0 where

@@ -36,7 +36,7 @@ fn argument_fits<M: Mailbox>(
     actors: &Actors<M>,
     value: Value,
 ) -> bool
-    ensures { result ≡ fits_argument names.now (class_count version.now) (length actors.now.kept) value }
+    ensures { result ≡ fits_argument names.now (class_count version.now) (length actors.now.list) value }
 {
     match value {
         Value::Int(_) | Value::Bool(_) | Value::Nil => true,
@@ -53,7 +53,7 @@ fn arguments_fit<M: Mailbox>(
     actors: &Actors<M>,
     args: &[Value],
 ) -> bool
-    ensures { result ≡ list_all (fits_argument names.now (class_count version.now) (length actors.now.kept)) args.now }
+    ensures { result ≡ list_all (fits_argument names.now (class_count version.now) (length actors.now.list)) args.now }
 {
     args.iter()
         .all(|value| argument_fits(names, version, actors, *value))
@@ -73,7 +73,7 @@ fn message_fits<M: Mailbox>(
     actors: &Actors<M>,
     message: &Message,
 ) -> bool
-    ensures { result ≡ fits_message names.now (class_count version.now) (length actors.now.kept) message.now }
+    ensures { result ≡ fits_message names.now (class_count version.now) (length actors.now.list) message.now }
 {
     let args = message.args.as_slice();
     takes(names, message.selector, args.len()) && arguments_fit(names, version, actors, args)
@@ -99,11 +99,11 @@ pub(crate) fn post_refusal<M: Mailbox>(
     actor: ActorId,
     message: &Message,
 ) -> Option<Refusal>
-    ensures value { (w : World) → Shows version.now actors.now.kept w → sender_last w message.now.sender ≡ last → result ≡ first_of (post_rules names.now w (slice_get w.actors actor.0) message.now) }
-    ensures there { IfNone result (actor.0 < length actors.now.kept) }
-    ensures accepts { IfNone result (Accepts actors.now.kept actor) }
+    ensures value { (w : World) → Shows version.now actors.now.list w → sender_last w message.now.sender ≡ last → result ≡ first_of (post_rules names.now w (slice_get w.actors actor.0) message.now) }
+    ensures there { IfNone result (actor.0 < length actors.now.list) }
+    ensures accepts { IfNone result (Accepts actors.now.list actor) }
 {
-    let Some(kept) = actors.get(actor) else {
+    let Some(found) = actors.get(actor) else {
         return Some(Refusal::UnknownActor);
     };
     if !message_fits(names, version, actors, message) {
@@ -111,7 +111,7 @@ pub(crate) fn post_refusal<M: Mailbox>(
     }
     match number_refusal(last, message.seq) {
         Some(refusal) => Some(refusal),
-        None => kept.refusal(),
+        None => found.refusal(),
     }
 }
 
@@ -126,15 +126,15 @@ fn try_post<M: Mailbox>(
     selector: Selector,
     args: &[Value],
 ) -> Result<bool, AllocError>
-    requires there { actor.0 < length actors.old.kept }
-    requires few { FewAccepted actors.old.kept }
-    ensures ok { IfOk result (λ answer. (capacity : ℕ) (w : World) → IsShown names.now capacity version.now actors.old.kept w → Tries version.now actors.new.kept w (after_post_by (constants_of names.now capacity) to selector args.now actor w (slice_get w.actors actor.0)) answer) }
-    ensures grown { OnOk result (GrowsByOne actors.old.kept actors.new.kept) }
+    requires there { actor.0 < length actors.old.list }
+    requires few { FewAccepted actors.old.list }
+    ensures ok { IfOk result (λ answer. (capacity : ℕ) (w : World) → IsShown names.now capacity version.now actors.old.list w → Tries version.now actors.new.list w (after_post_by (constants_of names.now capacity) to selector args.now actor w (slice_get w.actors actor.0)) answer) }
+    ensures grown { OnOk result (GrowsByOne actors.old.list actors.new.list) }
     ensures out { OnOk result (SameOut actors.old.out actors.new.out) }
     ensures err { OnErr result (actors.new ≡ actors.old) }
 {
     let last = match actors.get(actor) {
-        Some(kept) => kept.last(),
+        Some(found) => found.last(),
         None => return Ok(false),
     };
     if last == u64::MAX {
@@ -177,11 +177,11 @@ fn post<M: Mailbox>(
     selector: Selector,
     args: &[Value],
 ) -> Result<Result<Value, Fault>, AllocError>
-    requires there { actor.0 < length actors.old.kept }
-    requires few { FewAccepted actors.old.kept }
-    ensures ok { IfOk result (λ answer. (capacity : ℕ) (w : World) → IsShown names.now capacity version.now actors.old.kept w → Does version.now actors.new.kept (post_result (constants_of names.now capacity) to selector args.now actor w) answer) }
+    requires there { actor.0 < length actors.old.list }
+    requires few { FewAccepted actors.old.list }
+    ensures ok { IfOk result (λ answer. (capacity : ℕ) (w : World) → IsShown names.now capacity version.now actors.old.list w → Does version.now actors.new.list (post_result (constants_of names.now capacity) to selector args.now actor w) answer) }
     ensures fault { IfOk result (λ answer. IsErr answer → actors.new ≡ actors.old) }
-    ensures grown { OnOk result (GrowsByOne actors.old.kept actors.new.kept) }
+    ensures grown { OnOk result (GrowsByOne actors.old.list actors.new.list) }
     ensures out { OnOk result (SameOut actors.old.out actors.new.out) }
     ensures err { OnErr result (actors.new ≡ actors.old) }
 {
@@ -206,9 +206,9 @@ fn create<M: Mailbox>(
     requires class { class.0 < class_count version.now }
     requires some { 1 ≤ capacity }
     requires few { capacity ≤ 1024 }
-    ensures ok { IfOk result (λ answer. (names : List (List ℕ)) (w : World) → IsShown names capacity version.now actors.old.kept w → Does version.now actors.new.kept (create_result (constants_of names capacity) class w) answer) }
+    ensures ok { IfOk result (λ answer. (names : List (List ℕ)) (w : World) → IsShown names capacity version.now actors.old.list w → Does version.now actors.new.list (create_result (constants_of names capacity) class w) answer) }
     ensures fault { IfOk result (λ answer. IsErr answer → actors.new ≡ actors.old) }
-    ensures grown { OnOk result (GrowsByOne actors.old.kept actors.new.kept) }
+    ensures grown { OnOk result (GrowsByOne actors.old.list actors.new.list) }
     ensures out { OnOk result (SameOut actors.old.out actors.new.out) }
     ensures err { OnErr result (actors.new ≡ actors.old) }
 {
@@ -226,12 +226,12 @@ fn create<M: Mailbox>(
 
 /// An actor asks that a mailbox be closed: the answer is whether it was open.
 fn close<M: Mailbox>(version: &Version, actors: &mut Actors<M>, to: ActorId) -> Value
-    ensures does { (names : List (List ℕ)) (capacity : ℕ) (w : World) → IsShown names capacity version.now actors.old.kept w → Does version.now actors.new.kept (attempted_act w (after_close w to)) (Ok result) }
-    ensures grown { GrowsByOne actors.old.kept actors.new.kept }
+    ensures does { (names : List (List ℕ)) (capacity : ℕ) (w : World) → IsShown names capacity version.now actors.old.list w → Does version.now actors.new.list (attempted_act w (after_close w to)) (Ok result) }
+    ensures grown { GrowsByOne actors.old.list actors.new.list }
     ensures out { actors.new.out ≡ actors.old.out }
 {
     match actors.get(to) {
-        Some(kept) if kept.is_open() => {
+        Some(found) if found.is_open() => {
             actors.close(to);
             Value::Bool(true)
         }
@@ -249,14 +249,14 @@ fn perform<M: Mailbox>(
     actor: ActorId,
     act: Act,
 ) -> Result<Result<Value, Fault>, AllocError>
-    requires there { actor.0 < length actors.old.kept }
-    requires few { FewAccepted actors.old.kept }
+    requires there { actor.0 < length actors.old.list }
+    requires few { FewAccepted actors.old.list }
     requires class { NamesClasses version.now act }
     requires some { 1 ≤ capacity }
     requires few_messages { capacity ≤ 1024 }
-    ensures ok { IfOk result (λ answer. (w : World) → IsShown names.now capacity version.now actors.old.kept w → Does version.now actors.new.kept (act_result (constants_of names.now capacity) actor w act) answer) }
+    ensures ok { IfOk result (λ answer. (w : World) → IsShown names.now capacity version.now actors.old.list w → Does version.now actors.new.list (act_result (constants_of names.now capacity) actor w act) answer) }
     ensures fault { IfOk result (λ answer. IsErr answer → actors.new ≡ actors.old) }
-    ensures grown { OnOk result (GrowsByOne actors.old.kept actors.new.kept) }
+    ensures grown { OnOk result (GrowsByOne actors.old.list actors.new.list) }
     ensures out { OnOk result (SameOut actors.old.out actors.new.out) }
     ensures err { OnErr result (actors.new ≡ actors.old) }
 {
@@ -274,25 +274,27 @@ fn perform<M: Mailbox>(
 
 // ---- the image's step
 
-/// Takes the next step of an actor where it is the image's to take. The answer is whether it was.
-pub(crate) fn take_outer<M: Mailbox>(
+/// Takes the next step of an actor if it is the image's to take, as the caller knows. The answer is whether it was.
+fn take_outer<M: Mailbox>(
     alloc: Global,
     names: &Names,
     version: &Version,
     capacity: u32,
     actors: &mut Actors<M>,
     actor: ActorId,
+    is_act_next: bool,
 ) -> Result<bool, AllocError>
-    requires there { actor.0 < length actors.old.kept }
-    requires few { FewAccepted actors.old.kept }
-    requires shown { (w : World) × IsShown names.now capacity version.now actors.old.kept w }
-    ensures ok { IfOk result (λ outer. (w : World) → IsShown names.now capacity version.now actors.old.kept w → TakesOuter (constants_of names.now capacity) version.now actors.old.kept actors.new.kept actor w outer) }
-    ensures stands { OnErr result ((w : World) → IsShown names.now capacity version.now actors.old.kept w → StandsBefore actor w true) }
-    ensures grown { OnOk result (GrowsByOne actors.old.kept actors.new.kept) }
+    requires there { actor.0 < length actors.old.list }
+    requires few { FewAccepted actors.old.list }
+    requires shown { (w : World) × IsShown names.now capacity version.now actors.old.list w }
+    requires act { (w : World) → IsShown names.now capacity version.now actors.old.list w → StandsBefore actor w is_act_next }
+    ensures ok { IfOk result (λ outer. (w : World) → IsShown names.now capacity version.now actors.old.list w → TakesOuter (constants_of names.now capacity) version.now actors.old.list actors.new.list actor w outer) }
+    ensures stands { OnErr result ((w : World) → IsShown names.now capacity version.now actors.old.list w → StandsBefore actor w true) }
+    ensures grown { OnOk result (GrowsByOne actors.old.list actors.new.list) }
     ensures out { OnOk result (SameOut actors.old.out actors.new.out) }
     ensures err { OnErr result (actors.new ≡ actors.old) }
 {
-    if !actors.is_act_next(version, actor) {
+    if !is_act_next {
         return Ok(false);
     }
     let Some(act) = actors.next_act(alloc, version, actor)? else {
@@ -305,8 +307,8 @@ pub(crate) fn take_outer<M: Mailbox>(
     Ok(true)
 }
 
-/// Steps of an actor's own have led to a body, and the image's step is taken where it comes next. The answer is whether it was. For
-/// want of memory nothing changes, and the body is given back. Else the body before is left.
+/// Steps of an actor's own have led to a body, and the image's step is taken if it comes next, as the caller knows. The answer is
+/// whether it was. If memory runs out, nothing changes and the body is given back. Otherwise the body before is left.
 pub(crate) fn put_steps<M: Mailbox>(
     alloc: Global,
     names: &Names,
@@ -315,14 +317,16 @@ pub(crate) fn put_steps<M: Mailbox>(
     actors: &mut Actors<M>,
     actor: ActorId,
     after: Body,
+    is_act_next: bool,
     left: &mut Option<Body>,
 ) -> Result<bool, Body>
-    requires there { actor.0 < length actors.old.kept }
-    requires few { FewAccepted actors.old.kept }
-    requires busy { (k : ActorView) → slice_get actors.old.kept actor.0 ≡ Some k → idle k.body.phase ≡ false }
-    requires shown { (w : World) × IsShown names.now capacity version.now (change_at (view_after_steps after) actor.0 actors.old.kept) w }
-    ensures ok { IfOk result (λ outer. (w : World) → IsShown names.now capacity version.now (change_at (view_after_steps after) actor.0 actors.old.kept) w → TakesOuter (constants_of names.now capacity) version.now (change_at (view_after_steps after) actor.0 actors.old.kept) actors.new.kept actor w outer) }
-    ensures grown { OnOk result (GrowsByOne actors.old.kept actors.new.kept) }
+    requires there { actor.0 < length actors.old.list }
+    requires few { FewAccepted actors.old.list }
+    requires busy { (k : ActorView) → slice_get actors.old.list actor.0 ≡ Some k → idle k.body.phase ≡ false }
+    requires shown { (w : World) × IsShown names.now capacity version.now (change_at (view_after_steps after) actor.0 actors.old.list) w }
+    requires act { (w : World) → IsShown names.now capacity version.now (change_at (view_after_steps after) actor.0 actors.old.list) w → StandsBefore actor w is_act_next }
+    ensures ok { IfOk result (λ outer. (w : World) → IsShown names.now capacity version.now (change_at (view_after_steps after) actor.0 actors.old.list) w → TakesOuter (constants_of names.now capacity) version.now (change_at (view_after_steps after) actor.0 actors.old.list) actors.new.list actor w outer) }
+    ensures grown { OnOk result (GrowsByOne actors.old.list actors.new.list) }
     ensures out { OnOk result (SameOut actors.old.out actors.new.out) }
     ensures back { IfErr result (λ b. b ≡ after) }
     ensures err { OnErr result (actors.new ≡ actors.old) }
@@ -331,7 +335,7 @@ pub(crate) fn put_steps<M: Mailbox>(
         Ok(was) => was,
         Err(after) => return Err(after),
     };
-    match take_outer(alloc, names, version, capacity, actors, actor) {
+    match take_outer(alloc, names, version, capacity, actors, actor, is_act_next) {
         Ok(outer) => {
             *left = Some(was);
             Ok(outer)

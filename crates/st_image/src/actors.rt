@@ -12,7 +12,7 @@ use st_classes::version::Version;
 use st_flags::flags::Flags;
 use st_mailbox::mailboxes::Mailbox;
 use st_mailbox::messages::Message;
-use st_turn::acts::{Act, is_act_next, next_act};
+use st_turn::acts::{Act, next_act};
 use st_turn::body::Body;
 use std::alloc::{AllocError, Global};
 use std::marker::Model;
@@ -31,9 +31,9 @@ impl<M: Mailbox> Model for Actors<M> {
 
     ghost Value = { ActorsView };
 
-    ghost view = { λ a. record { kept = a.items.items; out = a.out.items } };
+    ghost view = { λ a. record { list = a.items.items; out = a.out.items } };
 
-    ghost invariant = { λ a. AreActors (record { kept = a.items.items; out = a.out.items }) a.free };
+    ghost invariant = { λ a. AreActors (record { list = a.items.items; out = a.out.items }) a.free };
 }
 
 /// Whether an actor may be checked out next, where so many claims of it are out.
@@ -61,7 +61,7 @@ fn one_less(out: u32) -> u32
 }
 
 impl<M: Mailbox> Actors<M> {
-    ghost use Rattle.std.specs.Prelude.{◌≡◌, ◌+◌, ◌<◌, ◌≤◌, ◌^◌, ◌++◌, [], ◌∷◌, ℕ, length, slice_get, Some, true, false, IfOk, IfErr, IfSome, IfNone, OnOk, OnErr, Ok, Err, is_some};
+    ghost use Rattle.std.specs.Prelude.{◌≡◌, ◌+◌, ◌<◌, ◌≤◌, ◌^◌, ◌++◌, [], ◌∷◌, ℕ, length, slice_get, Some, true, false, IfOk, IfErr, IfSome, IfNone, OnOk, OnErr, Ok, Err};
     ghost use Rattle.std.specs.Option.{option_copied};
     ghost use Rattle.st_turn.specs.declared.acts.Act.{Act as ActOf};
     ghost use Rattle.st_turn.specs.Idle.{is_idle as idle};
@@ -73,7 +73,7 @@ impl<M: Mailbox> Actors<M> {
     ghost use Rattle.st_image.specs.ClaimsOut.{one_less, one_more};
 
     pub(crate) fn new(alloc: Global) -> Actors<M>
-        ensures { result ≡ record { kept = []; out = [] } }
+        ensures { result ≡ record { list = []; out = [] } }
     {
         Actors {
             items: Vec::new(alloc),
@@ -83,15 +83,15 @@ impl<M: Mailbox> Actors<M> {
     }
 
     pub(crate) fn len(&self) -> usize
-        ensures value { result ≡ length self.now.kept }
-        ensures few { length self.now.kept ≤ 65536 }
+        ensures value { result ≡ length self.now.list }
+        ensures few { length self.now.list ≤ 65536 }
     {
         let _free = &self.free;
         self.items.len()
     }
 
     pub(crate) fn get(&self, actor: ActorId) -> Option<&Actor<M>>
-        ensures { option_copied result ≡ slice_get self.now.kept actor.0 }
+        ensures { option_copied result ≡ slice_get self.now.list actor.0 }
     {
         self.items.get(actor.0 as usize)
     }
@@ -107,9 +107,9 @@ impl<M: Mailbox> Actors<M> {
 
     /// Puts a new actor last, which is not ready. No claim of it is out.
     pub(crate) fn push(&mut self, actor: Actor<M>) -> Result<(), AllocError>
-        requires few { length self.old.kept < 65536 }
+        requires few { length self.old.list < 65536 }
         requires idle { is_ready_view actor ≡ false }
-        ensures ok { OnOk result (self.new ≡ record { kept = self.old.kept ++ actor ∷ []; out = self.old.out ++ 0 ∷ [] }) }
+        ensures ok { OnOk result (self.new ≡ record { list = self.old.list ++ actor ∷ []; out = self.old.out ++ 0 ∷ [] }) }
         ensures err { OnErr result (self.new ≡ self.old) }
     {
         self.items.reserve(1)?;
@@ -122,14 +122,14 @@ impl<M: Mailbox> Actors<M> {
 
     /// Puts a message last in the mailbox of an actor, which is then ready. The answer is how many messages it has accepted.
     pub(crate) fn deliver(&mut self, actor: ActorId, message: Message) -> u64
-        requires there { actor.0 < length self.old.kept }
-        requires few { (k : ActorView) → slice_get self.old.kept actor.0 ≡ Some k → k.accepted < 2 ^ 63 }
-        requires accepts { Accepts self.old.kept actor }
-        ensures count { (k : ActorView) → slice_get self.old.kept actor.0 ≡ Some k → result ≡ k.accepted + 1 }
-        ensures message { self.new ≡ record self.old { kept = change_at (view_with_message message) actor.0 self.old.kept } }
+        requires there { actor.0 < length self.old.list }
+        requires few { (k : ActorView) → slice_get self.old.list actor.0 ≡ Some k → k.accepted < 2 ^ 63 }
+        requires accepts { Accepts self.old.list actor }
+        ensures count { (k : ActorView) → slice_get self.old.list actor.0 ≡ Some k → result ≡ k.accepted + 1 }
+        ensures message { self.new ≡ record self.old { list = change_at (view_with_message message) actor.0 self.old.list } }
     {
-        let kept = &mut self.items[actor.0 as usize];
-        let count = kept.take_in(message);
+        let item = &mut self.items[actor.0 as usize];
+        let count = item.take_in(message);
         let free = is_free(true, self.out[actor.0 as usize]);
         self.free.set(actor.0, free);
         count
@@ -137,20 +137,20 @@ impl<M: Mailbox> Actors<M> {
 
     /// The last message that an actor sent has this number.
     pub(crate) fn set_last(&mut self, actor: ActorId, number: u64)
-        requires { actor.0 < length self.old.kept }
-        ensures { self.new ≡ record self.old { kept = change_at (λ (k : ActorView). record k { last = number }) actor.0 self.old.kept } }
+        requires { actor.0 < length self.old.list }
+        ensures { self.new ≡ record self.old { list = change_at (λ (k : ActorView). record k { last = number }) actor.0 self.old.list } }
     {
-        let kept = &mut self.items[actor.0 as usize];
-        kept.set_last(number);
+        let item = &mut self.items[actor.0 as usize];
+        item.set_last(number);
     }
 
     /// The mailbox of an actor accepts no more.
     pub(crate) fn close(&mut self, actor: ActorId)
-        requires { actor.0 < length self.old.kept }
-        ensures { self.new ≡ record self.old { kept = change_at (λ (k : ActorView). record k { is_open = false }) actor.0 self.old.kept } }
+        requires { actor.0 < length self.old.list }
+        ensures { self.new ≡ record self.old { list = change_at (λ (k : ActorView). record k { is_open = false }) actor.0 self.old.list } }
     {
-        let kept = &mut self.items[actor.0 as usize];
-        kept.close();
+        let item = &mut self.items[actor.0 as usize];
+        item.close();
     }
 
     /// The body that a checkout of an actor hands out.
@@ -159,23 +159,23 @@ impl<M: Mailbox> Actors<M> {
         alloc: Global,
         actor: ActorId,
     ) -> Result<Body, AllocError>
-        requires { actor.0 < length self.now.kept }
-        ensures { IfOk result (λ b. (k : ActorView) → slice_get self.now.kept actor.0 ≡ Some k → b ≡ (view_checked_out k).body) }
+        requires { actor.0 < length self.now.list }
+        ensures { IfOk result (λ b. (k : ActorView) → slice_get self.now.list actor.0 ≡ Some k → b ≡ (view_checked_out k).body) }
     {
-        let kept = &self.items[actor.0 as usize];
-        kept.body_to_check_out(alloc)
+        let item = &self.items[actor.0 as usize];
+        item.body_to_check_out(alloc)
     }
 
     /// A claim more of an actor is out. An actor that is idle begins its first pending message, where one is pending. The answer is
     /// the number after the actor's.
     pub(crate) fn check_out(&mut self, actor: ActorId) -> u32
-        requires { actor.0 < length self.old.kept }
-        ensures checked { self.new ≡ record { kept = change_at view_checked_out actor.0 self.old.kept; out = change_at one_more actor.0 self.old.out } }
+        requires { actor.0 < length self.old.list }
+        ensures checked { self.new ≡ record { list = change_at view_checked_out actor.0 self.old.list; out = change_at one_more actor.0 self.old.out } }
         ensures counted { actor.0 < length self.old.out }
         ensures next { result ≡ actor.0 + 1 }
     {
-        let kept = &mut self.items[actor.0 as usize];
-        kept.check_out();
+        let item = &mut self.items[actor.0 as usize];
+        item.check_out();
         let out = one_more(self.out[actor.0 as usize]);
         self.out[actor.0 as usize] = out;
         self.free.set(actor.0, false);
@@ -191,49 +191,39 @@ impl<M: Mailbox> Actors<M> {
         }
         let out = one_less(self.out[actor.0 as usize]);
         self.out[actor.0 as usize] = out;
-        let kept = &self.items[actor.0 as usize];
-        let free = is_free(kept.is_ready(), out);
+        let item = &self.items[actor.0 as usize];
+        let free = is_free(item.is_ready(), out);
         self.free.set(actor.0, free);
     }
 
     /// An actor has this body after steps of its own, and the one before is given out. A turn that ended adds its result. For want
     /// of memory nothing changes, and the body is given back.
     pub(crate) fn put_body(&mut self, actor: ActorId, body: Body) -> Result<Body, Body>
-        requires there { actor.0 < length self.old.kept }
-        requires busy { (k : ActorView) → slice_get self.old.kept actor.0 ≡ Some k → idle k.body.phase ≡ false }
-        requires few { (k : ActorView) → slice_get self.old.kept actor.0 ≡ Some k → k.accepted < 2 ^ 63 }
-        ensures was { IfOk result (λ was. (k : ActorView) → slice_get self.old.kept actor.0 ≡ Some k → was ≡ k.body) }
-        ensures ok { OnOk result (self.new ≡ record self.old { kept = change_at (view_after_steps body) actor.0 self.old.kept }) }
+        requires there { actor.0 < length self.old.list }
+        requires busy { (k : ActorView) → slice_get self.old.list actor.0 ≡ Some k → idle k.body.phase ≡ false }
+        requires few { (k : ActorView) → slice_get self.old.list actor.0 ≡ Some k → k.accepted < 2 ^ 63 }
+        ensures was { IfOk result (λ was. (k : ActorView) → slice_get self.old.list actor.0 ≡ Some k → was ≡ k.body) }
+        ensures ok { OnOk result (self.new ≡ record self.old { list = change_at (view_after_steps body) actor.0 self.old.list }) }
         ensures back { IfErr result (λ b. b ≡ body) }
         ensures err { OnErr result (self.new ≡ self.old) }
     {
-        let kept = &mut self.items[actor.0 as usize];
-        let was = kept.put_body(body)?;
-        let free = is_free(kept.is_ready(), self.out[actor.0 as usize]);
+        let item = &mut self.items[actor.0 as usize];
+        let was = item.put_body(body)?;
+        let free = is_free(item.is_ready(), self.out[actor.0 as usize]);
         self.free.set(actor.0, free);
         Ok(was)
     }
 
     /// An actor that is in a turn has the body again that it had before in the same turn. The one that it had is given out.
     pub(crate) fn put_back(&mut self, actor: ActorId, body: Body) -> Body
-        requires there { actor.0 < length self.old.kept }
-        requires busy { (k : ActorView) → slice_get self.old.kept actor.0 ≡ Some k → idle k.body.phase ≡ false }
+        requires there { actor.0 < length self.old.list }
+        requires busy { (k : ActorView) → slice_get self.old.list actor.0 ≡ Some k → idle k.body.phase ≡ false }
         requires still { idle body.phase ≡ false }
-        ensures had { (k : ActorView) → slice_get self.old.kept actor.0 ≡ Some k → result ≡ k.body }
-        ensures back { self.new ≡ record self.old { kept = change_at (λ (k : ActorView). record k { body = body }) actor.0 self.old.kept } }
+        ensures had { (k : ActorView) → slice_get self.old.list actor.0 ≡ Some k → result ≡ k.body }
+        ensures back { self.new ≡ record self.old { list = change_at (λ (k : ActorView). record k { body = body }) actor.0 self.old.list } }
     {
-        let kept = &mut self.items[actor.0 as usize];
-        kept.put_back(body)
-    }
-
-    /// Whether the next step of an actor asks something of the image.
-    pub(crate) fn is_act_next(&self, version: &Version, actor: ActorId) -> bool
-        requires there { actor.0 < length self.now.kept }
-        requires fits { (k : ActorView) → slice_get self.now.kept actor.0 ≡ Some k → FitsSome version.now actor k.body }
-        ensures { (k : ActorView) → slice_get self.now.kept actor.0 ≡ Some k → result ≡ is_some (act_in (step version.now actor k.body)) }
-    {
-        let kept = &self.items[actor.0 as usize];
-        is_act_next(kept.body(), actor, version)
+        let item = &mut self.items[actor.0 as usize];
+        item.put_back(body)
     }
 
     /// What the next step of an actor asks of the image, if it does.
@@ -243,25 +233,25 @@ impl<M: Mailbox> Actors<M> {
         version: &Version,
         actor: ActorId,
     ) -> Result<Option<Act>, AllocError>
-        requires there { actor.0 < length self.now.kept }
-        requires fits { (k : ActorView) → slice_get self.now.kept actor.0 ≡ Some k → FitsSome version.now actor k.body }
-        ensures { IfOk result (λ act. (k : ActorView) → slice_get self.now.kept actor.0 ≡ Some k → act ≡ act_in (step version.now actor k.body)) }
+        requires there { actor.0 < length self.now.list }
+        requires fits { (k : ActorView) → slice_get self.now.list actor.0 ≡ Some k → FitsSome version.now actor k.body }
+        ensures { IfOk result (λ act. (k : ActorView) → slice_get self.now.list actor.0 ≡ Some k → act ≡ act_in (step version.now actor k.body)) }
     {
-        let kept = &self.items[actor.0 as usize];
-        next_act(alloc, kept.body(), actor, version)
+        let item = &self.items[actor.0 as usize];
+        next_act(alloc, item.body(), actor, version)
     }
 
     /// The act of an actor was done, and its turn goes on with the answer.
     pub(crate) fn give(&mut self, version: &Version, actor: ActorId, value: Value)
-        requires there { actor.0 < length self.old.kept }
-        requires fits { (k : ActorView) → slice_get self.old.kept actor.0 ≡ Some k → FitsSome version.now actor k.body }
-        requires act { (k : ActorView) → slice_get self.old.kept actor.0 ≡ Some k → IsAct (step version.now actor k.body) }
-        requires busy { (k : ActorView) → slice_get self.old.kept actor.0 ≡ Some k → idle k.body.phase ≡ false }
-        ensures { (k : ActorView) (act : ActOf) → slice_get self.old.kept actor.0 ≡ Some k → step version.now actor k.body ≡ outer act → self.new ≡ record self.old { kept = change_at (view_after_steps (reply_body act (Ok value) k.body)) actor.0 self.old.kept } }
+        requires there { actor.0 < length self.old.list }
+        requires fits { (k : ActorView) → slice_get self.old.list actor.0 ≡ Some k → FitsSome version.now actor k.body }
+        requires act { (k : ActorView) → slice_get self.old.list actor.0 ≡ Some k → IsAct (step version.now actor k.body) }
+        requires busy { (k : ActorView) → slice_get self.old.list actor.0 ≡ Some k → idle k.body.phase ≡ false }
+        ensures { (k : ActorView) (act : ActOf) → slice_get self.old.list actor.0 ≡ Some k → step version.now actor k.body ≡ outer act → self.new ≡ record self.old { list = change_at (view_after_steps (reply_body act (Ok value) k.body)) actor.0 self.old.list } }
     {
-        let kept = &mut self.items[actor.0 as usize];
-        kept.give(version, actor, value);
-        let free = is_free(kept.is_ready(), self.out[actor.0 as usize]);
+        let item = &mut self.items[actor.0 as usize];
+        item.give(version, actor, value);
+        let free = is_free(item.is_ready(), self.out[actor.0 as usize]);
         self.free.set(actor.0, free);
     }
 
@@ -272,17 +262,17 @@ impl<M: Mailbox> Actors<M> {
         actor: ActorId,
         fault: Fault,
     ) -> Result<(), AllocError>
-        requires there { actor.0 < length self.old.kept }
-        requires fits { (k : ActorView) → slice_get self.old.kept actor.0 ≡ Some k → FitsSome version.now actor k.body }
-        requires act { (k : ActorView) → slice_get self.old.kept actor.0 ≡ Some k → IsAct (step version.now actor k.body) }
-        requires busy { (k : ActorView) → slice_get self.old.kept actor.0 ≡ Some k → idle k.body.phase ≡ false }
-        requires few { (k : ActorView) → slice_get self.old.kept actor.0 ≡ Some k → k.accepted < 2 ^ 63 }
-        ensures ok { OnOk result ((k : ActorView) (act : ActOf) → slice_get self.old.kept actor.0 ≡ Some k → step version.now actor k.body ≡ outer act → self.new ≡ record self.old { kept = change_at (view_after_steps (reply_body act (Err fault) k.body)) actor.0 self.old.kept }) }
+        requires there { actor.0 < length self.old.list }
+        requires fits { (k : ActorView) → slice_get self.old.list actor.0 ≡ Some k → FitsSome version.now actor k.body }
+        requires act { (k : ActorView) → slice_get self.old.list actor.0 ≡ Some k → IsAct (step version.now actor k.body) }
+        requires busy { (k : ActorView) → slice_get self.old.list actor.0 ≡ Some k → idle k.body.phase ≡ false }
+        requires few { (k : ActorView) → slice_get self.old.list actor.0 ≡ Some k → k.accepted < 2 ^ 63 }
+        ensures ok { OnOk result ((k : ActorView) (act : ActOf) → slice_get self.old.list actor.0 ≡ Some k → step version.now actor k.body ≡ outer act → self.new ≡ record self.old { list = change_at (view_after_steps (reply_body act (Err fault) k.body)) actor.0 self.old.list }) }
         ensures err { OnErr result (self.new ≡ self.old) }
     {
-        let kept = &mut self.items[actor.0 as usize];
-        kept.fail(version, actor, fault)?;
-        let free = is_free(kept.is_ready(), self.out[actor.0 as usize]);
+        let item = &mut self.items[actor.0 as usize];
+        item.fail(version, actor, fault)?;
+        let free = is_free(item.is_ready(), self.out[actor.0 as usize]);
         self.free.set(actor.0, free);
         Ok(())
     }

@@ -18,7 +18,7 @@ mod parting;
 mod posting;
 mod removing;
 mod reparenting;
-mod stating;
+mod statistics;
 
 use crate::actor::Actor;
 use crate::actors::Actors;
@@ -110,7 +110,7 @@ impl<M: Mailbox> Model for Image<M> {
 
     ghost view = { λ i. record { base = i.base; names = i.names; history = i.history.items; capacity = i.settings.capacity; most_items = i.settings.history; standing = record { next_from = i.next_from; claims_out = trimmed i.actors.out; tallies = i.tallies; earlier = i.earlier } } };
 
-    ghost invariant = { λ i. HoldsImage i.base i.names i.token i.actors.kept i.history.items i.edits_made i.settings i.clients i.tallies i.covered i.changes i.counts i.earlier };
+    ghost invariant = { λ i. HoldsImage i.base i.names i.token i.actors.list i.history.items i.edits_made i.settings i.clients i.tallies i.covered i.changes i.counts i.earlier };
 }
 
 impl<M: Mailbox> Image<M> {
@@ -140,18 +140,10 @@ impl<M: Mailbox> Image<M> {
         if let Some(refusal) = settings.refusal() {
             return Err(refusal);
         }
-        let Ok(names) = Names::kernel(alloc) else {
-            return Err(Refusal::NoMemory);
-        };
-        let Ok(version) = Version::kernel(alloc) else {
-            return Err(Refusal::NoMemory);
-        };
-        let Ok(token) = Token::publish(alloc, version) else {
-            return Err(Refusal::NoMemory);
-        };
-        let Ok(table) = token.again() else {
-            return Err(Refusal::NoMemory);
-        };
+        let names = Names::kernel(alloc)?;
+        let version = Version::kernel(alloc)?;
+        let token = Token::publish(alloc, version)?;
+        let table = token.again()?;
         Ok(Image {
             base: Base::new(table, Vec::new(alloc), Vec::new(alloc)),
             names,
@@ -267,7 +259,7 @@ impl<M: Mailbox> Image<M> {
         ensures { result ≡ image_outcome self.now actor turn }
     {
         match self.actors.get(actor) {
-            Some(kept) => kept.outcome(self.base.first_turn(actor), turn),
+            Some(found) => found.outcome(self.base.first_turn(actor), turn),
             None => Err(Refusal::UnknownActor),
         }
     }
@@ -369,21 +361,13 @@ impl<M: Mailbox> Image<M> {
         if let Some(refusal) = self.create_refusal(class) {
             return Err(refusal);
         }
-        if self.history.reserve(1).is_err() {
-            return Err(Refusal::NoMemory);
-        }
+        self.history.reserve(1)?;
         let slots = self.token.shown().slots(class).len();
-        let Ok(body) = Body::fresh(alloc, class, slots) else {
-            return Err(Refusal::NoMemory);
-        };
+        let body = Body::fresh(alloc, class, slots)?;
         let capacity = self.settings.capacity;
         let number = self.actors.len() as u32;
-        let Ok(actor) = Actor::new(alloc, class, capacity, body) else {
-            return Err(Refusal::NoMemory);
-        };
-        let Ok(()) = self.actors.push(actor) else {
-            return Err(Refusal::NoMemory);
-        };
+        let actor = Actor::new(alloc, class, capacity, body)?;
+        self.actors.push(actor)?;
         self.history.push(Item::Created(class)).unwrap();
         Ok(ActorId(number))
     }

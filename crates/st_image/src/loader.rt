@@ -201,12 +201,8 @@ impl Loader {
         let Some(parent) = self.version.class_named(parent) else {
             return Err(EDITS);
         };
-        let Ok(name) = name.to_vec(alloc) else {
-            return Err(Refusal::NoMemory);
-        };
-        let Ok(slots) = copied(alloc, slots.as_slice()) else {
-            return Err(Refusal::NoMemory);
-        };
+        let name = name.to_vec(alloc)?;
+        let slots = copied(alloc, slots.as_slice())?;
         let edit = Edit::Define {
             name: Seq::from_vec(name),
             parent,

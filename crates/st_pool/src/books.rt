@@ -16,7 +16,7 @@ use std::sync::ledger::{Blank, Book, Share};
 /// The number of parts of a ledger: one for each share that may be given out, and one that stays.
 pub const PARTS: u64 = 1 << 32;
 
-/// Three ledgers that no type stands for yet, of 2^32 parts each.
+/// Three new ledgers of 2^32 parts each, to which no type belongs yet.
 pub struct Blanks {
     pub posts: Blank,
     pub edits: Blank,
@@ -60,7 +60,7 @@ impl<K: Naming> Model for Books<K> {
         × (b.posts_left.amount ≡ 0) × (b.edits_left.amount ≡ 0) × (b.steps_left.amount ≡ 0) × (b.callers < 4294967296) × (b.workers < 4294967296) };
 }
 
-/// How many receipts have their items among so many that were emptied.
+/// How many receipts have their items among the first `emptied` items, which checkpoints have emptied.
 fn gone(emptied: u64, receipts: &[Receipt]) -> u64
     ensures value { result ≡ count_by (λ r. nat_lt r.place emptied) receipts.now }
     ensures few { result ≤ length receipts.now }
@@ -71,8 +71,8 @@ fn gone(emptied: u64, receipts: &[Receipt]) -> u64
         .count() as u64
 }
 
-/// Takes in the callers' shares, and answers the sums of their posts and edits, and how many receipts have their items among so many
-/// that were emptied.
+/// Takes in the callers' shares, and answers the sums of their posts and edits, and how many receipts have their items among the
+/// first `emptied` items.
 fn gather_callers<K: Naming>(
     posts: &mut Book<Posts<K>>,
     edits: &mut Book<Edits<K>>,
@@ -214,7 +214,7 @@ impl<K: Naming> Books<K> {
         WorkerShare { steps: 0, ran }
     }
 
-    /// Books a post, where it was accepted. The books have at least what the two shares say.
+    /// Books a post if it was accepted. The books have at least what the two shares say.
     pub(crate) fn post(
         &mut self,
         posted: &mut Share<Posts<K>>,
@@ -236,7 +236,7 @@ impl<K: Naming> Books<K> {
         }
     }
 
-    /// Books an edit, where it was accepted.
+    /// Books an edit if it was accepted.
     pub(crate) fn edit(&mut self, mine: &mut CallerShare<K>, answer: &Result<u32, Refusal>)
         requires { self.old.edits < 2 ^ 63 }
         ensures books { self.new ≡ record self.old { edits = self.old.edits + counted (is_ok answer.now) } }
@@ -287,7 +287,7 @@ impl<K: Naming> Books<K> {
         self.steps.audit(&mut mine.ran);
     }
 
-    /// The totals of all shares, which are here, and how many receipts have their items among so many that were emptied.
+    /// The totals of all shares, none of which is missing, and how many receipts have their items among the first `emptied` items.
     pub(crate) fn close(
         self,
         emptied: u64,

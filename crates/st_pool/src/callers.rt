@@ -65,8 +65,8 @@ impl<'a, K: Naming, M: Mailbox> Caller<'a, K, M> {
         Caller { shared, share }
     }
 
-    /// Interns a text: the answer is its number. It is refused by `BadName` where the text is no selector, and by `TooMany` names
-    /// where it is new and there are 8,192.
+    /// Interns a text: the answer is its number. It is refused by `BadName` if the text is no selector, and by `TooMany` names if it
+    /// is new and there are 8,192.
     pub fn intern<R: Wait>(
         &mut self,
         rt: &R,
@@ -83,11 +83,11 @@ impl<'a, K: Naming, M: Mailbox> Caller<'a, K, M> {
     }
 
     /// Posts a message of a client, and answers the number of its turn: its place, from 1, among what waited in the actor's mailbox at
-    /// the last checkpoint and what it accepted since. Where it is accepted a receipt goes last; its room and its copy of the arguments
-    /// are made before the lock is taken.
+    /// the last checkpoint and what it accepted since. If it is accepted, its receipt is added last. The room for the receipt and its
+    /// copy of the arguments are made before the lock is taken.
     ///
     /// It is refused, with the first that applies, by `UnknownActor`, `BadArguments`, `Old`, `Closed`, `Full` and `HistoryFull`, and
-    /// by `NoMemory` where memory ran out. One worker that waits is woken where it is accepted.
+    /// by `NoMemory` if memory ran out. If it is accepted, one worker that waits is woken.
     pub fn post<R: Wait>(
         &mut self,
         rt: &R,
@@ -107,12 +107,8 @@ impl<'a, K: Naming, M: Mailbox> Caller<'a, K, M> {
             edited,
             ..
         } = share;
-        let Ok(copy) = copied(alloc, &args) else {
-            return Err(Refusal::NoMemory);
-        };
-        if receipts.reserve(1).is_err() {
-            return Err(Refusal::NoMemory);
-        }
+        let copy = copied(alloc, &args)?;
+        receipts.reserve(1)?;
         let (answer, place) = shared
             .enter(rt)
             .post(alloc, posted, edited, sender, seq, actor, selector, args);
@@ -234,7 +230,7 @@ impl<'a, K: Naming, M: Mailbox> Caller<'a, K, M> {
         answer
     }
 
-    /// Closes a mailbox. What waits in it is still run.
+    /// Closes a mailbox. The messages that wait in it are still run.
     pub fn close<R: Wait>(&mut self, rt: &R, actor: ActorId) -> Result<(), Refusal>
         ensures same { self.new ≡ self.old }
         ensures answers { (i : ImageView) × (j : ImageView) × HasAtLeast K.start self.old i × Closes i actor result j }
@@ -248,11 +244,11 @@ impl<'a, K: Naming, M: Mailbox> Caller<'a, K, M> {
         answer
     }
 
-    /// The image begins anew with its present world: its history is emptied, and how turns ended and the statistics are forgotten. The
-    /// answer is how many posts and steps the image has counted, which a checkpoint leaves.
+    /// The present world becomes the base of the image: its history is emptied, and how turns ended and the statistics are forgotten.
+    /// The answer is how many posts and steps the image has counted, which a checkpoint does not change.
     ///
-    /// It is refused by `HistoryFull` where more than 2^63 - 1 items would have been emptied since the image was shared, and by `NoMemory`
-    /// where memory ran out. A refused checkpoint changes nothing. Workers that waited for room in the history go on.
+    /// It is refused by `HistoryFull` if more than 2^63 - 1 items would have been emptied since the image was shared, and by `NoMemory`
+    /// if memory ran out. A refused checkpoint changes nothing. Workers that waited for room in the history go on.
     pub fn checkpoint<R: Wait>(&mut self, rt: &R, alloc: Global) -> Result<Counts, Refusal>
         ensures same { self.new ≡ self.old }
         ensures answers { (o : OfficeView) × (p : OfficeView) × HasAtLeast K.start self.old o.image × Checkpoints o result p }
@@ -266,8 +262,8 @@ impl<'a, K: Naming, M: Mailbox> Caller<'a, K, M> {
         answer
     }
 
-    /// How a turn of an actor ended. It is refused by `Pending` where the turn has not ended, and by `Expired` where it is no longer
-    /// kept.
+    /// How a turn of an actor ended. It is refused by `Pending` if the turn has not ended, and by `Expired` if its outcome is no
+    /// longer kept.
     pub fn outcome<R: Wait>(
         &mut self,
         rt: &R,

@@ -1,4 +1,5 @@
-//! The image's calls: what they answer, that the image before goes on in the one after, and how much more it has counted.
+//! The image's calls: what they answer, that the image goes on (its edits only grow at their end, and a body that was not changed is
+//! the same), and how much more it has counted.
 ghost use Rattle.std.specs.Prelude.{◌≡◌, ◌⊎◌, None, Some, Ok, Err, IfOk, IfErr, IfSome, is_ok, true};
 ghost use Rattle.st_image.specs.Calls.{Closes, Creates, Defines, InstallsIn, Posts, Removes, Reparents};
 ghost use Rattle.st_image.specs.Checkpoints.{MakesCheckpoint};
@@ -153,16 +154,14 @@ pub(crate) fn close<M: Mailbox>(image: &mut Image<M>, actor: ActorId) -> Result<
     answer
 }
 
-/// Makes a checkpoint, which is nothing to what was counted.
+/// Makes a checkpoint. It does not change what was counted.
 pub(crate) fn checkpoint<M: Mailbox>(alloc: Global, image: &mut Image<M>) -> Result<(), Refusal>
     ensures makes { MakesCheckpoint image.old result image.new }
     ensures later { GoesOnIn image.old image.new }
     ensures grows { Grows 0 0 0 image.old image.new }
 {
-    match image.checkpoint(alloc) {
-        Ok(()) => Ok(()),
-        Err(_) => Err(Refusal::NoMemory),
-    }
+    image.checkpoint(alloc)?;
+    Ok(())
 }
 
 /// Hands out a claim, which fits the image.
@@ -184,7 +183,7 @@ pub(crate) fn check_out<M: Mailbox>(
     answer
 }
 
-/// Commits a claim. Nothing is compared where the claim is known to fit the image.
+/// Commits a claim. Nothing is compared if the claim is known to fit the image.
 fn commit<M: Mailbox>(
     alloc: Global,
     image: &mut Image<M>,
@@ -201,7 +200,7 @@ fn commit<M: Mailbox>(
     image.commit(alloc, claim)
 }
 
-/// Commits a claim, and releases it where it is handed back.
+/// Commits a claim, and releases it if it is handed back.
 #[inline(always)]
 fn commit_or_release<M: Mailbox>(
     alloc: Global,
@@ -223,7 +222,7 @@ fn commit_or_release<M: Mailbox>(
     }
 }
 
-/// Commits a claim, and releases it where it is handed back. Nothing is compared where the claim is known to fit the image.
+/// Commits a claim, and releases it if it is handed back. Nothing is compared if the claim is known to fit the image.
 #[inline(always)]
 pub(crate) fn settle<M: Mailbox>(
     alloc: Global,

@@ -1,18 +1,19 @@
 //! When a worker is in the way of others: its quanta are short, and it finds the lock held each time.
 //!
-//! A short quantum takes no longer than the hold that ends it. Then more workers bring nothing: each hold takes longer, as what it
-//! reads was written by another processor.
+//! A short quantum takes no longer than the hold that ends it. Then more workers bring nothing: each hold takes longer, because what
+//! it reads was written by another processor.
 
-/// A quantum of fewer steps is short.
+/// A quantum of fewer steps than this is short.
 const SHORT: u32 = 256;
 
-/// A short quantum that finds the lock held counts so much, one that does not takes one away, and one that is not short takes all away.
+/// What a short quantum that finds the lock held adds to the count. One that finds it free takes one away, and a quantum that is not
+/// short sets the count to 0.
 const MET: u32 = 2;
 
-/// At so much a worker is to rest.
+/// The count at which a worker is to rest.
 const MOST: u32 = 64;
 
-/// How much the short quanta count that found the lock held, and whether the worker is to rest.
+/// The count of short quanta that found the lock held, and whether the worker is to rest.
 #[derive(Drop)]
 pub(crate) struct Crowding {
     met: u32,
@@ -30,7 +31,7 @@ impl Crowding {
         }
     }
 
-    /// Notes a quantum of so many steps, and whether the lock was free behind it. The answer is whether it is short.
+    /// Notes how many steps a quantum had, and whether the lock was free at its end. The answer is whether it is short.
     pub(crate) fn note(&mut self, steps: u32, was_free: bool) -> bool
         ensures { IsTrue result ↔ steps < 256 }
     {
@@ -45,7 +46,7 @@ impl Crowding {
         is_short
     }
 
-    /// Whether the worker is to rest, which it is not where no other is awake.
+    /// Whether the worker is to rest. It is not if no other worker is awake.
     pub(crate) fn asks_for_rest(&mut self, has_helpers: bool) -> bool
         ensures { IsTrue result → IsTrue has_helpers }
     {

@@ -1,8 +1,8 @@
 //! The images that were seen under the lock, as far as each thread knows them.
 //!
-//! The list stands in proofs alone. At run time it is one number under the lock, its length, and one in each claim and each worker:
-//! the length of the beginning that is known there. So that the edits of a claim begin those of the present class table is known by
-//! comparing two numbers, and not two lists of edits.
+//! The list exists in proofs alone. At run time there is its length under the lock, and in each claim and each worker the length of
+//! the prefix that is known there. So two numbers are compared, and not two lists of edits, to know that the edits of a claim are a
+//! prefix of those of the present class table.
 ghost use Rattle.std.specs.Prelude.{◌≡◌, ◌+◌, ◌<◌, ◌≤◌, ◌^◌, ◌++◌, ◌∷◌, [], length, true, MatchBool};
 ghost use mathlib.Core.List.{IsPrefix};
 ghost use Rattle.std.specs.Option.{option_copied};
@@ -15,7 +15,7 @@ use st_mailbox::list_box::ListBox;
 use st_mailbox::mailboxes::Mailbox;
 use std::marker::{Model, PhantomData};
 
-/// What stands for an image in the list: contracts see images of every kind of mailbox alike.
+/// The type of an image in the list. Contracts see images with any kind of mailbox alike, so one kind serves for all.
 type Shot = Image<ListBox>;
 
 /// The rule of the list.
@@ -103,7 +103,7 @@ impl Opened {
     }
 }
 
-/// The word that lies under the lock: how many images there are.
+/// The word under the lock: how many images there are.
 #[derive(Drop)]
 pub struct Head<K: Naming> {
     head: Word<Shot, u64, Law>,
@@ -111,7 +111,7 @@ pub struct Head<K: Naming> {
     ghost head_is: { head ≡ head_of K.book },
 }
 
-/// A beginning of the images that was seen. Contracts see it as these images.
+/// A prefix of the images that were seen. Contracts see it as these images.
 #[derive(Drop)]
 pub struct Front<K: Naming> {
     count: u64,
@@ -143,7 +143,7 @@ impl<K: Naming> Front<K> {
         }
     }
 
-    /// The images of a front begin those of one that has no fewer.
+    /// The images of a front are a prefix of those of a front that has no fewer.
     fn compare(&self, other: &Front<K>)
         requires { length self.now ≤ length other.now }
         ensures prefix { IsPrefix self.now other.now }
@@ -153,7 +153,7 @@ impl<K: Naming> Front<K> {
         both.learn(&other.seen);
     }
 
-    /// Whether there are no more images than another front has; then they begin those.
+    /// Whether there are no more images than another front has. They are then a prefix of the other's.
     pub(crate) fn begins(&self, other: &Front<K>) -> bool
         ensures prefix { result ≡ true → IsPrefix self.now other.now }
         ensures along { result ≡ true → Along other.now }
@@ -165,7 +165,7 @@ impl<K: Naming> Front<K> {
         true
     }
 
-    /// Adds an image to all that was seen, and says whether it did. It did not where there are more.
+    /// Adds an image to all that were seen, and answers whether it did. It did not if more were seen than this front knows.
     pub(crate) fn add<M: Mailbox>(&mut self, head: &Head<K>, image: &Image<M>) -> bool
         requires room { length self.old < 2 ^ 62 }
         requires follows { MayFollow self.old image.now }
@@ -197,7 +197,7 @@ impl<K: Naming> Front<K> {
     }
 }
 
-/// Whether of two fronts that are there the first begins the second.
+/// Whether there are two fronts, and the first is known to be a prefix of the second.
 pub(crate) fn precedes<K: Naming>(first: &Option<Front<K>>, later: &Option<Front<K>>) -> bool
     ensures { result ≡ true → Precedes first.now later.now }
 {
@@ -207,7 +207,7 @@ pub(crate) fn precedes<K: Naming>(first: &Option<Front<K>>, later: &Option<Front
     }
 }
 
-/// A copy of a front, where there is one.
+/// A copy of a front, if there is one.
 pub(crate) fn again<K: Naming>(front: &Option<Front<K>>) -> Option<Front<K>>
     ensures { result ≡ front.now }
 {

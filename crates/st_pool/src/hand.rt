@@ -15,8 +15,8 @@ use st_turn::worker::Worker;
 use std::alloc::{AllocError, Global};
 use std::marker::Model;
 
-/// A worker, and the images that were seen up to one at whose class table its caches stand, where they are known. Contracts see
-/// its caches.
+/// A worker, and, if they are known, the images that were seen up to one whose class table its caches are at. Contracts see its
+/// caches.
 #[derive(Drop)]
 pub struct Hand<K: Naming, G: Guard> {
     worker: Worker<G>,
@@ -35,7 +35,7 @@ impl<K: Naming, G: Guard> Model for Hand<K, G> {
     ghost invariant = { λ h. IfSome h.seen (λ l. Follows l h.worker) };
 }
 
-/// Takes steps of a claim. No edits are compared where what the caches keep is known to begin the claim's.
+/// Takes steps of a claim. No edits are compared if the caches' edits are known to be a prefix of the claim's.
 fn run_with<G: Guard>(
     worker: &mut Worker<G>,
     alloc: Global,
@@ -62,7 +62,7 @@ impl<K: Naming, G: Guard> Hand<K, G> {
         Hand { worker, seen: None }
     }
 
-    /// Takes steps of a claim, as `Worker::run`, and sums its sends up. Where it ran a claim of the same pool before, no edits are
+    /// Takes steps of a claim, as `Worker::run`, and sums its sends up. If the worker ran a claim of the same pool before, no edits are
     /// compared.
     pub fn run(&mut self, alloc: Global, held: &mut Held<K>, limit: u32) -> Result<Stop, AllocError>
         ensures runs { (moved : CachesView G) × HasMoved G.count G.floor G.raises self.old moved held.old.edits × Runs G.floor limit moved held.old result self.new held.new }

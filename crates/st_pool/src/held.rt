@@ -4,7 +4,7 @@ use crate::naming::Naming;
 use st_turn::claim::Claim;
 use std::marker::Model;
 
-/// A claim, and the images that were seen up to that of its checkout, where they are known. Contracts see the claim.
+/// A claim, and, if they are known, the images that were seen up to that of its checkout. Contracts see the claim.
 #[derive(Drop)]
 pub struct Held<K: Naming> {
     pub(crate) claim: Claim,

@@ -2,7 +2,8 @@
 use std::marker::{Brand, PhantomData};
 use std::sync::ledger::Ledger;
 
-/// What names a pool in proofs: its three ledgers, the amounts from which on they count, and the book of the images that were seen. A call of a generic function picks them, so `Brand` is what a program passes.
+/// What names a pool in proofs: its three ledgers, the amounts from which they count, and the book of the images that were seen. A
+/// call of a generic function picks them, so a program passes `Brand`.
 pub trait Naming {
     ghost use Rattle.std.specs.Prelude.{ℕ};
     ghost use Rattle.logbook.specs.Pages.{Book};

@@ -40,7 +40,7 @@ pub struct Office<K: Naming, M: Mailbox> {
     pub(crate) image: Image<M>,
     pub(crate) books: Books<K>,
     head: Head<K>,
-    /// The images that were seen up to one that goes on in this, where they are known.
+    /// The images that were seen, if they are known. The last one is this image, or an earlier state of it.
     front: Option<Front<K>>,
     /// How often something happened for which a worker that sleeps is to look again.
     moves: u64,
@@ -70,7 +70,7 @@ impl<K: Naming, M: Mailbox> Model for Office<K, M> {
     ghost invariant = { λ o. Kept K.start o.image o.books × IfSome o.front (λ l. MayFollow l o.image) × (o.emptied ≤ most_counted) };
 }
 
-/// Puts an image behind those that were seen, where they are known.
+/// Adds an image as the last of those that were seen, if they are known.
 fn note<K: Naming, M: Mailbox>(head: &Head<K>, front: &mut Option<Front<K>>, image: &Image<M>)
     requires { IfSome front.old (λ l. MayFollow l image.now) }
     ensures { IfSome front.new (λ l. Ends l image.now) }
@@ -92,8 +92,8 @@ fn has_steps(answer: &Result<u32, Refusal>) -> bool {
     }
 }
 
-/// Whether a worker takes more work in the hold of its commit. It does not where its claim was handed back, nor where memory ran out in
-/// a quantum that was committed.
+/// Whether a worker takes more work in the hold of its commit. It does not if its claim was handed back, nor if memory ran out in a
+/// quantum that was committed.
 fn takes_more(answer: &Result<u32, Refusal>, is_starved: bool) -> bool
     ensures { result ≡ takes_more_of is_starved answer.now }
 {
@@ -215,7 +215,7 @@ impl<K: Naming, M: Mailbox> Office<K, M> {
         (answer, place)
     }
 
-    /// Interns a text, which is no move.
+    /// Interns a text. It wakes no worker, so it is not counted as a move.
     pub(crate) fn intern(&mut self, alloc: Global, text: &[u8]) -> Result<Selector, Refusal>
         ensures interns { Interns self.old.image text.now result self.new.image }
         ensures books { self.new.books ≡ self.old.books }
@@ -333,9 +333,9 @@ impl<K: Naming, M: Mailbox> Office<K, M> {
         calls::close(&mut self.image, actor)
     }
 
-    /// The image begins anew with its present world, and the items of its history are emptied. The answer is what it has counted.
+    /// The present world becomes the base of the image, and its history is emptied. The answer is what it has counted.
     ///
-    /// It is refused by `HistoryFull` where more than 2^63 - 1 items would be emptied, and else where memory runs out. A refused
+    /// It is refused by `HistoryFull` if more than 2^63 - 1 items would be emptied, and otherwise only if memory runs out. A refused
     /// checkpoint changes nothing.
     pub(crate) fn checkpoint(&mut self, alloc: Global) -> Result<Counts, Refusal>
         ensures { Checkpoints self.old result self.new }
@@ -410,7 +410,7 @@ impl<K: Naming, M: Mailbox> Office<K, M> {
         }
     }
 
-    /// Commits a claim for a worker, and releases it where it is handed back.
+    /// Commits a claim for a worker, and releases it if it is handed back.
     #[inline(always)]
     fn commit(
         &mut self,
@@ -434,7 +434,7 @@ impl<K: Naming, M: Mailbox> Office<K, M> {
         answer
     }
 
-    /// Commits a claim for a worker, and finds what the worker does next, where it takes more work. Else it is to wait.
+    /// Commits a claim for a worker, and finds what the worker does next if it takes more work. Otherwise it is to wait.
     #[inline(always)]
     pub(crate) fn turn_over(
         &mut self,

@@ -46,7 +46,7 @@ fn same_message(a: &Message, b: &Message) -> bool
         && same_values(a.args.as_slice(), b.args.as_slice())
 }
 
-/// Whether the message of a receipt stands in a history at a place.
+/// Whether the item at a place of a history is the message of a receipt.
 fn stands_at(history: &[Item], place: u64, receipt: &Receipt) -> bool
     ensures { IsTrue result ↔ (slice_get history.now place ≡ Some (PostedItem receipt.now.actor receipt.now.message)) }
 {
@@ -58,8 +58,7 @@ fn stands_at(history: &[Item], place: u64, receipt: &Receipt) -> bool
     }
 }
 
-/// Whether the message of a receipt stands in a history at its place behind so many items that were emptied, or its item is one of
-/// these.
+/// Whether the item of a receipt is one of the first `emptied` items, or is in the history at its place after these.
 fn stands(emptied: u64, history: &[Item], receipt: &Receipt) -> bool
     ensures { IsTrue result ↔ StandsIn emptied history.now receipt.now }
 {
@@ -88,7 +87,7 @@ fn posts_in(history: &[Item]) -> u64
     posts
 }
 
-/// Whether the messages of receipts stand in a history.
+/// Whether the item of each of these receipts was emptied or is in the history.
 fn all_stand(emptied: u64, history: &[Item], receipts: &[Receipt]) -> bool
     ensures { IsTrue result ↔ All (StandsIn emptied history.now) receipts.now }
 {
@@ -97,7 +96,7 @@ fn all_stand(emptied: u64, history: &[Item], receipts: &[Receipt]) -> bool
         .all(|receipt| stands(emptied, history, receipt))
 }
 
-/// Whether the messages of all receipts stand in a history.
+/// Whether the item of each receipt of these callers was emptied or is in the history.
 fn all_callers_stand<K: Naming>(
     emptied: u64,
     history: &[Item],
@@ -115,9 +114,9 @@ impl<K: Naming, M: Mailbox> Office<K, M> {
     ghost use Rattle.st_classes.specs.declared.refusals.Refusal.TheVariants as refusals;
     ghost use Rattle.st_pool.specs.Settled.{AreAll, AllStand, AreCounts, AreFew, AreSums};
 
-    /// The image, and what all threads have done together. It is refused by `BadArguments` exactly where not all shares that were given out are here,
-    /// and then by `Changed` exactly where a receipt's message does not stand at its place, or more receipts have their items among those that
-    /// checkpoints have emptied than posts were emptied.
+    /// The image, and what all threads have done together. It is refused by `BadArguments` exactly if not all shares that were given
+    /// out are here, and then by `Changed` exactly if the message of a receipt is not in the history at its place, or the items of more
+    /// receipts are among the emptied ones than posts were emptied.
     pub(crate) fn settle(self, shares: Shares<K>) -> Result<(Image<M>, Totals), Refusal>
         ensures image { IfOk result (λ r. r.0 ≡ self.image) }
         ensures sums { IfOk result (λ r. AreSums r.1 shares.callers.items shares.workers.items) }
@@ -155,11 +154,11 @@ impl<K: Naming, M: Mailbox> Office<K, M> {
 }
 
 /// The image, and what all threads have done together, once they have handed back their shares: the sums of the shares, which are
-/// what the image has counted since the pool was made. The message of each receipt stands in the history, posted to its actor, at its
-/// place, where no checkpoint has emptied its item; and no more receipts have theirs among the emptied than posts are.
+/// what the image has counted since the pool was made. The message of each receipt is in the history at its place, posted to its actor,
+/// unless a checkpoint has emptied its item; and of the emptied items no more belong to receipts than are posts.
 ///
-/// It is refused by `BadArguments` where not all shares that were given out are here, and then by `Changed` where a receipt's message
-/// does not stand. All is spent either way.
+/// It is refused by `BadArguments` if not all shares that were given out are here, and then by `Changed` if the message of a receipt is
+/// not there. The image and the shares are spent either way.
 pub fn settle_image<K: Naming, M: Mailbox>(
     shared: Shared<K, M>,
     shares: Shares<K>,

@@ -1,4 +1,4 @@
-//! What threads share: an image behind one lock, its books, and a sign that something has moved.
+//! What threads share: an image under one lock, its books, and a sign that something has moved.
 ghost use Rattle.std.specs.Prelude.{◌≡◌, IfErr, IfOk};
 ghost use Rattle.st_classes.specs.declared.refusals.Refusal.TheVariants as refusals;
 ghost use Rattle.st_classes.specs.declared.refusals.Limited.TheVariants as limits;
@@ -42,12 +42,12 @@ fn pause(count: usize) {
 pub struct Shared<K: Naming, M: Mailbox> {
     pub(crate) office: Mutex<Office<K, M>>,
     pub(crate) moved: Condvar,
-    /// On which workers rest that were in the way of others.
+    /// What workers rest on that were in the way of others.
     pub(crate) eased: Condvar,
 }
 
 impl<K: Naming, M: Mailbox> Shared<K, M> {
-    /// An image whose books are empty: they count from what the image has counted on. The blanks and what was opened give the pool its
+    /// An image whose books are empty: they count what the image counts from now on. The blanks and what was opened give the pool its
     /// name `K`.
     pub fn new(image: Image<M>, blanks: Blanks, opened: Opened) -> Shared<K, M>
         requires posts { blanks.posts.name ≡ K.posts }
@@ -63,8 +63,8 @@ impl<K: Naming, M: Mailbox> Shared<K, M> {
         }
     }
 
-    /// A caller more, which has done nothing. It is refused (`TooMany` sessions) where 4,294,967,295 callers were given out, and
-    /// then nothing has changed.
+    /// Makes one more caller, which has done nothing. It is refused (`TooMany` sessions) if 4,294,967,295 callers were given out;
+    /// nothing has changed then.
     pub fn caller<R: Wait>(&self, rt: &R, alloc: Global) -> Result<Caller<'_, K, M>, Refusal>
         ensures new { IfOk result (λ c. c ≡ nothing_done) }
         ensures refused { IfErr result (λ e. e ≡ refusals.TooMany limits.Sessions) }

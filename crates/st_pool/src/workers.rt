@@ -52,7 +52,7 @@ fn wait_past<K: Naming, M: Mailbox, R: Wait>(rt: &R, shared: &Shared<K, M>, seen
     behind.get_up();
 }
 
-/// Rests until something else has moved than short quanta, or the workers are to end. It does not where no other worker is awake.
+/// Rests until something other than short quanta has moved, or the workers are to end. It does not rest if no other worker is awake.
 fn rest<K: Naming, M: Mailbox, R: Wait>(rt: &R, shared: &Shared<K, M>) {
     let mut before = shared.enter(rt);
     if !before.has_helpers() {
@@ -66,7 +66,7 @@ fn rest<K: Naming, M: Mailbox, R: Wait>(rt: &R, shared: &Shared<K, M>) {
     behind.stand_up();
 }
 
-/// Waits, or rests where the worker was in the way of others.
+/// Waits, or rests if the worker was in the way of others.
 fn pause<K: Naming, M: Mailbox, R: Wait>(
     rt: &R,
     shared: &Shared<K, M>,
@@ -91,8 +91,8 @@ fn next_work<K: Naming, M: Mailbox, R: Wait>(
 }
 
 /// Commits the steps of a quantum, and answers what the worker does next, both in one hold. A commit readies at most one actor more
-/// than this worker takes next, so one other worker is woken, where one sleeps and an actor is ready. One that rests is woken too, but
-/// not behind a short quantum.
+/// than this worker takes next, so one other worker is woken if one sleeps and an actor is ready. One that rests is woken too, but not
+/// after a short quantum whose worker goes on or rests.
 fn turn_over<K: Naming, M: Mailbox, R: Wait>(
     rt: &R,
     alloc: Global,
@@ -102,7 +102,7 @@ fn turn_over<K: Naming, M: Mailbox, R: Wait>(
     is_starved: bool,
     crowding: &mut Crowding,
 ) -> Work<Held<K>> {
-    // What is left of the commit is let go behind the hold.
+    // What the commit no longer needs is freed after the lock is given back.
     let mut leavings = Leavings::none();
     let at_once = shared.office.try_lock();
     let is_short = crowding.note(held.claim().steps(), at_once.is_some());
@@ -152,14 +152,15 @@ fn take_quantum<G: Guard, K: Naming, M: Mailbox, T: Gate, R: Wait>(
     work
 }
 
-/// Lets ready actors take quanta of at most so many steps, from 1 to 1,024, until the workers are told to stop. The quantum that a
+/// Lets ready actors take quanta of at most `quantum` steps, from 1 to 1,024, until the workers are told to stop. The quantum that a
 /// worker is in is committed first. The answer is the worker's share: the steps that it committed.
 ///
-/// It is refused (`TooMany` sessions) where 4,294,967,295 workers were given out; then no actor has been checked out.
+/// It is refused (`TooMany` sessions) if 4,294,967,295 workers were given out; then no actor has been checked out.
 ///
-/// A claim that is refused by `Stale` or `Changed` is dropped, and the worker goes on. Where nothing is ready, where memory ran out
-/// or where the history is full, it sleeps until another call may have changed that: an accepted post, an edit, a new actor or a close
-/// (refused ones too), a checkpoint, a commit of steps behind which another actor is ready, or the stop. A refused post, `intern`, `outcome`, `stats` and `look` wake nobody.
+/// A claim that is refused by `Stale` or `Changed` is dropped, and the worker goes on. If nothing is ready, memory ran out or the
+/// history is full, it sleeps until another call may have changed that: an accepted post, an edit, a new actor or a close (refused
+/// ones too), a checkpoint, a commit of steps after which another actor is ready, or the stop. A refused post, `intern`, `outcome`,
+/// `stats` and `look` wake nobody.
 ///
 /// A worker whose quanta are short and that often finds the lock held rests while another worker is awake, although actors are ready.
 pub fn worker_loop<G: Guard, K: Naming, M: Mailbox, T: Gate, R: Wait>(

@@ -6,19 +6,30 @@ ghost use Rattle.st_image.specs.Images.{counts_of};
 ghost use Rattle.st_image.specs.PostRules.{from_client};
 ghost use Rattle.st_image.specs.Outcomes.{image_outcome};
 ghost use Rattle.st_wire.specs.declared.replies.Reply.TheVariants as replies;
-ghost use Rattle.st_server.specs.CommandReplies.{RepliesTo, RepliesFor, RemovesNamed, ReparentsNamed, PostsArguments, PostsNamed, Tells, Asks, counted_reply};
+ghost use Rattle.st_server.specs.CommandReplies.{RepliesTo, RepliesFor, RemovesNamed, ReparentsNamed, PostsArguments, PostsNamed, Tells, Asks, counted_reply, reply_by};
 
 use crate::images::Image;
+use crate::postings::Posting;
 use crate::resolving::{argument_values, find_selector, shown};
-use crate::stating::stats;
+use crate::statistics::stats;
 use st_classes::refusals::Refusal;
 use st_classes::seq::Seq;
 use st_classes::values::{ActorId, ClassId, Selector, Values};
 use st_image::counts::Counts;
 use st_turn::body::Outcome;
-use st_wire::commands::{Argument, Command};
+use st_wire::commands::Command;
 use st_wire::replies::Reply;
 use std::alloc::Global;
+
+/// The reply to an edit.
+pub(crate) fn edit_reply(answer: Result<u32, Refusal>) -> Reply
+    ensures { result ≡ reply_by replies.Version answer }
+{
+    match answer {
+        Ok(version) => Reply::Version(version),
+        Err(refusal) => Reply::Refused(refusal),
+    }
+}
 
 fn define(
     alloc: Global,
@@ -32,10 +43,8 @@ fn define(
     let Some(parent) = image.version().class_named(parent) else {
         return Reply::Refused(Refusal::UnknownClass);
     };
-    match image.define(alloc, name, parent, slots) {
-        Ok(version) => Reply::Version(version),
-        Err(refusal) => Reply::Refused(refusal),
-    }
+    let answer = image.define(alloc, name, parent, slots);
+    edit_reply(answer)
 }
 
 fn install(alloc: Global, image: &mut Image, class: &[u8], source: &[u8]) -> Reply
@@ -44,10 +53,8 @@ fn install(alloc: Global, image: &mut Image, class: &[u8], source: &[u8]) -> Rep
     let Some(class) = image.version().class_named(class) else {
         return Reply::Refused(Refusal::UnknownClass);
     };
-    match image.install(alloc, class, source) {
-        Ok(version) => Reply::Version(version),
-        Err(refusal) => Reply::Refused(refusal),
-    }
+    let answer = image.install(alloc, class, source);
+    edit_reply(answer)
 }
 
 fn remove_named(
@@ -70,10 +77,8 @@ fn remove(alloc: Global, image: &mut Image, class: &[u8], selector: &[u8]) -> Re
     let Some(class) = image.version().class_named(class) else {
         return Reply::Refused(Refusal::UnknownClass);
     };
-    match remove_named(alloc, image, class, selector) {
-        Ok(version) => Reply::Version(version),
-        Err(refusal) => Reply::Refused(refusal),
-    }
+    let answer = remove_named(alloc, image, class, selector);
+    edit_reply(answer)
 }
 
 fn reparent_named(
@@ -96,10 +101,8 @@ fn reparent(alloc: Global, image: &mut Image, class: &[u8], parent: &[u8]) -> Re
     let Some(class) = image.version().class_named(class) else {
         return Reply::Refused(Refusal::UnknownClass);
     };
-    match reparent_named(alloc, image, class, parent) {
-        Ok(version) => Reply::Version(version),
-        Err(refusal) => Reply::Refused(refusal),
-    }
+    let answer = reparent_named(alloc, image, class, parent);
+    edit_reply(answer)
 }
 
 fn create(alloc: Global, image: &mut Image, class: &[u8]) -> Reply
@@ -138,14 +141,18 @@ fn checkpoint(alloc: Global, image: &mut Image) -> Reply
 fn post_values(
     alloc: Global,
     image: &mut Image,
-    actor: ActorId,
-    args: Values,
+    posting: &Posting<'_>,
     selector: Selector,
-    sender: u16,
-    seq: u64,
+    args: Values,
 ) -> Reply
-    ensures { RepliesTo replies.Turn (Posts image.old actor (from_client sender seq selector args)) result image.new }
+    ensures { RepliesTo replies.Turn (Posts image.old posting.now.actor (from_client posting.now.sender posting.now.seq selector args)) result image.new }
 {
+    let Posting {
+        actor,
+        sender,
+        seq,
+        ..
+    } = *posting;
     match image.post(alloc, sender, seq, actor, selector, args) {
         Ok(turn) => Reply::Turn(turn),
         Err(refusal) => Reply::Refused(refusal),
@@ -155,33 +162,22 @@ fn post_values(
 fn post_arguments(
     alloc: Global,
     image: &mut Image,
-    actor: ActorId,
-    arguments: &[Argument],
+    posting: &Posting<'_>,
     selector: Selector,
-    sender: u16,
-    seq: u64,
 ) -> Reply
-    ensures { PostsArguments image.old actor arguments.now selector sender seq result image.new }
+    ensures { PostsArguments image.old posting.now.actor posting.now.arguments.now selector posting.now.sender posting.now.seq result image.new }
 {
-    match argument_values(alloc, image, arguments) {
-        Ok(args) => post_values(alloc, image, actor, args, selector, sender, seq),
+    match argument_values(alloc, image, posting.arguments) {
+        Ok(args) => post_values(alloc, image, posting, selector, args),
         Err(refusal) => Reply::Refused(refusal),
     }
 }
 
-fn post(
-    alloc: Global,
-    image: &mut Image,
-    actor: ActorId,
-    arguments: &[Argument],
-    selector: &[u8],
-    sender: u16,
-    seq: u64,
-) -> Reply
-    ensures { PostsNamed image.old actor arguments.now selector.now sender seq result image.new }
+fn post(alloc: Global, image: &mut Image, posting: &Posting<'_>) -> Reply
+    ensures { PostsNamed image.old posting.now.actor posting.now.arguments.now posting.now.selector.now posting.now.sender posting.now.seq result image.new }
 {
-    match image.intern(alloc, selector) {
-        Ok(selector) => post_arguments(alloc, image, actor, arguments, selector, sender, seq),
+    match image.intern(alloc, posting.selector) {
+        Ok(selector) => post_arguments(alloc, image, posting, selector),
         Err(refusal) => Reply::Refused(refusal),
     }
 }
@@ -225,15 +221,16 @@ pub(crate) fn ask(alloc: Global, image: &mut Image, command: Command) -> Reply
             selector,
             sender,
             seq,
-        } => post(
-            alloc,
-            image,
-            actor,
-            args.as_slice(),
-            selector.as_slice(),
-            sender,
-            seq,
-        ),
+        } => {
+            let posting = Posting {
+                actor,
+                arguments: args.as_slice(),
+                selector: selector.as_slice(),
+                sender,
+                seq,
+            };
+            post(alloc, image, &posting)
+        }
         Command::Outcome { actor, turn } => outcome(alloc, image, actor, turn),
         Command::Close { actor } => close(image, actor),
         Command::Stats { class, selector } => {

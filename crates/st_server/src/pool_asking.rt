@@ -16,8 +16,9 @@ ghost use Rattle.st_server.specs.CommandReplies.{States, Tells, reply_by, counte
 ghost use Rattle.st_server.specs.PoolReplies.{Attends, CallsOnce, ClassNamed, Finds, HasValue, HaveValues, PostsText, PostsWith, RemovesText, ReparentsText, RepliesOn, after_edit};
 
 use crate::images::Mailbox;
+use crate::postings::Posting;
 use crate::resolving::find_selector;
-use crate::{asking, stating};
+use crate::{asking, statistics};
 use st_classes::refusals::Refusal;
 use st_classes::seq::Seq;
 use st_classes::values::{ActorId, ClassId, Selector, Value, Values};
@@ -55,10 +56,8 @@ fn define<K: Naming, R: Wait>(
     let Some(parent) = class_named(rt, caller, parent) else {
         return Reply::Refused(Refusal::UnknownClass);
     };
-    match caller.define(rt, alloc, name, parent, slots) {
-        Ok(version) => Reply::Version(version),
-        Err(refusal) => Reply::Refused(refusal),
-    }
+    let answer = caller.define(rt, alloc, name, parent, slots);
+    asking::edit_reply(answer)
 }
 
 fn install<K: Naming, R: Wait>(
@@ -74,10 +73,8 @@ fn install<K: Naming, R: Wait>(
     let Some(class) = class_named(rt, caller, class) else {
         return Reply::Refused(Refusal::UnknownClass);
     };
-    match caller.install(rt, alloc, class, source) {
-        Ok(version) => Reply::Version(version),
-        Err(refusal) => Reply::Refused(refusal),
-    }
+    let answer = caller.install(rt, alloc, class, source);
+    asking::edit_reply(answer)
 }
 
 /// The number of a selector's text. The text is not interned.
@@ -121,10 +118,8 @@ fn remove<K: Naming, R: Wait>(
     let Some(class) = class_named(rt, caller, class) else {
         return Reply::Refused(Refusal::UnknownClass);
     };
-    match remove_named(rt, alloc, caller, class, selector) {
-        Ok(version) => Reply::Version(version),
-        Err(refusal) => Reply::Refused(refusal),
-    }
+    let answer = remove_named(rt, alloc, caller, class, selector);
+    asking::edit_reply(answer)
 }
 
 fn reparent_named<K: Naming, R: Wait>(
@@ -156,10 +151,8 @@ fn reparent<K: Naming, R: Wait>(
     let Some(class) = class_named(rt, caller, class) else {
         return Reply::Refused(Refusal::UnknownClass);
     };
-    match reparent_named(rt, alloc, caller, class, parent) {
-        Ok(version) => Reply::Version(version),
-        Err(refusal) => Reply::Refused(refusal),
-    }
+    let answer = reparent_named(rt, alloc, caller, class, parent);
+    asking::edit_reply(answer)
 }
 
 fn create<K: Naming, R: Wait>(
@@ -226,9 +219,7 @@ fn argument_values<K: Naming, R: Wait>(
     ensures values { (result ≡ Err NoMemory) ⊎ HaveValues K.start caller.old arguments.now result }
     ensures same { caller.new ≡ caller.old }
 {
-    let Ok(mut values) = Vec::with_capacity(alloc, arguments.len()) else {
-        return Err(Refusal::NoMemory);
-    };
+    let mut values = Vec::with_capacity(alloc, arguments.len())?;
     for argument in arguments {
         match argument_value(rt, alloc, caller, argument) {
             Ok(value) => values.push(value).unwrap(),
@@ -242,15 +233,18 @@ fn post_arguments<K: Naming, R: Wait>(
     rt: &R,
     alloc: Global,
     caller: &mut Caller<'_, K, Mailbox>,
-    actor: ActorId,
-    arguments: &[Argument],
+    posting: &Posting<'_>,
     selector: Selector,
-    sender: u16,
-    seq: u64,
 ) -> Result<u64, Refusal>
-    ensures posts { PostsWith K.start caller.old actor arguments.now selector sender seq result caller.new }
+    ensures posts { PostsWith K.start caller.old posting.now.actor posting.now.arguments.now selector posting.now.sender posting.now.seq result caller.new }
 {
-    match argument_values(rt, alloc, caller, arguments) {
+    let Posting {
+        actor,
+        sender,
+        seq,
+        ..
+    } = *posting;
+    match argument_values(rt, alloc, caller, posting.arguments) {
         Ok(args) => caller.post(rt, alloc, sender, seq, actor, selector, args),
         Err(refusal) => Err(refusal),
     }
@@ -260,16 +254,12 @@ fn post_named<K: Naming, R: Wait>(
     rt: &R,
     alloc: Global,
     caller: &mut Caller<'_, K, Mailbox>,
-    actor: ActorId,
-    arguments: &[Argument],
-    selector: &[u8],
-    sender: u16,
-    seq: u64,
+    posting: &Posting<'_>,
 ) -> Result<u64, Refusal>
-    ensures posts { PostsText K.start caller.old actor arguments.now selector.now sender seq result caller.new }
+    ensures posts { PostsText K.start caller.old posting.now.actor posting.now.arguments.now posting.now.selector.now posting.now.sender posting.now.seq result caller.new }
 {
-    match caller.intern(rt, alloc, selector) {
-        Ok(selector) => post_arguments(rt, alloc, caller, actor, arguments, selector, sender, seq),
+    match caller.intern(rt, alloc, posting.selector) {
+        Ok(selector) => post_arguments(rt, alloc, caller, posting, selector),
         Err(refusal) => Err(refusal),
     }
 }
@@ -278,15 +268,11 @@ fn post<K: Naming, R: Wait>(
     rt: &R,
     alloc: Global,
     caller: &mut Caller<'_, K, Mailbox>,
-    actor: ActorId,
-    arguments: &[Argument],
-    selector: &[u8],
-    sender: u16,
-    seq: u64,
+    posting: &Posting<'_>,
 ) -> Reply
-    ensures posts { (answer : _) × PostsText K.start caller.old actor arguments.now selector.now sender seq answer caller.new × (result ≡ reply_by replies.Turn answer) }
+    ensures posts { (answer : _) × PostsText K.start caller.old posting.now.actor posting.now.arguments.now posting.now.selector.now posting.now.sender posting.now.seq answer caller.new × (result ≡ reply_by replies.Turn answer) }
 {
-    match post_named(rt, alloc, caller, actor, arguments, selector, sender, seq) {
+    match post_named(rt, alloc, caller, posting) {
         Ok(turn) => Reply::Turn(turn),
         Err(refusal) => Reply::Refused(refusal),
     }
@@ -315,7 +301,7 @@ fn stats<K: Naming, R: Wait>(
     ensures replies { Finds K.start caller.old (λ i. States i class.now selector.now result) }
     ensures same { caller.new ≡ caller.old }
 {
-    caller.look(rt, |image| stating::stats(alloc, image, class, selector))
+    caller.look(rt, |image| statistics::stats(alloc, image, class, selector))
 }
 
 fn checkpoint<K: Naming, R: Wait>(
@@ -364,16 +350,16 @@ pub(crate) fn ask<K: Naming, R: Wait>(
             selector,
             sender,
             seq,
-        } => post(
-            rt,
-            alloc,
-            caller,
-            actor,
-            args.as_slice(),
-            selector.as_slice(),
-            sender,
-            seq,
-        ),
+        } => {
+            let posting = Posting {
+                actor,
+                arguments: args.as_slice(),
+                selector: selector.as_slice(),
+                sender,
+                seq,
+            };
+            post(rt, alloc, caller, &posting)
+        }
         Command::Outcome { actor, turn } => outcome(rt, alloc, caller, actor, turn),
         Command::Close { actor } => close(rt, caller, actor),
         Command::Stats { class, selector } => {

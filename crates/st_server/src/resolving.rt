@@ -45,9 +45,7 @@ pub fn argument_values(
 ) -> Result<Values, Refusal>
     ensures { ((result ≡ Err NoMemory) × (image.new ≡ image.old)) ⊎ AllResolve image.old arguments.now result image.new }
 {
-    let Ok(mut values) = Vec::with_capacity(alloc, arguments.len()) else {
-        return Err(Refusal::NoMemory);
-    };
+    let mut values = Vec::with_capacity(alloc, arguments.len())?;
     for argument in arguments {
         match argument_value(alloc, image, argument) {
             Ok(value) => values.push(value).unwrap(),

@@ -284,9 +284,7 @@ fn work<K: Naming + Send + Sync, R: Threads + Wait + Sync>(
     ensures refused { IfErr result (λ e. (e ≡ refusals.NoMemory) ⊎ (e ≡ refusals.BadArguments)) }
 {
     let count = workers.len();
-    let Ok(shares) = Vec::with_capacity(alloc, count) else {
-        return Err(Refusal::NoMemory);
-    };
+    let shares = Vec::with_capacity(alloc, count)?;
     let (handles, are_accepted) = run_workers(
         rt, alloc, listener, room, workers, quantum, sessions,
     );

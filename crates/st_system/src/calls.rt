@@ -41,9 +41,7 @@ pub(crate) fn define<M: Mailbox>(
     ensures defines { Defines image.old name.now parent slots.now result image.new }
     ensures later { GoesOnIn image.old image.new }
 {
-    let Ok(slots) = copy_texts(alloc, slots) else {
-        return Err(Refusal::NoMemory);
-    };
+    let slots = copy_texts(alloc, slots)?;
     image.known();
     let answer = image.define(alloc, name.as_slice(), parent, slots);
     image.known();
@@ -145,10 +143,8 @@ pub(crate) fn checkpoint<M: Mailbox>(alloc: Global, image: &mut Image<M>) -> Res
     ensures makes { MakesCheckpoint image.old result image.new }
     ensures later { GoesOnIn image.old image.new }
 {
-    match image.checkpoint(alloc) {
-        Ok(()) => Ok(()),
-        Err(_) => Err(Refusal::NoMemory),
-    }
+    image.checkpoint(alloc)?;
+    Ok(())
 }
 
 /// Hands out a claim, which fits the image.

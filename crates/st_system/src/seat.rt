@@ -92,7 +92,7 @@ impl<G: Guard> Seat<G> {
     }
 
     /// If the caches keep a list of edits, they are valid at it.
-    pub fn caches_known(&self)
+    pub fn known_caches(&self)
         ensures { AreValidWhereKept G.count G.floor self.now.caches }
     {
         self.worker.caches().known();

@@ -91,11 +91,11 @@ impl<M: Mailbox, G: Guard> System<M, G> {
     }
 
     /// If a worker's caches keep a list of edits, they are valid at it.
-    fn caches_known(&self)
+    fn known_caches(&self)
         ensures { All (λ s. AreValidWhereKept G.count G.floor s.caches) self.now.seats }
     {
         for seat in &self.seats {
-            seat.caches_known();
+            seat.known_caches();
         }
     }
 
@@ -111,7 +111,7 @@ impl<M: Mailbox, G: Guard> System<M, G> {
         self.image.known();
         self.image.delivered();
         self.image.sends_ran();
-        self.caches_known();
+        self.known_caches();
     }
 
     /// Lets one event happen.
@@ -161,7 +161,7 @@ impl<M: Mailbox, G: Guard> System<M, G> {
     }
 
     /// What holds of the image of every system, as the end of a segment.
-    fn segment_known(&self)
+    fn known_segment(&self)
         ensures { IsSegment self.now.image }
     {
         self.image.known();
@@ -182,10 +182,10 @@ impl<M: Mailbox, G: Guard> System<M, G> {
         ensures sent { EachStepRan self.new.image }
         ensures caches { All (λ s. AreValidWhereKept G.count G.floor s.caches) self.new.seats }
     {
-        self.segment_known();
+        self.known_segment();
         for event in events {
             let _answer: Result<_, _> = self.apply(alloc, event);
-            self.segment_known();
+            self.known_segment();
         }
         self.known();
     }

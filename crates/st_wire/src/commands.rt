@@ -4,11 +4,10 @@ ghost use Rattle.serde_json.specs.View.{view};
 ghost use Rattle.st_classes.specs.Refusals.{Answers, first_of};
 ghost use Rattle.st_classes.specs.declared.refusals.Refusal.TheVariants.{BadCommand};
 ghost use Rattle.st_wire.specs.PartResults.{Reads};
-ghost use Rattle.st_wire.specs.Commands.{ReturnsMeanNothing, command_of, command_rules, has_just as has_just_keys, has_all as has_all_keys, command_in, define_in, method_in, remove_in, reparent_in, new_actor_in, post_in, close_in, run_in, outcome_in, stats_in, checkpoint_in};
+ghost use Rattle.st_wire.specs.Commands.{ReturnsMeanNothing, command_of, command_rules, has_just as has_just_keys, command_in, define_in, method_in, remove_in, reparent_in, new_actor_in, post_in, close_in, run_in, outcome_in, stats_in, checkpoint_in};
 
-use crate::fields::{
-    actor_at, arguments_at, quanta_at, sender_at, size, text_at, texts_at, whole_at,
-};
+use crate::fields::{actor_at, arguments_at, quanta_at, sender_at, text_at, texts_at, whole_at};
+use crate::keys::has_just;
 use serde_json::{Category, Value};
 use st_classes::refusals::Refusal;
 use st_classes::seq::Seq;
@@ -124,25 +123,6 @@ fn read_object(alloc: Global, object: &Value) -> Result<Command, Refusal>
         Some("checkpoint") => checkpoint(object),
         _ => Err(Refusal::BadCommand),
     }
-}
-
-/// Whether a value is an object with exactly these keys.
-fn has_just(object: &Value, keys: &[&str]) -> bool
-    ensures { result ≡ has_just_keys (map (λ key. key.now) keys.now) (view object.now) }
-{
-    size(object) == keys.len() && has_all(object, keys)
-}
-
-/// Whether a value has all of these keys.
-fn has_all(object: &Value, keys: &[&str]) -> bool
-    ensures { result ≡ has_all_keys (map (λ key. key.now) keys.now) (view object.now) }
-{
-    for key in keys {
-        if object.get(*key).is_none() {
-            return false;
-        }
-    }
-    true
 }
 
 /// Refuses a value that is not an object with exactly these keys.

@@ -6,21 +6,12 @@ ghost use Rattle.st_wire.specs.PartResults.{Reads};
 ghost use Rattle.st_wire.specs.Fields as spec;
 
 use crate::commands::Argument;
+use crate::keys::size;
 use serde_json::Value;
 use st_classes::refusals::Refusal;
 use st_classes::seq::Seq;
 use st_classes::values::ActorId;
-use std::alloc::{AllocError, Global};
-
-/// The number of keys of an object. It is 0 for any other value.
-pub(crate) fn size(object: &Value) -> usize
-    ensures { result ≡ spec.size (view object.now) }
-{
-    match object.as_object() {
-        Some(members) => members.len(),
-        None => 0,
-    }
-}
+use std::alloc::Global;
 
 /// The text at a key.
 pub(crate) fn text_at(alloc: Global, object: &Value, key: &str) -> Result<Seq<u8>, Refusal>
@@ -97,10 +88,8 @@ fn text(alloc: Global, value: &Value) -> Result<Seq<u8>, Refusal>
     let Some(text) = value.as_str() else {
         return Err(Refusal::BadCommand);
     };
-    match Vec::from_slice(alloc, text.as_bytes()) {
-        Ok(bytes) => Ok(Seq::from_vec(bytes)),
-        Err(AllocError) => Err(Refusal::NoMemory),
-    }
+    let bytes = Vec::from_slice(alloc, text.as_bytes())?;
+    Ok(Seq::from_vec(bytes))
 }
 
 fn texts(alloc: Global, values: &Vec<Value>) -> Result<Seq<Seq<u8>>, Refusal>

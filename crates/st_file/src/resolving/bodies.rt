@@ -84,10 +84,8 @@ fn stacked(alloc: Global, frames: Seq<Frame>) -> Result<Stack, Refusal>
     let Some(running) = callers.pop() else {
         return Err(ACTORS);
     };
-    match Stack::from_frames(alloc, callers.as_slice(), &running) {
-        Ok(stack) => Ok(stack),
-        Err(_) => Err(Refusal::NoMemory),
-    }
+    let stack = Stack::from_frames(alloc, callers.as_slice(), &running)?;
+    Ok(stack)
 }
 
 /// The frames of a turn.

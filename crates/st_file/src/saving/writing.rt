@@ -53,9 +53,7 @@ pub(crate) fn write_value<O: Output>(
     ensures failures { O.failures output.new ≡ failures_after result (O.failures output.old) }
     ensures flushed { OnOk result (O.flushes output.new ≡ one_more (O.flushes output.old)) }
 {
-    let Ok(line) = line_of(alloc, value) else {
-        return Err(Refusal::NoMemory);
-    };
+    let line = line_of(alloc, value)?;
     match write_line(output, &line) {
         Ok(()) => Ok(()),
         Err(_) => Err(Refusal::WriteFault),

@@ -13,8 +13,8 @@ use std::alloc::{AllocError, Global};
 impl<M: Mailbox> Actors<M> {
     /// Appends an actor of which no claim is out.
     fn add(&mut self, actor: Actor<M>) -> Result<(), AllocError>
-        requires few { length self.old.kept < 65536 }
-        ensures { OnOk result (self.new ≡ record { kept = self.old.kept ++ actor ∷ []; out = self.old.out ++ 0 ∷ [] }) }
+        requires few { length self.old.list < 65536 }
+        ensures { OnOk result (self.new ≡ record { list = self.old.list ++ actor ∷ []; out = self.old.out ++ 0 ∷ [] }) }
     {
         let number = self.items.len() as u32;
         let is_ready = actor.is_ready();
@@ -31,7 +31,7 @@ impl<M: Mailbox> Actors<M> {
     pub(crate) fn from_parts(alloc: Global, parts: &[ActorPart]) -> Result<Actors<M>, AllocError>
         requires few { length parts.now ≤ 65536 }
         requires fit { All FitsMailbox parts.now }
-        ensures { IfOk result (λ a. a ≡ record { kept = map (λ (p : PartOf). actor_view (actor_of p)) parts.now; out = replicate (length parts.now) 0 }) }
+        ensures { IfOk result (λ a. a ≡ record { list = map (λ (p : PartOf). actor_view (actor_of p)) parts.now; out = replicate (length parts.now) 0 }) }
     {
         let mut actors = Actors::new(alloc);
         'parts: for place in 0..parts.len() {

@@ -24,7 +24,7 @@ fn begin_each<M: Mailbox>(actors: &mut Vec<Actor<M>>, mut results: Vec<Results>)
 impl<M: Mailbox> Actors<M> {
     /// The results with which the actors begin anew.
     pub(crate) fn last_results(&self, alloc: Global) -> Result<Vec<Results>, AllocError>
-        ensures { IfOk result (λ all. map kept_in all.items ≡ map last_kept self.now.kept) }
+        ensures { IfOk result (λ all. map kept_in all.items ≡ map last_kept self.now.list) }
     {
         let mut all = Vec::new(alloc);
         for actor in &self.items {
@@ -35,8 +35,8 @@ impl<M: Mailbox> Actors<M> {
 
     /// All actors begin anew, with these results. The claims that are out stay out.
     pub(crate) fn begin_anew(&mut self, results: Vec<Results>)
-        requires { map kept_in results.items ≡ map last_kept self.old.kept }
-        ensures { self.new ≡ record self.old { kept = map view_anew self.old.kept } }
+        requires { map kept_in results.items ≡ map last_kept self.old.list }
+        ensures { self.new ≡ record self.old { list = map view_anew self.old.list } }
     {
         begin_each(&mut self.items, results);
     }

@@ -8,36 +8,30 @@ use st_turn::claim::Claim;
 use std::alloc::{AllocError, Global};
 
 impl<M: Mailbox> Image<M> {
-    ghost use Rattle.std.specs.Prelude.{◌≡◌, ◌+◌, ◌-◌, ◌^◌, ◌<◌, length, slice_get, None, IfNone, IfOk, OnErr, if◌then◌else◌};
+    ghost use Rattle.std.specs.Prelude.{◌≡◌, ◌+◌, ◌-◌, ◌^◌, ◌<◌, slice_get, None, Some, IfOk, OnErr, MatchResult, if◌then◌else◌};
     ghost use Rattle.st_classes.specs.Refusals.{first_of};
     ghost use Rattle.st_image.specs.Images.{world};
     ghost use Rattle.st_image.specs.ImageInvariant.{turns_open};
     ghost use Rattle.st_image.specs.Commits.{ChecksOut, HasCheckedOut, IsReleased, changed_at, checkout_rules, idle_at};
 
-    /// Why a checkout is refused, if it is.
-    fn checkout_refusal(&self, actor: ActorId) -> Option<Refusal>
-        ensures value { result ≡ first_of (checkout_rules self.now (slice_get (world self.now).actors actor.0)) }
-        ensures there { IfNone result (actor.0 < length (world self.now).actors) }
+    /// Whether a checkout of an actor begins a turn, or why the checkout is refused.
+    fn begins_turn(&self, actor: ActorId) -> Result<bool, Refusal>
+        ensures { MatchResult result
+            (λ begins. (first_of (checkout_rules self.now (slice_get (world self.now).actors actor.0)) ≡ None) × (begins ≡ idle_at (slice_get (world self.now).actors actor.0)))
+            (λ e. first_of (checkout_rules self.now (slice_get (world self.now).actors actor.0)) ≡ Some e) }
     {
-        let Some(kept) = self.actor(actor) else {
-            return Some(Refusal::UnknownActor);
+        let Some(found) = self.actor(actor) else {
+            return Err(Refusal::UnknownActor);
         };
-        if !kept.is_idle() {
-            return None;
+        if !found.is_idle() {
+            return Ok(false);
         }
-        if !kept.has_pending() {
-            return Some(Refusal::NothingToDo);
+        if !found.has_pending() {
+            return Err(Refusal::NothingToDo);
         }
-        self.room_refusal(1)
-    }
-
-    /// Whether an actor is idle.
-    fn is_idle(&self, actor: ActorId) -> bool
-        ensures { result ≡ idle_at (slice_get (world self.now).actors actor.0) }
-    {
-        match self.actor(actor) {
-            Some(kept) => kept.is_idle(),
-            None => true,
+        match self.room_refusal(1) {
+            Some(refusal) => Err(refusal),
+            None => Ok(true),
         }
     }
 
@@ -59,13 +53,14 @@ impl<M: Mailbox> Image<M> {
         if begins { changed + 1 } else { changed }
     }
 
-    /// Hands out a claim of an actor whose checkout is not refused. An error says that nothing changed.
-    fn hand_out(&mut self, alloc: Global, actor: ActorId) -> Result<Claim, AllocError>
-        requires { first_of (checkout_rules self.old (slice_get (world self.old).actors actor.0)) ≡ None }
+    /// Hands out a claim of an actor whose checkout is not refused, and begins a turn if the actor is idle, as the caller knows. An
+    /// error says that nothing changed.
+    fn hand_out(&mut self, alloc: Global, actor: ActorId, begins: bool) -> Result<Claim, AllocError>
+        requires allowed { first_of (checkout_rules self.old (slice_get (world self.old).actors actor.0)) ≡ None }
+        requires begins { begins ≡ idle_at (slice_get (world self.old).actors actor.0) }
         ensures ok { IfOk result (λ c. HasCheckedOut self.old actor c self.new) }
         ensures err { OnErr result (self.new ≡ self.old) }
     {
-        let begins = self.is_idle(actor);
         let stamp = self.stamp_after(actor, begins);
         let body = self.actors.body_to_check_out(alloc, actor)?;
         self.changes.make_room(actor)?;
@@ -80,21 +75,16 @@ impl<M: Mailbox> Image<M> {
         Ok(claim)
     }
 
-    /// A claim of an actor: its body, at the present class table. Where no turn is going on, the actor begins its next pending
-    /// message, which enters the history.
+    /// A claim of an actor: its body, at the present class table. If no turn is going on, the actor begins its next pending message,
+    /// and this enters the history.
     ///
-    /// Refusals, in this order: `UnknownActor`; `NothingToDo` where no turn is going on and no message is pending; `HistoryFull`
-    /// where a message would begin. Memory can run out only where none of these applies. A refused call changes nothing.
+    /// Refusals, in this order: `UnknownActor`; `NothingToDo` if no turn is going on and no message is pending; `HistoryFull` if a
+    /// message would begin. Memory can run out only if none of these applies. A refused call changes nothing.
     pub fn checkout(&mut self, alloc: Global, actor: ActorId) -> Result<Claim, Refusal>
         ensures { ChecksOut self.old actor result self.new }
     {
-        if let Some(refusal) = self.checkout_refusal(actor) {
-            return Err(refusal);
-        }
-        match self.hand_out(alloc, actor) {
-            Ok(claim) => Ok(claim),
-            Err(_) => Err(Refusal::NoMemory),
-        }
+        let begins = self.begins_turn(actor)?;
+        Ok(self.hand_out(alloc, actor, begins)?)
     }
 
     /// Gives a claim back: none of its steps is taken. No memory is taken.

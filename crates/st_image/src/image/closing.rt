@@ -16,10 +16,10 @@ impl<M: Mailbox> Image<M> {
         ensures value { result ≡ first_of (close_rules self.now (slice_get (world self.now).actors actor.0)) }
         ensures there { IfNone result (actor.0 < length (world self.now).actors) }
     {
-        let Some(kept) = self.actor(actor) else {
+        let Some(found) = self.actor(actor) else {
             return Some(Refusal::UnknownActor);
         };
-        if !kept.is_open() {
+        if !found.is_open() {
             return Some(Refusal::Closed);
         }
         self.room_refusal(1)
@@ -35,9 +35,7 @@ impl<M: Mailbox> Image<M> {
         if let Some(refusal) = self.close_refusal(actor) {
             return Err(refusal);
         }
-        if self.history.reserve(1).is_err() {
-            return Err(Refusal::NoMemory);
-        }
+        self.history.reserve(1)?;
         self.actors.close(actor);
         self.history.push(Item::Closed(actor)).unwrap();
         Ok(())

@@ -16,7 +16,7 @@ impl<M: Mailbox> Image<M> {
     ghost use Rattle.st_classes.specs.EditLists.{Begins};
     ghost use Rattle.st_classes.specs.Refusals.{first_of};
     ghost use Rattle.st_image.specs.Images.{no_room, too_many_steps, world};
-    ghost use Rattle.st_image.specs.Commits.{Commits, CommitAllowed, CommitRefused, HasCommitted, IsAsBefore, IsUnchanged, KnowsBody, RefusesCommit, Survives, act_site, changed_at, steps_of};
+    ghost use Rattle.st_image.specs.Commits.{Commits, CommitAllowed, CommitRefused, HasCommitted, IsAsBefore, IsUnchanged, KnowsBody, RefusesCommit, Survives, act_site, changed_at, stands_before_act, steps_of};
 
     /// Whether the body of an actor was changed as often as the stamp of a claim says.
     fn is_stamped(&self, claim: &Claim) -> bool
@@ -31,7 +31,7 @@ impl<M: Mailbox> Image<M> {
         ensures { IsTrue result ↔ IsUnchanged self.now claim.now }
     {
         match self.actor(claim.actor()) {
-            Some(kept) => kept.body().is_same(claim.before()),
+            Some(found) => found.body().is_same(claim.before()),
             None => false,
         }
     }
@@ -80,38 +80,42 @@ impl<M: Mailbox> Image<M> {
         self.steps_room_refusal(Self::items_to_commit(steps), steps)
     }
 
-    /// How many steps the commit of a claim is: the image takes one more, where it is next.
-    fn steps_to_commit(claim: &Claim) -> u32
+    /// How many steps the commit of a claim is: the image takes one more if an act is next.
+    fn steps_to_commit(claim: &Claim, is_act_next: bool) -> u32
+        requires { is_act_next ≡ stands_before_act claim.now }
         ensures { result ≡ steps_of claim.now }
     {
         claim.known();
-        if claim.is_act_next() {
+        if is_act_next {
             claim.steps() + 1
         } else {
             claim.steps()
         }
     }
 
-    /// The site of the step that the image takes, where that is next.
-    fn site_to_commit(claim: &Claim) -> Option<SiteId>
+    /// The site of the step that the image takes, if an act is next.
+    fn site_to_commit(claim: &Claim, is_act_next: bool) -> Option<SiteId>
+        requires { is_act_next ≡ stands_before_act claim.now }
         ensures { result ≡ act_site claim.now }
     {
-        if claim.is_act_next() {
+        if is_act_next {
             next_site(claim.after())
         } else {
             None
         }
     }
 
-    /// Takes the steps of a claim, at least one. For want of memory the claim is handed back.
+    /// Takes the steps of a claim, at least one. If memory runs out, the claim is handed back.
     fn take_steps(
         &mut self,
         alloc: Global,
         claim: Claim,
+        is_act_next: bool,
         steps: u32,
         leavings: &mut Leavings,
     ) -> Result<(), Claim>
         requires allowed { CommitAllowed self.old claim }
+        requires act { is_act_next ≡ stands_before_act claim }
         requires steps { steps ≡ steps_of claim }
         requires some { 0 < steps }
         ensures ok { OnOk result (HasCommitted self.old claim steps self.new) }
@@ -120,7 +124,7 @@ impl<M: Mailbox> Image<M> {
     {
         claim.known();
         let actor = claim.actor();
-        let site = Self::site_to_commit(&claim);
+        let site = Self::site_to_commit(&claim, is_act_next);
         let Ok(()) = self.history.reserve(1) else {
             return Err(claim);
         };
@@ -143,6 +147,7 @@ impl<M: Mailbox> Image<M> {
             &mut self.actors,
             actor,
             after,
+            is_act_next,
             &mut leavings.body,
         ) {
             Ok(_) => {
@@ -183,7 +188,8 @@ impl<M: Mailbox> Image<M> {
         ensures { Commits self.old claim result self.new }
     {
         claim.known();
-        let steps = Self::steps_to_commit(&claim);
+        let is_act_next = claim.is_act_next();
+        let steps = Self::steps_to_commit(&claim, is_act_next);
         if let Some(refusal) = self.full_refusal(&claim, steps) {
             return Err(self.refuse(claim, refusal));
         }
@@ -191,7 +197,7 @@ impl<M: Mailbox> Image<M> {
             self.actors.release(claim.actor());
             return Ok(0);
         }
-        match self.take_steps(alloc, claim, steps, leavings) {
+        match self.take_steps(alloc, claim, is_act_next, steps, leavings) {
             Ok(()) => Ok(steps),
             Err(claim) => Err((Refusal::NoMemory, Some(claim))),
         }

@@ -52,22 +52,12 @@ impl<M: Mailbox> Image<M> {
         if let Some(refusal) = self.edit_refusal(&edit) {
             return Err(refusal);
         }
-        let Ok(shared) = SharedEdit::new(alloc, edit) else {
-            return Err(Refusal::NoMemory);
-        };
-        let Ok(item) = shared.again() else {
-            return Err(Refusal::NoMemory);
-        };
-        let Ok(version) = self.version().with_accepted(alloc, shared) else {
-            return Err(Refusal::NoMemory);
-        };
+        let shared = SharedEdit::new(alloc, edit)?;
+        let item = shared.again()?;
+        let version = self.version().with_accepted(alloc, shared)?;
         let edits = version.edits();
-        let Ok(token) = Token::publish(alloc, version) else {
-            return Err(Refusal::NoMemory);
-        };
-        if self.history.reserve(1).is_err() {
-            return Err(Refusal::NoMemory);
-        }
+        let token = Token::publish(alloc, version)?;
+        self.history.reserve(1)?;
         self.token = token;
         self.edits_made += 1;
         self.history.push(Item::Edited(item)).unwrap();
@@ -89,9 +79,7 @@ impl<M: Mailbox> Image<M> {
     ) -> Result<u32, Refusal>
         ensures { Defines self.old name.now parent slots result self.new }
     {
-        let Ok(name) = name.to_vec(alloc) else {
-            return Err(Refusal::NoMemory);
-        };
+        let name = name.to_vec(alloc)?;
         self.edit(
             alloc,
             Edit::Define {

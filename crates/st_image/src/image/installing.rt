@@ -78,29 +78,6 @@ impl<M: Mailbox> Image<M> {
         compile(alloc, tree, class, self.token.shown(), &mut self.names)
     }
 
-    /// Installs the method of a tree, for whose selector the kernel has no method of the class. Answers the number of edits.
-    fn install_free(
-        &mut self,
-        alloc: Global,
-        class: ClassId,
-        tree: &MethodTree,
-    ) -> Result<u32, Refusal>
-        requires class { is_class (world self.old).edits class ≡ true }
-        requires free { is_kernel_text class (pattern_selector tree.now.syntax.pattern) ≡ false }
-        ensures answers { Answers (first_of (image_install_rules self.old class tree.now.syntax)) result
-            (λ n. Installs self.old class tree.now.syntax tree.now.source self.new n) }
-        ensures refused { IfErr result (λ e. LeavesNames self.old class tree.now.source e self.new) }
-        ensures world { OnErr result (world self.new ≡ world self.old) }
-    {
-        tree.known();
-        let method = match self.compiled(alloc, tree, class) {
-            Ok(method) => method,
-            Err(refusal) => return Err(refusal),
-        };
-        self.known();
-        self.edit(alloc, Edit::Install { class, method })
-    }
-
     /// Installs the method of a tree, and answers the number of edits.
     fn install_tree(
         &mut self,
@@ -114,10 +91,17 @@ impl<M: Mailbox> Image<M> {
         ensures refused { IfErr result (λ e. LeavesNames self.old class tree.now.source e self.new) }
         ensures world { OnErr result (world self.new ≡ world self.old) }
     {
-        if self.has_kernel_pattern(alloc, class, tree.pattern())? {
+        let is_kernels = self.has_kernel_pattern(alloc, class, tree.pattern())?;
+        if is_kernels {
             return Err(Refusal::KernelMethod);
         }
-        self.install_free(alloc, class, tree)
+        tree.known();
+        let method = match self.compiled(alloc, tree, class) {
+            Ok(method) => method,
+            Err(refusal) => return Err(refusal),
+        };
+        self.known();
+        self.edit(alloc, Edit::Install { class, method })
     }
 
     /// Installs a method in a class, in place of the class's own method for the selector, if it has one. The answer is the number of edits.
@@ -134,10 +118,7 @@ impl<M: Mailbox> Image<M> {
         if !self.version().is_class(class) {
             return Err(Refusal::UnknownClass);
         }
-        let tree = match read_method(alloc, source) {
-            Ok(tree) => tree,
-            Err(refusal) => return Err(refusal),
-        };
+        let tree = read_method(alloc, source)?;
         self.install_tree(alloc, class, &tree)
     }
 }

@@ -20,13 +20,10 @@ impl<M: Mailbox> Image<M> {
     pub fn part(&self, alloc: Global, actor: ActorId) -> Result<ActorPart, Refusal>
         ensures { AnswersExactly (first_of (part_rules (slice_get (world self.now).actors actor.0))) result (λ part. option_map part_of (slice_get (world self.now).actors actor.0) ≡ Some part) }
     {
-        let Some(kept) = self.actor(actor) else {
+        let Some(found) = self.actor(actor) else {
             return Err(Refusal::UnknownActor);
         };
-        match kept.part(alloc) {
-            Ok(part) => Ok(part),
-            Err(_) => Err(Refusal::NoMemory),
-        }
+        Ok(found.part(alloc)?)
     }
 
     /// Copies of all actors as plain data.

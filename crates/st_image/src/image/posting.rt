@@ -14,7 +14,7 @@ impl<M: Mailbox> Image<M> {
     ghost use Rattle.st_classes.specs.Refusals.{first_of};
     ghost use Rattle.st_image.specs.Calls.{Posts};
     ghost use Rattle.st_image.specs.Images.{image_post_rules, no_room, too_many_posts, world};
-    ghost use Rattle.st_image.specs.PostRules.{IsClients, from_client};
+    ghost use Rattle.st_image.specs.PostRules.{from_client};
 
     /// Why there is no room for one more post, in the history or in the count of posts, if there is none.
     fn post_room_refusal(&self) -> Option<Refusal>
@@ -45,40 +45,6 @@ impl<M: Mailbox> Image<M> {
         }
     }
 
-    /// Appends a client's message to the mailbox of an actor. The answer is its place, from 1, among the messages that the actor
-    /// accepted.
-    fn accept(&mut self, alloc: Global, actor: ActorId, message: Message) -> Result<u64, Refusal>
-        requires { IsClients message.sender }
-        ensures { Posts self.old actor message result self.new }
-    {
-        let Sender::Client(client) = message.sender else {
-            unreachable!()
-        };
-        let number = message.seq;
-        if let Some(refusal) = self.post_refusal(actor, &message) {
-            return Err(refusal);
-        }
-        let Ok(copy) = message.copy(alloc) else {
-            return Err(Refusal::NoMemory);
-        };
-        if self.history.reserve(1).is_err() {
-            return Err(Refusal::NoMemory);
-        }
-        if self.clients.make_room(client).is_err() {
-            return Err(Refusal::NoMemory);
-        }
-        let place = self.actors.deliver(actor, message);
-        self.clients.set(client, number);
-        self.history
-            .push(Item::Posted {
-                actor,
-                message: copy,
-            })
-            .unwrap();
-        self.counts.posts += 1;
-        Ok(place)
-    }
-
     /// Appends a client's message, with the client's own number for it, to the mailbox of an actor. The answer is its place, from 1, among
     /// the messages that were pending at the last checkpoint and those accepted since. This is also the number of its turn.
     ///
@@ -102,6 +68,21 @@ impl<M: Mailbox> Image<M> {
             selector,
             args,
         };
-        self.accept(alloc, actor, message)
+        if let Some(refusal) = self.post_refusal(actor, &message) {
+            return Err(refusal);
+        }
+        let copy = message.copy(alloc)?;
+        self.history.reserve(1)?;
+        self.clients.make_room(sender)?;
+        let place = self.actors.deliver(actor, message);
+        self.clients.set(sender, seq);
+        self.history
+            .push(Item::Posted {
+                actor,
+                message: copy,
+            })
+            .unwrap();
+        self.counts.posts += 1;
+        Ok(place)
     }
 }

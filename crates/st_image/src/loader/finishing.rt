@@ -51,18 +51,12 @@ impl Loader {
                 place: ImagePlace::Actors,
             });
         }
-        match in_sending_order(alloc, parts.as_slice(), clients.as_slice()) {
-            Ok(true) => {}
-            Ok(false) => {
-                return Err(Refusal::BadImage {
-                    place: ImagePlace::Senders,
-                });
-            }
-            Err(_) => return Err(Refusal::NoMemory),
+        let is_in_order = in_sending_order(alloc, parts.as_slice(), clients.as_slice())?;
+        if !is_in_order {
+            return Err(Refusal::BadImage {
+                place: ImagePlace::Senders,
+            });
         }
-        match Image::at_base(alloc, names, version, parts, clients, counts) {
-            Ok(image) => Ok(image),
-            Err(_) => Err(Refusal::NoMemory),
-        }
+        Ok(Image::at_base(alloc, names, version, parts, clients, counts)?)
     }
 }

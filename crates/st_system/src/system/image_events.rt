@@ -91,9 +91,7 @@ impl<M: Mailbox, G: Guard> System<M, G> {
         ensures acts { Acts (schedule self.old) (PostOf sender seq actor selector args.now) result (schedule self.new) }
         ensures others { LeavesOthers (PostOf sender seq actor selector args.now) self.old.seats self.new.seats }
     {
-        let Ok(args) = copy_values(alloc, args) else {
-            return Err(Refusal::NoMemory);
-        };
+        let args = copy_values(alloc, args)?;
         Ok(Answer::Position(calls::post(
             alloc,
             &mut self.image,

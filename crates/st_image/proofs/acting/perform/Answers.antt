@@ -11,4 +11,4 @@ pub returns-in-Close-clause-ok : goal.returns-in-Close-clause-ok
 returns-in-Close-clause-ok g c = λ w i. rw c.in-Close.is (c.close.ensures.does c.args.names.now c.args.capacity w i)
 
 pub returns-clause-ok : goal.returns-clause-ok
-returns-clause-ok g c = rw c.in-Create.is (if_ok _ (λ (answer : Result Value Fault). (w : World) → IsShown c.args.names.now c.args.capacity c.args.version.now c.args.actors.now.kept w → Does c.args.version.now c.create.new.actors.kept (create_result (constants_of c.args.names.now c.args.capacity) c.in-Create.class w) answer) c.create.result (λ answer h. h c.args.names.now) c.create.ensures.ok)
+returns-clause-ok g c = rw c.in-Create.is (if_ok _ (λ (answer : Result Value Fault). (w : World) → IsShown c.args.names.now c.args.capacity c.args.version.now c.args.actors.now.list w → Does c.args.version.now c.create.new.actors.list (create_result (constants_of c.args.names.now c.args.capacity) c.in-Create.class w) answer) c.create.result (λ answer h. h c.args.names.now) c.create.ensures.ok)

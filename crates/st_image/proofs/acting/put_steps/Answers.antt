@@ -10,14 +10,20 @@ use Rattle.st_image.proofs.Acts.{kept_is}
 use Rattle.st_image.proofs.Committing.{own_accepts, restored, stood_busy}
 use Rattle.st_image.proofs.acting.put_steps.Goals as goal
 
+pub take_outer-requires-clause-act : goal.take_outer-requires-clause-act
+take_outer-requires-clause-act g c = λ w shown.
+    let mid : List ActorView = change_at (view_after_steps c.args.after) c.args.actor.0 c.args.actors.now.list in
+    let put : c.put_body.new.self.list ≡ mid = kept_is _ _ c.in-Ok.ensures.ok in
+    c.requires.act w (subst (λ (xs : List ActorView). IsShown c.args.names.now c.args.capacity c.args.version.now xs w) put shown)
+
 pub put_back-requires-clause-busy : goal.put_back-requires-clause-busy
 put_back-requires-clause-busy g c = λ l e.
-    let ks : List ActorView = c.args.actors.now.kept in
+    let ks : List ActorView = c.args.actors.now.list in
     let mid : List ActorView = change_at (view_after_steps c.args.after) c.args.actor.0 ks in
     let k = kept_there ks c.args.actor.0 c.requires.there in
-    let put : c.put_body.new.self.kept ≡ mid = kept_is _ _ c.in-Ok.ensures.ok in
+    let put : c.put_body.new.self.list ≡ mid = kept_is _ _ c.in-Ok.ensures.ok in
     let same : c.take_outer.new.actors ≡ c.put_body.new.self = c.in-Err-take_outer.ensures.err in
-    let shown : IsShown c.args.names.now c.args.capacity c.args.version.now c.put_body.new.self.kept c.requires.shown.0 = subst (λ (xs : List ActorView). IsShown c.args.names.now c.args.capacity c.args.version.now xs c.requires.shown.0) (sym put) c.requires.shown.1 in
+    let shown : IsShown c.args.names.now c.args.capacity c.args.version.now c.put_body.new.self.list c.requires.shown.0 = subst (λ (xs : List ActorView). IsShown c.args.names.now c.args.capacity c.args.version.now xs c.requires.shown.0) (sym put) c.requires.shown.1 in
     let stands : StandsBefore c.args.actor c.requires.shown.0 true = c.in-Err-take_outer.ensures.stands c.requires.shown.0 shown in
     let at : slice_get mid c.args.actor.0 ≡ Some (view_after_steps c.args.after k.0) = get-change (view_after_steps c.args.after) c.args.actor.0 ks k.0 k.1 in
     let busy : is_idle c.args.after.phase ≡ false = stood_busy c.args.names.now c.args.capacity c.args.version.now mid c.requires.shown.0 c.args.actor (view_after_steps c.args.after k.0) c.requires.shown.1 at stands in
@@ -26,44 +32,44 @@ put_back-requires-clause-busy g c = λ l e.
 
 pub put_back-requires-clause-still : goal.put_back-requires-clause-still
 put_back-requires-clause-still g c =
-    let ks : List ActorView = c.args.actors.now.kept in
+    let ks : List ActorView = c.args.actors.now.list in
     let mid : List ActorView = change_at (view_after_steps c.args.after) c.args.actor.0 ks in
     let k = kept_there ks c.args.actor.0 c.requires.there in
-    let put : c.put_body.new.self.kept ≡ mid = kept_is _ _ c.in-Ok.ensures.ok in
+    let put : c.put_body.new.self.list ≡ mid = kept_is _ _ c.in-Ok.ensures.ok in
     ap (λ b. is_idle b.phase) (c.in-Ok.ensures.was k.0 k.1) ∙ c.requires.busy k.0 k.1
 
 pub returns-in-Ok-take_outer-clause-grown : goal.returns-in-Ok-take_outer-clause-grown
 returns-in-Ok-take_outer-clause-grown g c = λ bound h.
-    let ks : List ActorView = c.args.actors.now.kept in
+    let ks : List ActorView = c.args.actors.now.list in
     let mid : List ActorView = change_at (view_after_steps c.args.after) c.args.actor.0 ks in
     let k = kept_there ks c.args.actor.0 c.requires.there in
-    let put : c.put_body.new.self.kept ≡ mid = kept_is _ _ c.in-Ok.ensures.ok in
+    let put : c.put_body.new.self.list ≡ mid = kept_is _ _ c.in-Ok.ensures.ok in
     c.in-Ok-take_outer.ensures.grown bound (subst (All (λ (x : ActorView). x.accepted ≤ bound)) (sym put) (own_accepts (λ (n : ℕ). n ≤ bound) ks c.args.after c.args.actor.0 h))
 
 pub returns-in-Err-take_outer-clause-back : goal.returns-in-Err-take_outer-clause-back
 returns-in-Err-take_outer-clause-back g c =
-    let ks : List ActorView = c.args.actors.now.kept in
+    let ks : List ActorView = c.args.actors.now.list in
     let mid : List ActorView = change_at (view_after_steps c.args.after) c.args.actor.0 ks in
     let k = kept_there ks c.args.actor.0 c.requires.there in
-    let put : c.put_body.new.self.kept ≡ mid = kept_is _ _ c.in-Ok.ensures.ok in
+    let put : c.put_body.new.self.list ≡ mid = kept_is _ _ c.in-Ok.ensures.ok in
     let same : c.take_outer.new.actors ≡ c.put_body.new.self = c.in-Err-take_outer.ensures.err in
-    let shown : IsShown c.args.names.now c.args.capacity c.args.version.now c.put_body.new.self.kept c.requires.shown.0 = subst (λ (xs : List ActorView). IsShown c.args.names.now c.args.capacity c.args.version.now xs c.requires.shown.0) (sym put) c.requires.shown.1 in
+    let shown : IsShown c.args.names.now c.args.capacity c.args.version.now c.put_body.new.self.list c.requires.shown.0 = subst (λ (xs : List ActorView). IsShown c.args.names.now c.args.capacity c.args.version.now xs c.requires.shown.0) (sym put) c.requires.shown.1 in
     let stands : StandsBefore c.args.actor c.requires.shown.0 true = c.in-Err-take_outer.ensures.stands c.requires.shown.0 shown in
     let at : slice_get mid c.args.actor.0 ≡ Some (view_after_steps c.args.after k.0) = get-change (view_after_steps c.args.after) c.args.actor.0 ks k.0 k.1 in
     let busy : is_idle c.args.after.phase ≡ false = stood_busy c.args.names.now c.args.capacity c.args.version.now mid c.requires.shown.0 c.args.actor (view_after_steps c.args.after k.0) c.requires.shown.1 at stands in
-    let at' : slice_get c.take_outer.new.actors.kept c.args.actor.0 ≡ Some (view_after_steps c.args.after k.0) = subst (λ (xs : List ActorView). slice_get xs c.args.actor.0 ≡ Some (view_after_steps c.args.after k.0)) (sym (kept_is _ _ same ∙ put)) at in
+    let at' : slice_get c.take_outer.new.actors.list c.args.actor.0 ≡ Some (view_after_steps c.args.after k.0) = subst (λ (xs : List ActorView). slice_get xs c.args.actor.0 ≡ Some (view_after_steps c.args.after k.0)) (sym (kept_is _ _ same ∙ put)) at in
     c.put_back.ensures.had (view_after_steps c.args.after k.0) at'
 
 pub returns-in-Err-take_outer-clause-err : goal.returns-in-Err-take_outer-clause-err
 returns-in-Err-take_outer-clause-err g c =
-    let ks : List ActorView = c.args.actors.now.kept in
+    let ks : List ActorView = c.args.actors.now.list in
     let mid : List ActorView = change_at (view_after_steps c.args.after) c.args.actor.0 ks in
     let k = kept_there ks c.args.actor.0 c.requires.there in
-    let put : c.put_body.new.self.kept ≡ mid = kept_is _ _ c.in-Ok.ensures.ok in
+    let put : c.put_body.new.self.list ≡ mid = kept_is _ _ c.in-Ok.ensures.ok in
     let same : c.take_outer.new.actors ≡ c.put_body.new.self = c.in-Err-take_outer.ensures.err in
-    let shown : IsShown c.args.names.now c.args.capacity c.args.version.now c.put_body.new.self.kept c.requires.shown.0 = subst (λ (xs : List ActorView). IsShown c.args.names.now c.args.capacity c.args.version.now xs c.requires.shown.0) (sym put) c.requires.shown.1 in
+    let shown : IsShown c.args.names.now c.args.capacity c.args.version.now c.put_body.new.self.list c.requires.shown.0 = subst (λ (xs : List ActorView). IsShown c.args.names.now c.args.capacity c.args.version.now xs c.requires.shown.0) (sym put) c.requires.shown.1 in
     let stands : StandsBefore c.args.actor c.requires.shown.0 true = c.in-Err-take_outer.ensures.stands c.requires.shown.0 shown in
     let at : slice_get mid c.args.actor.0 ≡ Some (view_after_steps c.args.after k.0) = get-change (view_after_steps c.args.after) c.args.actor.0 ks k.0 k.1 in
     let busy : is_idle c.args.after.phase ≡ false = stood_busy c.args.names.now c.args.capacity c.args.version.now mid c.requires.shown.0 c.args.actor (view_after_steps c.args.after k.0) c.requires.shown.1 at stands in
-    let all : c.take_outer.new.actors ≡ (let x : ActorsView = record c.args.actors.now { kept = mid } in x) = same ∙ c.in-Ok.ensures.ok in
-    c.put_back.ensures.back ∙ ap (λ (v : ActorsView). let x : ActorsView = record v { kept = change_at (λ (y : ActorView). record y { body = c.in-Ok.was }) c.args.actor.0 v.kept } in x) all ∙ ap (λ (xs : List ActorView). let x : ActorsView = record c.args.actors.now { kept = xs } in x) (restored ks c.args.actor.0 k.0 c.args.after c.in-Ok.was k.1 busy (c.in-Ok.ensures.was k.0 k.1))
+    let all : c.take_outer.new.actors ≡ (let x : ActorsView = record c.args.actors.now { list = mid } in x) = same ∙ c.in-Ok.ensures.ok in
+    c.put_back.ensures.back ∙ ap (λ (v : ActorsView). let x : ActorsView = record v { list = change_at (λ (y : ActorView). record y { body = c.in-Ok.was }) c.args.actor.0 v.list } in x) all ∙ ap (λ (xs : List ActorView). let x : ActorsView = record c.args.actors.now { list = xs } in x) (restored ks c.args.actor.0 k.0 c.args.after c.in-Ok.was k.1 busy (c.in-Ok.ensures.was k.0 k.1))

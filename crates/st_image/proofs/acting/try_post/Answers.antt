@@ -12,12 +12,12 @@ pub returns-clause-ok : goal.returns-clause-ok
 returns-clause-ok g c = λ capacity w i.
     let n : ℕ = c.last-last.result + 1 in
     let args : c.from_vec.result ≡ c.args.args.now = c.from_vec.ensures ∙ c.in_ok-to_vec.ensures.items_if_clones_equal (λ x y e. e) in
-    let low : c.in-Some.kept.now.last < 2 ^ 64 - 1 = grind (arith, common_steps) in
-    let b = being_at_kept c.args.version.now c.args.actors.now.kept w c.args.actor.0 c.in-Some.kept.now i.shows (sym c.in-Some.ensures) in
+    let low : c.in-Some.found.now.last < 2 ^ 64 - 1 = grind (arith, common_steps) in
+    let b = being_at_kept c.args.version.now c.args.actors.now.list w c.args.actor.0 c.in-Some.found.now i.shows (sym c.in-Some.ensures) in
     let last : last_at (slice_get w.actors c.args.actor.0) ≡ Some c.last-last.result = ap last_at b.1 ∙ ap (λ (k : ActorView). Some k.last) b.2 ∙ ap Some (sym c.last-last.ensures) in
     let allowed : first_of (post_rules c.args.names.now w (slice_get w.actors c.args.to.0) (message_of c.args.actor n c.args.selector c.args.args.now)) ≡ None = rw (← args) (sym (c.post_refusal.ensures.value w i.shows last) ∙ none_by c.post_refusal.result (sym c.if-is_some.ensures)) in
-    let middle : c.deliver.new.self.kept ≡ change_at (view_with_message (message_of c.args.actor n c.args.selector c.args.args.now)) c.args.to.0 c.args.actors.now.kept = rw (← args) (kept_is _ _ c.deliver.ensures.message) in
-    post_tries c.args.names.now capacity c.args.version.now c.args.actors.now.kept c.deliver.new.self.kept c.set_last.new.self.kept w c.args.actor c.args.to c.args.selector c.args.args.now c.in-Some.kept.now n i (sym c.in-Some.ensures) low (ap (λ (x : ℕ). x + 1) c.last-last.ensures) allowed middle (kept_is _ _ c.set_last.ensures)
+    let middle : c.deliver.new.self.list ≡ change_at (view_with_message (message_of c.args.actor n c.args.selector c.args.args.now)) c.args.to.0 c.args.actors.now.list = rw (← args) (kept_is _ _ c.deliver.ensures.message) in
+    post_tries c.args.names.now capacity c.args.version.now c.args.actors.now.list c.deliver.new.self.list c.set_last.new.self.list w c.args.actor c.args.to c.args.selector c.args.args.now c.in-Some.found.now n i (sym c.in-Some.ensures) low (ap (λ (x : ℕ). x + 1) c.last-last.ensures) allowed middle (kept_is _ _ c.set_last.ensures)
 
 pub returns-clause-grown : goal.returns-clause-grown
-returns-clause-grown g c = post_grows c.args.actors.now.kept c.deliver.new.self.kept c.set_last.new.self.kept (message_of c.args.actor (c.last-last.result + 1) c.args.selector c.from_vec.result) c.args.to.0 c.args.actor.0 (c.last-last.result + 1) (kept_is _ _ c.deliver.ensures.message) (kept_is _ _ c.set_last.ensures)
+returns-clause-grown g c = post_grows c.args.actors.now.list c.deliver.new.self.list c.set_last.new.self.list (message_of c.args.actor (c.last-last.result + 1) c.args.selector c.from_vec.result) c.args.to.0 c.args.actor.0 (c.last-last.result + 1) (kept_is _ _ c.deliver.ensures.message) (kept_is _ _ c.set_last.ensures)

@@ -1,4 +1,4 @@
-use Rattle.std.proofs.Common.{arith, ap, ◌≡◌, ◌<◌, length}
+use Rattle.std.proofs.Common.{arith, ap, ◌<◌, length}
 use Rattle.st_turn.specs.declared.tally.Tally.{Tally}
 use Rattle.st_turn.specs.Tallies.{AreSums, sends_of}
 use Rattle.st_turn.proofs.Summing.{sends_few}

@@ -11,10 +11,10 @@ returns-in-Err-clause-values g c =
 pub loop-argument-preserved : goal.loop-argument-preserved
 loop-argument-preserved g c =
     let so_far = c.loop-argument.invariant in
-    let one : c.push.new.self.items ≡ c.loop-argument.values.items ++ c.in-Ok-argument_value.value ∷ [] = rw c.unwrap.ensures at c.push.ensures.items in
+    let one : c.push.new.self.items ≡ c.loop-argument.values.items ++ c.in-Ok.value ∷ [] = rw c.unwrap.ensures at c.push.ensures.items in
     record {
-      values = rw one (values_more _ _ _ _ _ _ _ so_far.values c.loop-argument-test.true c.argument-item.is (rw so_far.same at c.in-Ok-argument_value.ensures.value));
-      same = c.in-Ok-argument_value.ensures.same ∙ so_far.same;
+      values = rw one (values_more _ _ _ _ _ _ _ so_far.values c.loop-argument-test.true c.argument-item.is (rw so_far.same at c.in-Ok.ensures.value));
+      same = c.in-Ok.ensures.same ∙ so_far.same;
       room = let q = c.push.ensures.capacity in grind (arith, common_steps);
       so_many = grind (arith, common_steps);
     }

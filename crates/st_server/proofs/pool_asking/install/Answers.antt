@@ -1,7 +1,7 @@
-use Rattle.std.proofs.Common.{Some, Err, refl}
+use Rattle.std.proofs.Common.{Some}
 use Rattle.st_server.proofs.pool_asking.install.Goals as goal
 
-pub returns-in-Err-clause-replies : goal.returns-in-Err-clause-replies
-returns-in-Err-clause-replies g c =
-    let a = rw c.in-Some.ensures.same at c.in-Err.ensures.answers in
-    (Some c.in-Some.class, c.in-Some.ensures.named, (Err c.in-Err.refusal, (a.0, a.2, (a.1, a.3)), refl))
+pub returns-clause-replies : goal.returns-clause-replies
+returns-clause-replies g c =
+    let a = rw c.in-Some.ensures.same at c.install-answer.ensures.answers in
+    (Some c.in-Some.class, c.in-Some.ensures.named, (c.install-answer.result, (a.0, a.2, (a.1, a.3)), c.edit_reply.ensures))

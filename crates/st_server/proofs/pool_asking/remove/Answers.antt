@@ -1,10 +1,6 @@
-use Rattle.std.proofs.Common.{Some, Ok, Err, refl}
+use Rattle.std.proofs.Common.{Some}
 use Rattle.st_server.proofs.pool_asking.remove.Goals as goal
 
-pub returns-in-Ok-clause-replies : goal.returns-in-Ok-clause-replies
-returns-in-Ok-clause-replies g c =
-    (Some c.in-Some.class, c.in-Some.ensures.named, (Ok c.in-Ok.version, rw c.in-Some.ensures.same at c.in-Ok.ensures.removes, refl))
-
-pub returns-in-Err-clause-replies : goal.returns-in-Err-clause-replies
-returns-in-Err-clause-replies g c =
-    (Some c.in-Some.class, c.in-Some.ensures.named, (Err c.in-Err.refusal, rw c.in-Some.ensures.same at c.in-Err.ensures.removes, refl))
+pub returns-clause-replies : goal.returns-clause-replies
+returns-clause-replies g c =
+    (Some c.in-Some.class, c.in-Some.ensures.named, (c.remove_named-answer.result, rw c.in-Some.ensures.same at c.remove_named-answer.ensures.removes, c.edit_reply.ensures))

@@ -9,9 +9,9 @@ returns-in-Err c = inr (resolves_stops _ _ _ _ _ _ _ _ c.loop-argument.invariant
 pub loop-argument-preserved : goal.loop-argument-preserved
 loop-argument-preserved c =
     let so_far = c.loop-argument.invariant in
-    let one : c.push.new.self.items ≡ c.loop-argument.values.items ++ c.in-Ok-argument_value.value ∷ [] = rw c.unwrap.ensures at c.push.ensures.items in
+    let one : c.push.new.self.items ≡ c.loop-argument.values.items ++ c.in-Ok.value ∷ [] = rw c.unwrap.ensures at c.push.ensures.items in
     record {
-      resolves = rw one (resolves_more _ _ _ _ _ _ _ _ so_far.resolves c.loop-argument-test.true c.argument-item.is c.in-Ok-argument_value.ensures);
+      resolves = rw one (resolves_more _ _ _ _ _ _ _ _ so_far.resolves c.loop-argument-test.true c.argument-item.is c.in-Ok.ensures);
       room = let q = c.push.ensures.capacity in grind (arith, common_steps);
       so_many = grind (arith, common_steps);
     }

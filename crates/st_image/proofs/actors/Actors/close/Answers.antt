@@ -6,17 +6,17 @@ use Rattle.st_image.proofs.actors.Actors.close.Goals as goal
 pub invariant_of-self : goal.invariant_of-self
 invariant_of-self g c =
     let i = c.self.inside in
-    let v : ActorsView = record { kept = i.items.items; out = i.out.items } in
-    let k : ActorView = c.index_mut-kept.result.now in
-    let within : c.args.actor.0 < length i.items.items = subst (λ (x : ActorsView). c.args.actor.0 < length x.kept) (sym c.self.view_is) c.requires in
-    let at : slice_get i.items.items c.args.actor.0 ≡ Some k = here i.items.items c.args.actor.0 k within c.index_mut-kept.ensures.value in
+    let v : ActorsView = record { list = i.items.items; out = i.out.items } in
+    let k : ActorView = c.index_mut-item.result.now in
+    let within : c.args.actor.0 < length i.items.items = subst (λ (x : ActorsView). c.args.actor.0 < length x.list) (sym c.self.view_is) c.requires in
+    let at : slice_get i.items.items c.args.actor.0 ≡ Some k = here i.items.items c.args.actor.0 k within c.index_mut-item.ensures.value in
     same_free v i.free c.args.actor.0 k c.close.new.self c.self.invariant at (ap is_ready_view c.close.ensures)
 
 pub returns : goal.returns
 returns g c =
     let i = c.self.inside in
-    let v : ActorsView = record { kept = i.items.items; out = i.out.items } in
-    let k : ActorView = c.index_mut-kept.result.now in
-    let within : c.args.actor.0 < length i.items.items = subst (λ (x : ActorsView). c.args.actor.0 < length x.kept) (sym c.self.view_is) c.requires in
-    let at : slice_get i.items.items c.args.actor.0 ≡ Some k = here i.items.items c.args.actor.0 k within c.index_mut-kept.ensures.value in
+    let v : ActorsView = record { list = i.items.items; out = i.out.items } in
+    let k : ActorView = c.index_mut-item.result.now in
+    let within : c.args.actor.0 < length i.items.items = subst (λ (x : ActorsView). c.args.actor.0 < length x.list) (sym c.self.view_is) c.requires in
+    let at : slice_get i.items.items c.args.actor.0 ≡ Some k = here i.items.items c.args.actor.0 k within c.index_mut-item.ensures.value in
     put_view (λ (x : ActorView). record x { is_open = false }) v c.args.self.now c.args.actor.0 k c.close.new.self c.self.view_is at c.close.ensures

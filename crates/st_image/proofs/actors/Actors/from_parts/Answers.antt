@@ -9,7 +9,7 @@ parts-preserved g c =
     let n : ℕ = c.parts.place in
     let before : List ActorView = kept_parts (take n c.args.parts.now) in
     c.in_ok-add.ensures
-    ∙ ap (λ (v : ActorsView). let w : ActorsView = record { kept = v.kept ++ c.in_ok-actor.actor ∷ []; out = v.out ++ 0 ∷ [] } in w) c.parts.invariant
-    ∙ ap (λ (k : ActorView). let w : ActorsView = record { kept = before ++ k ∷ []; out = replicate n 0 ++ 0 ∷ [] } in w) c.in_ok-actor.ensures
-    ∙ ap (λ (ks : List ActorView). let w : ActorsView = record { kept = ks; out = replicate n 0 ++ 0 ∷ [] } in w) (sym (parts_more c.args.parts.now n c.index-parts-place.result c.parts-test.true c.index-parts-place.is))
-    ∙ ap (λ (ns : List ℕ). let w : ActorsView = record { kept = kept_parts (take (n + 1) c.args.parts.now); out = ns } in w) (sym (none_more n))
+    ∙ ap (λ (v : ActorsView). let w : ActorsView = record { list = v.list ++ c.in_ok-actor.actor ∷ []; out = v.out ++ 0 ∷ [] } in w) c.parts.invariant
+    ∙ ap (λ (k : ActorView). let w : ActorsView = record { list = before ++ k ∷ []; out = replicate n 0 ++ 0 ∷ [] } in w) c.in_ok-actor.ensures
+    ∙ ap (λ (ks : List ActorView). let w : ActorsView = record { list = ks; out = replicate n 0 ++ 0 ∷ [] } in w) (sym (parts_more c.args.parts.now n c.index-parts-place.result c.parts-test.true c.index-parts-place.is))
+    ∙ ap (λ (ns : List ℕ). let w : ActorsView = record { list = kept_parts (take (n + 1) c.args.parts.now); out = ns } in w) (sym (none_more n))

@@ -7,8 +7,8 @@ use Rattle.st_image.proofs.actors.Actors.push.Goals as goal
 pub invariant_of-self-2 : goal.invariant_of-self-2
 invariant_of-self-2 g c =
     let i = c.self.inside in
-    let v : ActorsView = record { kept = i.items.items; out = i.out.items } in
+    let v : ActorsView = record { list = i.items.items; out = i.out.items } in
     let kept : c.push-2.new.self.items ≡ i.items.items ++ c.args.actor ∷ [] = grind (arith, common_steps) in
     let out : c.push-3.new.self.items ≡ i.out.items ++ 0 ∷ [] = grind (arith, common_steps) in
-    let few : length i.items.items < 65536 = subst (λ (x : ActorsView). length x.kept < 65536) (sym c.self.view_is) c.requires.few in
+    let few : length i.items.items < 65536 = subst (λ (x : ActorsView). length x.list < 65536) (sym c.self.view_is) c.requires.few in
     rw (kept, out, c.in_ok-push.ensures.ok) (push_free v i.free c.args.actor c.self.invariant few c.requires.idle)

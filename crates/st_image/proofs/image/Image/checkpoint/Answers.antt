@@ -38,7 +38,7 @@ invariant_of-self g c =
     let few : i.earlier.edits + weigh edits_of i.history.items ≤ length w.edits = edits_bounded cs i.base w i.history.items i.earlier.edits c.self.invariant.before.edits c.self.invariant.image.lawful in
     let fits : FitsBase e (rebase w) = fits_anew w e steps (λ a. change_count i.earlier.changes a + changes_in i.history.items a) (omega (arith, edits_were, few)) steps_were changed bounds in
     rw (base, kept_is _ _ c.begin_anew.ensures, c.new-2.ensures.items, c.new-3.ensures, c.new-4.ensures) (record {
-      image = image_anew i.base i.names i.token i.actors.kept i.history.items i.edits_made i.settings c.self.invariant.image order;
+      image = image_anew i.base i.names i.token i.actors.list i.history.items i.edits_made i.settings c.self.invariant.image order;
       numbers_of_clients = λ s. kept_last cs i.base w i.history.items i.clients s c.self.invariant.image.lawful c.self.invariant.numbers_of_clients;
       sends = sends_new i.names (rebase w) i.settings;
       places = covers_none [] i.token;

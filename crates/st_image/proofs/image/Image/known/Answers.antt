@@ -11,7 +11,7 @@ returns g c =
     let i = c.self.inside in
     let k = c.self.invariant.image in
     let w : World = world_of (constants_of i.names i.settings.capacity) i.base i.history.items in
-    let count : length i.actors.kept ≡ length w.actors = count_is i.token i.actors.kept w k.shows in
+    let count : length i.actors.list ≡ length w.actors = count_is i.token i.actors.list w k.shows in
     subst IsLawful c.self.view_is (record {
       base = k.base_is;
       senders = k.senders;

@@ -25,7 +25,7 @@ use Rattle.st_image.specs.declared.items.Item.TheVariants.{Ran}
 use Rattle.st_image.proofs.Posting.{seen, standing_of}
 use Rattle.st_image.proofs.Showing.{kept_at}
 use Rattle.st_image.proofs.Acts.{kept_is, out_same, some_kept}
-use Rattle.st_image.proofs.Committing.{HasTaken, MayCommit, has_taken, items_are, may_commit, steps_room}
+use Rattle.st_image.proofs.Committing.{HasTaken, MayCommit, has_taken, items_are, may_commit, stands_after, steps_room}
 use Rattle.st_image.proofs.CountingOut.{counts_same_out}
 use Rattle.st_image.proofs.ClientNumbers.{kept_other}
 use Rattle.st_image.proofs.CountingChanges.{counts_one}
@@ -39,9 +39,9 @@ put_steps-requires-clause-busy g c = λ k e.
     let d : ClaimView = c.args.claim in
     let beside : Standing = standing_of i.earlier i.next_from i.actors.out i.tallies in
     let allowed : CommitAllowed (seen i.base i.names i.history.items i.settings beside) d = subst (λ (v : ImageView). CommitAllowed v d) (sym c.self.view_is) c.requires.allowed in
-    let may : MayCommit i.base i.names i.token i.actors.kept i.history.items i.settings d = may_commit i.base i.names i.token i.actors.kept i.history.items i.edits_made i.settings beside d c.self.invariant.image allowed c.known.ensures (subst (λ (n : ℕ). 0 < n) c.requires.steps c.requires.some) in
-    let at : slice_get i.actors.kept d.actor.0 ≡ Some k = subst (λ (b : ActorId). slice_get i.actors.kept b.0 ≡ Some k) c.actor-actor.ensures e in
-    let same : actor_view may.went.being ≡ k = some_kept (actor_view may.went.being) k (sym (kept_at i.token i.actors.kept (world_of (constants_of i.names i.settings.capacity) i.base i.history.items) d.actor.0 may.went.being c.self.invariant.image.shows may.went.at) ∙ at) in
+    let may : MayCommit i.base i.names i.token i.actors.list i.history.items i.settings d = may_commit i.base i.names i.token i.actors.list i.history.items i.edits_made i.settings beside d c.self.invariant.image allowed c.known.ensures (subst (λ (n : ℕ). 0 < n) c.requires.steps c.requires.some) in
+    let at : slice_get i.actors.list d.actor.0 ≡ Some k = subst (λ (b : ActorId). slice_get i.actors.list b.0 ≡ Some k) c.actor-actor.ensures e in
+    let same : actor_view may.went.being ≡ k = some_kept (actor_view may.went.being) k (sym (kept_at i.token i.actors.list (world_of (constants_of i.names i.settings.capacity) i.base i.history.items) d.actor.0 may.went.being c.self.invariant.image.shows may.went.at) ∙ at) in
     subst (λ (x : ActorView). is_idle x.body.phase ≡ false) same may.went.busy
 
 pub put_steps-requires-clause-shown : goal.put_steps-requires-clause-shown
@@ -50,8 +50,17 @@ put_steps-requires-clause-shown g c =
     let d : ClaimView = c.args.claim in
     let beside : Standing = standing_of i.earlier i.next_from i.actors.out i.tallies in
     let allowed : CommitAllowed (seen i.base i.names i.history.items i.settings beside) d = subst (λ (v : ImageView). CommitAllowed v d) (sym c.self.view_is) c.requires.allowed in
-    let may : MayCommit i.base i.names i.token i.actors.kept i.history.items i.settings d = may_commit i.base i.names i.token i.actors.kept i.history.items i.edits_made i.settings beside d c.self.invariant.image allowed c.known.ensures (subst (λ (n : ℕ). 0 < n) c.requires.steps c.requires.some) in
+    let may : MayCommit i.base i.names i.token i.actors.list i.history.items i.settings d = may_commit i.base i.names i.token i.actors.list i.history.items i.edits_made i.settings beside d c.self.invariant.image allowed c.known.ensures (subst (λ (n : ℕ). 0 < n) c.requires.steps c.requires.some) in
     (change (with_body d.after) d.actor (world_of (constants_of i.names i.settings.capacity) i.base i.history.items), rw (c.shown-version.ensures, c.actor-actor.ensures, c.in-Ok-into_parts.ensures.after) may.went.shown)
+
+pub put_steps-requires-clause-act : goal.put_steps-requires-clause-act
+put_steps-requires-clause-act g c =
+    let i = c.self.inside in
+    let d : ClaimView = c.args.claim in
+    let beside : Standing = standing_of i.earlier i.next_from i.actors.out i.tallies in
+    let allowed : CommitAllowed (seen i.base i.names i.history.items i.settings beside) d = subst (λ (v : ImageView). CommitAllowed v d) (sym c.self.view_is) c.requires.allowed in
+    let may : MayCommit i.base i.names i.token i.actors.list i.history.items i.settings d = may_commit i.base i.names i.token i.actors.list i.history.items i.edits_made i.settings beside d c.self.invariant.image allowed c.known.ensures (subst (λ (n : ℕ). 0 < n) c.requires.steps c.requires.some) in
+    rw (c.shown-version.ensures, c.actor-actor.ensures, c.in-Ok-into_parts.ensures.after) (stands_after i.base i.names i.token i.actors.list i.history.items i.settings d c.args.is_act_next may c.self.invariant.image.shows.edits_are c.requires.act)
 
 pub count-requires-clause-places : goal.count-requires-clause-places
 count-requires-clause-places g c =
@@ -72,10 +81,10 @@ invariant_of-self-in-Ok-put_steps g c =
     let d : ClaimView = c.args.claim in
     let beside : Standing = standing_of i.earlier i.next_from i.actors.out i.tallies in
     let allowed : CommitAllowed (seen i.base i.names i.history.items i.settings beside) d = subst (λ (v : ImageView). CommitAllowed v d) (sym c.self.view_is) c.requires.allowed in
-    let may : MayCommit i.base i.names i.token i.actors.kept i.history.items i.settings d = may_commit i.base i.names i.token i.actors.kept i.history.items i.edits_made i.settings beside d c.self.invariant.image allowed c.known.ensures (subst (λ (n : ℕ). 0 < n) c.requires.steps c.requires.some) in
+    let may : MayCommit i.base i.names i.token i.actors.list i.history.items i.settings d = may_commit i.base i.names i.token i.actors.list i.history.items i.edits_made i.settings beside d c.self.invariant.image allowed c.known.ensures (subst (λ (n : ℕ). 0 < n) c.requires.steps c.requires.some) in
     let w : World = world_of (constants_of i.names i.settings.capacity) i.base i.history.items in
     let raw = c.in-Ok-put_steps.ensures.ok (change (with_body d.after) d.actor w) (rw (c.shown-version.ensures, c.actor-actor.ensures, c.in-Ok-into_parts.ensures.after) may.went.shown) in
-    let takes : TakesOuter (constants_of i.names i.settings.capacity) i.token (change_at (view_after_steps d.after) d.actor.0 i.actors.kept) c.put_steps.new.actors.kept d.actor (change (with_body d.after) d.actor w) c.in-Ok-put_steps.field-0 = rw (c.shown-version.ensures, c.actor-actor.ensures, c.in-Ok-into_parts.ensures.after) at raw in
+    let takes : TakesOuter (constants_of i.names i.settings.capacity) i.token (change_at (view_after_steps d.after) d.actor.0 i.actors.list) c.put_steps.new.actors.list d.actor (change (with_body d.after) d.actor w) c.in-Ok-put_steps.field-0 = rw (c.shown-version.ensures, c.actor-actor.ensures, c.in-Ok-into_parts.ensures.after) at raw in
     let sent : c.as_slice.result.now ≡ d.sends = c.as_slice.ensures.value ∙ c.in-Ok-into_parts.ensures.sends in
     let tallied : Tallied i.tallies d.sends (act_site d) c.count.new.self = λ id.
     c.count.ensures.tallied id
@@ -84,7 +93,7 @@ invariant_of-self-in-Ok-put_steps g c =
     ∙ ap (λ (t : Tally). after_act_at id (act_site d) (after_sends id d.sends t)) (c.cover.ensures.same id) in
     let pushed : c.push.new.self.items ≡ i.history.items ++ Ran c.actor-actor.result c.args.steps ∷ [] = grind (arith, common_steps) in
     let items : c.push.new.self.items ≡ i.history.items ++ Ran d.actor c.args.steps ∷ [] = pushed ∙ ap (λ (b : ActorId). i.history.items ++ Ran b c.args.steps ∷ []) c.actor-actor.ensures in
-    let taken : HasTaken i.base i.names i.token c.put_steps.new.actors.kept i.history.items i.edits_made i.settings c.count.new.self d.actor c.args.steps = has_taken i.base i.names i.token i.actors.kept c.put_steps.new.actors.kept i.history.items i.edits_made i.settings beside i.tallies c.count.new.self d c.args.steps c.in-Ok-put_steps.field-0 c.self.invariant.image c.self.invariant.sends c.known.ensures allowed c.requires.steps c.requires.some may takes c.in-Ok-put_steps.ensures.grown tallied in
+    let taken : HasTaken i.base i.names i.token c.put_steps.new.actors.list i.history.items i.edits_made i.settings c.count.new.self d.actor c.args.steps = has_taken i.base i.names i.token i.actors.list c.put_steps.new.actors.list i.history.items i.edits_made i.settings beside i.tallies c.count.new.self d c.args.steps c.in-Ok-put_steps.field-0 c.self.invariant.image c.self.invariant.sends c.known.ensures allowed c.requires.steps c.requires.some may takes c.in-Ok-put_steps.ensures.grown tallied in
     rw (items, kept_is _ _ c.release.ensures, c.from.ensures) (record { image = taken.image; numbers_of_clients = kept_other i.clients i.base.clients i.history.items (Ran d.actor c.args.steps) (λ qs. refl) c.self.invariant.numbers_of_clients; sends = taken.sends; places = covers_kept c.cover.new.self c.count.new.self c.cover.new.covered i.token c.count.ensures.keeps (subst (Covers c.cover.new.self c.cover.new.covered) c.shown-version.ensures c.cover.ensures.covers); counts = counts_one i.changes c.make_room.new.self c.raise.new.self i.history.items (Ran d.actor c.args.steps) d.actor.0 (λ a. refl) c.make_room.ensures.same (subst (λ (b : ActorId). (a : ℕ) → change_count c.raise.new.self a ≡ change_count c.make_room.new.self a + cond (a == b.0) 1 0) c.actor-actor.ensures c.raise.ensures) c.self.invariant.counts; totals = items_ran i.counts i.earlier i.history.items d.actor c.args.steps (subst (λ (n : ℕ). i.earlier.steps + weigh ran_of i.history.items + n ≤ most_counted) (sym c.requires.steps) (steps_room (seen i.base i.names i.history.items i.settings beside) d allowed.room)) c.self.invariant.totals; compiled = c.self.invariant.compiled; before = c.self.invariant.before })
 
 pub returns-in-Ok-put_steps-clause-ok : goal.returns-in-Ok-put_steps-clause-ok
@@ -93,10 +102,10 @@ returns-in-Ok-put_steps-clause-ok g c =
     let d : ClaimView = c.args.claim in
     let beside : Standing = standing_of i.earlier i.next_from i.actors.out i.tallies in
     let allowed : CommitAllowed (seen i.base i.names i.history.items i.settings beside) d = subst (λ (v : ImageView). CommitAllowed v d) (sym c.self.view_is) c.requires.allowed in
-    let may : MayCommit i.base i.names i.token i.actors.kept i.history.items i.settings d = may_commit i.base i.names i.token i.actors.kept i.history.items i.edits_made i.settings beside d c.self.invariant.image allowed c.known.ensures (subst (λ (n : ℕ). 0 < n) c.requires.steps c.requires.some) in
+    let may : MayCommit i.base i.names i.token i.actors.list i.history.items i.settings d = may_commit i.base i.names i.token i.actors.list i.history.items i.edits_made i.settings beside d c.self.invariant.image allowed c.known.ensures (subst (λ (n : ℕ). 0 < n) c.requires.steps c.requires.some) in
     let w : World = world_of (constants_of i.names i.settings.capacity) i.base i.history.items in
     let raw = c.in-Ok-put_steps.ensures.ok (change (with_body d.after) d.actor w) (rw (c.shown-version.ensures, c.actor-actor.ensures, c.in-Ok-into_parts.ensures.after) may.went.shown) in
-    let takes : TakesOuter (constants_of i.names i.settings.capacity) i.token (change_at (view_after_steps d.after) d.actor.0 i.actors.kept) c.put_steps.new.actors.kept d.actor (change (with_body d.after) d.actor w) c.in-Ok-put_steps.field-0 = rw (c.shown-version.ensures, c.actor-actor.ensures, c.in-Ok-into_parts.ensures.after) at raw in
+    let takes : TakesOuter (constants_of i.names i.settings.capacity) i.token (change_at (view_after_steps d.after) d.actor.0 i.actors.list) c.put_steps.new.actors.list d.actor (change (with_body d.after) d.actor w) c.in-Ok-put_steps.field-0 = rw (c.shown-version.ensures, c.actor-actor.ensures, c.in-Ok-into_parts.ensures.after) at raw in
     let sent : c.as_slice.result.now ≡ d.sends = c.as_slice.ensures.value ∙ c.in-Ok-into_parts.ensures.sends in
     let tallied : Tallied i.tallies d.sends (act_site d) c.count.new.self = λ id.
     c.count.ensures.tallied id

@@ -22,8 +22,8 @@ pub returns-in_err-post-clause-acts : goal.returns-in_err-post-clause-acts
 returns-in_err-post-clause-acts g c =
     let S : SystemView g.row.G.Denot = record { image = c.self.inside.image; seats = c.self.inside.seats.items } in
     let T : SystemView g.row.G.Denot = record { image = c.post.new.image; seats = c.self.inside.seats.items } in
-    let posts = subst (λ (args : List Value). Posts c.self.inside.image c.args.actor (from_client c.args.sender c.args.seq c.args.selector args) (Err c.in_err-post.field-0.0) c.post.new.image) c.in-Ok.ensures c.in_err-post.ensures.posts in
-    let p = err_from_is_err_and c.from_residual.result c.from_residual.ensures.1 in
+    let posts = subst (λ (args : List Value). Posts c.self.inside.image c.args.actor (from_client c.args.sender c.args.seq c.args.selector args) (Err c.in_err-post.field-0.0) c.post.new.image) c.in_ok-args.ensures c.in_err-post.ensures.posts in
+    let p = err_from_is_err_and c.from_residual-in_err-post.result c.from_residual-in_err-post.ensures.1 in
     rw (p.1, p.2) (inr (subst (λ (X : SystemView g.row.G.Denot). OfImage Position (Posts X.image c.args.actor (from_client c.args.sender c.args.seq c.args.selector c.args.args.now)) (schedule X) (Err c.in_err-post.field-0.0) (schedule T)) c.self.view_is (image_acts Position (λ i. Posts i c.args.actor (from_client c.args.sender c.args.seq c.args.selector c.args.args.now)) S T (Err c.in_err-post.field-0.0) posts refl)))
 
 pub returns-clause-others : goal.returns-clause-others

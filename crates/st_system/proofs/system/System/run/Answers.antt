@@ -8,7 +8,7 @@ use Rattle.st_system.proofs.Segmenting.{one_segment, segments_more}
 use Rattle.st_system.proofs.system.System.run.Goals as goal
 
 pub loop-event-init : goal.loop-event-init
-loop-event-init g c = (([], refl), one_segment c.args.self.now.image c.segment_known.ensures)
+loop-event-init g c = (([], refl), one_segment c.args.self.now.image c.known_segment.ensures)
 
 pub loop-event-preserved : goal.loop-event-preserved
 loop-event-preserved g c =
@@ -19,5 +19,5 @@ loop-event-preserved g c =
     let first : take (i + 1) events ≡ take i events ++ event ∷ [] =
     take_more events i event within ∙ ap (λ (e : Event). take i events ++ e ∷ []) (sym c.event-item.is) in (
       subst (λ (es : List Event). Leads (schedule c.args.self.now) es (schedule c.apply-answer.new.self)) (sym first) (leads_push (schedule c.args.self.now) (schedule c.loop-event.self) (schedule c.apply-answer.new.self) (take i events) event c.apply-answer.result c.loop-event.invariant.0 c.apply-answer.ensures.acts),
-      segments_more c.args.self.now.image (schedule c.loop-event.self) (schedule c.apply-answer.new.self) event c.apply-answer.result c.segment_known-in-loop-event.ensures c.apply-answer.ensures.acts c.loop-event.invariant.1,
+      segments_more c.args.self.now.image (schedule c.loop-event.self) (schedule c.apply-answer.new.self) event c.apply-answer.result c.known_segment-in-loop-event.ensures c.apply-answer.ensures.acts c.loop-event.invariant.1,
     )

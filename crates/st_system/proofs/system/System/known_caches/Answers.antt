@@ -1,7 +1,7 @@
 use Rattle.std.proofs.Common.{rules, ◌≡◌, ◌≤◌, ◌∙◌, All, List, ap, length, subst}
 use Rattle.std.proofs.lemmas.List.{take_all}
 use Rattle.st_system.specs.Seats.{AreValidWhereKept, SeatView, SystemView}
-use Rattle.st_system.proofs.system.System.caches_known.Goals as goal
+use Rattle.st_system.proofs.system.System.known_caches.Goals as goal
 
 pub returns : goal.returns
 returns g c =

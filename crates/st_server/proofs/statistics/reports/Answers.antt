@@ -3,7 +3,7 @@ use Rattle.std.proofs.lemmas.Grind.{common_steps}
 use Rattle.st_sites.specs.declared.site.SiteState.TheVariants.{Empty}
 use Rattle.st_image.specs.declared.tallies.SiteStats.{SiteStats}
 use Rattle.st_server.proofs.Reports.{reported_more}
-use Rattle.st_server.proofs.stating.reports.Goals as goal
+use Rattle.st_server.proofs.statistics.reports.Goals as goal
 
 pub sites-preserved : goal.sites-preserved
 sites-preserved c =

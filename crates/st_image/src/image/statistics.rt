@@ -103,10 +103,7 @@ impl<M: Mailbox> Image<M> {
         let Some(method) = self.version().method(id) else {
             return Ok(Vec::new(alloc));
         };
-        match self.method_sites(alloc, id, method) {
-            Ok(list) => Ok(list),
-            Err(_) => Err(Refusal::NoMemory),
-        }
+        Ok(self.method_sites(alloc, id, method)?)
     }
 
     /// The tallies count the sends of the history: the sends of each site are its send steps in the history, by the definitions of a

@@ -67,10 +67,8 @@ fn sites_of(
     ensures { StatesOf image.now class selector result }
 {
     let list = image.stats(alloc, class, selector)?;
-    match reports(alloc, image, list.as_slice()) {
-        Ok(told) => Ok(Seq::from_vec(told)),
-        Err(_) => Err(Refusal::NoMemory),
-    }
+    let told = reports(alloc, image, list.as_slice())?;
+    Ok(Seq::from_vec(told))
 }
 
 /// The same, with the selector as a text.

@@ -1,6 +1,6 @@
 use Rattle.std.proofs.Common.{All, take}
 use Rattle.st_system.specs.Seats.{AreValidWhereKept, SeatView}
-use Rattle.st_system.proofs.system.System.caches_known.Given as goal
+use Rattle.st_system.proofs.system.System.known_caches.Given as goal
 
 abbrev pub invariant-loop-seat : goal.invariant-loop-seat
 invariant-loop-seat g l =

@@ -1,7 +1,7 @@
 use Rattle.std.proofs.Common.{◌≡◌, map, drop}
 use Rattle.serde_json.specs.View.{view}
 use Rattle.st_wire.specs.Commands.{has_all}
-use Rattle.st_wire.proofs.commands.has_all.Given as goal
+use Rattle.st_wire.proofs.keys.has_all.Given as goal
 
 abbrev pub invariant-loop-key : goal.invariant-loop-key
 invariant-loop-key l = has_all (map (λ key. key.now) l.keys) (view l.object) ≡ has_all (map (λ key. key.now) (drop l.key-index l.keys)) (view l.object)

@@ -1,7 +1,7 @@
 use Rattle.std.proofs.Common.{subst}
 use Rattle.st_system.specs.Seats.{SystemView}
 use Rattle.st_system.specs.Segments.{IsSegment}
-use Rattle.st_system.proofs.system.System.segment_known.Goals as goal
+use Rattle.st_system.proofs.system.System.known_segment.Goals as goal
 
 pub returns : goal.returns
 returns g c =

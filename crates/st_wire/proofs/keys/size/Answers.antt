@@ -1,6 +1,6 @@
 use Rattle.serde_json.proofs.Views.{members_len-members_view}
 use Rattle.st_wire.proofs.Objects.{size-object}
-use Rattle.st_file.proofs.fields.size.Goals as goal
+use Rattle.st_wire.proofs.keys.size.Goals as goal
 
 pub returns-in-Some : goal.returns-in-Some
 returns-in-Some c =

@@ -116,7 +116,7 @@ fn has_same_sends<M: Mailbox, N: Mailbox>(alloc: Global, one: &Image<M>, other: 
 }
 
 /// In what two images differ.
-fn difference<M: Mailbox, N: Mailbox>(
+pub(crate) fn difference<M: Mailbox, N: Mailbox>(
     alloc: Global,
     one: &Image<M>,
     other: &Image<N>,

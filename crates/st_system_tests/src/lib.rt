@@ -15,6 +15,8 @@ mod lists;
 #[cfg(test)]
 mod model;
 #[cfg(test)]
+mod refused;
+#[cfg(test)]
 mod rounds;
 #[cfg(test)]
 mod systems;

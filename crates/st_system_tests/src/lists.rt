@@ -54,11 +54,11 @@ const FIRST: &[(ClassId, u16)] = &[
 const HOLDERS: &[ClassId] = &[A, A, A, B, C, OBJECT, SMALL_INTEGER, ClassId(40)];
 
 /// The classes of a list of events. Each has one instance variable.
-const A: ClassId = ClassId(8);
+pub(crate) const A: ClassId = ClassId(8);
 
-const B: ClassId = ClassId(9);
+pub(crate) const B: ClassId = ClassId(9);
 
-const C: ClassId = ClassId(10);
+pub(crate) const C: ClassId = ClassId(10);
 
 // The tables stand behind functions without contracts, so that no proof carries anything of them.
 pub(crate) fn names() -> &'static [&'static str] {
@@ -80,7 +80,7 @@ fn holder(dice: &mut Dice) -> ClassId {
         .unwrap_or(A)
 }
 
-fn text(alloc: Global, text: &str) -> Result<Seq<u8>, AllocError> {
+pub(crate) fn text(alloc: Global, text: &str) -> Result<Seq<u8>, AllocError> {
     Ok(Seq::from_vec(Vec::from_slice(alloc, text.as_bytes())?))
 }
 
@@ -90,7 +90,7 @@ fn number(dice: &mut Dice, most: u16) -> u16 {
 }
 
 /// A class with its parent's instance variables, and one of its own if that has none.
-fn define(alloc: Global, name: &str, parent: ClassId) -> Result<Event, AllocError> {
+pub(crate) fn define(alloc: Global, name: &str, parent: ClassId) -> Result<Event, AllocError> {
     let mut slots = Vec::new(alloc);
     if parent == OBJECT {
         slots.push(text(alloc, "s")?)?;
@@ -102,7 +102,7 @@ fn define(alloc: Global, name: &str, parent: ClassId) -> Result<Event, AllocErro
     })
 }
 
-fn install(alloc: Global, class: ClassId, row: u16) -> Result<Event, AllocError> {
+pub(crate) fn install(alloc: Global, class: ClassId, row: u16) -> Result<Event, AllocError> {
     let source = match methods().get(usize::from(row)) {
         Some((_, source)) => *source,
         None => "",

@@ -10,33 +10,46 @@ use std::alloc::{AllocError, Global};
 pub(crate) const BUSY: ActorId = ActorId(0);
 
 /// An actor that posts to the actor which it is told of.
-const ASKED: ActorId = ActorId(1);
+pub(crate) const ASKED: ActorId = ActorId(1);
 
 /// An actor that gets no message.
-const IDLE: ActorId = ActorId(2);
+pub(crate) const IDLE: ActorId = ActorId(2);
 
 /// `isNil`, of the kernel, which answers with the first step of a turn.
 const IS_NIL: Selector = Selector(3);
 
 /// `go`, which takes eight steps.
-const GO: Selector = Selector(22);
+pub(crate) const GO: Selector = Selector(22);
 
 /// `ask:`, whose fourth step posts `go` to the argument; the fifth answers whether it was accepted.
-const ASK: Selector = Selector(26);
+pub(crate) const ASK: Selector = Selector(26);
 
 /// `missing`, which nobody understands.
 const MISSING: Selector = Selector(28);
 
 /// A list of events, with the number of the last message of the only client.
 #[derive(Drop)]
-struct Rounds {
-    events: Vec<Event>,
+pub(crate) struct Rounds {
+    pub events: Vec<Event>,
     last: u64,
 }
 
 impl Rounds {
+    /// Two classes, their methods, and three actors.
+    pub(crate) fn begin(alloc: Global) -> Result<Rounds, AllocError> {
+        Ok(Rounds {
+            events: first_events(alloc)?,
+            last: 0,
+        })
+    }
+
+    pub(crate) fn add(&mut self, event: Event) -> Result<(), AllocError> {
+        self.events.push(event)?;
+        Ok(())
+    }
+
     /// A message is posted, whether it is accepted or not.
-    fn post(
+    pub(crate) fn post(
         &mut self,
         alloc: Global,
         to: ActorId,
@@ -55,7 +68,12 @@ impl Rounds {
     }
 
     /// A worker takes so many steps of an actor and commits them.
-    fn quantum(&mut self, worker: u32, actor: ActorId, steps: u32) -> Result<(), AllocError> {
+    pub(crate) fn quantum(
+        &mut self,
+        worker: u32,
+        actor: ActorId,
+        steps: u32,
+    ) -> Result<(), AllocError> {
         self.events.push(Event::Checkout { worker, actor })?;
         for _step in 0..steps {
             self.events.push(Event::Local(worker))?;
@@ -131,10 +149,7 @@ impl Rounds {
 
 /// The list.
 pub(crate) fn events_of_rounds(alloc: Global) -> Result<Vec<Event>, AllocError> {
-    let mut rounds = Rounds {
-        events: first_events(alloc)?,
-        last: 0,
-    };
+    let mut rounds = Rounds::begin(alloc)?;
     for round in 0..10 {
         rounds.round(alloc, round % 3)?;
     }

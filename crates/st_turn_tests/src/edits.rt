@@ -1,14 +1,14 @@
 //! Random programs that are edited between quanta: a worker with its caches against plain steps.
+use crate::alike::{same_bodies, same_histories};
 use crate::dice::Dice;
 use crate::events::{apply, begin, random_event};
 use crate::images::{
-    Image, actors, body, checkout, commit, history, image_of_classes, next_ready, outcome, release,
+    Image, actors, checkout, commit, image_of_classes, next_ready, outcome, release,
 };
 use crate::plain::plain_steps;
 use crate::workers::{Counts, Worker, new_worker, run, walk};
 use st_classes::refusals::Refusal;
 use st_classes::values::ActorId;
-use st_image::items::Item;
 use st_turn::body::Outcome;
 use std::alloc::Global;
 use std::test::*;
@@ -70,13 +70,6 @@ fn take_plain(
     commit(alloc, &mut twins.plain, claim)
 }
 
-fn same_bodies(one: &Image, other: &Image, actor: ActorId) -> bool {
-    match (body(one, actor), body(other, actor)) {
-        (Some(some), Some(others)) => some.is_same(others),
-        _ => false,
-    }
-}
-
 /// A quantum of the actor that is ready next, in both images.
 fn take_quantum(twins: &mut Twins, alloc: Global, limit: u32) -> Option<Part> {
     let actor = next_ready(&twins.cached);
@@ -109,44 +102,6 @@ fn take_round(
     }
     let limit = dice.below(60).wrapping_add(1);
     Ok(take_quantum(twins, alloc, limit))
-}
-
-fn same_items(one: &Item, other: &Item) -> bool {
-    match (one, other) {
-        (Item::Edited(_), Item::Edited(_)) => true,
-        (Item::Created(some), Item::Created(others)) => some == others,
-        (
-            Item::Posted { actor, message },
-            Item::Posted {
-                actor: to,
-                message: sent,
-            },
-        ) => actor == to && message.seq == sent.seq && message.selector == sent.selector,
-        (Item::Closed(some), Item::Closed(others)) => some == others,
-        (Item::Begun(some), Item::Begun(others)) => some == others,
-        (
-            Item::Ran { actor, steps },
-            Item::Ran {
-                actor: who,
-                steps: taken,
-            },
-        ) => actor == who && steps == taken,
-        _ => false,
-    }
-}
-
-/// Whether two images have the same history. Of edits it only says where they are; the same ones were made.
-fn same_histories(one: &Image, other: &Image) -> bool {
-    let (some, others) = (history(one), history(other));
-    if some.len() != others.len() {
-        return false;
-    }
-    for (item, wanted) in some.iter().zip(others) {
-        if !same_items(item, wanted) {
-            return false;
-        }
-    }
-    true
 }
 
 /// Whether the first turns of an actor ended alike.

@@ -3,10 +3,14 @@
 use st_classes::kernel::OBJECT;
 use st_classes::refusals::Refusal;
 use st_classes::seq::Seq;
-use st_classes::values::{ActorId, ClassId, Selector};
+use st_classes::values::{ActorId, ClassId, Selector, Value};
+use st_image::counts::Counts;
 use st_image::items::Item;
 use st_image::settings::Settings;
+use st_image::tallies::SiteStats;
 use st_mailbox::list_box::ListBox;
+use st_mailbox::mailboxes::Mailbox;
+use st_mailbox::messages::Message;
 use st_turn::body::{Body, Outcome};
 use st_turn::claim::Claim;
 use std::alloc::{AllocError, Global};
@@ -77,7 +81,7 @@ fn new_image(alloc: Global) -> Result<Box<Image>, Refusal> {
     Ok(boxed(alloc, Image::new(alloc, Settings::DEFAULT)?)?)
 }
 
-fn intern(alloc: Global, image: &mut Image, name: &str) -> Result<Selector, Refusal> {
+pub(crate) fn intern(alloc: Global, image: &mut Image, name: &str) -> Result<Selector, Refusal> {
     image.intern(alloc, name.as_bytes())
 }
 
@@ -112,7 +116,7 @@ pub(crate) fn remove(
 }
 
 /// A class by its name.
-fn class_named(image: &Image, name: &str) -> Result<ClassId, Refusal> {
+pub(crate) fn class_named(image: &Image, name: &str) -> Result<ClassId, Refusal> {
     image
         .version()
         .class_named(name.as_bytes())
@@ -211,4 +215,139 @@ pub(crate) fn body(image: &Image, actor: ActorId) -> Option<&Body> {
 /// All that happened, in order.
 pub(crate) fn history(image: &Image) -> &[Item] {
     image.history()
+}
+
+/// Whether two images have the same edits.
+pub(crate) fn same_edits(one: &Image, other: &Image) -> bool {
+    one.version().begins(other.version()) && other.version().begins(one.version())
+}
+
+pub(crate) fn reparent(
+    alloc: Global,
+    image: &mut Image,
+    class: ClassId,
+    parent: ClassId,
+) -> Result<u32, Refusal> {
+    image.reparent(alloc, class, parent)
+}
+
+pub(crate) fn close(image: &mut Image, actor: ActorId) -> Result<(), Refusal> {
+    image.close(actor)
+}
+
+pub(crate) fn checkpoint(alloc: Global, image: &mut Image) -> Result<(), AllocError> {
+    image.checkpoint(alloc)
+}
+
+/// A message of client 1 with an actor as its argument.
+pub(crate) fn post_with(
+    alloc: Global,
+    image: &mut Image,
+    seq: u64,
+    actor: ActorId,
+    selector: Selector,
+    argument: ActorId,
+) -> Result<u64, Refusal> {
+    let args = Vec::from_slice(alloc, &[Value::Actor(argument)])?;
+    image.post(alloc, 1, seq, actor, selector, Seq::from_vec(args))
+}
+
+/// The place of a claim, on the heap.
+pub(crate) fn no_claim(alloc: Global) -> Result<Box<Option<Claim>>, AllocError> {
+    Ok(Box::new(alloc, None)?)
+}
+
+/// Checks an actor out. To put the claim in its place takes no memory.
+pub(crate) fn checkout_to(
+    alloc: Global,
+    image: &mut Image,
+    actor: ActorId,
+    place: &mut Option<Claim>,
+) -> Result<(), Refusal> {
+    *place = Some(image.checkout(alloc, actor)?);
+    Ok(())
+}
+
+/// Commits the claim of a place, or puts it there again.
+pub(crate) fn commit_or_keep(
+    alloc: Global,
+    image: &mut Image,
+    place: &mut Option<Claim>,
+) -> Result<u32, Refusal> {
+    let claim = place.take().ok_or(Refusal::NothingToDo)?;
+    match image.commit(alloc, claim) {
+        Ok(steps) => Ok(steps),
+        Err((refusal, claim)) => {
+            *place = claim;
+            Err(refusal)
+        }
+    }
+}
+
+/// Gives the claim of a place back.
+pub(crate) fn release_from(image: &mut Image, place: &mut Option<Claim>) -> Result<(), Refusal> {
+    let claim = place.take().ok_or(Refusal::NothingToDo)?;
+    image.release(claim);
+    Ok(())
+}
+
+/// What an image has counted.
+pub(crate) fn counted(image: &Image) -> Counts {
+    image.counted()
+}
+
+/// How many names an image has, which are 8,192 at most.
+pub(crate) fn names_in(image: &Image) -> u16 {
+    u16::try_from(image.names().len()).unwrap_or(u16::MAX)
+}
+
+/// The text of a name, if there is one of this number.
+pub(crate) fn name(image: &Image, number: u16) -> Option<&[u8]> {
+    let names = image.names();
+    if u32::from(number) < names.len() {
+        Some(names.text(Selector(number)))
+    } else {
+        None
+    }
+}
+
+pub(crate) fn mailbox(image: &Image, actor: ActorId) -> Option<&ListBox> {
+    image.mailbox(actor)
+}
+
+/// A message that waits in a mailbox.
+pub(crate) fn item(mailbox: &ListBox, place: u32) -> Option<&Message> {
+    mailbox.item(place)
+}
+
+/// How many messages wait in a mailbox, how many it holds, and whether it is open.
+pub(crate) fn shape(mailbox: &ListBox) -> (u32, u32, bool) {
+    (mailbox.len(), mailbox.capacity(), mailbox.is_open())
+}
+
+/// The class of an actor, and the number of the last message that it sent.
+pub(crate) fn class_and_last(image: &Image, actor: ActorId) -> (Option<ClassId>, Option<u64>) {
+    (image.class(actor), image.last_sent(actor))
+}
+
+pub(crate) fn clients(alloc: Global, image: &Image) -> Result<Vec<(u16, u64)>, AllocError> {
+    image.clients(alloc)
+}
+
+pub(crate) fn stats(
+    alloc: Global,
+    image: &Image,
+    class: ClassId,
+    selector: Selector,
+) -> Result<Vec<SiteStats>, Refusal> {
+    image.stats(alloc, class, selector)
+}
+
+/// How many messages wait for an actor, by its part, whose body is the actor's.
+pub(crate) fn part(alloc: Global, image: &Image, actor: ActorId) -> Result<usize, Refusal> {
+    let part = image.part(alloc, actor)?;
+    match image.body(actor) {
+        Some(body) if part.body.is_same(body) => Ok(part.pending.len()),
+        _ => Err(Refusal::Changed),
+    }
 }

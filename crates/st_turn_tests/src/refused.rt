@@ -1,5 +1,7 @@
 //! Steps for which memory is refused: the claim stands after its last whole step, and goes on from there. Memory is refused where this
 //! runs with an allocation that fails, as `tools/refused-growth` has it for each in turn.
+mod calls;
+
 use crate::images::{Image, checkout, commit, image_sent_go, release};
 use crate::plain::plain_steps;
 use crate::workers::{Worker, new_worker, run, step};

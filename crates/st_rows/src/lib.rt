@@ -15,6 +15,8 @@ mod limits;
 #[cfg(test)]
 mod mailboxes;
 #[cfg(test)]
+mod refused;
+#[cfg(test)]
 mod scripts;
 #[cfg(test)]
 mod sessions;

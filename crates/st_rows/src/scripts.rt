@@ -1,11 +1,11 @@
 //! Scripts and their replies.
-mod acts;
+pub(crate) mod acts;
 mod checkpoints;
 mod dialogues;
 mod lookups;
 mod mailboxes;
 mod reparenting;
-mod statistics;
+pub(crate) mod statistics;
 
 use crate::sessions_in_memory::says;
 use st_image::settings::Settings;
@@ -21,7 +21,7 @@ struct Parts {
     lines: u64,
 }
 
-fn push_line(text: &mut Vec<u8>, line: &str) -> Result<(), AllocError> {
+pub(crate) fn push_line(text: &mut Vec<u8>, line: &str) -> Result<(), AllocError> {
     text.extend_from_slice(line.as_bytes())?;
     text.push(b'\n')?;
     Ok(())
@@ -70,7 +70,7 @@ fn numbered(text: &str) -> Option<(u32, &str)> {
 
 /// What the first line of a script says: the steps of a quantum, the messages of a mailbox, the items of the history, and what the
 /// script shows.
-fn settings_of(line: &str) -> Option<ScriptSettings> {
+pub(crate) fn settings_of(line: &str) -> Option<ScriptSettings> {
     let (quantum, rest) = numbered(line)?;
     let (capacity, rest) = numbered(rest)?;
     let (history, _shown) = numbered(rest)?;

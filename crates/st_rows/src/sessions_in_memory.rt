@@ -44,7 +44,7 @@ fn in_memory(
 }
 
 /// What a new image answers to a text, and how the session ends.
-fn answered(
+pub(crate) fn answered(
     alloc: Global,
     text: Vec<u8>,
     settings: ScriptSettings,

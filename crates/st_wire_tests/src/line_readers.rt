@@ -3,6 +3,7 @@
 use crate::commands::{Wanted, commands, is_wanted, no_commands, read};
 use st_classes::refusals::Refusal;
 use st_classes::seq::Seq;
+use st_classes::values::ActorId;
 use st_wire::commands::{Argument, Command, read_command};
 use st_wire::line_readers::LineReader;
 use std::alloc::{AllocError, Global};
@@ -116,42 +117,79 @@ fn is_answer(answer: &Result<Command, Refusal>, wanted: &Option<Wanted>) -> bool
     }
 }
 
-fn is_bad(answer: &Result<Command, Refusal>) -> bool {
-    matches!(answer, Err(Refusal::BadCommand))
+/// A reader on the heap, so that no proof that lets it go pays for its parts.
+fn new_reader(alloc: Global) -> Result<Box<LineReader>, AllocError> {
+    Ok(Box::new(alloc, LineReader::new(alloc))?)
+}
+
+/// Whether a reader reads this of a line.
+fn is_read(alloc: Global, reader: &mut LineReader, line: &[u8], wanted: &Option<Wanted>) -> bool {
+    is_answer(&reader.read(alloc, line), wanted)
+}
+
+fn reads_command(alloc: Global, reader: &mut LineReader, line: &str, wanted: &Wanted) -> bool {
+    match reader.read(alloc, line.as_bytes()) {
+        Ok(command) => is_wanted(&command, wanted),
+        Err(_) => false,
+    }
+}
+
+/// Whether a reader refuses what is no command, and what is no text.
+fn refuses_others(alloc: Global, reader: &mut LineReader) -> bool {
+    for bad in no_commands() {
+        if !is_read(alloc, reader, bad.as_bytes(), &None) {
+            return false;
+        }
+    }
+    is_read(
+        alloc,
+        reader,
+        b"{\"class\":\"\xff\",\"cmd\":\"actor\"}",
+        &None,
+    )
+}
+
+/// The first command that one reader does not read, before or after lines that it refuses.
+fn first_unread(alloc: Global) -> Result<Option<&'static str>, AllocError> {
+    let mut reader = new_reader(alloc)?;
+    for (line, wanted) in commands() {
+        let is_right = reads_command(alloc, &mut reader, line, wanted)
+            && refuses_others(alloc, &mut reader)
+            && reads_command(alloc, &mut reader, line, wanted);
+        if !is_right {
+            return Ok(Some(line));
+        }
+    }
+    Ok(None)
 }
 
 #[test]
 fn one_reader_reads_all_lines(rt: HostRuntime) -> Result<(), Fail> {
-    let alloc = rt.alloc();
-    let mut reader = LineReader::new(alloc);
-    for (line, wanted) in commands() {
-        assert!(rt;
-            is_wanted(&reader.read(alloc, line.as_bytes())?, wanted),
-            "{line}"
-        );
-        for bad in no_commands() {
-            assert!(rt; is_bad(&reader.read(alloc, bad.as_bytes())), "{bad}");
-        }
-        assert!(rt; is_bad(&reader.read(alloc, b"{\"class\":\"\xff\",\"cmd\":\"actor\"}")));
-        assert!(rt;
-            is_wanted(&reader.read(alloc, line.as_bytes())?, wanted),
-            "{line} again"
-        );
-    }
+    let wrong = first_unread(rt.alloc())?;
+    assert!(rt; wrong.is_none(), "{wrong:?}");
     Ok(())
+}
+
+/// Whether both readers read this of a line.
+fn both_read(alloc: Global, reader: &mut LineReader, line: &str, wanted: &Option<Wanted>) -> bool {
+    is_answer(&read(alloc, line), wanted) && is_read(alloc, reader, line.as_bytes(), wanted)
+}
+
+/// The first unusual line that one of the readers reads in another way.
+fn first_unusual(alloc: Global) -> Result<Option<&'static str>, AllocError> {
+    let mut reader = new_reader(alloc)?;
+    for (line, wanted) in unusual() {
+        if !both_read(alloc, &mut reader, line, wanted) {
+            return Ok(Some(line));
+        }
+    }
+    Ok(None)
 }
 
 #[test]
 fn both_readers_read_unusual_lines(rt: HostRuntime) -> Result<(), Fail> {
-    let alloc = rt.alloc();
-    let mut reader = LineReader::new(alloc);
-    for (line, wanted) in unusual() {
-        assert!(rt; is_answer(&read(alloc, line), wanted), "{line}");
-        assert!(rt;
-            is_answer(&reader.read(alloc, line.as_bytes()), wanted),
-            "{line} by a reader"
-        );
-    }
+    let wrong = first_unusual(rt.alloc())?;
+    assert!(rt; wrong.is_none(), "{wrong:?}");
     Ok(())
 }
 
@@ -171,65 +209,137 @@ fn repeated(
     Ok(line)
 }
 
+/// A line of a front, a part again and again, and a back; and what it is to be.
+struct Long {
+    front: &'static str,
+    part: &'static str,
+    count: usize,
+    back: &'static str,
+    wanted: Option<Wanted>,
+}
+
+/// Lines of about 8,192 bytes: white space, arguments, arrays in arrays, one key again and again, and long texts and numbers.
+const LONG: &[Long] = &[
+    Long {
+        front: "{",
+        part: " ",
+        count: 8_179,
+        back: "\"cmd\":\"run\"}",
+        wanted: Some(Wanted::Run(1_000)),
+    },
+    Long {
+        front: FRONT,
+        part: "true,",
+        count: 1_600,
+        back: BACK,
+        wanted: Some(Wanted::Post(0, 1_601, "a", 0, 0)),
+    },
+    Long {
+        front: FRONT,
+        part: r#"{"ref":1},"#,
+        count: 800,
+        back: BACK,
+        wanted: Some(Wanted::Post(0, 801, "a", 0, 0)),
+    },
+    Long {
+        front: FRONT,
+        part: r#"{"sym":"b"},"#,
+        count: 650,
+        back: BACK,
+        wanted: Some(Wanted::Post(0, 651, "a", 0, 0)),
+    },
+    Long {
+        front: "{",
+        part: r#""actor":1,"#,
+        count: 800,
+        back: r#""cmd":"close"}"#,
+        wanted: Some(Wanted::Close(1)),
+    },
+    Long {
+        front: "",
+        part: "[",
+        count: 8_192,
+        back: "",
+        wanted: None,
+    },
+    Long {
+        front: r#"{"cmd":"run","quanta":"#,
+        part: "[",
+        count: 127,
+        back: "",
+        wanted: None,
+    },
+    Long {
+        front: r#"{"cmd":"run","quanta":"#,
+        part: "9",
+        count: 8_000,
+        back: "}",
+        wanted: None,
+    },
+    Long {
+        front: r#"{"cmd":""#,
+        part: "\\u0072",
+        count: 1_300,
+        back: "\"}",
+        wanted: None,
+    },
+];
+
 const FRONT: &str = r#"{"actor":0,"args":["#;
 
 const BACK: &str = r#"null],"cmd":"post","selector":"a","sender":0,"seq":0}"#;
 
-/// Lines of about 8,192 bytes: white space, arguments, a long selector, arrays in arrays, and one key again and again.
-#[test]
-fn both_readers_read_long_lines(rt: HostRuntime) -> Result<(), Fail> {
-    let alloc = rt.alloc();
-    let long = repeated(alloc, "", "s", 8_000, "")?;
-    let selector = repeated(
+fn long_lines() -> &'static [Long] {
+    LONG
+}
+
+fn is_long_read(alloc: Global, reader: &mut LineReader, long: &Long) -> Result<bool, AllocError> {
+    let line = repeated(alloc, long.front, long.part, long.count, long.back)?;
+    Ok(both_read(alloc, reader, line.as_str(), &long.wanted))
+}
+
+/// The place of the first long line that one of the readers reads in another way.
+fn first_long(alloc: Global) -> Result<Option<usize>, AllocError> {
+    let mut reader = new_reader(alloc)?;
+    for (place, long) in long_lines().iter().enumerate() {
+        if !is_long_read(alloc, &mut reader, long)? {
+            return Ok(Some(place));
+        }
+    }
+    Ok(None)
+}
+
+/// Whether what was read is a post of a selector.
+fn is_post_of(answer: &Result<Command, Refusal>, text: &[u8]) -> bool {
+    match answer {
+        Ok(Command::Post { selector, .. }) => selector.as_slice() == text,
+        _ => false,
+    }
+}
+
+/// Whether both readers read a selector of 8,000 letters.
+fn is_long_selector_read(alloc: Global) -> Result<bool, AllocError> {
+    let text = repeated(alloc, "", "s", 8_000, "")?;
+    let line = repeated(
         alloc,
         r#"{"actor":0,"args":[],"cmd":"post","selector":""#,
         "s",
         8_000,
         r#"","sender":0,"seq":0}"#,
     )?;
-    let lines = [
-        (
-            repeated(alloc, "{", " ", 8_179, "\"cmd\":\"run\"}")?,
-            Some(Wanted::Run(1_000)),
-        ),
-        (
-            repeated(alloc, FRONT, "true,", 1_600, BACK)?,
-            Some(Wanted::Post(0, 1_601, "a", 0, 0)),
-        ),
-        (
-            repeated(alloc, FRONT, "{\"ref\":1},", 800, BACK)?,
-            Some(Wanted::Post(0, 801, "a", 0, 0)),
-        ),
-        (repeated(alloc, "", "[", 8_192, "")?, None),
-        (
-            repeated(alloc, "{\"cmd\":\"run\",\"quanta\":", "[", 127, "")?,
-            None,
-        ),
-        (
-            repeated(alloc, "{", "\"actor\":1,", 800, "\"cmd\":\"close\"}")?,
-            Some(Wanted::Close(1)),
-        ),
-        (
-            repeated(alloc, "{\"cmd\":\"run\",\"quanta\":", "9", 8_000, "}")?,
-            None,
-        ),
-    ];
-    let mut reader = LineReader::new(alloc);
-    for (line, wanted) in &lines {
-        assert!(rt; is_answer(&read(alloc, line.as_str()), wanted), "{line}");
-        assert!(rt;
-            is_answer(&reader.read(alloc, line.as_str().as_bytes()), wanted),
-            "{line} by a reader"
-        );
-    }
-    for read in [
-        read(alloc, selector.as_str()),
-        reader.read(alloc, selector.as_str().as_bytes()),
-    ] {
-        assert!(rt;
-            matches!(&read, Ok(Command::Post { selector, .. }) if selector.as_slice() == long.as_str().as_bytes())
-        );
-    }
+    let mut reader = new_reader(alloc)?;
+    let bytes = line.as_str().as_bytes();
+    Ok(
+        is_post_of(&read(alloc, line.as_str()), text.as_str().as_bytes())
+            && is_post_of(&reader.read(alloc, bytes), text.as_str().as_bytes()),
+    )
+}
+
+#[test]
+fn both_readers_read_long_lines(rt: HostRuntime) -> Result<(), Fail> {
+    let wrong = first_long(rt.alloc())?;
+    assert!(rt; wrong.is_none(), "{wrong:?}");
+    assert!(rt; is_long_selector_read(rt.alloc())?);
     Ok(())
 }
 
@@ -253,42 +363,53 @@ fn are_arguments(one: &[Argument], other: &[Argument]) -> bool {
     one.len() == other.len() && one.iter().zip(other).all(|(a, b)| is_argument(a, b))
 }
 
-/// Whether two commands that are read from the tokens are the same. Of others it says no more than that they are none of those.
-fn is_command(one: &Command, other: &Command) -> bool {
-    match (one, other) {
-        (
-            Command::Post {
-                actor: one_actor,
-                args: one_args,
-                selector: one_selector,
-                sender: one_sender,
-                seq: one_seq,
-            },
-            Command::Post {
-                actor,
-                args,
-                selector,
-                sender,
-                seq,
-            },
-        ) => {
-            one_actor == actor
-                && are_arguments(one_args.as_slice(), args.as_slice())
-                && are_texts(one_selector, selector)
-                && one_sender == sender
-                && one_seq == seq
+/// Whether a command is a post of the same message to the same actor.
+fn is_same_post(command: &Command, post: &Command) -> bool {
+    let Command::Post {
+        actor,
+        args,
+        selector,
+        sender,
+        seq,
+    } = post
+    else {
+        return false;
+    };
+    match command {
+        Command::Post {
+            actor: its_actor,
+            args: its_args,
+            selector: its_selector,
+            sender: its_sender,
+            seq: its_seq,
+        } => {
+            its_actor == actor
+                && are_arguments(its_args.as_slice(), args.as_slice())
+                && are_texts(its_selector, selector)
+                && its_sender == sender
+                && its_seq == seq
         },
-        (Command::Close { actor: one }, Command::Close { actor: other }) => one == other,
-        (Command::Run { quanta: one }, Command::Run { quanta: other }) => one == other,
-        (
-            Command::Outcome {
-                actor: one,
-                turn: one_turn,
-            },
-            Command::Outcome { actor, turn },
-        ) => one == actor && one_turn == turn,
-        (Command::Post { .. } | Command::Close { .. }, _) => false,
-        (Command::Run { .. } | Command::Outcome { .. }, _) => false,
+        _ => false,
+    }
+}
+
+fn is_same_outcome(command: &Command, actor: ActorId, turn: u64) -> bool {
+    match command {
+        Command::Outcome {
+            actor: its_actor,
+            turn: its_turn,
+        } => *its_actor == actor && *its_turn == turn,
+        _ => false,
+    }
+}
+
+/// Whether two commands that are read from the tokens are the same. Of others it says nothing.
+fn is_command(one: &Command, other: &Command) -> bool {
+    match one {
+        Command::Post { .. } => is_same_post(other, one),
+        Command::Close { actor } => matches!(other, Command::Close { actor: its } if its == actor),
+        Command::Run { quanta } => matches!(other, Command::Run { quanta: its } if its == quanta),
+        Command::Outcome { actor, turn } => is_same_outcome(other, *actor, *turn),
         _ => true,
     }
 }
@@ -305,22 +426,63 @@ fn agree(alloc: Global, reader: &mut LineReader, line: &[u8]) -> bool {
 /// Bytes that are put in the place of one of a line.
 const BYTES: &[u8] = b" \"0-{}[]:,\\\x00\xff";
 
-/// Each byte of each line is another one in turn.
-#[test]
-fn both_readers_agree_on_changed_lines(rt: HostRuntime) -> Result<(), Fail> {
-    let alloc = rt.alloc();
-    let mut reader = LineReader::new(alloc);
-    for (text, _) in commands() {
-        for place in 0..text.len() {
-            for byte in BYTES {
-                let mut line = Vec::from_slice(alloc, text.as_bytes())?;
-                line[place] = *byte;
-                assert!(rt;
-                    agree(alloc, &mut reader, line.as_slice()),
-                    "{text} with {byte} at {place}"
-                );
-            }
+fn bytes() -> &'static [u8] {
+    BYTES
+}
+
+/// A line with another byte at a place.
+fn changed(alloc: Global, line: &[u8], place: usize, byte: u8) -> Result<Vec<u8>, AllocError> {
+    let mut line = Vec::from_slice(alloc, line)?;
+    if let Some(old) = line.get_mut(place) {
+        *old = byte;
+    }
+    Ok(line)
+}
+
+/// Whether both readers say the same of a line with other bytes at a place.
+fn agree_at(
+    alloc: Global,
+    reader: &mut LineReader,
+    line: &[u8],
+    place: usize,
+) -> Result<bool, AllocError> {
+    for byte in bytes() {
+        let line = changed(alloc, line, place, *byte)?;
+        if !agree(alloc, reader, line.as_slice()) {
+            return Ok(false);
         }
     }
+    Ok(true)
+}
+
+/// The first place of a line at which another byte is read in two ways.
+fn first_change(
+    alloc: Global,
+    reader: &mut LineReader,
+    line: &[u8],
+) -> Result<Option<usize>, AllocError> {
+    for place in 0..line.len() {
+        if !agree_at(alloc, reader, line, place)? {
+            return Ok(Some(place));
+        }
+    }
+    Ok(None)
+}
+
+/// Each byte of each line is another one in turn: the first line and place that are read in two ways.
+fn first_changed(alloc: Global) -> Result<Option<(&'static str, usize)>, AllocError> {
+    let mut reader = new_reader(alloc)?;
+    for (line, _) in commands() {
+        if let Some(place) = first_change(alloc, &mut reader, line.as_bytes())? {
+            return Ok(Some((line, place)));
+        }
+    }
+    Ok(None)
+}
+
+#[test]
+fn both_readers_agree_on_changed_lines(rt: HostRuntime) -> Result<(), Fail> {
+    let wrong = first_changed(rt.alloc())?;
+    assert!(rt; wrong.is_none(), "{wrong:?}");
     Ok(())
 }

@@ -59,7 +59,7 @@ WORKED = re.compile(r"^(?:const TEXT.*\")?(\d+) (\d+) 1000000 (.*)\n((?:\{.*\n?)
 
 def worked_scripts():
     """The scripts of the crate of worked scripts, as all_scripts has them. A reply stands below each line."""
-    folder = os.path.join(TOP, "crates", "st_rows", "src", "scripts")
+    folder = os.path.join(TOP, "crates", "st_script_tests", "src", "scripts")
     for name in sorted(os.listdir(folder)):
         for quantum, capacity, says, text in WORKED.findall(read(os.path.join(folder, name)).decode()):
             yield f"{name}: {says}", [line.encode() for line in text.splitlines()[::2]], int(quantum), int(capacity)

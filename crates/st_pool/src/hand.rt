@@ -49,7 +49,7 @@ fn run_with<G: Guard>(
     ensures edits { claim.new.edits ≡ claim.old.edits }
 {
     if is_known {
-        return worker.run_known(alloc, claim, limit);
+        return worker.run_unchecked(alloc, claim, limit);
     }
     worker.run(alloc, claim, limit)
 }

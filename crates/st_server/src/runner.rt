@@ -53,7 +53,7 @@ fn settle(alloc: Global, image: &mut Image, claim: Claim) -> Result<u32, Refusal
     requires body { KnowsBody image.old claim }
     ensures { Settles image.old claim result image.new }
 {
-    match image.commit_known(alloc, claim) {
+    match image.commit_unchecked(alloc, claim) {
         Ok(steps) => Ok(steps),
         Err((refusal, Some(claim))) => {
             image.release(claim);
@@ -89,7 +89,7 @@ fn work(
     ensures kept { IfSome worker.new.kept (λ k. k ≡ claim.edits) }
     ensures some { is_idle claim.before.phase ≡ false → IfOk result (λ n. 1 ≤ n) }
 {
-    let ran = worker.run_known(alloc, &mut claim, quantum.steps());
+    let ran = worker.run_unchecked(alloc, &mut claim, quantum.steps());
     claim.known();
     let settled = settle(alloc, image, claim);
     answer(ran, settled)

@@ -175,7 +175,7 @@ pub(crate) fn commit<M: Mailbox>(
     ensures later { GoesOnIn image.old image.new }
 {
     image.known();
-    let answer = image.commit_known(alloc, claim);
+    let answer = image.commit_unchecked(alloc, claim);
     image.known();
     answer
 }

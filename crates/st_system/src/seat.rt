@@ -66,7 +66,7 @@ fn take_one<G: Guard>(
     ensures began { BeganAs claim.old claim.new }
     ensures kept { KeepsBeginning claim.new.edits worker.new }
 {
-    match worker.step_known(alloc, claim) {
+    match worker.step_unchecked(alloc, claim) {
         Ok(stop) => Ok(Answer::Stopped(stop)),
         Err(_) => Err(Refusal::NoMemory),
     }

@@ -59,11 +59,11 @@ impl<G: Guard> Worker<G> {
     }
 
     /// Brings the caches to a version whose edits those that are kept begin.
-    fn move_known(&mut self, token: &Token)
+    fn move_unchecked(&mut self, token: &Token)
         requires { IfSome self.old.kept (λ k. Begins k token.now) }
         ensures { HasMoved G.count G.floor G.raises self.old self.new token.now }
     {
-        let _moved = self.finder.caches.move_known(token);
+        let _moved = self.finder.caches.move_unchecked(token);
     }
 
     /// Brings the caches to any version.
@@ -73,7 +73,7 @@ impl<G: Guard> Worker<G> {
         if !self.keeps_first(token) {
             self.finder.caches.forget();
         }
-        self.move_known(token);
+        self.move_unchecked(token);
     }
 
     /// Takes one step of a claim, with any caches.
@@ -83,7 +83,7 @@ impl<G: Guard> Worker<G> {
     /// caches may have changed. The sends of the claim tell how the caches, moved to its edits, found what a send runs.
     ///
     /// The edits that the caches keep are compared with the claim's, one by one, also where they are the same; the caches are
-    /// emptied where they keep others than first ones of the claim's. `step_known` does not compare them.
+    /// emptied where they keep others than first ones of the claim's. `step_unchecked` does not compare them.
     pub fn step(&mut self, alloc: Global, claim: &mut Claim) -> Result<Stop, AllocError>
         ensures steps { (moved : CachesView G) × HasMoved G.count G.floor G.raises self.old moved claim.old.edits × Steps G.floor moved claim.old result self.new claim.new }
         ensures stands { StandsAt G.count G.floor self.new claim.new.edits }
@@ -95,13 +95,13 @@ impl<G: Guard> Worker<G> {
 
     /// The same for a claim whose edits those begin that the caches keep, as the caller knows. No edits are compared: where they
     /// are as many as the claim's, it takes constant time to see that the caches stand there.
-    pub fn step_known(&mut self, alloc: Global, claim: &mut Claim) -> Result<Stop, AllocError>
+    pub fn step_unchecked(&mut self, alloc: Global, claim: &mut Claim) -> Result<Stop, AllocError>
         requires { IfSome self.old.kept (λ k. Begins k claim.old.edits) }
         ensures steps { (moved : CachesView G) × HasMoved G.count G.floor G.raises self.old moved claim.old.edits × Steps G.floor moved claim.old result self.new claim.new }
         ensures stands { StandsAt G.count G.floor self.new claim.new.edits }
         ensures edits { claim.new.edits ≡ claim.old.edits }
     {
-        self.move_known(claim.token());
+        self.move_unchecked(claim.token());
         claim.step(alloc, &mut self.finder, 1)
     }
 
@@ -117,7 +117,7 @@ impl<G: Guard> Worker<G> {
     }
 
     /// The same for a claim whose edits those begin that the caches keep, as the caller knows. No edits are compared.
-    pub fn run_known(
+    pub fn run_unchecked(
         &mut self,
         alloc: Global,
         claim: &mut Claim,
@@ -128,7 +128,7 @@ impl<G: Guard> Worker<G> {
         ensures stands { StandsAt G.count G.floor self.new claim.new.edits }
         ensures edits { claim.new.edits ≡ claim.old.edits }
     {
-        self.move_known(claim.token());
+        self.move_unchecked(claim.token());
         run_steps(alloc, claim, &mut self.finder, limit)
     }
 

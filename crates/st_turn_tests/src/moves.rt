@@ -142,7 +142,7 @@ fn run_on(
     if !keeps_first(worker, claim) {
         return Ok(false);
     }
-    Ok(worker.run_known(alloc, claim, 100)? == Stop::Ended)
+    Ok(worker.run_unchecked(alloc, claim, 100)? == Stop::Ended)
 }
 
 /// The same one by one.
@@ -155,7 +155,7 @@ fn step_on(
         if !keeps_first(worker, claim) {
             return Ok(false);
         }
-        match worker.step_known(alloc, claim)? {
+        match worker.step_unchecked(alloc, claim)? {
             Stop::More => {}
             stop => return Ok(stop == Stop::Ended),
         }

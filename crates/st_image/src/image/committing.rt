@@ -205,7 +205,7 @@ impl<M: Mailbox> Image<M> {
 
     /// As `commit`, of a claim whose edits begin those of the class table, and whose stamp tells its body, as the caller knows. No
     /// lists of edits are compared, nor are the bodies where the actor's was not changed since the checkout.
-    pub fn commit_known(
+    pub fn commit_unchecked(
         &mut self,
         alloc: Global,
         claim: Claim,

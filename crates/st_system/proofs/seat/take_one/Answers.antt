@@ -8,19 +8,19 @@ use Rattle.st_system.proofs.Seats.{begins_by, kept_of_claim}
 use Rattle.st_system.proofs.seat.take_one.Goals as goal
 
 pub returns-in-Ok-clause-takes : goal.returns-in-Ok-clause-takes
-returns-in-Ok-clause-takes g c = (Ok c.in-Ok.stop, refl, takes_one g.G.Guard.floor c.in-Ok.ensures.steps.0 c.step_known.new.self c.args.claim.now c.step_known.new.claim c.in-Ok.stop c.in-Ok.ensures.steps.2)
+returns-in-Ok-clause-takes g c = (Ok c.in-Ok.stop, refl, takes_one g.G.Guard.floor c.in-Ok.ensures.steps.0 c.step_unchecked.new.self c.args.claim.now c.step_unchecked.new.claim c.in-Ok.stop c.in-Ok.ensures.steps.2)
 
 pub returns-in-Ok-clause-kept : goal.returns-in-Ok-clause-kept
-returns-in-Ok-clause-kept g c = kept_of_claim c.step_known.new.self c.step_known.new.claim.edits c.step_known.new.claim.edits c.in-Ok.ensures.stands.kept (begins_by c.step_known.new.claim.edits c.step_known.new.claim.edits refl)
+returns-in-Ok-clause-kept g c = kept_of_claim c.step_unchecked.new.self c.step_unchecked.new.claim.edits c.step_unchecked.new.claim.edits c.in-Ok.ensures.stands.kept (begins_by c.step_unchecked.new.claim.edits c.step_unchecked.new.claim.edits refl)
 
 pub returns-in-Err-clause-takes : goal.returns-in-Err-clause-takes
-returns-in-Err-clause-takes g c = (Err NoMemory, refl, takes_none c.args.claim.now c.step_known.new.claim c.in-Err.ensures.steps.2)
+returns-in-Err-clause-takes g c = (Err NoMemory, refl, takes_none c.args.claim.now c.step_unchecked.new.claim c.in-Err.ensures.steps.2)
 
 pub returns-in-Ok-clause-began : goal.returns-in-Ok-clause-began
-returns-in-Ok-clause-began g c = step_began {E = AllocError} g.G.Guard.floor c.in-Ok.ensures.steps.0 c.args.claim.now (Ok c.in-Ok.stop) c.step_known.new.self c.step_known.new.claim c.in-Ok.ensures.steps.2
+returns-in-Ok-clause-began g c = step_began {E = AllocError} g.G.Guard.floor c.in-Ok.ensures.steps.0 c.args.claim.now (Ok c.in-Ok.stop) c.step_unchecked.new.self c.step_unchecked.new.claim c.in-Ok.ensures.steps.2
 
 pub returns-in-Err-clause-began : goal.returns-in-Err-clause-began
-returns-in-Err-clause-began g c = began_same c.args.claim.now c.step_known.new.claim c.in-Err.ensures.steps.2
+returns-in-Err-clause-began g c = began_same c.args.claim.now c.step_unchecked.new.claim c.in-Err.ensures.steps.2
 
 pub returns-in-Ok-clause-whole : goal.returns-in-Ok-clause-whole
 returns-in-Ok-clause-whole g c = record {
@@ -28,7 +28,7 @@ returns-in-Ok-clause-whole g c = record {
   stop = Ok c.in-Ok.stop;
   answered = refl;
   moves = c.in-Ok.ensures.steps.1;
-  steps = steps_as AllocError Refusal g.G.Guard.floor c.in-Ok.ensures.steps.0 c.step_known.new.self c.args.claim.now c.step_known.new.claim c.in-Ok.stop c.in-Ok.ensures.steps.2;
+  steps = steps_as AllocError Refusal g.G.Guard.floor c.in-Ok.ensures.steps.0 c.step_unchecked.new.self c.args.claim.now c.step_unchecked.new.claim c.in-Ok.stop c.in-Ok.ensures.steps.2;
 }
 
 pub returns-in-Err-clause-whole : goal.returns-in-Err-clause-whole

@@ -1,7 +1,7 @@
 use Rattle.std.proofs.Common.{List, sym, subst}
 use Rattle.st_classes.specs.declared.edits.Edit.{Edit}
 use Rattle.st_turn.specs.BodyFits.{FitsSome}
-use Rattle.st_rows.proofs.steps.plain_turn.Goals as goal
+use Rattle.st_script_tests.proofs.steps.plain_turn.Goals as goal
 
 pub run_plainly-requires : goal.run_plainly-requires
 run_plainly-requires c =

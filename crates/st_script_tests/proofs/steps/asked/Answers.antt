@@ -1,5 +1,5 @@
-use Rattle.st_rows.proofs.Starting.{asked_fits}
-use Rattle.st_rows.proofs.steps.asked.Goals as goal
+use Rattle.st_script_tests.proofs.Starting.{asked_fits}
+use Rattle.st_script_tests.proofs.steps.asked.Goals as goal
 
 pub returns : goal.returns
 returns c =

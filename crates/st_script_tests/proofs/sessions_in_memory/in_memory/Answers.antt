@@ -2,8 +2,8 @@ use Rattle.std.proofs.Common.{◌≡◌, List, ℕ, ◌++◌, Some, drop, refl, 
 use Rattle.st_classes.specs.Refusals.{first_of}
 use Rattle.st_wire.specs.Streams.{InputView}
 use Rattle.st_server.specs.Scripts.{script_rules, with_settings}
-use Rattle.st_rows.proofs.InMemory.{answers_whole, refuses_unread}
-use Rattle.st_rows.proofs.sessions_in_memory.in_memory.Goals as goal
+use Rattle.st_script_tests.proofs.InMemory.{answers_whole, refuses_unread}
+use Rattle.st_script_tests.proofs.sessions_in_memory.in_memory.Goals as goal
 
 pub returns-clause-refused : goal.returns-clause-refused
 returns-clause-refused c =

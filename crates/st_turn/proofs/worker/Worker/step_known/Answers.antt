@@ -1,8 +1,0 @@
-use Rattle.st_turn.proofs.WorkerMoves.{moved_as}
-use Rattle.st_turn.proofs.worker.Worker.step_known.Goals as goal
-
-pub returns-clause-steps : goal.returns-clause-steps
-returns-clause-steps g c =
-    let there = c.self.inside.finder.caches in
-    let moved = moved_as g.G.Guard.count g.G.Guard.floor g.G.Guard.raises c.args.self.now c.move_known.new.self there _ c.args.claim.now.edits c.token.ensures c.self.view_is c.move_known.ensures in
-    (there, moved, c.step.ensures.steps)

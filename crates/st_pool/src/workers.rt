@@ -152,6 +152,42 @@ fn take_quantum<G: Guard, K: Naming, M: Mailbox, T: Gate, R: Wait>(
     work
 }
 
+/// Takes quanta until the workers are to end.
+fn take_turns<G: Guard, K: Naming, M: Mailbox, T: Gate, R: Wait>(
+    rt: &R,
+    alloc: Global,
+    shared: &Shared<K, M>,
+    share: &mut WorkerShare<K>,
+    hand: &mut Hand<K, G>,
+    number: u32,
+    gate: &mut T,
+    quantum: u32,
+) {
+    let mut crowding = Crowding::none();
+    let mut work = next_work(rt, alloc, shared, share);
+    for _ in rt.forever() {
+        work = match work {
+            Work::Stop => return,
+            Work::Wait(seen) => {
+                pause(rt, shared, &mut crowding, seen);
+                next_work(rt, alloc, shared, share)
+            }
+            Work::Turn(held) => take_quantum(
+                rt,
+                alloc,
+                shared,
+                share,
+                hand,
+                held,
+                quantum,
+                number,
+                gate,
+                &mut crowding,
+            ),
+        };
+    }
+}
+
 /// Lets ready actors take quanta of at most `quantum` steps, from 1 to 1,024, until the workers are told to stop. The quantum that a
 /// worker is in is committed first. The answer is the worker's share: the steps that it committed.
 ///
@@ -175,30 +211,18 @@ pub fn worker_loop<G: Guard, K: Naming, M: Mailbox, T: Gate, R: Wait>(
     requires quantum { (1 ≤ quantum) × (quantum ≤ 1024) }
     ensures refused { IfErr result (λ e. e ≡ refusals.TooMany limits.Sessions) }
 {
-    let mut share = shared.enter(rt).employ()?;
+    let employed = shared.enter(rt).employ();
+    let mut share = match employed {
+        Ok(share) => share,
+        Err(refusal) => {
+            drop(worker);
+            return Err(refusal);
+        }
+    };
     let mut hand = Hand::new(worker);
-    let mut crowding = Crowding::none();
-    let mut work = next_work(rt, alloc, shared, &mut share);
-    for _ in rt.forever() {
-        work = match work {
-            Work::Stop => break,
-            Work::Wait(seen) => {
-                pause(rt, shared, &mut crowding, seen);
-                next_work(rt, alloc, shared, &mut share)
-            }
-            Work::Turn(held) => take_quantum(
-                rt,
-                alloc,
-                shared,
-                &mut share,
-                &mut hand,
-                held,
-                quantum,
-                number,
-                gate,
-                &mut crowding,
-            ),
-        };
-    }
+    take_turns(
+        rt, alloc, shared, &mut share, &mut hand, number, gate, quantum,
+    );
+    drop(hand);
     Ok(share)
 }

@@ -6,7 +6,7 @@ use st_turn::claim::ClaimParts;
 /// takes time, so who holds a lock on the image does that after it.
 #[derive(Drop)]
 pub struct Leavings {
-    pub(crate) claim: Option<ClaimParts>,
+    pub(crate) claim: Option<Box<ClaimParts>>,
     pub(crate) body: Option<Body>,
 }
 

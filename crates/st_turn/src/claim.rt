@@ -48,57 +48,56 @@ pub(crate) fn make_after(
     Ok(())
 }
 
-/// A claim without the body to which its steps lead.
+/// The parts of a claim.
 #[derive(Drop)]
 pub struct ClaimParts {
     pub actor: ActorId,
     pub token: Token,
     pub before: Body,
+    /// None until the first steps: it is then made as a copy of the body before.
+    pub after: Option<Body>,
     pub steps: u32,
     pub sends: Vec<Sent>,
-    /// The sends by their sites, if they were summed up.
+    /// The sums of the sends by their sites. None are made until they are asked for, and a step more takes them away.
     pub sums: Vec<SiteSum>,
+    /// Stands for the body before, as whoever made the claim says.
     pub stamp: u64,
 }
 
 /// Steps of an actor at a published version, which lead from a body of the actor's to another. Contracts see the actor, the edits of
 /// the version, the two bodies, the number of steps, the sends among them in order, and a number that stands for the body before.
 ///
-/// A claim is sound by its type: its steps are steps of the definitions, none of them an act that the image does.
+/// A claim is sound by its type: its steps are steps of the definitions, none of them an act that the image does. It is handed on
+/// often, so its parts lie in a box.
 #[derive(Drop)]
 pub struct Claim {
-    actor: ActorId,
-    token: Token,
-    before: Body,
-    /// None until the first steps: it is then made as a copy of the body before.
-    after: Option<Body>,
-    steps: u32,
-    sends: Vec<Sent>,
-    /// The sums of the sends by their sites. None are made until they are asked for, and a step more takes them away.
-    sums: Vec<SiteSum>,
-    /// Stands for the body before, as whoever made the claim says.
-    stamp: u64,
+    parts: Box<ClaimParts>,
 }
 
 impl Model for Claim {
-    ghost use Rattle.std.specs.Option.{unwrap_or};
-    ghost use Rattle.st_turn.specs.Claims.{ClaimView, KeepsClaim};
+    ghost use Rattle.st_turn.specs.Claims.{ClaimView, IsKept, view_of};
 
     ghost Value = { ClaimView };
 
-    ghost view = { λ c. record { actor = c.actor; edits = c.token; before = c.before; after = unwrap_or c.after c.before; steps = c.steps; sends = c.sends.items; stamp = c.stamp } };
+    ghost view = { λ c. view_of c.parts.value };
 
-    ghost invariant = { λ c. KeepsClaim c.actor c.token c.before (unwrap_or c.after c.before) c.steps c.sends.items c.sums.items };
+    ghost invariant = { λ c. IsKept c.parts.value };
 }
 
 impl Claim {
-    /// No steps, from a body that fits the version, with a number that stands for the body. No memory is taken: the copy on which
-    /// the steps work is made with the first of them.
-    pub fn new(alloc: Global, actor: ActorId, token: Token, body: Body, stamp: u64) -> Claim
+    /// No steps, from a body that fits the version, with a number that stands for the body. The copy on which the steps work is made
+    /// with the first of them. Only want of memory is an error.
+    pub fn new(
+        alloc: Global,
+        actor: ActorId,
+        token: Token,
+        body: Body,
+        stamp: u64,
+    ) -> Result<Claim, AllocError>
         requires { FitsSome token actor body }
-        ensures { result ≡ record { actor = actor; edits = token; before = body; after = body; steps = 0; sends = []; stamp = stamp } }
+        ensures { IfOk result (λ c. c ≡ record { actor = actor; edits = token; before = body; after = body; steps = 0; sends = []; stamp = stamp }) }
     {
-        Claim {
+        let parts = ClaimParts {
             actor,
             token,
             before: body,
@@ -107,6 +106,10 @@ impl Claim {
             sends: Vec::new(alloc),
             sums: Vec::new(alloc),
             stamp,
+        };
+        match Box::new(alloc, parts) {
+            Ok(parts) => Ok(Claim { parts }),
+            Err(_) => Err(AllocError),
         }
     }
 
@@ -114,14 +117,14 @@ impl Claim {
     pub fn known(&self)
         ensures { IsSound self.now.actor self.now.edits self.now.before self.now.after self.now.steps self.now.sends }
     {
-        let _steps = self.steps;
+        let _steps = self.parts.steps;
     }
 
     #[inline]
     pub fn actor(&self) -> ActorId
         ensures { result ≡ self.now.actor }
     {
-        self.actor
+        self.parts.actor
     }
 
     /// The version at which the steps were taken.
@@ -129,7 +132,7 @@ impl Claim {
     pub fn token(&self) -> &Token
         ensures { result.now ≡ self.now.edits }
     {
-        &self.token
+        &self.parts.token
     }
 
     /// The body from which the steps lead.
@@ -137,7 +140,7 @@ impl Claim {
     pub fn before(&self) -> &Body
         ensures { result.now ≡ self.now.before }
     {
-        &self.before
+        &self.parts.before
     }
 
     /// The body to which the steps lead.
@@ -145,9 +148,9 @@ impl Claim {
     pub fn after(&self) -> &Body
         ensures { result.now ≡ self.now.after }
     {
-        match &self.after {
+        match &self.parts.after {
             Some(after) => after,
-            None => &self.before,
+            None => &self.parts.before,
         }
     }
 
@@ -156,7 +159,7 @@ impl Claim {
     pub fn steps(&self) -> u32
         ensures { result ≡ self.now.steps }
     {
-        self.steps
+        self.parts.steps
     }
 
     /// The sends of the steps, in order.
@@ -164,7 +167,7 @@ impl Claim {
     pub fn sends(&self) -> &[Sent]
         ensures { result.now ≡ self.now.sends }
     {
-        self.sends.as_slice()
+        self.parts.sends.as_slice()
     }
 
     /// The number that stands for the body before.
@@ -172,14 +175,14 @@ impl Claim {
     pub fn stamp(&self) -> u64
         ensures { result ≡ self.now.stamp }
     {
-        self.stamp
+        self.parts.stamp
     }
 
     /// Whether the next step is an act that the image does.
     pub fn is_act_next(&self) -> bool
         ensures { result ≡ is_outer (step self.now.edits self.now.actor self.now.after) }
     {
-        is_act_next(self.after(), self.actor, self.token.shown())
+        is_act_next(self.after(), self.parts.actor, self.parts.token.shown())
     }
 
     /// Sums the sends up by their sites, so that there is less to do for who counts them. It does nothing where that is not worth it,
@@ -187,86 +190,41 @@ impl Claim {
     pub fn sum_up(&mut self)
         ensures { self.new ≡ self.old }
     {
-        sum_sends(&mut self.sums, self.sends.as_slice());
+        let parts = &mut *self.parts;
+        sum_sends(&mut parts.sums, parts.sends.as_slice());
     }
 
-    /// Gives the body to which the steps lead, and the other parts. It takes no memory where steps were taken, and else that for the
-    /// body: where there is none, the claim is handed back.
-    pub fn into_parts(self, alloc: Global) -> Result<(ClaimParts, Body), Claim>
-        ensures actor { IfOk result (λ r. r.0.actor ≡ self.actor) }
-        ensures edits { IfOk result (λ r. r.0.token ≡ self.edits) }
-        ensures before { IfOk result (λ r. r.0.before ≡ self.before) }
-        ensures steps { IfOk result (λ r. r.0.steps ≡ self.steps) }
-        ensures sends { IfOk result (λ r. r.0.sends.items ≡ self.sends) }
-        ensures sums { IfOk result (λ r. 0 < length r.0.sums.items → AreSums r.0.sums.items self.sends) }
-        ensures stamp { IfOk result (λ r. r.0.stamp ≡ self.stamp) }
+    /// Gives the body to which the steps lead, and the parts without it. It takes no memory where steps were taken, and else that for
+    /// the body: where there is none, the claim is handed back.
+    pub fn into_parts(self, alloc: Global) -> Result<(Box<ClaimParts>, Body), Claim>
+        ensures actor { IfOk result (λ r. r.0.value.actor ≡ self.actor) }
+        ensures edits { IfOk result (λ r. r.0.value.token ≡ self.edits) }
+        ensures before { IfOk result (λ r. r.0.value.before ≡ self.before) }
+        ensures steps { IfOk result (λ r. r.0.value.steps ≡ self.steps) }
+        ensures sends { IfOk result (λ r. r.0.value.sends.items ≡ self.sends) }
+        ensures sums { IfOk result (λ r. 0 < length r.0.value.sums.items → AreSums r.0.value.sums.items self.sends) }
+        ensures stamp { IfOk result (λ r. r.0.value.stamp ≡ self.stamp) }
         ensures after { IfOk result (λ r. r.1 ≡ self.after) }
         ensures back { IfErr result (λ c. c ≡ self) }
     {
-        let Claim {
-            actor,
-            token,
-            before,
-            after,
-            steps,
-            sends,
-            sums,
-            stamp,
-        } = self;
-        let after = match after {
+        let Claim { mut parts } = self;
+        let after = match parts.after.take() {
             Some(after) => after,
-            None => match before.copy(alloc) {
+            None => match parts.before.copy(alloc) {
                 Ok(after) => after,
-                Err(_) => {
-                    return Err(Claim {
-                        actor,
-                        token,
-                        before,
-                        after: None,
-                        steps,
-                        sends,
-                        sums,
-                        stamp,
-                    });
-                }
+                Err(_) => return Err(Claim { parts }),
             },
-        };
-        let parts = ClaimParts {
-            actor,
-            token,
-            before,
-            steps,
-            sends,
-            sums,
-            stamp,
         };
         Ok((parts, after))
     }
 
     /// Puts the parts of a claim together again, without the sums. No memory is taken.
-    pub fn from_parts(parts: ClaimParts, after: Body) -> Claim
-        requires { IsSound parts.actor parts.token parts.before after parts.steps parts.sends.items }
-        ensures { result ≡ record { actor = parts.actor; edits = parts.token; before = parts.before; after = after; steps = parts.steps; sends = parts.sends.items; stamp = parts.stamp } }
+    pub fn from_parts(mut parts: Box<ClaimParts>, after: Body) -> Claim
+        requires { IsSound parts.value.actor parts.value.token parts.value.before after parts.value.steps parts.value.sends.items }
+        ensures { result ≡ record { actor = parts.value.actor; edits = parts.value.token; before = parts.value.before; after = after; steps = parts.value.steps; sends = parts.value.sends.items; stamp = parts.value.stamp } }
     {
-        let ClaimParts {
-            actor,
-            token,
-            before,
-            steps,
-            sends,
-            mut sums,
-            stamp,
-        } = parts;
-        sums.clear();
-        Claim {
-            actor,
-            token,
-            before,
-            after: Some(after),
-            steps,
-            sends,
-            sums,
-            stamp,
-        }
+        parts.after = Some(after);
+        parts.sums.clear();
+        Claim { parts }
     }
 }

@@ -64,7 +64,7 @@ impl<M: Mailbox> Image<M> {
         let stamp = self.stamp_after(actor, begins);
         let body = self.actors.body_to_check_out(alloc, actor)?;
         self.changes.make_room(actor)?;
-        let claim = Claim::new(alloc, actor, self.token.again()?, body, stamp);
+        let claim = Claim::new(alloc, actor, self.token.again()?, body, stamp)?;
         if begins {
             self.history.reserve(1)?;
             self.history.push(Item::Begun(actor)).unwrap();

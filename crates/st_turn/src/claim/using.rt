@@ -43,10 +43,10 @@ impl Claim {
     fn is_first_touched(&self, selector: Selector) -> bool
         ensures { result ≡ first_touched selector self.now.steps self.now.before.phase }
     {
-        if self.steps == 0 {
+        if self.parts.steps == 0 {
             return false;
         }
-        match &self.before.phase {
+        match &self.parts.before.phase {
             Phase::Start {
                 selector: first,
                 ..
@@ -59,8 +59,9 @@ impl Claim {
     fn is_send_touched(&self, selector: Selector) -> bool
         ensures { result ≡ list_any (λ s. touches_asked self.now.edits selector s.site) self.now.sends }
     {
-        let version = self.token.shown();
-        self.sends
+        let version = self.parts.token.shown();
+        self.parts
+            .sends
             .iter()
             .any(|sent| touches_site(version, sent.site, selector))
     }
@@ -110,6 +111,6 @@ impl Claim {
         requires { Begins self.now.edits version.now }
         ensures { IsTrue result ↔ SurvivesAt version.now self.now }
     {
-        !self.is_touched_from(version, self.token.shown().edits())
+        !self.is_touched_from(version, self.parts.token.shown().edits())
     }
 }

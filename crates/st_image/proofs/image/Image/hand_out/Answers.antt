@@ -27,8 +27,8 @@ use Rattle.st_image.proofs.CountingItems.{items_other}
 use Rattle.st_image.proofs.image.Image.hand_out.Goals as goal
 use Rattle.st_image.proofs.image.Image.hand_out.Goals.{then-begins+in_ok-reserve, else-begins}
 
-pub new-claim-requires : goal.new-claim-requires
-new-claim-requires g c =
+pub new-requires : goal.new-requires
+new-requires g c =
     let i = c.self.inside in
     let beside : Standing = standing_of i.earlier i.next_from i.actors.out i.tallies in
     let allowed : first_of (checkout_rules (seen i.base i.names i.history.items i.settings beside) (slice_get (world_of (constants_of i.names i.settings.capacity) i.base i.history.items).actors c.args.actor.0)) ≡ None = subst (λ (v : ImageView). first_of (checkout_rules v (slice_get (world v).actors c.args.actor.0)) ≡ None) (sym c.self.view_is) c.requires.allowed in
@@ -81,16 +81,16 @@ returns-clause-ok g c =
     let same : c.if-begins.self-inside.actors ≡ i.actors = elim c.if-begins.branch [ then-begins+in_ok-reserve w ↦ ap (λ (x : Inside _). x.actors) w.self-inside-is | else-begins w ↦ ap (λ (x : Inside _). x.actors) w.self-inside-is ] in
     let put : c.check_out-next.new.self ≡ (let v : ActorsView = record { list = change_at view_checked_out c.args.actor.0 i.actors.list; out = change_at one_more c.args.actor.0 i.actors.out } in v) = c.check_out-next.ensures.checked ∙ ap (λ (x : ActorsView). let v : ActorsView = record { list = change_at view_checked_out c.args.actor.0 x.list; out = change_at one_more c.args.actor.0 x.out } in v) same in
     let phase : c.args.begins ≡ is_idle k.0.body.phase = c.requires.begins ∙ ap (λ (v : ImageView). idle_at (slice_get (world v).actors c.args.actor.0)) (sym c.self.view_is) ∙ idle_there i.token i.actors.list (world_of (constants_of i.names i.settings.capacity) i.base i.history.items) c.args.actor k.0 c.self.invariant.image.shows k.1 in
-    let claim : c.new-claim.result ≡ new_claim i.token c.args.actor (view_checked_out k.0).body c.stamp_after-stamp.result = c.new-claim.ensures ∙ ap (λ (es : List Edit). new_claim es c.args.actor c.in_ok-body.body c.stamp_after-stamp.result) c.in_ok-again.ensures ∙ ap (λ (b : Body). new_claim i.token c.args.actor b c.stamp_after-stamp.result) (c.in_ok-body.ensures k.0 k.1) in
+    let claim : c.in_ok-claim.claim ≡ new_claim i.token c.args.actor (view_checked_out k.0).body c.stamp_after-stamp.result = c.in_ok-claim.ensures ∙ ap (λ (es : List Edit). new_claim es c.args.actor c.in_ok-body.body c.stamp_after-stamp.result) c.in_ok-again.ensures ∙ ap (λ (b : Body). new_claim i.token c.args.actor b c.stamp_after-stamp.result) (c.in_ok-body.ensures k.0 k.1) in
     let within : c.args.actor.0 < length i.actors.out = subst (λ (v : ActorsView). c.args.actor.0 < length v.out) same c.check_out-next.ensures.counted in
     elim c.if-begins.branch [
       | then-begins+in_ok-reserve w ↦ (
           let out : IsOut i.base i.names i.token (change_at view_checked_out c.args.actor.0 i.actors.list) (i.history.items ++ begun_items true c.args.actor) i.edits_made i.settings c.args.actor (view_checked_out k.0).body = outs i.base i.names i.token i.actors.list i.history.items i.edits_made i.settings beside c.args.actor k.0 true c.self.invariant.image allowed k.1 (sym phase ∙ w.if-begins.true) in
           let items : w.push.new.self.items ≡ i.history.items ++ Begun c.args.actor ∷ [] = grind (arith, common_steps) in
-          rw (← c.self.view_is, w.self-inside-is, items, put, c.check_out-next.ensures.next) (checked i.base i.names i.token i.actors.list i.history.items i.edits_made i.settings i.earlier i.next_from i.actors.out i.tallies c.args.actor k.0 true c.new-claim.result c.stamp_after-stamp.result c.self.invariant.image k.1 within (sym phase ∙ w.if-begins.true) out claim (stamp_is (change_count i.earlier.changes c.args.actor.0) i.history.items c.args.actor true c.stamp_after-stamp.result (c.stamp_after-stamp.ensures ∙ ap (λ (t : Bool). changed_at c.args.self.now c.args.actor.0 + cond t 1 0) w.if-begins.true ∙ ap (λ (v : ImageView). changed_at v c.args.actor.0 + cond true 1 0) (sym c.self.view_is))))
+          rw (← c.self.view_is, w.self-inside-is, items, put, c.check_out-next.ensures.next) (checked i.base i.names i.token i.actors.list i.history.items i.edits_made i.settings i.earlier i.next_from i.actors.out i.tallies c.args.actor k.0 true c.in_ok-claim.claim c.stamp_after-stamp.result c.self.invariant.image k.1 within (sym phase ∙ w.if-begins.true) out claim (stamp_is (change_count i.earlier.changes c.args.actor.0) i.history.items c.args.actor true c.stamp_after-stamp.result (c.stamp_after-stamp.ensures ∙ ap (λ (t : Bool). changed_at c.args.self.now c.args.actor.0 + cond t 1 0) w.if-begins.true ∙ ap (λ (v : ImageView). changed_at v c.args.actor.0 + cond true 1 0) (sym c.self.view_is))))
           )
       | else-begins w ↦ (
           let out : IsOut i.base i.names i.token (change_at view_checked_out c.args.actor.0 i.actors.list) (i.history.items ++ begun_items false c.args.actor) i.edits_made i.settings c.args.actor (view_checked_out k.0).body = outs i.base i.names i.token i.actors.list i.history.items i.edits_made i.settings beside c.args.actor k.0 false c.self.invariant.image allowed k.1 (sym phase ∙ w.if-begins.false) in
-          rw (← c.self.view_is, w.self-inside-is, put, c.check_out-next.ensures.next) (subst (λ (x : List Item). HasCheckedOut (seen i.base i.names i.history.items i.settings beside) c.args.actor c.new-claim.result (seen i.base i.names x i.settings (standing_of i.earlier (c.args.actor.0 + 1) (change_at one_more c.args.actor.0 i.actors.out) i.tallies))) (append-nil i.history.items) (checked i.base i.names i.token i.actors.list i.history.items i.edits_made i.settings i.earlier i.next_from i.actors.out i.tallies c.args.actor k.0 false c.new-claim.result c.stamp_after-stamp.result c.self.invariant.image k.1 within (sym phase ∙ w.if-begins.false) out claim (stamp_is (change_count i.earlier.changes c.args.actor.0) i.history.items c.args.actor false c.stamp_after-stamp.result (c.stamp_after-stamp.ensures ∙ ap (λ (t : Bool). changed_at c.args.self.now c.args.actor.0 + cond t 1 0) w.if-begins.false ∙ ap (λ (v : ImageView). changed_at v c.args.actor.0 + cond false 1 0) (sym c.self.view_is)))))
+          rw (← c.self.view_is, w.self-inside-is, put, c.check_out-next.ensures.next) (subst (λ (x : List Item). HasCheckedOut (seen i.base i.names i.history.items i.settings beside) c.args.actor c.in_ok-claim.claim (seen i.base i.names x i.settings (standing_of i.earlier (c.args.actor.0 + 1) (change_at one_more c.args.actor.0 i.actors.out) i.tallies))) (append-nil i.history.items) (checked i.base i.names i.token i.actors.list i.history.items i.edits_made i.settings i.earlier i.next_from i.actors.out i.tallies c.args.actor k.0 false c.in_ok-claim.claim c.stamp_after-stamp.result c.self.invariant.image k.1 within (sym phase ∙ w.if-begins.false) out claim (stamp_is (change_count i.earlier.changes c.args.actor.0) i.history.items c.args.actor false c.stamp_after-stamp.result (c.stamp_after-stamp.ensures ∙ ap (λ (t : Bool). changed_at c.args.self.now c.args.actor.0 + cond t 1 0) w.if-begins.false ∙ ap (λ (v : ImageView). changed_at v c.args.actor.0 + cond false 1 0) (sym c.self.view_is)))))
           )
     ]

@@ -3,6 +3,7 @@ use Rattle.std.proofs.lemmas.Grind.{common_steps}
 use Rattle.st_classes.specs.declared.values.ActorId.{ActorId}
 use Rattle.st_classes.specs.declared.keys.SiteId.{SiteId}
 use Rattle.st_classes.specs.declared.edits.Edit.{Edit}
+use Rattle.st_turn.specs.declared.claim.ClaimParts.{ClaimParts}
 use Rattle.st_turn.specs.declared.claim.Sent.{Sent}
 use Rattle.st_turn.specs.Claims.{ClaimView}
 use Rattle.st_turn.specs.Surviving.{SameSteps}
@@ -72,7 +73,7 @@ count-requires-clause-places g c =
     let same : SameSteps w.edits d = claims_survive w.edits d c.self.invariant.image.world.lawful c.self.invariant.image.world.sound c.known.ensures allowed.survives in
     let edits : c.shown-version.result.now ≡ w.edits = c.shown-version.ensures ∙ c.self.invariant.image.shows.edits_are in
     let all : Covers c.cover.new.self (length w.edits) w.edits = subst (λ (es : List Edit). Covers c.cover.new.self (length es) es) edits (subst (λ (n : ℕ). Covers c.cover.new.self n c.shown-version.result.now) c.in-Ok-cover.ensures.ok c.cover.ensures.covers) in
-    let sent : c.as_slice.result.now ≡ d.sends = c.as_slice.ensures.value ∙ c.in-Ok-into_parts.ensures.sends in
+    let sent : c.as_slice.result.now ≡ d.sends = c.as_slice.ensures.value ∙ ap (λ (p : ClaimParts). p.sends.items) c.deref-in-Ok-put_steps.ensures ∙ c.in-Ok-into_parts.ensures.sends in
     rw (c.site_to_commit-site.ensures, sent) (has_places c.cover.new.self w.edits d c.known.ensures same all)
 
 pub invariant_of-self-in-Ok-put_steps : goal.invariant_of-self-in-Ok-put_steps
@@ -85,7 +86,7 @@ invariant_of-self-in-Ok-put_steps g c =
     let w : World = world_of (constants_of i.names i.settings.capacity) i.base i.history.items in
     let raw = c.in-Ok-put_steps.ensures.ok (change (with_body d.after) d.actor w) (rw (c.shown-version.ensures, c.actor-actor.ensures, c.in-Ok-into_parts.ensures.after) may.went.shown) in
     let takes : TakesOuter (constants_of i.names i.settings.capacity) i.token (change_at (view_after_steps d.after) d.actor.0 i.actors.list) c.put_steps.new.actors.list d.actor (change (with_body d.after) d.actor w) c.in-Ok-put_steps.field-0 = rw (c.shown-version.ensures, c.actor-actor.ensures, c.in-Ok-into_parts.ensures.after) at raw in
-    let sent : c.as_slice.result.now ≡ d.sends = c.as_slice.ensures.value ∙ c.in-Ok-into_parts.ensures.sends in
+    let sent : c.as_slice.result.now ≡ d.sends = c.as_slice.ensures.value ∙ ap (λ (p : ClaimParts). p.sends.items) c.deref-in-Ok-put_steps.ensures ∙ c.in-Ok-into_parts.ensures.sends in
     let tallied : Tallied i.tallies d.sends (act_site d) c.count.new.self = λ id.
     c.count.ensures.tallied id
     ∙ ap (λ (o : Option SiteId). after_act_at id o (after_sends id c.as_slice.result.now (tally_at c.cover.new.self id))) c.site_to_commit-site.ensures
@@ -106,7 +107,7 @@ returns-in-Ok-put_steps-clause-ok g c =
     let w : World = world_of (constants_of i.names i.settings.capacity) i.base i.history.items in
     let raw = c.in-Ok-put_steps.ensures.ok (change (with_body d.after) d.actor w) (rw (c.shown-version.ensures, c.actor-actor.ensures, c.in-Ok-into_parts.ensures.after) may.went.shown) in
     let takes : TakesOuter (constants_of i.names i.settings.capacity) i.token (change_at (view_after_steps d.after) d.actor.0 i.actors.list) c.put_steps.new.actors.list d.actor (change (with_body d.after) d.actor w) c.in-Ok-put_steps.field-0 = rw (c.shown-version.ensures, c.actor-actor.ensures, c.in-Ok-into_parts.ensures.after) at raw in
-    let sent : c.as_slice.result.now ≡ d.sends = c.as_slice.ensures.value ∙ c.in-Ok-into_parts.ensures.sends in
+    let sent : c.as_slice.result.now ≡ d.sends = c.as_slice.ensures.value ∙ ap (λ (p : ClaimParts). p.sends.items) c.deref-in-Ok-put_steps.ensures ∙ c.in-Ok-into_parts.ensures.sends in
     let tallied : Tallied i.tallies d.sends (act_site d) c.count.new.self = λ id.
     c.count.ensures.tallied id
     ∙ ap (λ (o : Option SiteId). after_act_at id o (after_sends id c.as_slice.result.now (tally_at c.cover.new.self id))) c.site_to_commit-site.ensures

@@ -43,7 +43,7 @@ fn claim_of<M: Mailbox>(
     let table = image.version().again(alloc)?;
     let token = Token::publish(alloc, table)?;
     let body = body.copy(alloc)?;
-    Ok(Claim::new(alloc, actor, token, body, 0))
+    Ok(Claim::new(alloc, actor, token, body, 0)?)
 }
 
 fn start_of(alloc: Global, claim: Claim) -> Result<ModelClaim, AllocError> {

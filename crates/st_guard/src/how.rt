@@ -13,7 +13,7 @@ pub enum How {
     Walk,
 }
 
-/// What a site has of a class.
+/// What a call site has for a receiver class.
 #[derive(Clone, Copy, PartialEq, Eq, Debug)]
 pub struct Hit {
     pub target: Target,

@@ -1,8 +1,7 @@
-//! Guards, and the caches of one worker: call sites, a lookup cache, and the walk that both save.
+//! Guards, and the caches of one worker: call sites and a lookup cache, which save walks up the superclass chain.
 //!
-//! A [`guard::Guard`] says from which number of edits on what was found for a selector is still what is found.
-//! [`caches::Caches`] answer what the walk over the class table finds, however it was found, and say how; what they keep is known by
-//! their type to be valid at the list of edits that they keep.
+//! A [`guard::Guard`] tells which entries of caches are still right after later edits. [`caches::Caches`] answer what a walk finds,
+//! and say how they found it. By an invariant of their type, their entries are valid at the list of edits that they keep.
 #![tactic(auto)]
 
 mod cache_parts;

@@ -1,4 +1,4 @@
-//! The walk over the rows of a class table, which the caches save.
+//! The walk up the superclass chain, by rows of the class table.
 ghost use Rattle.std.specs.Prelude.{◌≡◌, ◌+◌, ◌^◌, ◌%◌, true, IfSome};
 ghost use Rattle.st_classes.specs.Classes.{chain, is_class, parent};
 ghost use Rattle.st_classes.specs.Walks.{found_by, or_missing, super_walk, walk};
@@ -9,7 +9,7 @@ use st_classes::kernel::{DOES_NOT_UNDERSTAND, Found, Target};
 use st_classes::keys::Key;
 use st_classes::values::{ClassId, Selector};
 
-/// The first method that a walk up from a class finds.
+/// The first method for a selector on the way up from a class, if there is one.
 fn walk<R: ClassRows>(rows: &mut R, class: ClassId, selector: Selector) -> Option<Found>
     requires { is_class (R.edits rows.old) class ≡ true }
     ensures found { result ≡ walk (R.edits rows.old) class selector }
@@ -30,7 +30,8 @@ fn walk<R: ClassRows>(rows: &mut R, class: ClassId, selector: Selector) -> Optio
     }
 }
 
-/// What a walk found, or else the user's method for `doesNotUnderstand:`.
+/// What a message runs after a walk: the method that the walk found, or else the user's method for `doesNotUnderstand:`, if there
+/// is one.
 fn or_missing<R: ClassRows>(rows: &mut R, class: ClassId, found: Option<Found>) -> Target
     requires { is_class (R.edits rows.old) class ≡ true }
     ensures target { result ≡ or_missing (R.edits rows.old) class found }
@@ -48,7 +49,7 @@ fn or_missing<R: ClassRows>(rows: &mut R, class: ClassId, found: Option<Found>) 
     }
 }
 
-/// The walk that begins above a holder.
+/// The walk of a super send: it begins at the superclass of the class that holds the sending method.
 fn walk_above<R: ClassRows>(rows: &mut R, holder: ClassId, selector: Selector) -> Option<Found>
     requires { is_class (R.edits rows.old) holder ≡ true }
     ensures found { result ≡ super_walk (R.edits rows.old) holder selector }
@@ -62,7 +63,7 @@ fn walk_above<R: ClassRows>(rows: &mut R, holder: ClassId, selector: Selector) -
     }
 }
 
-/// What the send of a key runs, by the walk alone. How many rows it reads is exact.
+/// What a send with this key runs, by a walk alone. The contract says exactly how many rows are read.
 pub fn find<R: ClassRows>(rows: &mut R, key: Key) -> Target
     requires class { is_class (R.edits rows.old) key.class ≡ true }
     requires holder { IfSome key.holder (λ h. is_class (R.edits rows.old) h ≡ true) }

@@ -20,4 +20,5 @@ pub mod settling;
 pub mod shared;
 pub mod shares;
 pub mod totals;
+pub(crate) mod waiting;
 pub mod workers;

@@ -12,6 +12,7 @@ use crate::front::{Front, Head, Opened, again, precedes};
 use crate::held::Held;
 use crate::naming::{Edits, Naming, Posts};
 use crate::shares::{CallerShare, WorkerShare};
+use crate::waiting::Waiting;
 use st_classes::refusals::{Limited, Refusal};
 use st_classes::seq::Seq;
 use st_classes::values::{ActorId, ClassId, Selector, Values};
@@ -42,15 +43,8 @@ pub struct Office<K: Naming, M: Mailbox> {
     head: Head<K>,
     /// The images that were seen, if they are known. The last one is this image, or an earlier state of it.
     front: Option<Front<K>>,
-    /// How often something happened for which a worker that sleeps is to look again.
-    moves: u64,
-    /// How many workers sleep, or have been woken and not taken the lock since.
-    sleepers: u32,
-    /// How many moves were commits of short quanta, whose workers went on with the next one.
-    hurried: u64,
-    /// How many workers rest, or have been woken and not taken the lock since.
-    resting: u32,
-    is_stopped: bool,
+    /// The workers that wait, and what they wait for.
+    pub(crate) waiting: Waiting,
     /// How many items of histories checkpoints have emptied, at most 2^63 - 1.
     pub(crate) emptied: u64,
 }
@@ -137,11 +131,7 @@ impl<K: Naming, M: Mailbox> Office<K, M> {
             books,
             head,
             front: Some(front),
-            moves: 0,
-            sleepers: 0,
-            hurried: 0,
-            resting: 0,
-            is_stopped: false,
+            waiting: Waiting::none(),
             emptied: 0,
         }
     }
@@ -208,7 +198,7 @@ impl<K: Naming, M: Mailbox> Office<K, M> {
         ensures has_edits { K.start.edits + edited.old.amount ≤ (amounts self.old.image).edits }
     {
         self.image.known();
-        self.moves = self.moves.wrapping_add(1);
+        self.waiting.note_move();
         let place = self.emptied + self.image.history().len() as u64;
         let answer = calls::post(alloc, &mut self.image, sender, seq, actor, selector, args);
         self.books.post(posted, edited, &answer);
@@ -239,7 +229,7 @@ impl<K: Naming, M: Mailbox> Office<K, M> {
         ensures share { mine.new ≡ record mine.old { edits = mine.old.edits + counted (is_ok result) } }
         ensures within { K.start.edits + mine.old.edits ≤ (amounts self.old.image).edits }
     {
-        self.moves = self.moves.wrapping_add(1);
+        self.waiting.note_move();
         self.image.known();
         self.image.version().known();
         let answer = calls::define(alloc, &mut self.image, name, parent, slots);
@@ -261,7 +251,7 @@ impl<K: Naming, M: Mailbox> Office<K, M> {
         ensures share { mine.new ≡ record mine.old { edits = mine.old.edits + counted (is_ok result) } }
         ensures within { K.start.edits + mine.old.edits ≤ (amounts self.old.image).edits }
     {
-        self.moves = self.moves.wrapping_add(1);
+        self.waiting.note_move();
         self.image.known();
         self.image.version().known();
         let answer = calls::install(alloc, &mut self.image, class, source);
@@ -283,7 +273,7 @@ impl<K: Naming, M: Mailbox> Office<K, M> {
         ensures share { mine.new ≡ record mine.old { edits = mine.old.edits + counted (is_ok result) } }
         ensures within { K.start.edits + mine.old.edits ≤ (amounts self.old.image).edits }
     {
-        self.moves = self.moves.wrapping_add(1);
+        self.waiting.note_move();
         self.image.known();
         self.image.version().known();
         let answer = calls::remove(alloc, &mut self.image, class, selector);
@@ -305,7 +295,7 @@ impl<K: Naming, M: Mailbox> Office<K, M> {
         ensures share { mine.new ≡ record mine.old { edits = mine.old.edits + counted (is_ok result) } }
         ensures within { K.start.edits + mine.old.edits ≤ (amounts self.old.image).edits }
     {
-        self.moves = self.moves.wrapping_add(1);
+        self.waiting.note_move();
         self.image.known();
         self.image.version().known();
         let answer = calls::reparent(alloc, &mut self.image, class, parent);
@@ -319,7 +309,7 @@ impl<K: Naming, M: Mailbox> Office<K, M> {
         ensures books { self.new.books ≡ self.old.books }
         ensures emptied { self.new.emptied ≡ self.old.emptied }
     {
-        self.moves = self.moves.wrapping_add(1);
+        self.waiting.note_move();
         calls::create(alloc, &mut self.image, class)
     }
 
@@ -329,7 +319,7 @@ impl<K: Naming, M: Mailbox> Office<K, M> {
         ensures books { self.new.books ≡ self.old.books }
         ensures emptied { self.new.emptied ≡ self.old.emptied }
     {
-        self.moves = self.moves.wrapping_add(1);
+        self.waiting.note_move();
         calls::close(&mut self.image, actor)
     }
 
@@ -347,7 +337,7 @@ impl<K: Naming, M: Mailbox> Office<K, M> {
         }
         calls::checkpoint(alloc, &mut self.image)?;
         self.emptied = emptied;
-        self.moves = self.moves.wrapping_add(1);
+        self.waiting.note_move();
         Ok(self.image.counted())
     }
 
@@ -365,8 +355,7 @@ impl<K: Naming, M: Mailbox> Office<K, M> {
     pub(crate) fn stop(&mut self)
         ensures { self.new ≡ self.old }
     {
-        self.is_stopped = true;
-        self.moves = self.moves.wrapping_add(1);
+        self.waiting.stop();
     }
 
     /// Hands out a claim.
@@ -398,15 +387,15 @@ impl<K: Naming, M: Mailbox> Office<K, M> {
         ensures within { K.start.steps + mine.old ≤ (amounts self.old.image).steps }
     {
         self.books.audit_worker(mine);
-        if self.is_stopped {
+        if self.waiting.is_stopped() {
             return Work::Stop;
         }
         let Some(actor) = self.image.next_ready() else {
-            return Work::Wait(self.moves);
+            return Work::Wait(self.waiting.moves());
         };
         match self.check_out(alloc, actor) {
             Ok(held) => Work::Turn(held),
-            Err(_) => Work::Wait(self.moves),
+            Err(_) => Work::Wait(self.waiting.moves()),
         }
     }
 
@@ -430,7 +419,7 @@ impl<K: Naming, M: Mailbox> Office<K, M> {
         let Held { claim, seen: _ } = held;
         let answer = calls::settle(alloc, &mut self.image, claim, is_known, leavings);
         self.books.run(mine, &answer);
-        self.moves = self.moves.wrapping_add(has_steps(&answer) as u64);
+        self.waiting.note_commit(has_steps(&answer));
         answer
     }
 
@@ -453,70 +442,27 @@ impl<K: Naming, M: Mailbox> Office<K, M> {
     {
         let answer = self.commit(alloc, mine, held, leavings);
         if !takes_more(&answer, is_starved) {
-            return (answer, Work::Wait(self.moves));
+            return (answer, Work::Wait(self.waiting.moves()));
         }
         let work = self.work(alloc, mine);
         if is_short && goes_on(&work) {
-            self.hurried = self.hurried.wrapping_add(has_steps(&answer) as u64);
+            self.waiting.note_hurried(has_steps(&answer));
         }
         (answer, work)
     }
 
-    /// Whether nothing has moved since, and the workers are to go on.
-    pub(crate) fn rests(&self, seen: u64) -> bool {
-        self.moves == seen && !self.is_stopped
-    }
-
-    /// A worker is about to sleep, and holds the lock until it does.
-    pub(crate) fn lie_down(&mut self)
-        ensures { self.new ≡ self.old }
-    {
-        self.sleepers = self.sleepers.wrapping_add(1);
-    }
-
-    /// A worker that was about to sleep, or slept, has the lock again.
-    pub(crate) fn get_up(&mut self)
-        ensures { self.new ≡ self.old }
-    {
-        self.sleepers = self.sleepers.wrapping_sub(1);
-    }
-
     /// Whether another worker than the one that asks neither sleeps nor rests.
     pub(crate) fn has_helpers(&self) -> bool {
-        u64::from(self.sleepers) + u64::from(self.resting) + 1 < self.books.workers()
-    }
-
-    /// How often a worker that rests was to look again.
-    pub(crate) fn eases(&self) -> u64 {
-        self.moves.wrapping_sub(self.hurried)
-    }
-
-    /// Whether more has moved since than short quanta, or the workers are to end.
-    pub(crate) fn is_eased_since(&self, seen: u64) -> bool {
-        self.is_stopped || self.eases() != seen
-    }
-
-    /// A worker is about to rest, and holds the lock until it does.
-    pub(crate) fn sit_down(&mut self)
-        ensures { self.new ≡ self.old }
-    {
-        self.resting = self.resting.wrapping_add(1);
-    }
-
-    /// A worker that was about to rest, or rested, has the lock again.
-    pub(crate) fn stand_up(&mut self)
-        ensures { self.new ≡ self.old }
-    {
-        self.resting = self.resting.wrapping_sub(1);
+        self.waiting.has_helpers(self.books.workers())
     }
 
     /// Whether an actor is ready while a worker may rest.
     pub(crate) fn wants_more(&self) -> bool {
-        self.resting != 0 && self.image.next_ready().is_some()
+        self.waiting.has_resting() && self.image.next_ready().is_some()
     }
 
     /// Whether an actor is ready while a worker may be asleep.
     pub(crate) fn wants_help(&self) -> bool {
-        self.sleepers != 0 && self.image.next_ready().is_some()
+        self.waiting.has_sleepers() && self.image.next_ready().is_some()
     }
 }

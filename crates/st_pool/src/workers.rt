@@ -45,11 +45,11 @@ impl Gate for OpenGate {
 /// Waits until something has moved, or the workers are to end.
 fn wait_past<K: Naming, M: Mailbox, R: Wait>(rt: &R, shared: &Shared<K, M>, seen: u64) {
     let mut before = shared.enter(rt);
-    before.lie_down();
+    before.waiting.lie_down();
     let mut behind = shared
         .moved
-        .wait_while(rt, before, |office| office.rests(seen));
-    behind.get_up();
+        .wait_while(rt, before, |office| office.waiting.is_still(seen));
+    behind.waiting.get_up();
 }
 
 /// Rests until something other than short quanta has moved, or the workers are to end. It does not rest if no other worker is awake.
@@ -58,12 +58,12 @@ fn rest<K: Naming, M: Mailbox, R: Wait>(rt: &R, shared: &Shared<K, M>) {
     if !before.has_helpers() {
         return;
     }
-    let seen = before.eases();
-    before.sit_down();
+    let seen = before.waiting.eases();
+    before.waiting.sit_down();
     let mut behind = shared
         .eased
-        .wait_while(rt, before, |office| !office.is_eased_since(seen));
-    behind.stand_up();
+        .wait_while(rt, before, |office| !office.waiting.is_eased_since(seen));
+    behind.waiting.stand_up();
 }
 
 /// Waits, or rests if the worker was in the way of others.

@@ -1,7 +1,7 @@
-//! Call sites: inline caches of at most four entries (Hölzle, Chambers and Ungar 1991).
+//! Call sites: polymorphic inline caches of at most four entries (Hölzle, Chambers and Ungar 1991).
 //!
-//! A [`site::Site`] has what was found for the classes that it has met. What it answers, what filling it leaves and what clearing
-//! it leaves are the definitions of the field, exactly. None of its calls takes memory.
+//! A [`site::Site`] keeps the targets that were found for the receiver classes it has met. Its contracts say exactly what `probe`
+//! answers, and how `fill` and `clear_dead` change it. No call allocates.
 #![tactic(auto)]
 
 mod entries;

@@ -25,8 +25,8 @@ pub record SurvivesAt (edits : List Edit) (c : ClaimView) : Type 0 where
   pub begins : Begins c.edits edits
   pub untouched : list_any (touched (edits_since c edits)) (used c) ≡ false
 
--- The steps of a claim at another table: they lead from the body before to the body after, they ask for the same, and what comes next
--- asks for the same, and is the same act or none.
+-- The steps of a claim are steps of another table too: they lead from the body before to the body after and ask for the same, and
+-- the step after them asks for the same and is the same act, if it is one.
 pub record SameSteps (edits : List Edit) (c : ClaimView) : Type 0 where
   pub taken : own_steps edits c.actor c.steps c.before ≡ Some c.after
   pub asks : own_asked edits c.actor c.steps c.before ≡ own_asked c.edits c.actor c.steps c.before

@@ -9,16 +9,16 @@ use Rattle.st_guard.specs.ValidCaches.{asks}
 use Rattle.st_turn.specs.declared.body.Phase.{Phase}
 use Rattle.st_turn.specs.declared.body.Phase.TheVariants.{Start}
 
--- an edit for one selector touches another
+-- an edit for the selector t touches the selector s
 abbrev pub touches_from : Selector → Selector → Bool
 touches_from t s = (t.0 == s.0) || (t.0 == does_not_understand.0)
 
--- it touches what a site asks for, if that asks for anything
+-- it touches what a site looks up, if the site looks anything up
 abbrev pub touches_key : Selector → Option (Option ClassId × Selector) → Bool
 touches_key t None = false
 touches_key t (Some q) = touches_from t q.1
 
--- it touches what a site asks for in a class table
+-- it touches what a site looks up, given the edits of the class table
 abbrev pub touches_asked : List Edit → Selector → SiteId → Bool
 touches_asked edits t id = touches_key t (asks edits id)
 

@@ -1,4 +1,4 @@
-//! What a step asks of the image.
+//! Acts: what a step asks the image to do.
 ghost use Rattle.std.specs.Prelude.{◌≡◌, ◌&&◌, List, length, is_some, nat_le, slice_get, Some, IfOk};
 ghost use Rattle.st_classes.specs.declared.values.Value.{Value as ValueOf};
 ghost use Rattle.st_turn.specs.declared.acts.Act.{Act as ActOf};
@@ -17,14 +17,16 @@ use st_classes::values::{ActorId, ClassId, Selector, Value, Values};
 use st_classes::version::Version;
 use std::alloc::{AllocError, Global};
 
-/// A step that is no change of its actor alone. The image does it, and the turn goes on with the answer.
+/// A step that does not change its actor alone. The image does it, and the turn goes on with the image's answer or ends with its
+/// fault.
 #[derive(Drop)]
 pub enum Act {
-    /// A message for an actor: the symbol of its selector, and its arguments, as they were handed to the post.
+    /// A post to an actor. `args` are the arguments of the post itself, not yet checked: they should be the symbol of a selector,
+    /// and then the arguments for it.
     Post { actor: ActorId, args: Values },
-    /// The mailbox of an actor closes.
+    /// The mailbox of an actor is closed.
     Close(ActorId),
-    /// A new actor of a class.
+    /// A new actor of a class is made.
     Create(ClassId),
 }
 
@@ -36,7 +38,7 @@ fn is_post(selector: Selector) -> bool
     matches!(selector, POST | POST_WITH | POST_WITH_WITH)
 }
 
-/// Whether a message with so many arguments asks something of the image: a post to an actor, its close, or a new actor.
+/// Whether a message with `count` arguments is an act: a post to an actor, the close of its mailbox, or a new actor.
 #[inline(always)]
 pub(crate) fn is_act(receiver: Value, selector: Selector, count: u8) -> bool
     ensures { (args : List ValueOf) → length args ≡ count → result ≡ is_some (act_for receiver selector args) }
@@ -48,7 +50,7 @@ pub(crate) fn is_act(receiver: Value, selector: Selector, count: u8) -> bool
     }
 }
 
-/// What a message asks of the image, if it does.
+/// The act that a message is, if it is one.
 fn act_of(
     alloc: Global,
     receiver: Value,
@@ -70,7 +72,7 @@ fn act_of(
     }
 }
 
-/// Whether the next step of a body asks something of the image.
+/// Whether the next step of a body is an act.
 pub fn is_act_next(body: &Body, actor: ActorId, version: &Version) -> bool
     requires { FitsSome version.now actor body.now }
     ensures { result ≡ is_some (act_in (step version.now actor body.now)) }
@@ -88,7 +90,7 @@ pub fn is_act_next(body: &Body, actor: ActorId, version: &Version) -> bool
     }
 }
 
-/// What the next step of a body asks of the image, if it does.
+/// The act that is the next step of a body, if it is one.
 pub fn next_act(
     alloc: Global,
     body: &Body,
@@ -112,7 +114,7 @@ pub fn next_act(
     }
 }
 
-/// The site of the next step of a body, where it is one of a frame.
+/// The place of the instruction that a body executes next; none if no frame runs.
 pub fn next_site(body: &Body) -> Option<SiteId>
     ensures { result ≡ next_site_in body.now.phase }
 {
@@ -125,7 +127,7 @@ pub fn next_site(body: &Body) -> Option<SiteId>
     })
 }
 
-/// The image did what the next step of a body asks of it: the turn goes on with the answer, or ends with a fault.
+/// Takes the next step of a body, an act that the image has done: the turn goes on with the image's answer, or ends with its fault.
 pub fn reply(body: &mut Body, actor: ActorId, version: &Version, answer: Result<Value, Fault>)
     requires fits { FitsSome version.now actor body.old }
     requires act { IsAct (step version.now actor body.old) }

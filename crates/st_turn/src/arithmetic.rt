@@ -16,7 +16,7 @@ pub(crate) fn sum(x: i64, y: i64) -> Result<Value, Fault>
     }
 }
 
-/// The first less the second, or the fault `overflow`.
+/// The difference of two integers, or the fault `overflow`.
 #[inline(always)]
 pub(crate) fn difference(x: i64, y: i64) -> Result<Value, Fault>
     ensures { result ≡ int_or_overflow (x -ℤ y) }
@@ -38,7 +38,7 @@ pub(crate) fn product(x: i64, y: i64) -> Result<Value, Fault>
     }
 }
 
-/// The quotient rounded towards negative infinity, where it has 64 bits.
+/// The quotient rounded towards negative infinity, if it fits in 64 bits.
 #[inline(always)]
 fn floored_quotient(x: i64, y: i64) -> Option<i64>
     requires { y ≢ pos 0 }
@@ -53,7 +53,7 @@ fn floored_quotient(x: i64, y: i64) -> Option<i64>
     }
 }
 
-/// What x less that quotient times y is.
+/// The remainder of that quotient: x less y times the quotient.
 #[inline(always)]
 fn floored_remainder(x: i64, y: i64) -> i64
     requires { y ≢ pos 0 }
@@ -82,7 +82,7 @@ pub(crate) fn quotient(x: i64, y: i64) -> Result<Value, Fault>
     }
 }
 
-/// The remainder of that quotient, which has the sign of y, or the fault of a divisor 0.
+/// The remainder of that quotient, which is 0 or has the sign of y, or the fault of a divisor 0.
 #[inline(always)]
 pub(crate) fn remainder(x: i64, y: i64) -> Result<Value, Fault>
     ensures { result ≡ remainder_of x y }
@@ -93,8 +93,8 @@ pub(crate) fn remainder(x: i64, y: i64) -> Result<Value, Fault>
     Ok(Value::Int(floored_remainder(x, y)))
 }
 
-/// The law of quotient and remainder: x is y times the quotient and the remainder, which is 0 or has the sign of y, and is
-/// smaller than y.
+/// The law of quotient and remainder: x is y times the quotient plus the remainder, which is 0 or has the sign of y, and is smaller
+/// than y in absolute value.
 pub fn floored(x: i64, y: i64)
     requires { y ≢ pos 0 }
     ensures { IsFloored x y (floor_quotient x y) (floor_remainder x y) }

@@ -1,4 +1,4 @@
-//! What an actor is while it runs: its objects, and where its turn stands.
+//! The body of an actor: its objects, and the state of its turn.
 ghost use Rattle.std.specs.Prelude.{◌≡◌, ◌<◌, [], ◌∷◌, ◌++◌, length, replicate, slice_get, Bool, IfOk, OnOk, OnErr};
 ghost use Rattle.std.specs.Option.{option_copied};
 ghost use Rattle.st_classes.specs.declared.values.Value.TheVariants.{Local, Nil};
@@ -21,7 +21,7 @@ use std::marker::Model;
 /// The most objects of an actor.
 pub const OBJECTS: usize = 1024;
 
-/// An object of an actor's own.
+/// An object. It belongs to one actor, and others cannot refer to it.
 #[derive(Drop)]
 pub struct Object {
     pub class: ClassId,
@@ -30,7 +30,7 @@ pub struct Object {
 }
 
 impl Object {
-    /// An object of a class with so many instance variables, all nil.
+    /// An object of a class with `slots` instance variables, all nil.
     fn new(alloc: Global, class: ClassId, slots: usize) -> Result<Object, AllocError>
         ensures { IfOk result (λ object. object ≡ record { class = class; slots = replicate slots Nil }) }
     {
@@ -59,7 +59,7 @@ impl Model for Objects {
 }
 
 impl Objects {
-    /// The objects of a new actor.
+    /// The objects of a new actor: object 0 alone.
     fn first(alloc: Global, class: ClassId, slots: usize) -> Result<Objects, AllocError>
         ensures { IfOk result (λ objects. objects ≡ record { class = class; slots = replicate slots Nil } ∷ []) }
     {
@@ -68,7 +68,7 @@ impl Objects {
         Ok(Objects { items })
     }
 
-    /// A new object behind those that are there.
+    /// Adds a new object after the others. Its instance variables are nil.
     pub(crate) fn add(
         &mut self,
         alloc: Global,
@@ -105,14 +105,14 @@ impl Objects {
         self.items.len()
     }
 
-    /// The objects, by their places.
+    /// The objects, by their numbers.
     pub fn as_slice(&self) -> &[Object]
         ensures { result.now ≡ self.now }
     {
         self.items.as_slice()
     }
 
-    /// The class of a value. Integers and objects come first, since most receivers are such.
+    /// The class of a value. Integers and objects are tested first, since most receivers are such.
     #[inline(always)]
     pub fn class_of(&self, value: Value) -> ClassId
         requires { IsAmong self.now value }
@@ -125,7 +125,7 @@ impl Objects {
         }
     }
 
-    /// The class of the object at a place.
+    /// The class of the object with this number.
     #[inline(always)]
     fn object_class(&self, place: u32) -> ClassId
         requires { place < length self.now }
@@ -134,7 +134,7 @@ impl Objects {
         self.items[place as usize].class
     }
 
-    /// The same, of any value.
+    /// The class of any value. This is a function apart, so that the code that is inlined stays small.
     #[cold]
     #[inline(never)]
     fn rare_class_of(&self, value: Value) -> ClassId
@@ -165,7 +165,7 @@ impl Objects {
         }
     }
 
-    /// Gives a value to an instance variable of a receiver.
+    /// Assigns a value to an instance variable of a receiver.
     #[inline(always)]
     pub(crate) fn store(&mut self, receiver: Value, place: u8, value: Value)
         requires { HasSlot self.old receiver place }
@@ -188,12 +188,12 @@ pub enum Outcome {
     Fault(Fault),
 }
 
-/// Where an actor's turn stands.
+/// The state of an actor's turn.
 #[derive(Drop)]
 pub enum Phase {
     /// No turn was begun yet.
     Fresh,
-    /// A message was taken, and is not yet dispatched.
+    /// A message was taken from the mailbox, and is not yet dispatched.
     Start { selector: Selector, args: Values },
     /// The message was dispatched, and these are the frames of its turn.
     Frames(Stack),
@@ -201,38 +201,39 @@ pub enum Phase {
     Done(Outcome),
 }
 
-/// An actor's objects and phase: plain data, whose steps a class table and the actor's number decide.
+/// An actor's objects and the state of its turn. This is plain data: together with a class table and the actor's number it
+/// determines the next step.
 #[derive(Drop)]
 pub struct Body {
     pub objects: Objects,
     pub phase: Phase,
 }
 
-/// How a turn goes on after a step.
+/// What a step of a turn's frames leads to.
 #[derive(Clone, Copy, PartialEq, Eq, Debug)]
 pub enum Turn {
-    /// Its frames go on.
+    /// The turn goes on.
     Goes,
     Ends(Outcome),
-    /// No step was taken: the next one is an act that the image does.
+    /// No step was taken: the next one is an act, which the image does.
     Waits,
 }
 
-/// How a step went.
+/// What came of an attempt to take a step.
 #[derive(Clone, Copy, PartialEq, Eq, Debug)]
 pub enum Stop {
     /// A step was taken.
     More,
     /// Nothing changed: no turn is going on.
     Ended,
-    /// Nothing changed: the next step is an act that the image does.
+    /// Nothing changed: the next step is an act, which the image does.
     Outer,
     /// Nothing changed: the claim has as many steps as it may have.
     Limit,
 }
 
 impl Body {
-    /// A new actor's body: object 0 is of the class, with so many instance variables, all nil.
+    /// A new actor's body: object 0 is of the class, with `slots` instance variables, all nil.
     pub fn fresh(alloc: Global, class: ClassId, slots: usize) -> Result<Body, AllocError>
         ensures { IfOk result (λ body. body ≡ record { objects = record { class = class; slots = replicate slots Nil } ∷ []; phase = phase.Fresh }) }
     {
@@ -250,7 +251,7 @@ impl Body {
         matches!(self.phase, Phase::Fresh | Phase::Done(_))
     }
 
-    /// A turn begins with a message. What stood of the last one is gone.
+    /// Begins a turn with a message, in place of what the body had of the last turn.
     pub fn begin(&mut self, selector: Selector, args: Values)
         ensures { self.new ≡ record self.old { phase = phase.Start selector args } }
     {

@@ -62,7 +62,7 @@ fn conjunction(receiver: Value, argument: Value) -> Result<Value, Fault>
     }
 }
 
-/// A method of SmallInteger, for an integer.
+/// What a method of SmallInteger answers for two integers, or its fault.
 #[inline(always)]
 pub(crate) fn integer_answer(kernel: Kernel, x: i64, y: i64) -> Result<Value, Fault>
     ensures { result ≡ integer_answer kernel x y }
@@ -81,7 +81,7 @@ pub(crate) fn integer_answer(kernel: Kernel, x: i64, y: i64) -> Result<Value, Fa
     }
 }
 
-/// A method with one argument.
+/// What a kernel method with one argument answers, or its fault.
 #[inline(always)]
 fn binary_answer(kernel: Kernel, receiver: Value, argument: Value) -> Result<Value, Fault>
     ensures { result ≡ binary_answer kernel receiver argument }
@@ -96,7 +96,7 @@ fn binary_answer(kernel: Kernel, receiver: Value, argument: Value) -> Result<Val
     }
 }
 
-/// What a method of the kernel answers, or its fault.
+/// What a kernel method answers, or its fault. `new`, posts, `close` and `newActor` are not done here.
 #[inline(always)]
 pub fn kernel_answer(
     kernel: Kernel,

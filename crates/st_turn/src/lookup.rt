@@ -1,4 +1,4 @@
-//! How a step finds what a message runs.
+//! How a step finds the target of a message.
 ghost use Rattle.std.specs.Prelude.{◌≡◌, List, Some, IfSome, true};
 ghost use Rattle.st_classes.specs.declared.edits.Edit.{Edit as EditOf};
 ghost use Rattle.st_classes.specs.Classes.{is_class};
@@ -10,15 +10,16 @@ use st_classes::kernel::Target;
 use st_classes::keys::{Key, SiteId};
 use st_classes::version::Version;
 
-/// Finds what messages run.
+/// A way to find the targets of messages.
 pub trait Lookup {
-    /// It may be asked at these edits.
+    /// It may be asked about the class table with these edits.
     ghost knows: { Self → List EditOf → Type 0 };
 
-    /// How it is once it was asked at some edits.
+    /// How its state before a question and its state after it are related.
     ghost noted: { List EditOf → Self → AskedOf → Self → Type 0 };
 
-    /// What a message runs that is looked up by a key: at a site, or for the first message of a turn at none.
+    /// The target of a message that is looked up by this key. `site` is the call site; the message with which a turn begins has
+    /// none.
     fn find(&mut self, version: &Version, site: Option<SiteId>, key: Key) -> Target
         requires knows { knows self.old version.now }
         requires class { is_class version.now key.class ≡ true }
@@ -29,7 +30,7 @@ pub trait Lookup {
         ensures knows { knows self.new version.now };
 }
 
-/// The walk of the class table, which may be asked at any edits and notes nothing.
+/// The walk up the superclass chain. It may be asked about any class table, and remembers nothing.
 #[derive(Clone, Copy)]
 pub struct PlainWalk;
 

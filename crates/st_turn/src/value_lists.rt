@@ -1,11 +1,11 @@
-//! Lists of values: their copy, and whether they are the same.
+//! Lists of values: how they are copied and compared.
 ghost use Rattle.std.specs.Prelude.{◌≡◌, ◌↔◌, IfOk, IsTrue};
 
 use st_classes::seq::Seq;
 use st_classes::values::{Value, Values};
 use std::alloc::{AllocError, Global};
 
-/// The same values in memory of their own.
+/// A copy of the values.
 pub(crate) fn copied(alloc: Global, values: &Values) -> Result<Values, AllocError>
     ensures { IfOk result (λ copy. copy ≡ values.now) }
 {

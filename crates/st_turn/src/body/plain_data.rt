@@ -1,4 +1,4 @@
-//! Bodies as plain data: their copy, and whether they are the same.
+//! Bodies as plain data: how they are copied and compared.
 ghost use Rattle.std.specs.Prelude.{◌≡◌, ◌↔◌, IfOk, IsTrue};
 
 use crate::body::{Body, Object, Objects, Outcome, Phase};
@@ -6,7 +6,7 @@ use crate::value_lists::{copied, same_values};
 use std::alloc::{AllocError, Global};
 
 impl Object {
-    /// The same object in memory of its own.
+    /// A copy of the object.
     fn copy(&self, alloc: Global) -> Result<Object, AllocError>
         ensures { IfOk result (λ object. object ≡ self.now) }
     {
@@ -28,7 +28,7 @@ impl Object {
 }
 
 impl Objects {
-    /// The same objects in memory of their own.
+    /// A copy of the objects.
     fn copy(&self, alloc: Global) -> Result<Objects, AllocError>
         ensures { IfOk result (λ objects. objects ≡ self.now) }
     {
@@ -69,7 +69,7 @@ fn same_outcome(one: Outcome, other: Outcome) -> bool
 }
 
 impl Phase {
-    /// The same phase in memory of its own.
+    /// A copy of the phase.
     fn copy(&self, alloc: Global) -> Result<Phase, AllocError>
         ensures { IfOk result (λ phase. phase ≡ self.now) }
     {
@@ -84,7 +84,7 @@ impl Phase {
         })
     }
 
-    /// Whether two turns stand at the same place.
+    /// Whether two turns are in the same state.
     fn is_same(&self, other: &Phase) -> bool
         ensures { IsTrue result ↔ self.now ≡ other.now }
     {
@@ -108,7 +108,7 @@ impl Phase {
 }
 
 impl Body {
-    /// The same body in memory of its own. Only want of memory is an error.
+    /// A copy of the body. It fails only if memory runs out.
     pub fn copy(&self, alloc: Global) -> Result<Body, AllocError>
         ensures { IfOk result (λ body. body ≡ self.now) }
     {
@@ -118,7 +118,7 @@ impl Body {
         })
     }
 
-    /// Whether two bodies have the same objects and stand at the same place of their turns.
+    /// Whether two bodies have the same objects, and their turns are in the same state.
     pub fn is_same(&self, other: &Body) -> bool
         ensures { IsTrue result ↔ self.now ≡ other.now }
     {

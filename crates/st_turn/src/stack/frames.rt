@@ -1,4 +1,4 @@
-//! The frames of a stack, looked at where they lie.
+//! The frames of a stack, by reference.
 ghost use Rattle.std.specs.Prelude.{◌≡◌, ◌+◌, ◌<◌, ◌≤◌, length, drop, slice_get};
 ghost use Rattle.st_turn.specs.StackLayout.{IsLaid, end_below, frame_in};
 
@@ -7,14 +7,14 @@ use crate::stack::{Place, Stack};
 use st_classes::values::Value;
 
 impl Stack {
-    /// How many frames wait.
+    /// How many frames wait for an answer.
     pub fn waiting(&self) -> usize
         ensures { result ≡ length self.now.callers }
     {
         self.callers.len()
     }
 
-    /// A frame that waits, by its place, the first called first. None past the last.
+    /// The waiting frame with an index, from 0 for the one that was called first. None past the last.
     pub fn waiting_frame(&self, place: usize) -> Option<FrameRef<'_>>
         ensures { result ≡ slice_get self.now.callers place }
     {
@@ -34,7 +34,7 @@ impl Stack {
     }
 }
 
-/// Where the operands of a waiting frame end: below the receiver of the next one, or at the end of all.
+/// The index at which the operands of a waiting frame end: that of the next frame's receiver, or `end` for the last waiting frame.
 fn end_above(places: &[Place], place: usize, end: usize) -> usize
     requires laid { IsLaid places.now end }
     requires place { place < length places.now }
@@ -46,7 +46,7 @@ fn end_above(places: &[Place], place: usize, end: usize) -> usize
     }
 }
 
-/// The frame at a place, where the values end with its operands.
+/// The frame at a place, given the values up to the end of its operands.
 fn frame_at<'a>(at: &Place, values: &'a [Value]) -> FrameRef<'a>
     requires receiver { 0 < at.now.base }
     requires temps { at.now.base + at.now.temps ≤ length values.now }

@@ -1,4 +1,4 @@
-//! Frames as plain data: made of their parts, copied, and compared. What lies above the top never counts.
+//! Frames as plain data: how they are made of their parts, copied and compared. Values above the top never count.
 ghost use Rattle.std.specs.Prelude.{◌≡◌, ◌↔◌, ◌++◌, length, IfOk, IsTrue, OnOk};
 ghost use Rattle.st_turn.specs.StackLayout.{place_of, places_of, spread, spread_all};
 
@@ -13,12 +13,11 @@ use std::alloc::{AllocError, Global};
 /// The most values above the top for which a copy has room.
 const SPARE: usize = 320;
 
-/// What a copy has above the top.
+/// The values of a copy above the top.
 static NILS: [Value; SPARE] = [Value::Nil; SPARE];
 
 impl Stack {
-    /// The frames of a turn by their parts: those that wait, the last called last, and the running one. Only want of memory
-    /// is an error.
+    /// Makes the frames of a turn: those that wait, the last called last, and the running one. It fails only if memory runs out.
     pub fn from_frames(
         alloc: Global,
         callers: &[Frame],
@@ -40,13 +39,14 @@ impl Stack {
         })
     }
 
-    /// The same frames in memory of their own, with about as much room for calls as these have, up to a bound.
+    /// A copy of the frames, with as much room for calls as these have, up to a bound.
     pub fn copy(&self, alloc: Global) -> Result<Stack, AllocError>
         ensures { IfOk result (λ stack. stack ≡ self.now) }
     {
         let size = usize::min(self.values.len(), self.top.saturating_add(SPARE));
         let mut values = Vec::with_capacity(alloc, size)?;
-        // What lies above the top is not read, since another processor may have written it. The room is copied from nils.
+        // Values above the top are not copied: if another processor wrote them last, reading them is slow. The room is filled with
+        // nils instead.
         values.extend_from_slice(&self.values[..self.top])?;
         values.extend_from_slice(&NILS[..size - self.top])?;
         let callers = self.callers.copy(alloc)?;
@@ -72,7 +72,7 @@ impl Stack {
     }
 }
 
-/// Lays a frame on top of some values. The answer is its place.
+/// Puts the values of a frame on top of others, and returns the frame's place.
 fn lay(values: &mut Vec<Value>, frame: &Frame) -> Result<Place, AllocError>
     ensures place { IfOk result (λ place. place ≡ place_of (length values.old.items) frame.now) }
     ensures values { OnOk result (values.new.items ≡ values.old.items ++ spread frame.now) }
@@ -89,7 +89,7 @@ fn lay(values: &mut Vec<Value>, frame: &Frame) -> Result<Place, AllocError>
     })
 }
 
-/// Lays frames one above the other, from the bottom. The answer is their places.
+/// Puts the values of frames one above the other, and returns the frames' places.
 fn lay_all(
     alloc: Global,
     values: &mut Vec<Value>,

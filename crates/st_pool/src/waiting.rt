@@ -1,0 +1,119 @@
+//! Workers that wait: how many there are, and the counts by which each knows whether to go on.
+//!
+//! A worker sleeps while nothing can be done, until something has moved. It rests while it would be in the way of others, until
+//! something other than short quanta has moved.
+
+/// How many workers wait, and what has happened that they wait for.
+#[derive(Drop)]
+pub(crate) struct Waiting {
+    /// How often something happened for which a worker that sleeps is to look again.
+    moves: u64,
+    /// How many moves were commits of short quanta, whose workers went on with the next one.
+    hurried: u64,
+    /// How many workers sleep, or have been woken and not taken the lock since.
+    sleepers: u32,
+    /// How many workers rest, or have been woken and not taken the lock since.
+    resting: u32,
+    is_stopped: bool,
+}
+
+impl Waiting {
+    /// No worker waits, and nothing has happened yet.
+    pub(crate) fn none() -> Waiting {
+        Waiting {
+            moves: 0,
+            hurried: 0,
+            sleepers: 0,
+            resting: 0,
+            is_stopped: false,
+        }
+    }
+
+    /// How often something has moved.
+    #[inline]
+    pub(crate) fn moves(&self) -> u64 {
+        self.moves
+    }
+
+    /// Something has happened for which a worker that sleeps is to look again.
+    #[inline]
+    pub(crate) fn note_move(&mut self) {
+        self.moves = self.moves.wrapping_add(1);
+    }
+
+    /// A quantum was committed. That is a move if it had steps.
+    #[inline]
+    pub(crate) fn note_commit(&mut self, has_steps: bool) {
+        self.moves = self.moves.wrapping_add(has_steps as u64);
+    }
+
+    /// The quantum that was committed is a short one, whose worker goes on with the next one.
+    #[inline]
+    pub(crate) fn note_hurried(&mut self, has_steps: bool) {
+        self.hurried = self.hurried.wrapping_add(has_steps as u64);
+    }
+
+    /// Tells the workers to end.
+    pub(crate) fn stop(&mut self) {
+        self.is_stopped = true;
+        self.note_move();
+    }
+
+    /// Whether the workers are to end.
+    #[inline]
+    pub(crate) fn is_stopped(&self) -> bool {
+        self.is_stopped
+    }
+
+    /// Whether one of this many workers, other than the one that asks, neither sleeps nor rests.
+    pub(crate) fn has_helpers(&self, workers: u64) -> bool {
+        u64::from(self.sleepers) + u64::from(self.resting) + 1 < workers
+    }
+
+    /// Whether nothing has moved since, and the workers are to go on.
+    pub(crate) fn is_still(&self, seen: u64) -> bool {
+        self.moves == seen && !self.is_stopped
+    }
+
+    /// Whether a worker may be asleep.
+    #[inline]
+    pub(crate) fn has_sleepers(&self) -> bool {
+        self.sleepers != 0
+    }
+
+    /// A worker is about to sleep, and holds the lock until it does.
+    pub(crate) fn lie_down(&mut self) {
+        self.sleepers = self.sleepers.wrapping_add(1);
+    }
+
+    /// A worker that was about to sleep, or slept, has the lock again.
+    pub(crate) fn get_up(&mut self) {
+        self.sleepers = self.sleepers.wrapping_sub(1);
+    }
+
+    /// How often something other than short quanta has moved.
+    pub(crate) fn eases(&self) -> u64 {
+        self.moves.wrapping_sub(self.hurried)
+    }
+
+    /// Whether something other than short quanta has moved since, or the workers are to end.
+    pub(crate) fn is_eased_since(&self, seen: u64) -> bool {
+        self.is_stopped || self.eases() != seen
+    }
+
+    /// Whether a worker may rest.
+    #[inline]
+    pub(crate) fn has_resting(&self) -> bool {
+        self.resting != 0
+    }
+
+    /// A worker is about to rest, and holds the lock until it does.
+    pub(crate) fn sit_down(&mut self) {
+        self.resting = self.resting.wrapping_add(1);
+    }
+
+    /// A worker that was about to rest, or rested, has the lock again.
+    pub(crate) fn stand_up(&mut self) {
+        self.resting = self.resting.wrapping_sub(1);
+    }
+}

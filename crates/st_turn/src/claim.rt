@@ -33,7 +33,7 @@ pub struct Sent {
     pub state: SiteState,
 }
 
-/// Makes the body on which steps work, where it is not there yet. It is the body before until a step was taken.
+/// Makes the body that the steps change, if there is none yet. Until a step is taken it is a copy of the body before.
 pub(crate) fn make_after(
     alloc: Global,
     before: &Body,
@@ -60,12 +60,13 @@ pub struct ClaimParts {
     pub sends: Vec<Sent>,
     /// The sums of the sends by their sites. None are made until they are asked for, and a step more takes them away.
     pub sums: Vec<SiteSum>,
-    /// Stands for the body before, as whoever made the claim says.
+    /// A number that identifies the body before, given by the maker of the claim.
     pub stamp: u64,
 }
 
 /// Steps of an actor at a published version, which lead from a body of the actor's to another. Contracts see the actor, the edits of
-/// the version, the two bodies, the number of steps, the sends among them in order, and a number that stands for the body before.
+/// the version, the two bodies, the number of steps, the sends among them in order, and the stamp, a number that identifies the body
+/// before.
 ///
 /// A claim is sound by its type: its steps are steps of the definitions, none of them an act that the image does. It is handed on
 /// often, so its parts lie in a box.
@@ -85,8 +86,8 @@ impl Model for Claim {
 }
 
 impl Claim {
-    /// No steps, from a body that fits the version, with a number that stands for the body. The copy on which the steps work is made
-    /// with the first of them. Only want of memory is an error.
+    /// A claim of no steps, from a body that fits the version, with a number that identifies the body. The copy that the steps change
+    /// is made with the first of them. Only want of memory is an error.
     pub fn new(
         alloc: Global,
         actor: ActorId,
@@ -170,7 +171,7 @@ impl Claim {
         self.parts.sends.as_slice()
     }
 
-    /// The number that stands for the body before.
+    /// The number that identifies the body before.
     #[inline]
     pub fn stamp(&self) -> u64
         ensures { result ≡ self.now.stamp }
@@ -185,8 +186,8 @@ impl Claim {
         is_act_next(self.after(), self.parts.actor, self.parts.token.shown())
     }
 
-    /// Sums the sends up by their sites, so that there is less to do for who counts them. It does nothing where that is not worth it,
-    /// or there is no memory for it.
+    /// Adds up the sends of each call site, so that whoever counts them has less to do. It does nothing if there are few sends, many
+    /// sites or no memory.
     pub fn sum_up(&mut self)
         ensures { self.new ≡ self.old }
     {
@@ -194,8 +195,8 @@ impl Claim {
         sum_sends(&mut parts.sums, parts.sends.as_slice());
     }
 
-    /// Gives the body to which the steps lead, and the parts without it. It takes no memory where steps were taken, and else that for
-    /// the body: where there is none, the claim is handed back.
+    /// Takes the claim apart into the body to which the steps lead and the other parts. If no step was taken, this needs memory for a
+    /// copy of the body; if there is none, the claim is handed back.
     pub fn into_parts(self, alloc: Global) -> Result<(Box<ClaimParts>, Body), Claim>
         ensures actor { IfOk result (λ r. r.0.value.actor ≡ self.actor) }
         ensures edits { IfOk result (λ r. r.0.value.token ≡ self.edits) }

@@ -37,7 +37,7 @@ impl SiteSum {
     }
 }
 
-/// The place of the last sum of a site, where it has one.
+/// The place of the last sum of a site, if it has one.
 #[inline]
 fn place_of(sums: &[SiteSum], site: SiteId) -> Option<usize>
     ensures { IfSome result (IsLastOf site sums.now) }
@@ -64,7 +64,7 @@ fn add_at(sums: &mut [SiteSum], place: usize, sent: &Sent)
 }
 
 /// Adds sends to the sums of their sites, from a place on and one after the other, as long as their sites have sums. The answer is the
-/// place of the first one whose site has none. The sums are a slice here, whose place in memory stays in registers.
+/// place of the first send whose site has no sum. The sums are a slice here, so that their address stays in a register.
 fn add_known(sums: &mut [SiteSum], sends: &[Sent], from: usize) -> usize
     requires from { from ≤ length sends.now }
     requires sums { AreSums sums.old (take from sends.now) }
@@ -84,7 +84,7 @@ fn add_known(sums: &mut [SiteSum], sends: &[Sent], from: usize) -> usize
     at
 }
 
-/// Puts the sum of a send last. It says no where that would be a site too many, or there is no memory for it.
+/// Appends the sum of a send. The answer is false if there are 16 sites already, or no memory.
 fn add_site(sums: &mut Vec<SiteSum>, sent: &Sent) -> bool
     ensures { IsTrue result → AddsSend sent.now sums.old.items sums.new.items }
 {
@@ -94,7 +94,7 @@ fn add_site(sums: &mut Vec<SiteSum>, sent: &Sent) -> bool
     sums.push(SiteSum::of(sent)).is_ok()
 }
 
-/// Adds sends to no sums, one after the other. It says no where one of them could not be added.
+/// Adds sends to an empty list of sums, one after the other. The answer is false if one of them could not be added.
 fn add_each(sums: &mut Vec<SiteSum>, sends: &[Sent]) -> bool
     requires { sums.old.items ≡ [] }
     ensures { IsTrue result → AreSums sums.new.items sends.now }
@@ -109,7 +109,7 @@ fn add_each(sums: &mut Vec<SiteSum>, sends: &[Sent]) -> bool
     true
 }
 
-/// Makes the sums of sends. There are none where there are few sends, more sites than 16, or no memory.
+/// Makes the sums of sends. There are none if there are fewer than 32 sends, more than 16 sites, or no memory.
 pub(crate) fn sum_sends(sums: &mut Vec<SiteSum>, sends: &[Sent])
     ensures { 0 < length sums.new.items → AreSums sums.new.items sends.now }
 {

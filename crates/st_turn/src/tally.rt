@@ -54,7 +54,7 @@ impl Tally {
         self.add_rare(how);
     }
 
-    /// One more send of a worker's, which is rare where its call site did not have the target.
+    /// One more send of a worker's. That its call site did not have the target is rare.
     #[cold]
     #[inline(never)]
     fn add_rare(&mut self, how: How)
@@ -77,7 +77,7 @@ impl Tally {
         self.by_walk += 1;
     }
 
-    /// The sends of a worker's that another tally has, behind those of this one.
+    /// Adds the sends of a later tally to this one.
     #[inline]
     pub fn add_sum(&mut self, sum: &Tally)
         requires { sends_of self.old + sends_of sum.now < 2 ^ 64 }

@@ -39,7 +39,7 @@ impl<G: Guard> Worker<G> {
         }
     }
 
-    /// Its caches, which are valid at the list of edits that they keep, where they keep one.
+    /// Its caches, which are valid at the list of edits that they keep, if they keep one.
     #[inline]
     pub fn caches(&self) -> &Caches<G>
         ensures { result.now ≡ self.now }
@@ -58,7 +58,7 @@ impl<G: Guard> Worker<G> {
         }
     }
 
-    /// Brings the caches to a version whose edits those that are kept begin.
+    /// Brings the caches to a version whose edits have those that are kept as a prefix.
     fn move_unchecked(&mut self, token: &Token)
         requires { IfSome self.old.kept (λ k. Begins k token.now) }
         ensures { HasMoved G.count G.floor G.raises self.old self.new token.now }
@@ -82,8 +82,8 @@ impl<G: Guard> Worker<G> {
     /// does, and `Limit` that the claim can have no more steps: then the claim stays. It also stays for want of memory; then the
     /// caches may have changed. The sends of the claim tell how the caches, moved to its edits, found what a send runs.
     ///
-    /// The edits that the caches keep are compared with the claim's, one by one, also where they are the same; the caches are
-    /// emptied where they keep others than first ones of the claim's. `step_unchecked` does not compare them.
+    /// The edits that the caches keep are compared with the claim's one by one, even if they are the same list. If they are not a prefix
+    /// of the claim's, the caches are emptied. `step_unchecked` does not compare them.
     pub fn step(&mut self, alloc: Global, claim: &mut Claim) -> Result<Stop, AllocError>
         ensures steps { (moved : CachesView G) × HasMoved G.count G.floor G.raises self.old moved claim.old.edits × Steps G.floor moved claim.old result self.new claim.new }
         ensures stands { StandsAt G.count G.floor self.new claim.new.edits }
@@ -93,8 +93,8 @@ impl<G: Guard> Worker<G> {
         claim.step(alloc, &mut self.finder, 1)
     }
 
-    /// The same for a claim whose edits those begin that the caches keep, as the caller knows. No edits are compared: where they
-    /// are as many as the claim's, it takes constant time to see that the caches stand there.
+    /// The same, if the caller knows that the edits which the caches keep are a prefix of the claim's. No edits are compared: if there
+    /// are as many as the claim has, the caches are at its version already.
     pub fn step_unchecked(&mut self, alloc: Global, claim: &mut Claim) -> Result<Stop, AllocError>
         requires { IfSome self.old.kept (λ k. Begins k claim.old.edits) }
         ensures steps { (moved : CachesView G) × HasMoved G.count G.floor G.raises self.old moved claim.old.edits × Steps G.floor moved claim.old result self.new claim.new }
@@ -105,8 +105,8 @@ impl<G: Guard> Worker<G> {
         claim.step(alloc, &mut self.finder, 1)
     }
 
-    /// Takes steps of a claim, one after the other, until it has taken so many (it answers `More` then, for 0 too), none is next,
-    /// or memory was refused. Else as `step`. The edits are compared once, and the caches are moved once.
+    /// Takes steps of a claim, one after the other, until it has taken this many (the answer is `More` then, also for 0), none is next,
+    /// or memory was refused. Otherwise as `step`. The edits are compared once, and the caches are moved once.
     pub fn run(&mut self, alloc: Global, claim: &mut Claim, limit: u32) -> Result<Stop, AllocError>
         ensures runs { (moved : CachesView G) × HasMoved G.count G.floor G.raises self.old moved claim.old.edits × Runs G.floor limit moved claim.old result self.new claim.new }
         ensures stands { StandsAt G.count G.floor self.new claim.new.edits }
@@ -116,7 +116,7 @@ impl<G: Guard> Worker<G> {
         run_steps(alloc, claim, &mut self.finder, limit)
     }
 
-    /// The same for a claim whose edits those begin that the caches keep, as the caller knows. No edits are compared.
+    /// The same, if the caller knows that the edits which the caches keep are a prefix of the claim's. No edits are compared.
     pub fn run_unchecked(
         &mut self,
         alloc: Global,

@@ -39,7 +39,7 @@ fn touches_site(version: &Version, site: SiteId, selector: Selector) -> bool
 }
 
 impl Claim {
-    /// Whether an edit that is for a selector touches that of the first message of the turn, where the steps dispatched it.
+    /// Whether an edit of a selector touches the first message of the turn, if the steps dispatched that message.
     fn is_first_touched(&self, selector: Selector) -> bool
         ensures { result ≡ first_touched selector self.now.steps self.now.before.phase }
     {
@@ -105,8 +105,8 @@ impl Claim {
         false
     }
 
-    /// Whether the claim survives at a version whose edits its own begin: no later edit touches a selector that its steps used. It
-    /// looks through the later edits alone.
+    /// Whether the claim survives at a later version, one whose list of edits has the claim's as a prefix: no later edit touches a
+    /// selector that its steps used. Only the later edits are looked at.
     pub fn survives(&self, version: &Version) -> bool
         requires { Begins self.now.edits version.now }
         ensures { IsTrue result ↔ SurvivesAt version.now self.now }

@@ -12,7 +12,7 @@ use std::test::*;
 /// How many bytes are moved at once.
 const PIECE: usize = 100;
 
-/// Gives a text piece by piece, and fails after so many reads.
+/// Gives a text piece by piece, and fails after this many reads.
 #[derive(Drop)]
 struct Giving<'a> {
     left: &'a [u8],
@@ -30,7 +30,7 @@ impl<'a> Read for Giving<'a> {
     }
 }
 
-/// Takes bytes piece by piece, and fails after so many writes.
+/// Takes bytes piece by piece, and fails after this many writes.
 #[derive(Drop)]
 struct Taking<'a> {
     taken: &'a mut Vec<u8>,
@@ -52,7 +52,7 @@ impl<'a> Write for Taking<'a> {
     }
 }
 
-/// Why the text is refused that a device gives with so many reads, if it is.
+/// Why the text is refused that a device gives with this many reads, if it is.
 fn refused_after(alloc: Global, reads: u32) -> Option<Refusal> {
     let left = PENDING.as_bytes();
     let image: Result<Image, Refusal> = load::<Mailbox, _>(
@@ -62,7 +62,7 @@ fn refused_after(alloc: Global, reads: u32) -> Option<Refusal> {
     image.err()
 }
 
-/// Whether a device that takes so many writes is left with as many pieces of the text.
+/// Whether a device that takes this many writes is left with as many pieces of the text.
 fn holds_after(alloc: Global, writes: u32, wanted: Result<(), Refusal>) -> Result<bool, Refusal> {
     let image = loaded(alloc, PENDING.as_bytes())?;
     let mut taken = Vec::new(alloc);

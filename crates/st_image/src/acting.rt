@@ -59,7 +59,7 @@ fn arguments_fit<M: Mailbox>(
         .all(|value| argument_fits(names, version, actors, *value))
 }
 
-/// Whether a selector is there and takes so many arguments.
+/// Whether a selector is there and takes this many arguments.
 fn takes(names: &Names, selector: Selector, count: usize) -> bool
     ensures { result ≡ is_number (arity_at names.now selector) count }
 {

@@ -36,7 +36,7 @@ impl<M: Mailbox> Model for Actors<M> {
     ghost invariant = { λ a. AreActors (record { list = a.items.items; out = a.out.items }) a.free };
 }
 
-/// Whether an actor may be checked out next, where so many claims of it are out.
+/// Whether an actor may be checked out next, where this many claims of it are out.
 #[inline]
 fn is_free(is_ready: bool, out: u32) -> bool
     ensures { result ≡ (is_ready && (out == 0)) }

@@ -60,7 +60,7 @@ impl TallyRow {
         }
     }
 
-    /// Makes so many places, where there are fewer. No tally changes.
+    /// Makes this many places, where there are fewer. No tally changes.
     fn make_places(&mut self, places: usize) -> Result<(), AllocError>
         ensures same { (i : ℕ) → slice_index_or self.new i no_tally ≡ slice_index_or self.old i no_tally }
         ensures keeps { (i : ℕ) → i < length self.old → i < length self.new }
@@ -216,7 +216,7 @@ impl Tallies {
         }
     }
 
-    /// Makes so many places in the row of a method, where it has fewer. No tally changes.
+    /// Makes this many places in the row of a method, where it has fewer. No tally changes.
     fn make_row(&mut self, method: MethodId, places: usize) -> Result<(), AllocError>
         ensures same { SameTallies self.old self.new }
         ensures keeps { KeepsPlaces self.old self.new }

@@ -158,7 +158,7 @@ fn keywords_of_a_pattern(rt: HostRuntime) -> Result<(), Fail> {
     Ok(())
 }
 
-/// `m ^1+(1+( ..`: so many brackets, and as many operands and one.
+/// `m ^1+(1+( ..`: this many brackets, and as many operands and one.
 fn deep(alloc: Global, brackets: usize) -> Result<String, AllocError> {
     let open = "1+(".repeat(alloc, brackets)?;
     let closed = ")".repeat(alloc, brackets)?;

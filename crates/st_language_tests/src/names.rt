@@ -151,7 +151,7 @@ fn is_full(alloc: Global, names: &mut Names) -> bool {
         && count(names) == 8192
 }
 
-/// Whether names of the kernel take so many arguments.
+/// Whether names of the kernel take this many arguments.
 fn have_arities(names: &Names) -> bool {
     arity(names, 3) == Some(0) && arity(names, 8) == Some(1) && arity(names, 18) == Some(3)
 }

@@ -42,7 +42,7 @@ fn intern(alloc: Global, names: &mut Names, text: &str) -> Result<u16, Refusal> 
     Ok(names.intern(alloc, text.as_bytes())?.0)
 }
 
-/// Whether a text is no name, in a table of so many.
+/// Whether a text is no name, in a table of this many.
 fn is_missing(names: &Names, text: &str, count: u32) -> bool {
     names.find(text.as_bytes()).is_none() && names.len() == count
 }

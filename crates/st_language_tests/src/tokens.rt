@@ -96,7 +96,7 @@ fn tokens_of_texts(rt: HostRuntime) -> Result<(), Fail> {
     Ok(())
 }
 
-/// Whether a text has just so many tokens, each within its limits or not, as it is said.
+/// Whether a text has just this many tokens, each within its limits or not, as it is said.
 fn fit_so(alloc: Global, source: &[u8], wanted: &[bool]) -> bool {
     if source.len() > limits::SOURCE {
         return false;

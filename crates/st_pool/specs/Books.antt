@@ -25,7 +25,7 @@ pub record Kept (start : Amounts) (i : ImageView) (b : BooksView) : Type 0 where
   pub edits : start.edits + b.edits ≡ (amounts i).edits
   pub steps : start.steps + b.steps ≡ (amounts i).steps
 
--- an image has counted so many posts, edits and steps more than another
+-- an image has counted this many posts, edits and steps more than another
 pub record Grows (posts edits steps : ℕ) (i j : ImageView) : Type 0 where
   pub more_posts : (amounts j).posts ≡ (amounts i).posts + posts
   pub more_edits : (amounts j).edits ≡ (amounts i).edits + edits

@@ -17,7 +17,7 @@ AreAll b callers workers = (length callers ≡ b.callers) × (length workers ≡
 abbrev pub AllStand : ℕ → ImageView → List Done → Type 0
 AllStand emptied i callers = All (λ (d : Done). All (Stands emptied i) d.receipts) callers
 
--- how many receipts of a caller have their items among so many that were emptied
+-- how many receipts of a caller have their items among this many that were emptied
 abbrev pub gone : ℕ → Done → ℕ
 gone emptied d = count_by (λ (r : Receipt). nat_lt r.place emptied) d.receipts
 
@@ -25,7 +25,7 @@ gone emptied d = count_by (λ (r : Receipt). nat_lt r.place emptied) d.receipts
 abbrev pub AreFew : ℕ → ImageView → ℕ → List Done → Type 0
 AreFew emptied i posts callers = sum_by (gone emptied) callers ≤ posts - weigh posts_of i.history
 
--- Of so many posts that were counted, those in the history stand there: each message of each receipt stands at its place, but for
+-- Of this many posts that were counted, those in the history stand there: each message of each receipt stands at its place, but for
 -- those whose items checkpoints have emptied, and these are few. Where no checkpoint was made, all stand.
 pub record HaveStood (i : ImageView) (posts : ℕ) (callers : List Done) : Type 0 where
   pub emptied : ℕ

@@ -18,7 +18,7 @@ use std::sync::Wait;
 use std::test::*;
 use std::time::Clock;
 
-/// Whether a method has one site, which sends a selector, and whose sends were all found by walks: so many.
+/// Whether a method has one site, which sends a selector, and whose sends were all found by walks: this many.
 fn are_walks(sites: &[SiteStats], selector: Selector, sends: u64) -> bool {
     let [site] = sites else {
         return false;
@@ -42,7 +42,7 @@ fn sites_of_go<K: Naming, R: Wait>(
     caller.stats(rt, alloc, A, go)
 }
 
-/// Whether the caller is told that so many sends of `missing` in `A go` were found by walks, and no others.
+/// Whether the caller is told that this many sends of `missing` in `A go` were found by walks, and no others.
 fn has_walked<K: Naming, R: Wait>(
     rt: &R,
     alloc: Global,

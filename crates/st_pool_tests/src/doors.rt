@@ -1,4 +1,4 @@
-//! Gates that make a worker wait, and what threads of a test tell one another. Each wait has at most so many turns of a millisecond.
+//! Gates that make a worker wait, and what threads of a test tell one another. Each wait has a limit, in turns of a millisecond.
 use crate::scenes::Way;
 use st_pool::workers::Gate;
 use st_turn::claim::Claim;
@@ -52,12 +52,12 @@ impl Marks {
         self.gone.fetch_add(1, Ordering::SeqCst);
     }
 
-    /// Whether so many workers end soon.
+    /// Whether this many workers end soon.
     pub fn await_gone<R: Clock>(&self, rt: &R, wanted: u64) -> bool {
         reaches(rt, &self.gone, wanted)
     }
 
-    /// Whether so many workers have ended.
+    /// Whether this many workers have ended.
     pub fn are_gone(&self, wanted: u64) -> bool {
         self.gone.load(Ordering::SeqCst) >= wanted
     }
@@ -75,7 +75,7 @@ impl Marks {
         self.wrong.load(Ordering::SeqCst) != 0
     }
 
-    /// Whether there are so many claims soon.
+    /// Whether there are this many claims soon.
     pub fn await_claims<R: Clock>(&self, rt: &R, wanted: u64) -> bool {
         for _ in 0..TURNS {
             if self.claims() >= wanted {
@@ -86,13 +86,13 @@ impl Marks {
         false
     }
 
-    /// Whether so many quanta are over soon.
+    /// Whether this many quanta are over soon.
     pub fn await_ended<R: Clock>(&self, rt: &R, wanted: u64) -> bool {
         reaches(rt, &self.ended, wanted)
     }
 }
 
-/// Sleeps for so many milliseconds.
+/// Sleeps for this many milliseconds.
 pub fn pause<R: Clock>(rt: &R, millis: u64) {
     thread::sleep(rt, Duration::from_millis(millis));
 }
@@ -118,7 +118,7 @@ pub struct Door<'a, R: Clock> {
 }
 
 impl<'a, R: Clock> Door<'a, R> {
-    /// Whether the worker may soon take its steps, where both had so many claims before.
+    /// Whether the worker may soon take its steps, where both had this many claims before.
     fn opens(&self, of_both: u64) -> bool {
         let marks = self.marks;
         match self.way {

@@ -14,8 +14,8 @@ use std::sync::Wait;
 use std::test::*;
 use std::time::Clock;
 
-/// The worker has a claim of a turn that sends `tag` when a method is installed. The turn answers a number, after so many claims, and
-/// the caller does nothing more for it: a worker whose claim was refused goes on by itself.
+/// The worker has a claim of a turn that sends `tag` when a method is installed. The turn answers a number, after this many claims,
+/// and the caller does nothing more for it: a worker whose claim was refused goes on by itself.
 fn edited<K: Naming, R: Wait + Clock>(
     rt: &R,
     alloc: Global,

@@ -73,7 +73,7 @@ fn is_refused<K: Naming, R: Wait + Clock>(
     refused == Some(Refusal::HistoryFull)
 }
 
-/// Whether so many quanta are over soon, and no more are begun while nobody calls.
+/// Whether this many quanta are over soon, and no more are begun while nobody calls.
 fn rests_after<R: Clock>(rt: &R, marks: &Marks, quanta: u64) -> bool {
     let is_over = marks.await_ended(rt, quanta);
     pause(rt, 20);

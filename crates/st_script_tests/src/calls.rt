@@ -146,7 +146,7 @@ fn new_worker(alloc: Global) -> Result<Worker, AllocError> {
     Ok(Worker::new(Caches::new(alloc, Guard::new(alloc))?))
 }
 
-/// A claim of the first actor, of which a new worker has taken so many steps, or fewer if no step of the actor's own is next.
+/// A claim of the first actor, of which a new worker has taken this many steps, or fewer if no step of the actor's own is next.
 pub(crate) fn claim_of(alloc: Global, image: &mut Image, most: u32) -> Result<Claim, Refusal> {
     let mut claim = image.checkout(alloc, FIRST)?;
     let Ok(mut worker) = new_worker(alloc) else {

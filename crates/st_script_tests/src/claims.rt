@@ -57,7 +57,7 @@ fn installs() -> &'static [(ClassId, &'static str, Result<u32, Refusal>)] {
     INSTALLS
 }
 
-/// What the commit of a claim of so many steps answers after an install, where others were committed before it.
+/// What the commit of a claim of this many steps answers after an install, where others were committed before it.
 fn commit_after(
     alloc: Global,
     before: u32,
@@ -102,7 +102,7 @@ fn a_removal_touches_and_a_definition_does_not(rt: HostRuntime) -> Result<(), Fa
     Ok(())
 }
 
-/// What the commit of a claim of so many steps answers after an unrelated class got the superclass again that it has.
+/// What the commit of a claim of this many steps answers after an unrelated class got the superclass again that it has.
 fn commit_after_reparent(
     alloc: Global,
     before: u32,

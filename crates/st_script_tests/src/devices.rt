@@ -57,7 +57,7 @@ fn says_to<R: Read + Drop>(
     ended == end && output.as_slice() == replies.as_bytes()
 }
 
-/// A device that gives its bytes in pieces, and fails after so many of them.
+/// A device that gives its bytes in pieces, and fails after this many of them.
 #[derive(Drop)]
 struct Pieces<'a> {
     left: &'a [u8],
@@ -76,7 +76,7 @@ impl Read for Pieces<'_> {
     }
 }
 
-/// How the script of a new image ends whose input comes in pieces of so many bytes, and what it wrote.
+/// How the script of a new image ends whose input comes in pieces of this many bytes, and what it wrote.
 fn written_in_pieces(
     alloc: Global,
     settings: ScriptSettings,
@@ -152,7 +152,7 @@ fn an_interrupted_read_is_no_failure(rt: HostRuntime) -> Result<(), Fail> {
     Ok(())
 }
 
-/// An output that fails after so many writes, or after so many flushes.
+/// An output that fails after this many writes, or after this many flushes.
 #[derive(Drop)]
 struct FailingOutput {
     inner: MemoryOutput,

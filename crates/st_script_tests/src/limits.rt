@@ -39,7 +39,7 @@ fn slot_names(alloc: Global, slots: u32, first: u8) -> Result<Vec<Seq<u8>>, Allo
     Ok(names)
 }
 
-/// Defines a class with so many instance variables of its own.
+/// Defines a class with this many instance variables of its own.
 fn define_slots(
     alloc: Global,
     image: &mut Image,
@@ -229,7 +229,7 @@ fn messages(rt: HostRuntime) -> Result<(), Fail> {
     Ok(())
 }
 
-/// A history of so many items: a turn's beginning and its quantum are one each. A message that has begun stays begun.
+/// A history of this many items: a turn's beginning and its quantum are one each. A message that has begun stays begun.
 #[test]
 fn history(rt: HostRuntime) -> Result<(), Fail> {
     let alloc = rt.alloc();

@@ -19,7 +19,7 @@ const FALSE: Result<Outcome, Refusal> = Ok(Outcome::Answer(Value::Bool(false)));
 
 const TRUE: Result<Outcome, Refusal> = Ok(Outcome::Answer(Value::Bool(true)));
 
-/// An image whose mailboxes hold so many messages.
+/// An image whose mailboxes hold this many messages.
 fn holding(alloc: Global, capacity: u32) -> Result<Box<Image>, Refusal> {
     let settings = Settings {
         capacity,
@@ -28,7 +28,7 @@ fn holding(alloc: Global, capacity: u32) -> Result<Box<Image>, Refusal> {
     image_with(alloc, settings)
 }
 
-/// An image with an actor whose mailbox holds so many messages, and has them.
+/// An image with an actor whose mailbox holds this many messages, and has them.
 fn filled(alloc: Global, capacity: u32) -> Result<Box<Image>, Refusal> {
     let mut image = holding(alloc, capacity)?;
     create_object(alloc, &mut image)?;

@@ -34,7 +34,7 @@ const SETTINGS: Settings = Settings {
 const BEGINNING: &str =
     "{\"cmd\":\"define\",\"name\":\"A\",\"slots\":[],\"super\":\"Object\"}\n{\"class\":\"A\",\"cmd\":\"method\",\"source\":\"a ^7\"}\n{\"class\":\"A\",\"cmd\":\"actor\"}\n";
 
-/// Takes so many writes, and then fails.
+/// Takes this many writes, and then fails.
 #[derive(Drop)]
 struct Taking {
     writes: u32,
@@ -131,7 +131,7 @@ fn post_all<K: Naming, R: Wait>(rt: &R, alloc: Global, stage: &Stage<K>, sender:
     }
 }
 
-/// Lets the sessions of so many senders run, and waits for them.
+/// Lets the sessions of this many senders run, and waits for them.
 fn post_together<K: Naming + Send + Sync, R: Threads + Wait + Sync>(
     rt: &R,
     alloc: Global,

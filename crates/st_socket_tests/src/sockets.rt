@@ -150,8 +150,8 @@ fn plays<R: Net + Clock>(rt: &R, alloc: Global, listener: &UnixListener, part: P
     }
 }
 
-/// What a server with so many workers tells after so many sessions, beside clients that play a part, and the names of its faults;
-/// or nothing where the clients were answered otherwise.
+/// What a server with this many workers tells after this many sessions while clients play a part, and the names of its faults; or
+/// nothing if the clients were answered otherwise.
 fn told<R: Threads + Wait + Files + Net + Clock + Sync>(
     rt: &R,
     alloc: Global,
@@ -210,7 +210,7 @@ fn sessions_that_end_badly_leave_their_places(rt: HostRuntime) -> Result<(), Fai
     Ok(())
 }
 
-/// Whether so many workers and sessions are refused before anything is accepted.
+/// Whether this many workers and sessions are refused before anything is accepted.
 fn is_refused<R: Threads + Wait + Files + Net + Sync>(
     rt: &R,
     alloc: Global,

@@ -120,7 +120,7 @@ fn is_same_history(events: &[Event], model: &[Done], history: &[Item]) -> bool {
     model.len() == history.len()
 }
 
-/// Up to which edit of the class table the events that happened say, one after another, those behind so many edits.
+/// Up to which edit of the class table the events that happened say, one after another, those behind this many edits.
 fn same_edits<M: Mailbox>(events: &[Event], model: &[Done], before: u32, image: &Image<M>) -> u32 {
     let mut place = before;
     for done in model {

@@ -121,7 +121,7 @@ fn full_history() -> Rows {
     FULL_HISTORY
 }
 
-/// A new system with a history of at most so many items, whose actor has a message.
+/// A new system with a history of at most this many items, whose actor has a message.
 fn posted(alloc: Global, history: u32) -> Result<Box<TwoWorkers>, Refusal> {
     let mut system = new_system(alloc, history)?;
     if is_posted(alloc, &mut system)? {
@@ -162,7 +162,7 @@ fn commits_one_of_two_claims(rt: HostRuntime) {
     assert_eq!(rt; after_two_claims(rt.alloc()), Ok((None, true, None, true)));
 }
 
-/// Whether the events behind a claim of three steps and an install answer as they have to, and leave so many items.
+/// Whether the events behind a claim of three steps and an install answer as they have to, and leave this many items.
 fn is_answered(
     alloc: Global,
     class: ClassId,
@@ -191,7 +191,7 @@ fn by_events(rt: HostRuntime) {
     assert!(rt; is_answered(alloc, A, "bump ^0", surviving_claim(), 8) == Ok(true));
 }
 
-/// Whether a claim of so many rows of steps commits so after class A got the superclass again that it has.
+/// Whether a claim of this many rows of steps commits so after class A got the superclass again that it has.
 fn is_answered_after_reparent(alloc: Global, rows: Rows, wanted: usize) -> Result<bool, Refusal> {
     let mut system = posted(alloc, MOST)?;
     Ok(

@@ -222,7 +222,7 @@ pub(crate) fn first_events(alloc: Global) -> Result<Vec<Event>, AllocError> {
     Ok(events)
 }
 
-/// The list of a seed, with so many random events.
+/// The list of a seed, with this many random events.
 pub(crate) fn random_list(alloc: Global, seed: u64, count: u16) -> Result<Vec<Event>, AllocError> {
     let mut dice = Dice::new(seed);
     let mut events = first_events(alloc)?;

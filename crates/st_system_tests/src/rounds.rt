@@ -67,7 +67,7 @@ impl Rounds {
         Ok(())
     }
 
-    /// A worker takes so many steps of an actor and commits them.
+    /// A worker takes this many steps of an actor and commits them.
     pub(crate) fn quantum(
         &mut self,
         worker: u32,

@@ -91,7 +91,7 @@ fn system_of(alloc: Global, image: Image<ListBox>) -> Result<Box<TwoWorkers>, Al
     Ok(Box::new(alloc, system)?)
 }
 
-/// A new image with a history of at most so many items, and two workers without claims.
+/// A new image with a history of at most this many items, and two workers without claims.
 pub(crate) fn new_system(alloc: Global, history: u32) -> Result<Box<TwoWorkers>, Refusal> {
     let settings = Settings {
         capacity: 64,
@@ -122,7 +122,7 @@ pub(crate) fn items(system: &TwoWorkers) -> usize {
     system.image().history().len()
 }
 
-/// Whether the history ends with the beginning of a turn of the actor, and so many steps of it in one item.
+/// Whether the history ends with the beginning of a turn of the actor, and this many steps of it in one item.
 pub(crate) fn ends_with_a_run(system: &TwoWorkers, wanted: u32) -> bool {
     match system.image().history() {
         [.., Item::Begun(begun), Item::Ran { actor, steps }] => {

@@ -48,7 +48,7 @@ fn boxed<M: Mailbox>(alloc: Global, image: Image<M>) -> Result<Box<Image<M>>, Al
     Ok(Box::new(alloc, image)?)
 }
 
-/// A new image whose mailboxes hold so many messages, with the names of lists.
+/// A new image whose mailboxes hold this many messages, with the names of lists.
 fn new_image<M: Mailbox>(alloc: Global, capacity: u32) -> Result<Box<Image<M>>, Refusal> {
     let settings = Settings {
         capacity,

@@ -55,7 +55,7 @@ fn message(dice: &mut Dice) -> Selector {
     dice.one(MESSAGES).copied().unwrap_or(Selector(23))
 }
 
-/// What is done in a round, for an image with so many actors.
+/// What is done in a round, for an image with this many actors.
 pub(crate) fn random_event(
     alloc: Global,
     dice: &mut Dice,

@@ -59,7 +59,7 @@ fn take_step(
     Ok(stop)
 }
 
-/// Takes up to so many steps, and says how many there were and what stopped them.
+/// Takes up to this many steps, and says how many there were and what stopped them.
 fn take_steps(
     alloc: Global,
     body: &mut Body,
@@ -83,7 +83,7 @@ fn boxed(alloc: Global, body: Body) -> Result<Box<Body>, AllocError> {
     Ok(Box::new(alloc, body)?)
 }
 
-/// Up to so many plain steps from where a claim leads to.
+/// Up to this many plain steps from where a claim leads to.
 pub(crate) fn plain_steps(
     alloc: Global,
     claim: &Claim,

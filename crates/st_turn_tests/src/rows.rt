@@ -74,7 +74,7 @@ fn rows() -> &'static [Row] {
     ROWS
 }
 
-/// The number of steps and what ends them, where the row may have so many.
+/// The number of steps and what ends them, where the row may have this many.
 fn wanted(row: Row, limit: u32) -> (u32, Stop) {
     let (_, steps, stop) = row;
     if limit <= steps {
@@ -84,7 +84,7 @@ fn wanted(row: Row, limit: u32) -> (u32, Stop) {
     }
 }
 
-/// Whether a row of so many steps, and a second one of three more, end where they have to. None of them is committed.
+/// Whether a row of this many steps, and a second one of three more, end where they have to. None of them is committed.
 fn ends_well(
     alloc: Global,
     image: &mut Image,

@@ -137,7 +137,7 @@ fn programs() -> &'static [&'static str] {
     PROGRAMS
 }
 
-/// Takes quanta of so many steps until no actor is ready, and says in what the three ways differ first.
+/// Takes quanta of this many steps until no actor is ready, and says in what the three ways differ first.
 pub(crate) fn finish(
     alloc: Global,
     trial: &mut Trial,

@@ -149,7 +149,7 @@ impl Trial {
         }
     }
 
-    /// Takes up to so many steps of an actor, and says in what the three ways differ.
+    /// Takes up to this many steps of an actor, and says in what the three ways differ.
     pub(crate) fn take(
         &mut self,
         alloc: Global,

@@ -14,7 +14,7 @@ pub(crate) fn new_worker(alloc: Global) -> Result<Box<Worker>, AllocError> {
     Ok(Box::new(alloc, worker)?)
 }
 
-/// Takes up to so many steps in a row.
+/// Takes up to this many steps in a row.
 pub(crate) fn run(
     alloc: Global,
     worker: &mut Worker,
@@ -24,7 +24,7 @@ pub(crate) fn run(
     worker.run(alloc, claim, limit)
 }
 
-/// Takes up to so many steps one by one.
+/// Takes up to this many steps one by one.
 pub(crate) fn step(
     alloc: Global,
     worker: &mut Worker,
@@ -40,7 +40,7 @@ pub(crate) fn step(
     Ok(Stop::More)
 }
 
-/// Takes up to so many steps one by one, each with emptied caches, so that each send is found by a walk.
+/// Takes up to this many steps one by one, each with emptied caches, so that each send is found by a walk.
 pub(crate) fn walk(
     alloc: Global,
     worker: &mut Worker,

@@ -50,7 +50,7 @@ impl<M: Mailbox> Image<M> {
         })
     }
 
-    /// How many items the commit of so many steps adds to the history: none for no steps.
+    /// How many items the commit of this many steps adds to the history: none for no steps.
     fn items_to_commit(steps: u32) -> u32
         ensures items { result ≡ (if steps == 0 then 0 else 1) }
         ensures few { result < 3 }
@@ -58,7 +58,7 @@ impl<M: Mailbox> Image<M> {
         if steps == 0 { 0 } else { 1 }
     }
 
-    /// Why the history has no place for so many items more, or the count of steps none for so many steps, if so.
+    /// Why the history has no place for this many items more, or the count of steps none for this many steps, if so.
     fn steps_room_refusal(&self, items: u32, steps: u32) -> Option<Refusal>
         requires { items < 3 }
         ensures { result ≡ first_of (no_room self.now items ∷ too_many_steps self.now steps ∷ []) }

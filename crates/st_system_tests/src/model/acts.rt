@@ -10,7 +10,7 @@ use st_turn::acts::Act;
 use st_turn::body::Body;
 use std::alloc::{AllocError, Global};
 
-/// Whether a selector is one of those of lists, and takes so many arguments.
+/// Whether a selector is one of those of lists, and takes this many arguments.
 fn takes(selector: Selector, count: usize) -> bool {
     match names().get(usize::from(selector.0).wrapping_sub(22)) {
         Some(name) => {

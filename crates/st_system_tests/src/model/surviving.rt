@@ -29,7 +29,7 @@ fn used_next(body: &Body, version: &Version) -> Option<Selector> {
     }
 }
 
-/// Takes so many steps, and notes the selectors that they use.
+/// Takes this many steps, and notes the selectors that they use.
 fn note_steps(
     alloc: Global,
     body: &mut Body,
@@ -50,7 +50,7 @@ fn note_steps(
     Ok(())
 }
 
-/// The selectors that so many steps of a claim's actor use.
+/// The selectors that this many steps of a claim's actor use.
 fn used_by(alloc: Global, start: &Claim, steps: u32) -> Result<Vec<Selector>, AllocError> {
     start.known();
     let mut body = start.after().copy(alloc)?;
@@ -82,7 +82,7 @@ fn touches_one(edit: &Edit, selectors: &[Selector]) -> bool {
     selectors.iter().any(|selector| touches(edit, *selector))
 }
 
-/// Whether so many steps of a claim's actor used a selector that one of the later edits of a version touches.
+/// Whether this many steps of a claim's actor used a selector that one of the later edits of a version touches.
 pub(super) fn is_touched(
     alloc: Global,
     start: &Claim,

@@ -81,7 +81,7 @@ fn take_steps(
     Ok(())
 }
 
-/// The body after so many steps of a claim's actor.
+/// The body after this many steps of a claim's actor.
 fn body_after(alloc: Global, start: &Claim, steps: u32) -> Result<Body, AllocError>
     ensures { IfOk result (λ body. FitsSome start.now.edits start.now.actor body) }
 {

@@ -8,6 +8,7 @@ use Rattle.st_classes.specs.declared.faults.Fault.{Fault}
 use Rattle.st_classes.specs.declared.faults.Fault.TheVariants.{NotUnderstood, Overflow, ZeroDivide, BadArgument, MustBeBoolean, StackOverflow, HeapFull, LocalArgument, TooManyActors}
 use Rattle.st_mailbox.specs.declared.messages.Sender.{Sender}
 use Rattle.st_mailbox.specs.declared.messages.Sender.TheVariants as sender
+pub use Rattle.st_wire.specs.Fields.{list_at}
 use Rattle.st_wire.specs.Fields.{size, text_at, texts_at, each_of, within, whole_at, actor_at, number_at}
 use Rattle.st_wire.specs.Commands.{has_just}
 use Rattle.st_wire.specs.Names.{fault_name}
@@ -33,10 +34,6 @@ of_keys keys d found = if has_just keys d then found else None
 -- the items of an array, each read by f
 abbrev pub list_in : {T : Type 0} → (Data → Option T) → Data → Option (List T)
 list_in f d = option_and_then (each_of f) (as_array d)
-
--- the items of the array at a key, each read by f
-abbrev pub list_at : {T : Type 0} → (Data → Option T) → List ℕ → Data → Option (List T)
-list_at f key d = option_and_then (each_of f) (option_and_then as_array (get key d))
 
 -- the value at a key, read by f
 abbrev pub one_at : {T : Type 0} → (Data → Option T) → List ℕ → Data → Option T

@@ -58,35 +58,35 @@ fn resolve_all<P: Drop, T: Means<P>>(
     Ok(Seq::from_vec(found))
 }
 
+/// What is meant, or the refusal of actors that mean nothing.
+fn meant<P: Drop>(part: Option<P>) -> Result<P, Refusal>
+    ensures { Finds Actors part result }
+{
+    match part {
+        Some(part) => Ok(part),
+        None => Err(ACTORS),
+    }
+}
+
 /// The class with this name.
 fn class_of(version: &Version, text: &[u8]) -> Result<ClassId, Refusal>
     ensures { Finds Actors (class_named version.now text.now) result }
 {
-    match version.class_named(text) {
-        Some(class) => Ok(class),
-        None => Err(ACTORS),
-    }
+    meant(version.class_named(text))
 }
 
 /// The selector with this text.
 fn selector_of(names: &Names, text: &[u8]) -> Result<Selector, Refusal>
     ensures { Finds Actors (spec.selector_of names.now text.now) result }
 {
-    match names.find(text) {
-        Some(selector) => Ok(selector),
-        None => Err(ACTORS),
-    }
+    meant(names.find(text))
 }
 
 /// The number, if it fits in 32 bits.
 fn word(number: u64) -> Result<u32, Refusal>
     ensures { Finds Actors (spec.below (2 ^ 32) number) result }
 {
-    if number < 4_294_967_296 {
-        Ok(number as u32)
-    } else {
-        Err(ACTORS)
-    }
+    meant(u32::try_from(number).ok())
 }
 
 /// The actors of a file.

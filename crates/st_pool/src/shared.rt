@@ -73,19 +73,25 @@ impl<K: Naming, M: Mailbox> Shared<K, M> {
         Ok(Caller::new(self, share))
     }
 
+    /// Looks for the lock this often, with this many pauses after each look.
+    #[inline(always)]
+    fn look(&self, looks: usize, pauses: usize) -> Option<MutexGuard<'_, Office<K, M>>> {
+        for _ in 0..looks {
+            if let Some(office) = self.office.try_lock() {
+                return Some(office);
+            }
+            pause(pauses);
+        }
+        None
+    }
+
     /// Takes the lock. It is looked for some time before the thread sleeps for it.
     pub(crate) fn enter<R: Wait>(&self, rt: &R) -> MutexGuard<'_, Office<K, M>> {
-        for _ in 0..LOOKS {
-            if let Some(office) = self.office.try_lock() {
-                return office;
-            }
-            pause(PAUSES);
+        if let Some(office) = self.look(LOOKS, PAUSES) {
+            return office;
         }
-        for _ in 0..LONG_LOOKS {
-            if let Some(office) = self.office.try_lock() {
-                return office;
-            }
-            pause(LONG_PAUSES);
+        if let Some(office) = self.look(LONG_LOOKS, LONG_PAUSES) {
+            return office;
         }
         self.office.lock(rt)
     }

@@ -1,5 +1,5 @@
 //! Commands that need the image alone, without a worker.
-ghost use Rattle.std.specs.Prelude.{◌≡◌};
+ghost use Rattle.std.specs.Prelude.{◌≡◌, IfErr, IfOk};
 ghost use Rattle.st_image.specs.Calls.{Closes, Creates, Defines, InstallsIn, Posts};
 ghost use Rattle.st_image.specs.Checkpoints.{MakesCheckpoint};
 ghost use Rattle.st_image.specs.Images.{counts_of};
@@ -21,14 +21,26 @@ use st_wire::commands::Command;
 use st_wire::replies::Reply;
 use std::alloc::Global;
 
+/// The reply to a call: what `told` makes of its answer, or its refusal.
+pub(crate) fn reply_of<T, F: FnOnce(T) -> Reply + Drop>(
+    answer: Result<T, Refusal>,
+    told: F,
+) -> Reply
+    requires { IfOk answer (F.pre told) }
+    ensures ok { IfOk answer (λ value. F.post told value result) }
+    ensures err { IfErr answer (λ refusal. result ≡ replies.Refused refusal) }
+{
+    match answer {
+        Ok(value) => told(value),
+        Err(refusal) => Reply::Refused(refusal),
+    }
+}
+
 /// The reply to an edit.
 pub(crate) fn edit_reply(answer: Result<u32, Refusal>) -> Reply
     ensures { result ≡ reply_by replies.Version answer }
 {
-    match answer {
-        Ok(version) => Reply::Version(version),
-        Err(refusal) => Reply::Refused(refusal),
-    }
+    reply_of(answer, Reply::Version)
 }
 
 fn define(
@@ -111,19 +123,15 @@ fn create(alloc: Global, image: &mut Image, class: &[u8]) -> Reply
     let Some(class) = image.version().class_named(class) else {
         return Reply::Refused(Refusal::UnknownClass);
     };
-    match image.create(alloc, class) {
-        Ok(actor) => Reply::Actor(actor),
-        Err(refusal) => Reply::Refused(refusal),
-    }
+    let answer = image.create(alloc, class);
+    reply_of(answer, Reply::Actor)
 }
 
 fn close(image: &mut Image, actor: ActorId) -> Reply
     ensures { RepliesTo (λ done. replies.Closed) (Closes image.old actor) result image.new }
 {
-    match image.close(actor) {
-        Ok(()) => Reply::Closed,
-        Err(refusal) => Reply::Refused(refusal),
-    }
+    let answer = image.close(actor);
+    reply_of(answer, |_done| Reply::Closed)
 }
 
 fn checkpoint(alloc: Global, image: &mut Image) -> Reply
@@ -153,10 +161,8 @@ fn post_values(
         seq,
         ..
     } = *posting;
-    match image.post(alloc, sender, seq, actor, selector, args) {
-        Ok(turn) => Reply::Turn(turn),
-        Err(refusal) => Reply::Refused(refusal),
-    }
+    let answer = image.post(alloc, sender, seq, actor, selector, args);
+    reply_of(answer, Reply::Turn)
 }
 
 fn post_arguments(

@@ -167,20 +167,16 @@ fn create<K: Naming, R: Wait>(
     let Some(class) = class_named(rt, caller, class) else {
         return Reply::Refused(Refusal::UnknownClass);
     };
-    match caller.create(rt, alloc, class) {
-        Ok(actor) => Reply::Actor(actor),
-        Err(refusal) => Reply::Refused(refusal),
-    }
+    let answer = caller.create(rt, alloc, class);
+    asking::reply_of(answer, Reply::Actor)
 }
 
 fn close<K: Naming, R: Wait>(rt: &R, caller: &mut Caller<'_, K, Mailbox>, actor: ActorId) -> Reply
     ensures replies { (answer : _) × CallsOnce K.start caller.old (λ i. Closes i actor) answer × (result ≡ reply_by (λ done. replies.Closed) answer) }
     ensures same { caller.new ≡ caller.old }
 {
-    match caller.close(rt, actor) {
-        Ok(()) => Reply::Closed,
-        Err(refusal) => Reply::Refused(refusal),
-    }
+    let answer = caller.close(rt, actor);
+    asking::reply_of(answer, |_done| Reply::Closed)
 }
 
 /// The value of an argument. A symbol's text is interned.
@@ -272,10 +268,8 @@ fn post<K: Naming, R: Wait>(
 ) -> Reply
     ensures posts { (answer : _) × PostsText K.start caller.old posting.now.actor posting.now.arguments.now posting.now.selector.now posting.now.sender posting.now.seq answer caller.new × (result ≡ reply_by replies.Turn answer) }
 {
-    match post_named(rt, alloc, caller, posting) {
-        Ok(turn) => Reply::Turn(turn),
-        Err(refusal) => Reply::Refused(refusal),
-    }
+    let answer = post_named(rt, alloc, caller, posting);
+    asking::reply_of(answer, Reply::Turn)
 }
 
 fn outcome<K: Naming, R: Wait>(

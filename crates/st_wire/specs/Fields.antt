@@ -35,9 +35,13 @@ abbrev pub each_of : {T : Type 0} → (Data → Option T) → Items → Option (
 each_of f no_items = Some []
 each_of f (item d ds) = cons_of (f d) (each_of f ds)
 
+-- the items of the array at a key, each read by f
+abbrev pub list_at : {T : Type 0} → (Data → Option T) → List ℕ → Data → Option (List T)
+list_at f key d = option_and_then (each_of f) (option_and_then as_array (get key d))
+
 -- the texts at a key
 abbrev pub texts_at : List ℕ → Data → Option (List (List ℕ))
-texts_at key d = option_and_then (each_of text) (option_and_then as_array (get key d))
+texts_at = list_at text
 
 -- a number, if it is in its range
 abbrev pub within : ℕ → ℕ → Option ℕ → Option ℕ
@@ -89,4 +93,4 @@ argument (object members) = named (object members)
 
 -- the arguments at a key
 abbrev pub arguments_at : List ℕ → Data → Option (List Argument)
-arguments_at key d = option_and_then (each_of argument) (option_and_then as_array (get key d))
+arguments_at = list_at argument

@@ -6,7 +6,7 @@ ghost use Rattle.st_classes.specs.declared.refusals.Refusal.TheVariants.{BadComm
 ghost use Rattle.st_wire.specs.PartResults.{Reads};
 ghost use Rattle.st_wire.specs.Commands.{ReturnsMeanNothing, command_of, command_rules, has_just as has_just_keys, command_in, define_in, method_in, remove_in, reparent_in, new_actor_in, post_in, close_in, run_in, outcome_in, stats_in, checkpoint_in};
 
-use crate::fields::{actor_at, arguments_at, quanta_at, sender_at, text_at, texts_at, whole_at};
+use crate::fields::{actor_at, list_at, quanta_at, sender_at, text_at, whole_at};
 use crate::keys::has_just;
 use serde_json::{Category, Value};
 use st_classes::refusals::Refusal;
@@ -143,7 +143,7 @@ fn define(alloc: Global, object: &Value) -> Result<Command, Refusal>
     Ok(Command::Define {
         name: text_at(alloc, object, "name")?,
         parent: text_at(alloc, object, "super")?,
-        slots: texts_at(alloc, object, "slots")?,
+        slots: list_at(alloc, object, "slots")?,
     })
 }
 
@@ -195,7 +195,7 @@ fn post(alloc: Global, object: &Value) -> Result<Command, Refusal>
     )?;
     Ok(Command::Post {
         actor: actor_at(object, "actor")?,
-        args: arguments_at(alloc, object, "args")?,
+        args: list_at(alloc, object, "args")?,
         selector: text_at(alloc, object, "selector")?,
         sender: sender_at(object, "sender")?,
         seq: whole_at(object, "seq", 0, u64::MAX)?,

@@ -13,36 +13,81 @@ use st_classes::seq::Seq;
 use st_classes::values::ActorId;
 use std::alloc::Global;
 
+/// A type that can be read from a JSON value.
+pub(crate) trait Readable: Drop {
+    ghost use Rattle.std.specs.Prelude.{Option};
+    ghost use Rattle.serde_json.specs.Data.{Data};
+
+    /// The value that is read, if the JSON value has the right form.
+    ghost form: { Data → Option Self };
+
+    /// Reads a value.
+    fn read(alloc: Global, value: &Value) -> Result<Self, Refusal>
+        ensures { Reads (form (view value.now)) result };
+}
+
+impl Readable for Seq<u8> {
+    ghost form = { spec.text };
+
+    fn read(alloc: Global, value: &Value) -> Result<Seq<u8>, Refusal> {
+        let Some(text) = value.as_str() else {
+            return Err(Refusal::BadCommand);
+        };
+        let bytes = Vec::from_slice(alloc, text.as_bytes())?;
+        Ok(Seq::from_vec(bytes))
+    }
+}
+
+impl Readable for Argument {
+    ghost form = { spec.argument };
+
+    fn read(alloc: Global, value: &Value) -> Result<Argument, Refusal> {
+        match value {
+            Value::Null => Ok(Argument::Nil),
+            Value::Bool(truth) => Ok(Argument::Bool(*truth)),
+            Value::Number(number) => match number.as_i64() {
+                Some(integer) => Ok(Argument::Int(integer)),
+                None => Err(Refusal::BadCommand),
+            },
+            Value::String(_) | Value::Array(_) => Err(Refusal::BadCommand),
+            Value::Object(_) => named(alloc, value),
+        }
+    }
+}
+
+fn each<T: Readable>(alloc: Global, values: &Vec<Value>) -> Result<Seq<T>, Refusal>
+    ensures { Reads (spec.each_of T.form (items_view values.now.items)) result }
+{
+    let mut found = Vec::new(alloc);
+    for value in values {
+        let one = T::read(alloc, value)?;
+        if found.push(one).is_err() {
+            return Err(Refusal::NoMemory);
+        }
+    }
+    Ok(Seq::from_vec(found))
+}
+
 /// The text at a key.
 pub(crate) fn text_at(alloc: Global, object: &Value, key: &str) -> Result<Seq<u8>, Refusal>
     ensures { Reads (spec.text_at key.now (view object.now)) result }
 {
     match object.get(key) {
-        Some(value) => text(alloc, value),
+        Some(value) => Seq::read(alloc, value),
         None => Err(Refusal::BadCommand),
     }
 }
 
-/// The texts at a key.
-pub(crate) fn texts_at(alloc: Global, object: &Value, key: &str) -> Result<Seq<Seq<u8>>, Refusal>
-    ensures { Reads (spec.texts_at key.now (view object.now)) result }
-{
-    match object.get(key).and_then(Value::as_array) {
-        Some(values) => texts(alloc, values),
-        None => Err(Refusal::BadCommand),
-    }
-}
-
-/// The arguments at a key.
-pub(crate) fn arguments_at(
+/// The items of the array at a key.
+pub(crate) fn list_at<T: Readable>(
     alloc: Global,
     object: &Value,
     key: &str,
-) -> Result<Seq<Argument>, Refusal>
-    ensures { Reads (spec.arguments_at key.now (view object.now)) result }
+) -> Result<Seq<T>, Refusal>
+    ensures { Reads (spec.list_at T.form key.now (view object.now)) result }
 {
     match object.get(key).and_then(Value::as_array) {
-        Some(values) => arguments(alloc, values),
+        Some(values) => each(alloc, values),
         None => Err(Refusal::BadCommand),
     }
 }
@@ -80,57 +125,6 @@ pub(crate) fn quanta_at(object: &Value, key: &str) -> Result<u32, Refusal>
 {
     let number = whole_at(object, key, 1, 1_000_000)?;
     Ok(number as u32)
-}
-
-fn text(alloc: Global, value: &Value) -> Result<Seq<u8>, Refusal>
-    ensures { Reads (spec.text (view value.now)) result }
-{
-    let Some(text) = value.as_str() else {
-        return Err(Refusal::BadCommand);
-    };
-    let bytes = Vec::from_slice(alloc, text.as_bytes())?;
-    Ok(Seq::from_vec(bytes))
-}
-
-fn texts(alloc: Global, values: &Vec<Value>) -> Result<Seq<Seq<u8>>, Refusal>
-    ensures { Reads (spec.each_of spec.text (items_view values.now.items)) result }
-{
-    let mut found = Vec::new(alloc);
-    for value in values {
-        let one = text(alloc, value)?;
-        if found.push(one).is_err() {
-            return Err(Refusal::NoMemory);
-        }
-    }
-    Ok(Seq::from_vec(found))
-}
-
-fn arguments(alloc: Global, values: &Vec<Value>) -> Result<Seq<Argument>, Refusal>
-    ensures { Reads (spec.each_of spec.argument (items_view values.now.items)) result }
-{
-    let mut found = Vec::new(alloc);
-    for value in values {
-        let one = argument(alloc, value)?;
-        if found.push(one).is_err() {
-            return Err(Refusal::NoMemory);
-        }
-    }
-    Ok(Seq::from_vec(found))
-}
-
-fn argument(alloc: Global, value: &Value) -> Result<Argument, Refusal>
-    ensures { Reads (spec.argument (view value.now)) result }
-{
-    match value {
-        Value::Null => Ok(Argument::Nil),
-        Value::Bool(truth) => Ok(Argument::Bool(*truth)),
-        Value::Number(number) => match number.as_i64() {
-            Some(integer) => Ok(Argument::Int(integer)),
-            None => Err(Refusal::BadCommand),
-        },
-        Value::String(_) | Value::Array(_) => Err(Refusal::BadCommand),
-        Value::Object(_) => named(alloc, value),
-    }
 }
 
 /// An actor, a symbol or a class: an object with one key.

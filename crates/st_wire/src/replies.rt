@@ -1,7 +1,8 @@
 //! Replies, and how they are written as lines.
 ghost use Rattle.std.specs.Prelude.{◌≡◌, [], ◌∷◌, IfOk, codes, decimal};
 ghost use Rattle.json.specs.Token.{key, string, number, begin_object, end_object};
-ghost use Rattle.st_wire.specs.declared.replies.Reply.TheVariants.{Closed as ClosedReply, Ran, Counted, Checked, Answer, Fault as FaultReply, Sites, Refused};
+ghost use Rattle.serde_json.specs.Data.{object, member, no_members};
+ghost use Rattle.st_wire.specs.declared.replies.Reply.TheVariants.{Closed as ClosedReply, Checked, Answer, Fault as FaultReply, Sites, Refused};
 ghost use Rattle.st_wire.specs.Replies.{line_of, reply_data, answered_data, state_name as name_of, site_data, site_items, refusal_fields, ok, only, whole, RepliesHaveKeysInOrder};
 ghost use Rattle.st_wire.specs.Writing.{Adds, data_tokens, items_tokens, members_tokens};
 
@@ -111,8 +112,12 @@ impl Reply {
             Reply::Actor(actor) => write_number(writer, "actor", actor.0.into()),
             Reply::Turn(turn) => write_number(writer, "turn", *turn),
             Reply::Closed => write_closed(writer),
-            Reply::Ran { quanta, steps } => write_ran(writer, (*quanta).into(), *steps),
-            Reply::Counted { posts, steps } => write_counted(writer, *posts, *steps),
+            Reply::Ran { quanta, steps } => {
+                write_two(writer, "quanta", (*quanta).into(), "steps", *steps)
+            }
+            Reply::Counted { posts, steps } => {
+                write_two(writer, "posts", *posts, "steps", *steps)
+            }
             Reply::Checked {
                 actors,
                 classes,
@@ -239,21 +244,19 @@ fn write_closed(writer: &mut Writer) -> Result<(), AllocError>
     end_ok(writer)
 }
 
-fn write_ran(writer: &mut Writer, quanta: u64, steps: u64) -> Result<(), AllocError>
-    ensures { Adds result writer.old writer.new (data_tokens (reply_data (Ran quanta steps))) }
+/// Writes a reply whose result is two numbers.
+fn write_two(
+    writer: &mut Writer,
+    first: &str,
+    m: u64,
+    second: &str,
+    n: u64,
+) -> Result<(), AllocError>
+    ensures { Adds result writer.old writer.new (data_tokens (ok (object (member first.now (whole m) (member second.now (whole n) no_members))))) }
 {
     begin_ok(writer)?;
-    number_at(writer, "quanta", quanta)?;
-    number_at(writer, "steps", steps)?;
-    end_ok(writer)
-}
-
-fn write_counted(writer: &mut Writer, posts: u64, steps: u64) -> Result<(), AllocError>
-    ensures { Adds result writer.old writer.new (data_tokens (reply_data (Counted posts steps))) }
-{
-    begin_ok(writer)?;
-    number_at(writer, "posts", posts)?;
-    number_at(writer, "steps", steps)?;
+    number_at(writer, first, m)?;
+    number_at(writer, second, n)?;
     end_ok(writer)
 }
 

@@ -5,7 +5,7 @@ ghost use Rattle.st_file.specs.Answers.{Finds};
 ghost use Rattle.st_file.specs.Meanings as spec;
 
 use crate::resolving::values::values_of;
-use crate::resolving::{ACTORS, Means, class_of, resolve_all, selector_of, word};
+use crate::resolving::{ACTORS, Means, class_of, meant, resolve_all, selector_of, word};
 use crate::texts::{BodyText, FrameText, ObjectText, PhaseText, ValueText};
 use st_classes::names::Names;
 use st_classes::refusals::Refusal;
@@ -39,11 +39,7 @@ fn method_of(place: u64) -> Result<MethodId, Refusal>
 fn pc_of(place: u64) -> Result<u16, Refusal>
     ensures { Finds Actors (spec.below (2 ^ 16) place) result }
 {
-    if place < 65_536 {
-        Ok(place as u16)
-    } else {
-        Err(ACTORS)
-    }
+    meant(u16::try_from(place).ok())
 }
 
 impl Means<Frame> for FrameText {

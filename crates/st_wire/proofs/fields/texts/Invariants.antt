@@ -1,8 +1,0 @@
-use Rattle.std.proofs.Common.{◌≡◌, drop}
-use Rattle.serde_json.specs.View.{items_view}
-use Rattle.st_wire.specs.Fields as spec
-use Rattle.st_wire.proofs.Lists.{after}
-use Rattle.st_wire.proofs.fields.texts.Given as goal
-
-abbrev pub invariant-loop-value : goal.invariant-loop-value
-invariant-loop-value l = spec.each_of spec.text (items_view l.values.items) ≡ after l.found.items (spec.each_of spec.text (items_view (drop l.value-index l.values.items)))

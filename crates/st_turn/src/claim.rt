@@ -54,7 +54,7 @@ pub struct ClaimParts {
     pub actor: ActorId,
     pub token: Token,
     pub before: Body,
-    /// None until the first steps: it is then made as a copy of the body before.
+    /// None until the first steps, for which it is made as a copy of the body before; and None once the claim is taken apart.
     pub after: Option<Body>,
     pub steps: u32,
     pub sends: Vec<Sent>,
@@ -195,8 +195,8 @@ impl Claim {
         sum_sends(&mut parts.sums, parts.sends.as_slice());
     }
 
-    /// Takes the claim apart into the body to which the steps lead and the other parts. If no step was taken, this needs memory for a
-    /// copy of the body; if there is none, the claim is handed back.
+    /// Takes the claim apart into the body to which the steps lead and the other parts. If no step was taken, this may need memory for
+    /// a copy of the body; if there is none, the claim is handed back.
     pub fn into_parts(self, alloc: Global) -> Result<(Box<ClaimParts>, Body), Claim>
         ensures actor { IfOk result (λ r. r.0.value.actor ≡ self.actor) }
         ensures edits { IfOk result (λ r. r.0.value.token ≡ self.edits) }

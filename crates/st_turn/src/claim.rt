@@ -1,5 +1,5 @@
 //! Steps of an actor that are taken apart from the image.
-ghost use Rattle.std.specs.Prelude.{◌≡◌, ◌<◌, [], Some, IfOk, IfErr, OnOk, length};
+ghost use Rattle.std.specs.Prelude.{◌≡◌, ◌<◌, [], None, Some, IfOk, IfErr, OnOk, length};
 ghost use Rattle.std.specs.Option.{unwrap_or};
 ghost use Rattle.st_turn.specs.BodyFits.{FitsSome};
 ghost use Rattle.st_turn.specs.Claims.{IsSound};
@@ -206,6 +206,7 @@ impl Claim {
         ensures sums { IfOk result (λ r. 0 < length r.0.value.sums.items → AreSums r.0.value.sums.items self.sends) }
         ensures stamp { IfOk result (λ r. r.0.value.stamp ≡ self.stamp) }
         ensures after { IfOk result (λ r. r.1 ≡ self.after) }
+        ensures without { IfOk result (λ r. r.0.value.after ≡ None) }
         ensures back { IfErr result (λ c. c ≡ self) }
     {
         let Claim { mut parts } = self;

@@ -33,17 +33,19 @@ pub struct Sent {
     pub state: SiteState,
 }
 
-/// Makes the body that the steps change, if there is none yet. Until a step is taken it is a copy of the body before.
+/// Makes the body that the steps change, if there is none yet. Until a step is taken it is a copy of the body before. It takes the
+/// memory of a spare body, if there is one.
 pub(crate) fn make_after(
     alloc: Global,
     before: &Body,
     after: &mut Option<Body>,
+    spare: &mut Option<Body>,
 ) -> Result<(), AllocError>
     ensures ok { OnOk result (after.new ≡ Some (unwrap_or after.old before.now)) }
     ensures same { unwrap_or after.new before.now ≡ unwrap_or after.old before.now }
 {
     if after.is_none() {
-        *after = Some(before.copy(alloc)?);
+        *after = Some(before.copy_into(alloc, spare.take())?);
     }
     Ok(())
 }
@@ -56,12 +58,36 @@ pub struct ClaimParts {
     pub before: Body,
     /// None until the first steps, for which it is made as a copy of the body before; and None once the claim is taken apart.
     pub after: Option<Body>,
+    /// A body that nothing reads, whose memory the body after may take.
+    pub spare: Option<Body>,
     pub steps: u32,
     pub sends: Vec<Sent>,
     /// The sums of the sends by their sites. None are made until they are asked for, and a step more takes them away.
     pub sums: Vec<SiteSum>,
     /// A number that identifies the body before, given by the maker of the claim.
     pub stamp: u64,
+}
+
+/// Gives the parts of a claim those of a claim of no steps, but for the memory that they have, and returns the token that they had.
+fn begin_again(
+    parts: &mut ClaimParts,
+    actor: ActorId,
+    token: Token,
+    body: Body,
+    stamp: u64,
+) -> Token
+    ensures begins { (parts.new.actor ≡ actor) × (parts.new.token ≡ token) × (parts.new.before ≡ body) × (parts.new.after ≡ None) × (parts.new.steps ≡ 0) × (parts.new.sends.items ≡ []) × (parts.new.sums.items ≡ []) }
+    ensures stamp { parts.new.stamp ≡ stamp }
+{
+    let before = std::mem::replace(&mut parts.before, body);
+    drop(parts.spare.replace(before));
+    drop(parts.after.take());
+    parts.actor = actor;
+    parts.steps = 0;
+    parts.sends.clear();
+    parts.sums.clear();
+    parts.stamp = stamp;
+    std::mem::replace(&mut parts.token, token)
 }
 
 /// Steps of an actor at a published version, which lead from a body of the actor's to another. Contracts see the actor, the edits of
@@ -103,6 +129,7 @@ impl Claim {
             token,
             before: body,
             after: None,
+            spare: None,
             steps: 0,
             sends: Vec::new(alloc),
             sums: Vec::new(alloc),
@@ -112,6 +139,21 @@ impl Claim {
             Ok(parts) => Ok(Claim { parts }),
             Err(_) => Err(AllocError),
         }
+    }
+
+    /// The same, of parts that are no longer a claim's: it takes their memory, and no other. The token that they had is given back.
+    pub fn renew(
+        mut parts: Box<ClaimParts>,
+        actor: ActorId,
+        token: Token,
+        body: Body,
+        stamp: u64,
+    ) -> (Claim, Token)
+        requires { FitsSome token actor body }
+        ensures { result.0 ≡ record { actor = actor; edits = token; before = body; after = body; steps = 0; sends = []; stamp = stamp } }
+    {
+        let old = begin_again(&mut parts, actor, token, body, stamp);
+        (Claim { parts }, old)
     }
 
     /// Shows that the claim is sound.

@@ -14,6 +14,16 @@ pub(crate) fn copied(alloc: Global, values: &Values) -> Result<Values, AllocErro
     Ok(Seq::from_vec(items))
 }
 
+/// A copy of the values that takes the memory of other ones, as far as it goes.
+pub(crate) fn copied_into(spare: Values, values: &Values) -> Result<Values, AllocError>
+    ensures { IfOk result (λ copy. copy ≡ values.now) }
+{
+    let mut items = spare.into_vec();
+    items.clear();
+    items.extend_from_slice(values.as_slice())?;
+    Ok(Seq::from_vec(items))
+}
+
 /// Whether two lists have the same values.
 pub(crate) fn same_values(some: &[Value], others: &[Value]) -> bool
     ensures { IsTrue result ↔ some.now ≡ others.now }

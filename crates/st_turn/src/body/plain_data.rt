@@ -1,8 +1,9 @@
 //! Bodies as plain data: how they are copied and compared.
-ghost use Rattle.std.specs.Prelude.{◌≡◌, ◌↔◌, IfOk, IsTrue};
+ghost use Rattle.std.specs.Prelude.{◌≡◌, ◌↔◌, ◌≤◌, length, take, IfOk, IsTrue, OnOk};
 
 use crate::body::{Body, Object, Objects, Outcome, Phase};
-use crate::value_lists::{copied, same_values};
+use crate::value_lists::{copied, copied_into, same_values};
+use st_classes::seq::Seq;
 use std::alloc::{AllocError, Global};
 
 impl Object {
@@ -14,6 +15,17 @@ impl Object {
             class: self.class,
             slots: copied(alloc, &self.slots)?,
         })
+    }
+
+    /// Makes this object the same as another one. It takes memory only if it has room for fewer values. If memory runs out, it has
+    /// no values.
+    fn become_same(&mut self, alloc: Global, other: &Object) -> Result<(), AllocError>
+        ensures { OnOk result (self.new ≡ other.now) }
+    {
+        let spare = std::mem::replace(&mut self.slots, Seq::from_vec(Vec::new(alloc)));
+        self.slots = copied_into(spare, &other.slots)?;
+        self.class = other.class;
+        Ok(())
     }
 
     /// Whether two objects are of one class and have the same values.
@@ -39,12 +51,49 @@ impl Objects {
         Ok(Objects { items })
     }
 
+    /// A copy of the objects that takes the memory of other ones, as far as it goes.
+    fn copy_into(&self, alloc: Global, spare: Objects) -> Result<Objects, AllocError>
+        ensures { IfOk result (λ objects. objects ≡ self.now) }
+    {
+        let Objects { mut items } = spare;
+        items.truncate(self.items.len());
+        make_same(alloc, items.as_mut_slice(), self.items.as_slice())?;
+        add_rest(alloc, &mut items, self.items.as_slice())?;
+        Ok(Objects { items })
+    }
+
     /// Whether two actors' objects are the same.
     fn is_same(&self, other: &Objects) -> bool
         ensures { IsTrue result ↔ self.now ≡ other.now }
     {
         same_objects(self.items.as_slice(), other.items.as_slice())
     }
+}
+
+/// Makes objects the same as the first ones of a list that is not shorter.
+fn make_same(alloc: Global, objects: &mut [Object], others: &[Object]) -> Result<(), AllocError>
+    requires { length objects.old ≤ length others.now }
+    ensures { OnOk result (objects.new ≡ take (length objects.old) others.now) }
+{
+    let mut at = 0;
+    'same: while at < objects.len() {
+        objects[at].become_same(alloc, &others[at])?;
+        at += 1;
+    }
+    Ok(())
+}
+
+/// Adds copies of the objects of a list to its first ones.
+fn add_rest(alloc: Global, objects: &mut Vec<Object>, others: &[Object]) -> Result<(), AllocError>
+    requires first { objects.old.items ≡ take (length objects.old.items) others.now }
+    requires few { length objects.old.items ≤ length others.now }
+    ensures { OnOk result (objects.new.items ≡ others.now) }
+{
+    'rest: while objects.len() < others.len() {
+        let copy = others[objects.len()].copy(alloc)?;
+        objects.push(copy)?;
+    }
+    Ok(())
 }
 
 /// Whether two lists have the same objects.
@@ -84,6 +133,18 @@ impl Phase {
         })
     }
 
+    /// A copy of the phase that takes the memory of another one, if both are frames.
+    fn copy_into(&self, alloc: Global, spare: Phase) -> Result<Phase, AllocError>
+        ensures { IfOk result (λ phase. phase ≡ self.now) }
+    {
+        match (self, spare) {
+            (Phase::Frames(frames), Phase::Frames(spare)) => {
+                Ok(Phase::Frames(frames.copy_into(spare)?))
+            }
+            _ => self.copy(alloc),
+        }
+    }
+
     /// Whether two turns are in the same state.
     fn is_same(&self, other: &Phase) -> bool
         ensures { IsTrue result ↔ self.now ≡ other.now }
@@ -116,6 +177,19 @@ impl Body {
             objects: self.objects.copy(alloc)?,
             phase: self.phase.copy(alloc)?,
         })
+    }
+
+    /// The same copy. It takes the memory of another body, if there is one, as far as it goes.
+    pub fn copy_into(&self, alloc: Global, spare: Option<Body>) -> Result<Body, AllocError>
+        ensures { IfOk result (λ body. body ≡ self.now) }
+    {
+        match spare {
+            Some(Body { objects, phase }) => Ok(Body {
+                objects: self.objects.copy_into(alloc, objects)?,
+                phase: self.phase.copy_into(alloc, phase)?,
+            }),
+            None => self.copy(alloc),
+        }
     }
 
     /// Whether two bodies have the same objects, and their turns are in the same state.

@@ -58,6 +58,29 @@ impl Stack {
         })
     }
 
+    /// The same copy. It takes the memory of another stack, as far as it goes.
+    pub(crate) fn copy_into(&self, spare: Stack) -> Result<Stack, AllocError>
+        ensures { IfOk result (λ stack. stack ≡ self.now) }
+    {
+        let Stack {
+            mut values,
+            callers,
+            ..
+        } = spare;
+        let size = usize::min(self.values.len(), self.top.saturating_add(SPARE));
+        values.clear();
+        values.reserve(size)?;
+        values.extend_from_slice(&self.values[..self.top])?;
+        values.extend_from_slice(&NILS[..size - self.top])?;
+        let callers = self.callers.copy_into(callers)?;
+        Ok(Stack {
+            values,
+            top: self.top,
+            callers,
+            at: self.at,
+        })
+    }
+
     /// Whether two stacks have the same frames.
     pub fn is_same(&self, other: &Stack) -> bool
         ensures { IsTrue result ↔ self.now ≡ other.now }

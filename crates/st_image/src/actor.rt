@@ -187,11 +187,16 @@ impl<M: Mailbox> Actor<M> {
         }
     }
 
-    /// The body that a checkout hands out: that of an idle actor has begun the first pending message, where one is pending.
-    pub(crate) fn body_to_check_out(&self, alloc: Global) -> Result<Body, AllocError>
+    /// The body that a checkout hands out: that of an idle actor has begun the first pending message, where one is pending. It takes
+    /// the memory of a spare body, if there is one.
+    pub(crate) fn body_to_check_out(
+        &self,
+        alloc: Global,
+        spare: Option<Body>,
+    ) -> Result<Body, AllocError>
         ensures { IfOk result (λ b. b ≡ (view_checked_out self.now).body) }
     {
-        let mut body = self.body.copy(alloc)?;
+        let mut body = self.body.copy_into(alloc, spare)?;
         if body.is_idle() {
             if let Some(message) = self.mailbox.item(0) {
                 let message = message.copy(alloc)?;

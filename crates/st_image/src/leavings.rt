@@ -1,13 +1,16 @@
-//! What a commit leaves.
+//! What commits and checkouts leave.
+use st_classes::token::Token;
 use st_turn::body::Body;
 use st_turn::claim::ClaimParts;
 
-/// What a commit has no more use for: the claim without the body to which its steps led, and the body that the actor had. To let it go
-/// takes time, so who holds a lock on the image does that after it.
+/// What a commit has no more use for: the claim without the body to which its steps led, and the body that the actor had. The next
+/// checkout takes the memory of both for its claim, and leaves the token that the claim had. To let something go takes time, so who
+/// holds a lock on the image does that after it.
 #[derive(Drop)]
 pub struct Leavings {
     pub(crate) claim: Option<Box<ClaimParts>>,
     pub(crate) body: Option<Body>,
+    pub(crate) token: Option<Token>,
 }
 
 impl Leavings {
@@ -16,6 +19,12 @@ impl Leavings {
         Leavings {
             claim: None,
             body: None,
+            token: None,
         }
+    }
+
+    /// Lets go what no checkout takes.
+    pub fn let_go(&mut self) {
+        drop(self.token.take());
     }
 }

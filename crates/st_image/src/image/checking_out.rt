@@ -1,11 +1,38 @@
 //! Image::checkout and release: claims of actors.
+ghost use Rattle.std.specs.Prelude.{◌≡◌, [], IfOk};
+ghost use Rattle.st_turn.specs.BodyFits.{FitsSome};
+
 use crate::image::Image;
 use crate::items::Item;
+use crate::leavings::Leavings;
 use st_classes::refusals::Refusal;
+use st_classes::token::Token;
 use st_classes::values::ActorId;
 use st_mailbox::mailboxes::Mailbox;
+use st_turn::body::Body;
 use st_turn::claim::Claim;
 use std::alloc::{AllocError, Global};
+
+/// A claim of no steps, in the memory of one that was spent, if there is one.
+#[inline]
+fn claim_in(
+    alloc: Global,
+    actor: ActorId,
+    token: Token,
+    body: Body,
+    stamp: u64,
+    leavings: &mut Leavings,
+) -> Result<Claim, AllocError>
+    requires { FitsSome token actor body }
+    ensures { IfOk result (λ c. c ≡ record { actor = actor; edits = token; before = body; after = body; steps = 0; sends = []; stamp = stamp }) }
+{
+    let Some(parts) = leavings.claim.take() else {
+        return Claim::new(alloc, actor, token, body, stamp);
+    };
+    let (claim, old) = Claim::renew(parts, actor, token, body, stamp);
+    leavings.token = Some(old);
+    Ok(claim)
+}
 
 impl<M: Mailbox> Image<M> {
     ghost use Rattle.std.specs.Prelude.{◌≡◌, ◌+◌, ◌-◌, ◌^◌, ◌<◌, slice_get, None, Some, IfOk, OnErr, MatchResult, if◌then◌else◌};
@@ -55,16 +82,24 @@ impl<M: Mailbox> Image<M> {
 
     /// Hands out a claim of an actor whose checkout is not refused, and begins a turn if the actor is idle, as the caller knows. An
     /// error says that nothing changed.
-    fn hand_out(&mut self, alloc: Global, actor: ActorId, begins: bool) -> Result<Claim, AllocError>
+    fn hand_out(
+        &mut self,
+        alloc: Global,
+        actor: ActorId,
+        begins: bool,
+        leavings: &mut Leavings,
+    ) -> Result<Claim, AllocError>
         requires allowed { first_of (checkout_rules self.old (slice_get (world self.old).actors actor.0)) ≡ None }
         requires begins { begins ≡ idle_at (slice_get (world self.old).actors actor.0) }
         ensures ok { IfOk result (λ c. HasCheckedOut self.old actor c self.new) }
         ensures err { OnErr result (self.new ≡ self.old) }
     {
         let stamp = self.stamp_after(actor, begins);
-        let body = self.actors.body_to_check_out(alloc, actor)?;
+        let body = self
+            .actors
+            .body_to_check_out(alloc, actor, leavings.body.take())?;
         self.changes.make_room(actor)?;
-        let claim = Claim::new(alloc, actor, self.token.again()?, body, stamp)?;
+        let claim = claim_in(alloc, actor, self.token.again()?, body, stamp, leavings)?;
         if begins {
             self.history.reserve(1)?;
             self.history.push(Item::Begun(actor)).unwrap();
@@ -83,8 +118,20 @@ impl<M: Mailbox> Image<M> {
     pub fn checkout(&mut self, alloc: Global, actor: ActorId) -> Result<Claim, Refusal>
         ensures { ChecksOut self.old actor result self.new }
     {
+        self.checkout_in(alloc, actor, &mut Leavings::none())
+    }
+
+    /// The same. The claim takes the memory of what a commit left, if anything, so that quanta that are alike take no memory.
+    pub fn checkout_in(
+        &mut self,
+        alloc: Global,
+        actor: ActorId,
+        leavings: &mut Leavings,
+    ) -> Result<Claim, Refusal>
+        ensures { ChecksOut self.old actor result self.new }
+    {
         let begins = self.begins_turn(actor)?;
-        Ok(self.hand_out(alloc, actor, begins)?)
+        Ok(self.hand_out(alloc, actor, begins, leavings)?)
     }
 
     /// Gives a claim back: none of its steps is taken. No memory is taken.

@@ -27,8 +27,8 @@ use Rattle.st_image.proofs.CountingItems.{items_other}
 use Rattle.st_image.proofs.image.Image.hand_out.Goals as goal
 use Rattle.st_image.proofs.image.Image.hand_out.Goals.{then-begins+in_ok-reserve, else-begins}
 
-pub new-requires : goal.new-requires
-new-requires g c =
+pub claim_in-requires : goal.claim_in-requires
+claim_in-requires g c =
     let i = c.self.inside in
     let beside : Standing = standing_of i.earlier i.next_from i.actors.out i.tallies in
     let allowed : first_of (checkout_rules (seen i.base i.names i.history.items i.settings beside) (slice_get (world_of (constants_of i.names i.settings.capacity) i.base i.history.items).actors c.args.actor.0)) ≡ None = subst (λ (v : ImageView). first_of (checkout_rules v (slice_get (world v).actors c.args.actor.0)) ≡ None) (sym c.self.view_is) c.requires.allowed in

@@ -164,12 +164,13 @@ pub(crate) fn checkpoint<M: Mailbox>(alloc: Global, image: &mut Image<M>) -> Res
     Ok(())
 }
 
-/// Hands out a claim, which fits the image.
+/// Hands out a claim, which fits the image. It takes the memory of what a commit left.
 #[inline(always)]
 pub(crate) fn check_out<M: Mailbox>(
     alloc: Global,
     image: &mut Image<M>,
     actor: ActorId,
+    leavings: &mut Leavings,
 ) -> Result<Claim, Refusal>
     ensures takes { ChecksOut image.old actor result image.new }
     ensures fits { IfOk result (FitsClaim image.new) }
@@ -178,7 +179,7 @@ pub(crate) fn check_out<M: Mailbox>(
     ensures grows { Grows 0 0 0 image.old image.new }
 {
     image.known();
-    let answer = image.checkout(alloc, actor);
+    let answer = image.checkout_in(alloc, actor, leavings);
     image.known();
     answer
 }

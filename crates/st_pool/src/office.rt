@@ -360,12 +360,17 @@ impl<K: Naming, M: Mailbox> Office<K, M> {
 
     /// Hands out a claim.
     #[inline(always)]
-    pub(crate) fn check_out(&mut self, alloc: Global, actor: ActorId) -> Result<Held<K>, Refusal>
+    pub(crate) fn check_out(
+        &mut self,
+        alloc: Global,
+        actor: ActorId,
+        leavings: &mut Leavings,
+    ) -> Result<Held<K>, Refusal>
         ensures takes { ChecksOut self.old.image actor result self.new.image }
         ensures books { self.new.books ≡ self.old.books }
         ensures emptied { self.new.emptied ≡ self.old.emptied }
     {
-        match calls::check_out(alloc, &mut self.image, actor) {
+        match calls::check_out(alloc, &mut self.image, actor, leavings) {
             Ok(claim) => {
                 note(&self.head, &mut self.front, &self.image);
                 Ok(Held {
@@ -379,7 +384,12 @@ impl<K: Naming, M: Mailbox> Office<K, M> {
 
     /// What a worker does next.
     #[inline(always)]
-    pub(crate) fn work(&mut self, alloc: Global, mine: &mut WorkerShare<K>) -> Work<Held<K>>
+    pub(crate) fn work(
+        &mut self,
+        alloc: Global,
+        mine: &mut WorkerShare<K>,
+        leavings: &mut Leavings,
+    ) -> Work<Held<K>>
         ensures takes { Takes self.old.image result self.new.image }
         ensures share { mine.new ≡ mine.old }
         ensures books { self.new.books ≡ self.old.books }
@@ -393,7 +403,7 @@ impl<K: Naming, M: Mailbox> Office<K, M> {
         let Some(actor) = self.image.next_ready() else {
             return Work::Wait(self.waiting.moves());
         };
-        match self.check_out(alloc, actor) {
+        match self.check_out(alloc, actor, leavings) {
             Ok(held) => Work::Turn(held),
             Err(_) => Work::Wait(self.waiting.moves()),
         }
@@ -444,7 +454,7 @@ impl<K: Naming, M: Mailbox> Office<K, M> {
         if !takes_more(&answer, is_starved) {
             return (answer, Work::Wait(self.waiting.moves()));
         }
-        let work = self.work(alloc, mine);
+        let work = self.work(alloc, mine, leavings);
         if is_short && goes_on(&work) {
             self.waiting.note_hurried(has_steps(&answer));
         }

@@ -86,8 +86,9 @@ fn next_work<K: Naming, M: Mailbox, R: Wait>(
     alloc: Global,
     shared: &Shared<K, M>,
     share: &mut WorkerShare<K>,
+    leavings: &mut Leavings,
 ) -> Work<Held<K>> {
-    shared.enter(rt).work(alloc, share)
+    shared.enter(rt).work(alloc, share, leavings)
 }
 
 /// Commits the steps of a quantum, and answers what the worker does next, both in one hold. A commit readies at most one actor more
@@ -101,9 +102,8 @@ fn turn_over<K: Naming, M: Mailbox, R: Wait>(
     held: Held<K>,
     is_starved: bool,
     crowding: &mut Crowding,
+    leavings: &mut Leavings,
 ) -> Work<Held<K>> {
-    // What the commit no longer needs is freed after the lock is given back.
-    let mut leavings = Leavings::none();
     let at_once = shared.office.try_lock();
     let is_short = crowding.note(held.claim().steps(), at_once.is_some());
     let mut office = match at_once {
@@ -117,12 +117,14 @@ fn turn_over<K: Naming, M: Mailbox, R: Wait>(
         held,
         is_starved || rests,
         is_short,
-        &mut leavings,
+        leavings,
     );
     let wants_help = office.wants_help();
     let is_hurried = is_short && (rests || goes_on(&work));
     let wants_more = !is_hurried && office.wants_more();
     drop(office);
+    // What the next claim does not take is let go after the lock is given back.
+    leavings.let_go();
     if answer.is_ok() && wants_help {
         shared.moved.notify_one();
     }
@@ -144,10 +146,13 @@ fn take_quantum<G: Guard, K: Naming, M: Mailbox, T: Gate, R: Wait>(
     number: u32,
     gate: &mut T,
     crowding: &mut Crowding,
+    leavings: &mut Leavings,
 ) -> Work<Held<K>> {
     gate.before(number, held.claim());
     let is_starved = hand.run(alloc, &mut held, quantum).is_err();
-    let work = turn_over(rt, alloc, shared, share, held, is_starved, crowding);
+    let work = turn_over(
+        rt, alloc, shared, share, held, is_starved, crowding, leavings,
+    );
     gate.after(number);
     work
 }
@@ -164,13 +169,14 @@ fn take_turns<G: Guard, K: Naming, M: Mailbox, T: Gate, R: Wait>(
     quantum: u32,
 ) {
     let mut crowding = Crowding::none();
-    let mut work = next_work(rt, alloc, shared, share);
+    let mut leavings = Leavings::none();
+    let mut work = next_work(rt, alloc, shared, share, &mut leavings);
     for _ in rt.forever() {
         work = match work {
             Work::Stop => return,
             Work::Wait(seen) => {
                 pause(rt, shared, &mut crowding, seen);
-                next_work(rt, alloc, shared, share)
+                next_work(rt, alloc, shared, share, &mut leavings)
             }
             Work::Turn(held) => take_quantum(
                 rt,
@@ -183,6 +189,7 @@ fn take_turns<G: Guard, K: Naming, M: Mailbox, T: Gate, R: Wait>(
                 number,
                 gate,
                 &mut crowding,
+                &mut leavings,
             ),
         };
     }

@@ -13,6 +13,7 @@ use crate::quantum::Quantum;
 use st_classes::refusals::Refusal;
 use st_classes::values::ActorId;
 use st_guard::caches::Caches;
+use st_image::leavings::Leavings;
 use st_turn::body::Stop;
 use st_turn::claim::Claim;
 use st_wire::commands::Command;
@@ -26,6 +27,8 @@ use std::marker::Model;
 pub struct Runner {
     image: Image,
     worker: Worker,
+    /// What the last commit left, for the next checkout.
+    leavings: Leavings,
 }
 
 impl Model for Runner {
@@ -48,12 +51,17 @@ pub(crate) fn new_worker(alloc: Global) -> Result<Worker, AllocError>
 
 /// Commits a claim, and releases it if the commit hands it back. The claim's edits must be a prefix of the image's, and its stamp
 /// must identify the body with which it began.
-fn settle(alloc: Global, image: &mut Image, claim: Claim) -> Result<u32, Refusal>
+fn settle(
+    alloc: Global,
+    image: &mut Image,
+    claim: Claim,
+    leavings: &mut Leavings,
+) -> Result<u32, Refusal>
     requires begins { Begins claim.edits (world image.old).edits }
     requires body { KnowsBody image.old claim }
     ensures { Settles image.old claim result image.new }
 {
-    match image.commit_unchecked(alloc, claim) {
+    match image.commit_leaving(alloc, claim, leavings) {
         Ok(steps) => Ok(steps),
         Err((refusal, Some(claim))) => {
             image.release(claim);
@@ -81,6 +89,7 @@ fn work(
     worker: &mut Worker,
     mut claim: Claim,
     quantum: Quantum,
+    leavings: &mut Leavings,
 ) -> Result<u32, Refusal>
     requires follows { IfSome worker.old.kept (λ k. Begins k claim.edits) }
     requires begins { Begins claim.edits (world image.old).edits }
@@ -91,7 +100,7 @@ fn work(
 {
     let ran = worker.run_unchecked(alloc, &mut claim, quantum.steps());
     claim.known();
-    let settled = settle(alloc, image, claim);
+    let settled = settle(alloc, image, claim, leavings);
     answer(ran, settled)
 }
 
@@ -102,7 +111,11 @@ impl Runner {
         ensures err { IfErr result (λ i. i ≡ image) }
     {
         match new_worker(alloc) {
-            Ok(worker) => Ok(Runner { image, worker }),
+            Ok(worker) => Ok(Runner {
+                image,
+                worker,
+                leavings: Leavings::none(),
+            }),
             Err(_) => Err(image),
         }
     }
@@ -131,9 +144,17 @@ impl Runner {
         ensures some { IfOk result (λ n. 1 ≤ n) }
     {
         self.image.known();
-        let claim = self.image.checkout(alloc, actor)?;
+        let claim = self.image.checkout_in(alloc, actor, &mut self.leavings)?;
         self.image.known();
-        let result = work(alloc, &mut self.image, &mut self.worker, claim, quantum);
+        let result = work(
+            alloc,
+            &mut self.image,
+            &mut self.worker,
+            claim,
+            quantum,
+            &mut self.leavings,
+        );
+        self.leavings.let_go();
         self.image.known();
         result
     }

@@ -9,9 +9,7 @@ use std::alloc::{AllocError, Global};
 pub(crate) fn copied(alloc: Global, values: &Values) -> Result<Values, AllocError>
     ensures { IfOk result (λ copy. copy ≡ values.now) }
 {
-    let mut items = Vec::new(alloc);
-    items.extend_from_slice(values.as_slice())?;
-    Ok(Seq::from_vec(items))
+    copied_into(Seq::from_vec(Vec::new(alloc)), values)
 }
 
 /// A copy of the values that takes the memory of other ones, as far as it goes.

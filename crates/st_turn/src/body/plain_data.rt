@@ -44,11 +44,12 @@ impl Objects {
     fn copy(&self, alloc: Global) -> Result<Objects, AllocError>
         ensures { IfOk result (λ objects. objects ≡ self.now) }
     {
-        let mut items = Vec::with_capacity(alloc, self.items.len())?;
-        for object in &self.items {
-            items.push(object.copy(alloc)?)?;
-        }
-        Ok(Objects { items })
+        self.copy_into(
+            alloc,
+            Objects {
+                items: Vec::new(alloc),
+            },
+        )
     }
 
     /// A copy of the objects that takes the memory of other ones, as far as it goes.
@@ -89,6 +90,7 @@ fn add_rest(alloc: Global, objects: &mut Vec<Object>, others: &[Object]) -> Resu
     requires few { length objects.old.items ≤ length others.now }
     ensures { OnOk result (objects.new.items ≡ others.now) }
 {
+    objects.reserve(others.len() - objects.len())?;
     'rest: while objects.len() < others.len() {
         let copy = others[objects.len()].copy(alloc)?;
         objects.push(copy)?;

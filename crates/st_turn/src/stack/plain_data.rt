@@ -39,17 +39,18 @@ impl Stack {
         })
     }
 
-    /// A copy of the frames, with as much room for calls as these have, up to a bound.
-    pub fn copy(&self, alloc: Global) -> Result<Stack, AllocError>
+    /// A copy of the frames in these lists, with as much room for calls as these have, up to a bound. The lists lose what they had.
+    fn copy_in(&self, mut values: Vec<Value>, callers: Callers) -> Result<Stack, AllocError>
         ensures { IfOk result (λ stack. stack ≡ self.now) }
     {
         let size = usize::min(self.values.len(), self.top.saturating_add(SPARE));
-        let mut values = Vec::with_capacity(alloc, size)?;
+        values.clear();
+        values.reserve(size)?;
         // Values above the top are not copied: if another processor wrote them last, reading them is slow. The room is filled with
         // nils instead.
         values.extend_from_slice(&self.values[..self.top])?;
         values.extend_from_slice(&NILS[..size - self.top])?;
-        let callers = self.callers.copy(alloc)?;
+        let callers = self.callers.copy_in(callers)?;
         Ok(Stack {
             values,
             top: self.top,
@@ -58,27 +59,23 @@ impl Stack {
         })
     }
 
-    /// The same copy. It takes the memory of another stack, as far as it goes.
+    /// A copy of the frames.
+    pub fn copy(&self, alloc: Global) -> Result<Stack, AllocError>
+        ensures { IfOk result (λ stack. stack ≡ self.now) }
+    {
+        self.copy_in(Vec::new(alloc), Callers::new(alloc))
+    }
+
+    /// The same in the memory of other frames, as far as it goes.
     pub(crate) fn copy_into(&self, spare: Stack) -> Result<Stack, AllocError>
         ensures { IfOk result (λ stack. stack ≡ self.now) }
     {
         let Stack {
-            mut values,
+            values,
             callers,
             ..
         } = spare;
-        let size = usize::min(self.values.len(), self.top.saturating_add(SPARE));
-        values.clear();
-        values.reserve(size)?;
-        values.extend_from_slice(&self.values[..self.top])?;
-        values.extend_from_slice(&NILS[..size - self.top])?;
-        let callers = self.callers.copy_into(callers)?;
-        Ok(Stack {
-            values,
-            top: self.top,
-            callers,
-            at: self.at,
-        })
+        self.copy_in(values, callers)
     }
 
     /// Whether two stacks have the same frames.

@@ -4,7 +4,7 @@ use Rattle.st_classes.specs.declared.values.Value.{Value}
 use Rattle.st_turn.specs.StackLayout.{frames_of}
 use Rattle.st_turn.specs.declared.stack.Place.{Place}
 use Rattle.st_turn.proofs.StackMoves.{frames_same}
-use Rattle.st_turn.proofs.stack.Stack.copy_into.Goals as goal
+use Rattle.st_turn.proofs.stack.Stack.copy_in.Goals as goal
 
 pub returns : goal.returns
 returns c =

@@ -1,4 +1,4 @@
-"""A library that is loaded before the C library's, and has one allocation of a program fail."""
+"""A library that is loaded before the C library's, and has one allocation of a program fail, or counts them all."""
 
 import os
 import subprocess
@@ -9,17 +9,25 @@ SOURCE = r"""
 #include <errno.h>
 #include <fcntl.h>
 #include <stdlib.h>
+#include <sys/mman.h>
 #include <unistd.h>
-static long at = -1, done;
+static long at = -1, own, *done = &own;
 static const char *told;
 /* What the C library itself allocates before the program's main begins is not the program's. */
 __attribute__((constructor)) static void begin(void) {
   const char *word = getenv("FAIL_AT");
   told = getenv("FAIL_TOLD");
   at = word ? atol(word) : 0;
+  /* A program may end without a call of the C library's, so the count lies in a file all the time. */
+  const char *counted = getenv("COUNT_TOLD");
+  int file = counted ? open(counted, O_RDWR | O_CREAT, 0600) : -1;
+  if (file >= 0 && ftruncate(file, sizeof own) == 0) {
+    void *shared = mmap(0, sizeof own, PROT_READ | PROT_WRITE, MAP_SHARED, file, 0);
+    if (shared != MAP_FAILED) done = shared;
+  }
 }
 static int fails(void) {
-  if (at <= 0 || __sync_add_and_fetch(&done, 1) != at) return 0;
+  if (at <= 0 || __sync_add_and_fetch(done, 1) != at) return 0;
   int file = told ? open(told, O_WRONLY | O_CREAT, 0600) : -1;
   if (file >= 0) close(file);
   return 1;
@@ -86,3 +94,14 @@ class Failing:
             if not failing.was_refused():
                 return
             failing = cls(shim, failing.at + step, name)
+
+
+def counted(shim, run):
+    """How many allocations a program makes that is run in the environment which `run` is given."""
+    told = f"{shim}.counted"
+    # An allocation that no program comes to.
+    run({**os.environ, "FAIL_AT": str(1 << 60), "COUNT_TOLD": told, "LD_PRELOAD": shim})
+    with open(told, "rb") as file:
+        count = int.from_bytes(file.read(), "little")
+    os.remove(told)
+    return count

@@ -52,8 +52,3 @@ each_way (Err e) a b = inr b
 pub ok_by : {T E : Type 0} (r : Result T E) (P Q : T → Type 0) → ((x : T) → P x → Q x) → IfOk r P → IfOk r Q
 ok_by (Ok x) P Q f p = f x p
 ok_by (Err e) P Q f p = tt
-
--- what holds anyway holds after an error
-pub on_err : {T E : Type 0} (r : Result T E) (P : Type 0) → P → OnErr r P
-on_err (Ok x) P h = tt
-on_err (Err e) P h = h

@@ -1,7 +1,7 @@
 use Rattle.std.proofs.Common.{◌≡◌, ◌<◌, Some, length, slice_get, sym, subst, ap, ◌∙◌, Err}
 use Rattle.st_turn.specs.Steps.{outer, reply_body, step}
 use Rattle.st_image.specs.ActorViews.{ActorView, ActorsView, AreActors, view_after_steps}
-use Rattle.st_image.proofs.Lists.{on_err}
+use Rattle.st_image.proofs.Outer.{on_err}
 use Rattle.st_image.proofs.FreeOnes.{here, put_same, put_view, mark_kept, only_one}
 use Rattle.st_image.proofs.actors.Actors.fail.Goals as goal
 

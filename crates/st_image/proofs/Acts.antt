@@ -38,6 +38,10 @@ pub none_by : {X : Type 0} (o : Option X) → is_some o ≡ false → o ≡ None
 none_by None e = refl
 none_by (Some x) e = cc
 
+pub when_none : {X : Type 0} (o : Option X) (P : Type 0) → o ≡ None → IfNone o P → P
+when_none None P e h = h
+when_none (Some x) P e h = cc
+
 pub some_kept : (j k : ActorView) → Some j ≡ Some k → j ≡ k
 some_kept j k e = cc
 

@@ -1,4 +1,4 @@
-use Rattle.std.proofs.Common.{◌≡◌, ◌++◌, [], ◌∷◌, List, ap, ◌∙◌}
+use Rattle.std.proofs.Common.{◌++◌, [], ◌∷◌, List, ap, ◌∙◌}
 use Rattle.st_classes.specs.declared.edits.Edit.{Edit}
 use Rattle.st_image.specs.Images.{world}
 use Rattle.st_image.proofs.image.Image.with_edit.Goals as goal

@@ -15,11 +15,7 @@ use st_mailbox::messages::{Message, Sender};
 use std::alloc::{AllocError, Global};
 
 /// Makes room for one more item of a history, and for the number of a client.
-fn make_room(
-    history: &mut Vec<Item>,
-    clients: &mut Clients,
-    client: u16,
-) -> Result<(), AllocError>
+fn make_room(history: &mut Vec<Item>, clients: &mut Clients, client: u16) -> Result<(), AllocError>
     ensures items { history.new.items ≡ history.old.items }
     ensures numbers { (s : ℕ) → number_of clients.new s ≡ number_of clients.old s }
     ensures room { OnOk result (vec_len history.new < vec_capacity history.new) }

@@ -74,9 +74,7 @@ impl Loader {
         match self.base_refusal(alloc, parts.as_slice(), clients.as_slice()) {
             Ok(()) => {
                 let Loader { names, version } = self;
-                Ok(Image::at_base(
-                    alloc, names, version, parts, clients, counts,
-                )?)
+                Ok(Image::at_base(alloc, names, version, parts, clients, counts)?)
             }
             Err(refusal) => Err(let_go(clients, let_go(parts, let_go(self, refusal)))),
         }

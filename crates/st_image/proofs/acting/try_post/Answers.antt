@@ -1,4 +1,4 @@
-use Rattle.std.proofs.Common.{List, Some, ◌≡◌, ◌+◌, ◌<◌, ◌-◌, ◌^◌, ℕ, None, sym, ap, ◌∙◌, arith, slice_get}
+use Rattle.std.proofs.Common.{List, length, subst, Some, ◌≡◌, ◌+◌, ◌<◌, ◌-◌, ◌^◌, ℕ, None, sym, ap, ◌∙◌, arith, slice_get}
 use Rattle.std.proofs.lemmas.Grind.{common_steps}
 use Rattle.st_classes.specs.Refusals.{first_of}
 use Rattle.st_image.specs.PostRules.{last_at, post_rules}
@@ -8,6 +8,7 @@ use Rattle.st_image.specs.ActorViews.{ActorView, view_with_message}
 use Rattle.st_image.proofs.Showing.{being_at_kept}
 use Rattle.st_image.proofs.Acts.{kept_is, message_of, none_by, out_same, post_grows, post_tries, when_none}
 use Rattle.st_image.proofs.Places.{at_all}
+use Rattle.st_image.proofs.Changing.{length-change}
 use Rattle.st_image.proofs.acting.try_post.Goals as goal
 
 pub returns-clause-ok : goal.returns-clause-ok
@@ -35,3 +36,8 @@ deliver-requires-clause-accepts g c = when_none c.post_refusal.result _ (none_by
 
 pub returns-clause-out : goal.returns-clause-out
 returns-clause-out g c = λ b. ap (λ (ns : List ℕ). claims_of ns b) (out_same _ _ c.set_last.ensures ∙ out_same _ _ c.deliver.ensures.message)
+
+pub set_last-requires : goal.set_last-requires
+set_last-requires g c =
+    let ks : List ActorView = c.args.actors.now.list in
+    subst (λ (xs : List ActorView). c.args.actor.0 < length xs) (sym (kept_is _ _ c.deliver.ensures.message)) (subst (λ (n : ℕ). c.args.actor.0 < n) (sym (length-change _ c.args.to.0 ks)) c.requires.there)

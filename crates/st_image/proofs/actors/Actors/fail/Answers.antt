@@ -42,3 +42,27 @@ returns-in_err-fail-clause-err g c =
     let within : c.args.actor.0 < length i.items.items = subst (λ (x : ActorsView). c.args.actor.0 < length x.list) (sym c.self.view_is) c.requires.there in
     let at : slice_get i.items.items c.args.actor.0 ≡ Some k = here i.items.items c.args.actor.0 k within c.index_mut-item.ensures.value in
     on_err c.from_residual.result _ (put_same v c.args.actor.0 k c.fail.new.self at c.in_err-fail.ensures.err ∙ c.self.view_is)
+
+pub fail-requires-clause-fits : goal.fail-requires-clause-fits
+fail-requires-clause-fits g c =
+    let i = c.self.inside in
+    let k : ActorView = c.index_mut-item.result.now in
+    let within : c.args.actor.0 < length i.items.items = subst (λ (x : ActorsView). c.args.actor.0 < length x.list) (sym c.self.view_is) c.requires.there in
+    let at : slice_get i.items.items c.args.actor.0 ≡ Some k = here i.items.items c.args.actor.0 k within c.index_mut-item.ensures.value in
+    c.requires.fits k (subst (λ (x : ActorsView). slice_get x.list c.args.actor.0 ≡ Some k) c.self.view_is at)
+
+pub fail-requires-clause-act : goal.fail-requires-clause-act
+fail-requires-clause-act g c =
+    let i = c.self.inside in
+    let k : ActorView = c.index_mut-item.result.now in
+    let within : c.args.actor.0 < length i.items.items = subst (λ (x : ActorsView). c.args.actor.0 < length x.list) (sym c.self.view_is) c.requires.there in
+    let at : slice_get i.items.items c.args.actor.0 ≡ Some k = here i.items.items c.args.actor.0 k within c.index_mut-item.ensures.value in
+    c.requires.act k (subst (λ (x : ActorsView). slice_get x.list c.args.actor.0 ≡ Some k) c.self.view_is at)
+
+pub fail-requires-clause-few : goal.fail-requires-clause-few
+fail-requires-clause-few g c =
+    let i = c.self.inside in
+    let k : ActorView = c.index_mut-item.result.now in
+    let within : c.args.actor.0 < length i.items.items = subst (λ (x : ActorsView). c.args.actor.0 < length x.list) (sym c.self.view_is) c.requires.there in
+    let at : slice_get i.items.items c.args.actor.0 ≡ Some k = here i.items.items c.args.actor.0 k within c.index_mut-item.ensures.value in
+    c.requires.few k (subst (λ (x : ActorsView). slice_get x.list c.args.actor.0 ≡ Some k) c.self.view_is at)

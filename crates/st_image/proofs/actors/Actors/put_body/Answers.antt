@@ -49,3 +49,19 @@ returns-in_err-was-clause-err g c =
     let within : c.args.actor.0 < length i.items.items = subst (λ (x : ActorsView). c.args.actor.0 < length x.list) (sym c.self.view_is) c.requires.there in
     let at : slice_get i.items.items c.args.actor.0 ≡ Some k = here i.items.items c.args.actor.0 k within c.index_mut-item.ensures.value in
     on_err c.from_residual.result _ (put_same v c.args.actor.0 k c.put_body.new.self at c.in_err-was.ensures.err ∙ c.self.view_is)
+
+pub put_body-requires-clause-busy : goal.put_body-requires-clause-busy
+put_body-requires-clause-busy g c =
+    let i = c.self.inside in
+    let k : ActorView = c.index_mut-item.result.now in
+    let within : c.args.actor.0 < length i.items.items = subst (λ (x : ActorsView). c.args.actor.0 < length x.list) (sym c.self.view_is) c.requires.there in
+    let at : slice_get i.items.items c.args.actor.0 ≡ Some k = here i.items.items c.args.actor.0 k within c.index_mut-item.ensures.value in
+    c.requires.busy k (subst (λ (x : ActorsView). slice_get x.list c.args.actor.0 ≡ Some k) c.self.view_is at)
+
+pub put_body-requires-clause-few : goal.put_body-requires-clause-few
+put_body-requires-clause-few g c =
+    let i = c.self.inside in
+    let k : ActorView = c.index_mut-item.result.now in
+    let within : c.args.actor.0 < length i.items.items = subst (λ (x : ActorsView). c.args.actor.0 < length x.list) (sym c.self.view_is) c.requires.there in
+    let at : slice_get i.items.items c.args.actor.0 ≡ Some k = here i.items.items c.args.actor.0 k within c.index_mut-item.ensures.value in
+    c.requires.few k (subst (λ (x : ActorsView). slice_get x.list c.args.actor.0 ≡ Some k) c.self.view_is at)

@@ -22,8 +22,9 @@ use Rattle.st_image.specs.PostRules.{message_fits, message_suits, number_rule, p
 use Rattle.st_mailbox.specs.Mailboxes.{box_rules}
 use Rattle.st_image.specs.Replay.{ActResult, with_accepted, after_close, create_result, failed_act, is_open_at, new_world_actor, only_if, after_post, after_post_by, attempted_act, with_last, with_new}
 use Rattle.st_image.specs.ClaimsOut.{claims_of}
-use Rattle.st_image.specs.ActorViews.{ActorView, ActorsView, SameOut, Shows, actor_view, new_actor_view, view_with_message}
+use Rattle.st_image.specs.ActorViews.{Accepts, ActorView, ActorsView, SameOut, Shows, actor_view, new_actor_view, view_with_message}
 use Rattle.st_image.specs.ActResults.{Does, GrowsByOne, IsShown, Tries, constants_of}
+use Rattle.st_image.proofs.Lists.{off_append}
 use Rattle.st_image.proofs.Changing.{All-change}
 use Rattle.st_image.proofs.FreeOnes.{index_push}
 use Rattle.st_image.proofs.Showing.{being_at_kept, count_is, kept_accepting, kept_at, shows_change, shows_push}
@@ -36,6 +37,10 @@ if_none (Some x) P p = tt
 pub none_by : {X : Type 0} (o : Option X) → is_some o ≡ false → o ≡ None
 none_by None e = refl
 none_by (Some x) e = cc
+
+pub when_none : {X : Type 0} (o : Option X) (P : Type 0) → o ≡ None → IfNone o P → P
+when_none None P e h = h
+when_none (Some x) P e h = cc
 
 pub some_kept : (j k : ActorView) → Some j ≡ Some k → j ≡ k
 some_kept j k e = cc
@@ -55,6 +60,11 @@ rules_kept names edits actors w a k m s at =
     let b = being_at_kept edits actors w a.0 k s at in
     let same : message_suits names w m ≡ message_fits names (class_count edits) (length actors) m = ap (λ (n : ℕ). message_fits names (class_count w.edits) n m) (sym (count_is edits actors w s)) ∙ ap (λ (es : List Edit). message_fits names (class_count es) (length actors) m) (sym s.edits_are) in
     rules_of names w m (slice_get w.actors a.0) b.0 k b.1 b.2 ∙ ap (λ (t : Bool). first_of ((not t, BadArguments) ∷ number_rule w m.sender m.seq ∷ kept_box_rules k)) same
+
+-- a mailbox takes a message that no rule refuses
+pub accepts_by : (names : List (List ℕ)) (edits : List Edit) (actors : List ActorView) (w : World) (a : ActorId) (m : Message) → Shows edits actors w → first_of (post_rules names w (slice_get w.actors a.0) m) ≡ None → Accepts actors a
+accepts_by names edits actors w a m s allowed = λ k at.
+    (off_append ((not (message_fits names (class_count edits) (length actors) m), BadArguments) ∷ number_rule w m.sender m.seq ∷ []) (kept_box_rules k) (sym (rules_kept names edits actors w a k m s at) ∙ allowed)).1
 
 -- ---- posts of an actor
 

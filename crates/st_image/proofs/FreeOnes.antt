@@ -153,6 +153,10 @@ put_view f v old a k k' same at e =
     let put : slice_set v.list a k' ≡ change_at f a v.list = ap (slice_set v.list a) e ∙ sym (change_here f a v.list k at) in
     ap (λ (ks : List ActorView). let new : ActorsView = record { list = ks; out = v.out } in new) put ∙ ap (λ (x : ActorsView). let new : ActorsView = record x { list = change_at f a x.list } in new) same
 
+-- an actor that is there and stays as it was
+pub put_same : (v : ActorsView) (a : ℕ) (k k' : ActorView) → slice_get v.list a ≡ Some k → k' ≡ k → (let new : ActorsView = record { list = slice_set v.list a k'; out = v.out } in new) ≡ v
+put_same v a k k' at e = ap (λ (ks : List ActorView). let new : ActorsView = record { list = ks; out = v.out } in new) (ap (slice_set v.list a) e ∙ set_at_same v.list a k at)
+
 -- ---- the counts of claims
 
 -- the same, with another count and the flag by its parts

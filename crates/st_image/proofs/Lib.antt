@@ -43,6 +43,7 @@ pub mod CheckingOut
 pub mod BodyChanges
 pub mod CountingChanges
 pub mod CountingItems
+pub mod MakingRoom
 pub mod KnownBodies
 pub mod Committing
 pub mod GrowingEdits

@@ -1,11 +1,12 @@
 //! The actors of an image, how many claims of each are out, and which of them may be checked out next.
-ghost use Rattle.std.specs.Prelude.{◌≡◌, ◌&&◌, ◌==◌};
+ghost use Rattle.std.specs.Prelude.{◌≡◌, ◌&&◌, ◌==◌, ◌<◌, ◌++◌, [], ◌∷◌, length, vec_len, vec_capacity, false, OnOk, OnErr};
 ghost use Rattle.st_image.specs.ClaimsOut.{one_less as one_less_of, one_more as one_more_of};
 
 mod plain_data;
 mod renewal;
 
 use crate::actor::Actor;
+use crate::letting_go::let_go;
 use st_classes::faults::Fault;
 use st_classes::values::{ActorId, Value};
 use st_classes::version::Version;
@@ -60,6 +61,25 @@ fn one_less(out: u32) -> u32
     out.saturating_sub(1)
 }
 
+/// Makes room for one more actor and its count, and a flag for it that is not raised. After an error there is no such flag.
+fn make_room<M: Mailbox>(
+    items: &mut Vec<Actor<M>>,
+    out: &mut Vec<u32>,
+    free: &mut Flags,
+) -> Result<(), AllocError>
+    requires { length free.old < 65536 }
+    ensures items { items.new.items ≡ items.old.items }
+    ensures counts { out.new.items ≡ out.old.items }
+    ensures flag { OnOk result (free.new ≡ free.old ++ false ∷ []) }
+    ensures err { OnErr result (free.new ≡ free.old) }
+    ensures room { OnOk result (vec_len items.new < vec_capacity items.new) }
+    ensures room_out { OnOk result (vec_len out.new < vec_capacity out.new) }
+{
+    items.reserve(1)?;
+    out.reserve(1)?;
+    free.push()
+}
+
 impl<M: Mailbox> Actors<M> {
     ghost use Rattle.std.specs.Prelude.{◌≡◌, ◌+◌, ◌<◌, ◌≤◌, ◌^◌, ◌++◌, [], ◌∷◌, ℕ, length, slice_get, Some, true, false, IfOk, IfErr, IfSome, IfNone, OnOk, OnErr, Ok, Err};
     ghost use Rattle.std.specs.Option.{option_copied};
@@ -112,11 +132,11 @@ impl<M: Mailbox> Actors<M> {
         ensures ok { OnOk result (self.new ≡ record { list = self.old.list ++ actor ∷ []; out = self.old.out ++ 0 ∷ [] }) }
         ensures err { OnErr result (self.new ≡ self.old) }
     {
-        self.items.reserve(1)?;
-        self.out.reserve(1)?;
-        self.free.push()?;
-        self.items.push(actor).unwrap();
-        self.out.push(0).unwrap();
+        let Ok(()) = make_room(&mut self.items, &mut self.out, &mut self.free) else {
+            return Err(let_go(actor, AllocError));
+        };
+        self.items.push_reserved(actor);
+        self.out.push_reserved(0);
         Ok(())
     }
 

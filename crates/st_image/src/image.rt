@@ -40,7 +40,7 @@ use st_classes::version::Version;
 use st_mailbox::mailboxes::Mailbox;
 use st_mailbox::messages::Sender;
 use st_turn::body::{Body, Outcome};
-use std::alloc::Global;
+use std::alloc::{AllocError, Global};
 use std::marker::Model;
 
 /// Each actor has begun a prefix of what its mailbox accepted, every message once, each sender's in sending order, and none accepted
@@ -70,6 +70,33 @@ pub fn one_claim_counts()
 pub fn checkpoint_leaves_claims()
     ensures { LeavesClaims }
 {}
+
+/// The kernel's names and its class table, twice.
+#[derive(Drop)]
+struct Kernel {
+    names: Names,
+    token: Token,
+    table: Token,
+}
+
+impl Kernel {
+    ghost use Rattle.std.specs.Prelude.{◌≡◌, [], IfOk};
+    ghost use Rattle.st_classes.specs.Kernel.{kernel_selectors};
+
+    fn of(alloc: Global) -> Result<Kernel, AllocError>
+        ensures names { IfOk result (λ k. k.names ≡ kernel_selectors) }
+        ensures token { IfOk result (λ k. k.token ≡ []) }
+        ensures table { IfOk result (λ k. k.table ≡ []) }
+    {
+        let token = Token::publish(alloc, Version::kernel(alloc)?)?;
+        let table = token.again()?;
+        Ok(Kernel {
+            names: Names::kernel(alloc)?,
+            token,
+            table,
+        })
+    }
+}
 
 /// An image: a class table, actors, and the history that led to them.
 ///
@@ -140,14 +167,11 @@ impl<M: Mailbox> Image<M> {
         if let Some(refusal) = settings.refusal() {
             return Err(refusal);
         }
-        let names = Names::kernel(alloc)?;
-        let version = Version::kernel(alloc)?;
-        let token = Token::publish(alloc, version)?;
-        let table = token.again()?;
+        let first = Kernel::of(alloc)?;
         Ok(Image {
-            base: Base::new(table, Vec::new(alloc), Vec::new(alloc)),
-            names,
-            token,
+            base: Base::new(first.table, Vec::new(alloc), Vec::new(alloc)),
+            names: first.names,
+            token: first.token,
             actors: Actors::new(alloc),
             clients: Clients::new(alloc),
             history: Vec::new(alloc),

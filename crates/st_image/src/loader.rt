@@ -5,6 +5,7 @@ ghost use Rattle.st_image.specs.Loading.{LeadsToOne, LoadsAll, LoadsEdit, LoadsN
 mod finishing;
 
 use crate::edit_text::EditText;
+use crate::letting_go::let_go;
 use st_classes::edits::Edit;
 use st_classes::methods::Method;
 use st_classes::names::Names;
@@ -225,7 +226,8 @@ impl Loader {
             Ok(tree) => tree,
             Err(refusal) => return Err(refused(refusal)),
         };
-        self.install_tree(alloc, class, &tree)
+        let installed = self.install_tree(alloc, class, &tree);
+        let_go(tree, installed)
     }
 
     /// Compiles the method of a tree in a class, and interns the names that it needs.

@@ -6,7 +6,8 @@ ghost use Rattle.st_image.specs.declared.actor_part.ActorPart.{ActorPart as Part
 
 use crate::actor::Actor;
 use crate::actor_part::ActorPart;
-use crate::actors::Actors;
+use crate::actors::{Actors, make_room};
+use crate::letting_go::let_go;
 use st_mailbox::mailboxes::Mailbox;
 use std::alloc::{AllocError, Global};
 
@@ -18,11 +19,11 @@ impl<M: Mailbox> Actors<M> {
     {
         let number = self.items.len() as u32;
         let is_ready = actor.is_ready();
-        self.items.reserve(1)?;
-        self.out.reserve(1)?;
-        self.free.push()?;
-        self.items.push(actor).unwrap();
-        self.out.push(0).unwrap();
+        let Ok(()) = make_room(&mut self.items, &mut self.out, &mut self.free) else {
+            return Err(let_go(actor, AllocError));
+        };
+        self.items.push_reserved(actor);
+        self.out.push_reserved(0);
         self.free.set(number, is_ready);
         Ok(())
     }

@@ -15,6 +15,49 @@ use st_classes::version::Version;
 use st_mailbox::mailboxes::Mailbox;
 use std::alloc::{AllocError, Global};
 
+/// What is made for an image at a base: its class table, twice, and its actors and clients from copies of the parts.
+#[derive(Drop)]
+struct Made<M: Mailbox> {
+    token: Token,
+    table: Token,
+    actors: Actors<M>,
+    clients: Clients,
+}
+
+impl<M: Mailbox> Made<M> {
+    ghost use Rattle.std.specs.Prelude.{◌≡◌, ◌≤◌, ℕ, length, map, replicate, All, IfOk};
+    ghost use Rattle.st_image.specs.ActorViews.{actor_view};
+    ghost use Rattle.st_image.specs.Clients.{number_of};
+    ghost use Rattle.st_image.specs.Parts.{FitsMailbox, actor_of};
+    ghost use Rattle.st_image.specs.Worlds.{client_last};
+    ghost use Rattle.st_image.specs.declared.actor_part.ActorPart.{ActorPart as PartOf};
+
+    fn of(
+        alloc: Global,
+        version: Version,
+        parts: &[ActorPart],
+        clients: &[(u16, u64)],
+    ) -> Result<Made<M>, AllocError>
+        requires few { length parts.now ≤ 65536 }
+        requires fit { All FitsMailbox parts.now }
+        ensures token { IfOk result (λ m. m.token ≡ version) }
+        ensures table { IfOk result (λ m. m.table ≡ version) }
+        ensures actors { IfOk result (λ m. m.actors ≡ record { list = map (λ (p : PartOf). actor_view (actor_of p)) parts.now; out = replicate (length parts.now) 0 }) }
+        ensures clients { IfOk result (λ m. (s : ℕ) → client_last s clients.now ≡ number_of m.clients s) }
+    {
+        let token = Token::publish(alloc, version)?;
+        let table = token.again()?;
+        let actors = Actors::from_parts(alloc, parts)?;
+        let clients = Clients::from_pairs(alloc, clients)?;
+        Ok(Made {
+            token,
+            table,
+            actors,
+            clients,
+        })
+    }
+}
+
 impl<M: Mailbox> Image<M> {
     ghost use Rattle.std.specs.Prelude.{◌≡◌, IfOk};
     ghost use Rattle.st_classes.specs.EditLists.{AllSuit};
@@ -40,16 +83,13 @@ impl<M: Mailbox> Image<M> {
     {
         names.known();
         version.known();
-        let actors = Actors::from_parts(alloc, parts.as_slice())?;
-        let numbers = Clients::from_pairs(alloc, clients.as_slice())?;
-        let token = Token::publish(alloc, version)?;
-        let table = token.again()?;
+        let made = Made::of(alloc, version, parts.as_slice(), clients.as_slice())?;
         Ok(Image {
-            base: Base::new(table, parts, clients),
+            base: Base::new(made.table, parts, clients),
             names,
-            token,
-            actors,
-            clients: numbers,
+            token: made.token,
+            actors: made.actors,
+            clients: made.clients,
             history: Vec::new(alloc),
             edits_made: 0,
             settings: Settings::DEFAULT,

@@ -1,15 +1,48 @@
 //! Image::commit: the steps of a claim become the actor's.
+ghost use Rattle.std.specs.Prelude.{◌≡◌, ◌<◌, ℕ, length, vec_len, vec_capacity, OnOk};
+ghost use Rattle.st_image.specs.Changes.{change_count};
+ghost use Rattle.st_image.specs.Tallies.{Covers, SameTallies};
+
 use crate::acting::put_steps;
+use crate::changes::Changes;
 use crate::counts::MOST_COUNTED;
 use crate::image::Image;
 use crate::items::Item;
 use crate::leavings::Leavings;
+use crate::tallies::Tallies;
 use st_classes::keys::SiteId;
 use st_classes::refusals::Refusal;
+use st_classes::values::ActorId;
+use st_classes::version::Version;
 use st_mailbox::mailboxes::Mailbox;
 use st_turn::acts::next_site;
 use st_turn::claim::Claim;
-use std::alloc::Global;
+use std::alloc::{AllocError, Global};
+
+/// Makes room for one more item of a history and for the changes of an actor's body, and places for the tallies of all edits. For want of
+/// memory it makes some of it. Nothing that was counted changes.
+#[inline]
+fn make_room(
+    history: &mut Vec<Item>,
+    changes: &mut Changes,
+    tallies: &mut Tallies,
+    covered: &mut u32,
+    version: &Version,
+    actor: ActorId,
+) -> Result<(), AllocError>
+    requires { Covers tallies.old covered.old version.now }
+    ensures items { history.new.items ≡ history.old.items }
+    ensures changes { (a : ℕ) → change_count changes.new a ≡ change_count changes.old a }
+    ensures tallies { SameTallies tallies.old tallies.new }
+    ensures covers { Covers tallies.new covered.new version.now }
+    ensures room { OnOk result (vec_len history.new < vec_capacity history.new) }
+    ensures place { OnOk result (actor.0 < length changes.new) }
+    ensures all { OnOk result (covered.new ≡ length version.now) }
+{
+    history.reserve(1)?;
+    changes.make_room(actor)?;
+    tallies.cover(version, covered)
+}
 
 impl<M: Mailbox> Image<M> {
     ghost use Rattle.std.specs.Prelude.{◌≡◌, ◌≢◌, ◌↔◌, ◌<◌, ◌==◌, [], ◌∷◌, if◌then◌else◌, IsTrue, None, MatchOption, IfErr, OnOk};
@@ -125,14 +158,15 @@ impl<M: Mailbox> Image<M> {
         claim.known();
         let actor = claim.actor();
         let site = Self::site_to_commit(&claim, is_act_next);
-        let Ok(()) = self.history.reserve(1) else {
-            return Err(claim);
-        };
-        let Ok(()) = self.changes.make_room(actor) else {
-            return Err(claim);
-        };
         let version = self.token.shown();
-        let Ok(()) = self.tallies.cover(version, &mut self.covered) else {
+        let Ok(()) = make_room(
+            &mut self.history,
+            &mut self.changes,
+            &mut self.tallies,
+            &mut self.covered,
+            version,
+            actor,
+        ) else {
             return Err(claim);
         };
         let (parts, after) = match claim.into_parts(alloc) {
@@ -155,7 +189,7 @@ impl<M: Mailbox> Image<M> {
                 self.tallies.count(parts.sends.as_slice(), sums, site);
                 self.actors.release(actor);
                 self.changes.raise(actor);
-                self.history.push(Item::Ran { actor, steps }).unwrap();
+                self.history.push_reserved(Item::Ran { actor, steps });
                 self.counts.steps += u64::from(steps);
                 leavings.claim = Some(parts);
                 Ok(())

@@ -8,10 +8,17 @@ use st_classes::seq::Seq;
 use st_classes::token::Token;
 use st_classes::values::ClassId;
 use st_mailbox::mailboxes::Mailbox;
-use std::alloc::Global;
+use std::alloc::{AllocError, Global};
+
+/// A class table with one more edit, and the edit, for the history.
+#[derive(Drop)]
+struct WithEdit {
+    token: Token,
+    item: SharedEdit,
+}
 
 impl<M: Mailbox> Image<M> {
-    ghost use Rattle.std.specs.Prelude.{◌≡◌, ◌++◌, true};
+    ghost use Rattle.std.specs.Prelude.{◌≡◌, ◌++◌, [], ◌∷◌, true, None, IfOk};
     ghost use Rattle.st_classes.specs.EditRules.{edit_rules};
     ghost use Rattle.st_classes.specs.MethodSuits.{edit_suits};
     ghost use Rattle.st_classes.specs.Refusals.{first_of};
@@ -41,6 +48,20 @@ impl<M: Mailbox> Image<M> {
         }
     }
 
+    /// The class table with an edit that none of its rules refuses.
+    fn with_edit(&self, alloc: Global, edit: Edit) -> Result<WithEdit, AllocError>
+        requires accepted { first_of (edit_rules (world self.now).edits edit) ≡ None }
+        requires suits { edit_suits self.now.names (world self.now).edits edit ≡ true }
+        ensures token { IfOk result (λ w. w.token ≡ (world self.now).edits ++ edit ∷ []) }
+        ensures item { IfOk result (λ w. w.item ≡ edit) }
+    {
+        let shared = SharedEdit::new(alloc, edit)?;
+        let item = shared.again()?;
+        let version = self.version().with_accepted(alloc, shared)?;
+        let token = Token::publish(alloc, version)?;
+        Ok(WithEdit { token, item })
+    }
+
     /// Makes an edit; the method of an install must be compiled from its source. The answer is the number of edits. Memory can run out only
     /// if no rule refuses the edit.
     pub(super) fn edit(&mut self, alloc: Global, edit: Edit) -> Result<u32, Refusal>
@@ -52,12 +73,10 @@ impl<M: Mailbox> Image<M> {
         if let Some(refusal) = self.edit_refusal(&edit) {
             return Err(refusal);
         }
-        let shared = SharedEdit::new(alloc, edit)?;
-        let item = shared.again()?;
-        let version = self.version().with_accepted(alloc, shared)?;
-        let edits = version.edits();
-        let token = Token::publish(alloc, version)?;
+        let made = self.with_edit(alloc, edit)?;
         self.history.reserve(1)?;
+        let WithEdit { token, item } = made;
+        let edits = token.shown().edits();
         self.token = token;
         self.edits_made += 1;
         self.history.push(Item::Edited(item)).unwrap();

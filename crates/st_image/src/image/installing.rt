@@ -1,5 +1,6 @@
 //! Image::install: read, compile and install a method.
 use crate::image::Image;
+use crate::letting_go::let_go;
 use st_classes::edits::Edit;
 use st_classes::kernel::kernel_at;
 use st_classes::methods::Method;
@@ -119,6 +120,7 @@ impl<M: Mailbox> Image<M> {
             return Err(Refusal::UnknownClass);
         }
         let tree = read_method(alloc, source)?;
-        self.install_tree(alloc, class, &tree)
+        let installed = self.install_tree(alloc, class, &tree);
+        let_go(tree, installed)
     }
 }

@@ -1,18 +1,34 @@
 //! Image::post: a message of a client.
+ghost use Rattle.std.specs.Prelude.{◌≡◌, ◌<◌, ℕ, length, vec_len, vec_capacity, OnOk};
+ghost use Rattle.st_image.specs.Clients.{number_of};
+
 use crate::acting::post_refusal;
+use crate::clients::Clients;
 use crate::counts::MOST_COUNTED;
 use crate::image::Image;
 use crate::items::Item;
+use crate::letting_go::let_go;
 use st_classes::refusals::Refusal;
 use st_classes::values::{ActorId, Selector, Values};
 use st_mailbox::mailboxes::Mailbox;
 use st_mailbox::messages::{Message, Sender};
-use std::alloc::Global;
+use std::alloc::{AllocError, Global};
+
+/// Makes room for one more item of a history, and for the number of a client.
+fn make_room(history: &mut Vec<Item>, clients: &mut Clients, client: u16) -> Result<(), AllocError>
+    ensures items { history.new.items ≡ history.old.items }
+    ensures numbers { (s : ℕ) → number_of clients.new s ≡ number_of clients.old s }
+    ensures room { OnOk result (vec_len history.new < vec_capacity history.new) }
+    ensures place { OnOk result (client < length clients.new) }
+{
+    history.reserve(1)?;
+    clients.make_room(client)
+}
 
 impl<M: Mailbox> Image<M> {
-    ghost use Rattle.std.specs.Prelude.{◌≡◌, ◌<◌, [], ◌∷◌, length, IfNone};
+    ghost use Rattle.std.specs.Prelude.{◌≡◌, ◌<◌, [], ◌∷◌, length, IfNone, OnOk};
     ghost use Rattle.st_classes.specs.Refusals.{first_of};
-    ghost use Rattle.st_image.specs.Calls.{Posts};
+    ghost use Rattle.st_image.specs.Calls.{AnswersExactly, Posts};
     ghost use Rattle.st_image.specs.Images.{image_post_rules, no_room, too_many_posts, world};
     ghost use Rattle.st_image.specs.PostRules.{from_client};
 
@@ -45,6 +61,22 @@ impl<M: Mailbox> Image<M> {
         }
     }
 
+    /// A copy of a message, for the history, or why the message is refused.
+    fn copy_to_post(
+        &self,
+        alloc: Global,
+        actor: ActorId,
+        message: &Message,
+    ) -> Result<Message, Refusal>
+        ensures answers { AnswersExactly (first_of (image_post_rules self.now actor message.now)) result (λ copy. copy ≡ message.now) }
+        ensures there { OnOk result (actor.0 < length (world self.now).actors) }
+    {
+        if let Some(refusal) = self.post_refusal(actor, message) {
+            return Err(refusal);
+        }
+        Ok(message.copy(alloc)?)
+    }
+
     /// Appends a client's message, with the client's own number for it, to the mailbox of an actor. The answer is its place, from 1, among
     /// the messages that were pending at the last checkpoint and those accepted since. This is also the number of its turn.
     ///
@@ -68,20 +100,19 @@ impl<M: Mailbox> Image<M> {
             selector,
             args,
         };
-        if let Some(refusal) = self.post_refusal(actor, &message) {
-            return Err(refusal);
-        }
-        let copy = message.copy(alloc)?;
-        self.history.reserve(1)?;
-        self.clients.make_room(sender)?;
+        let copy = match self.copy_to_post(alloc, actor, &message) {
+            Ok(copy) => copy,
+            Err(refusal) => return Err(let_go(message, refusal)),
+        };
+        let Ok(()) = make_room(&mut self.history, &mut self.clients, sender) else {
+            return Err(let_go(copy, let_go(message, Refusal::NoMemory)));
+        };
         let place = self.actors.deliver(actor, message);
         self.clients.set(sender, seq);
-        self.history
-            .push(Item::Posted {
-                actor,
-                message: copy,
-            })
-            .unwrap();
+        self.history.push_reserved(Item::Posted {
+            actor,
+            message: copy,
+        });
         self.counts.posts += 1;
         Ok(place)
     }

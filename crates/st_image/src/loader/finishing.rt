@@ -1,12 +1,14 @@
 //! Loader::finish: the image of what was loaded.
-ghost use Rattle.std.specs.Prelude.{◌≡◌, ◌≤◌, length, Decides, IfOk};
+ghost use Rattle.std.specs.Prelude.{◌≡◌, ◌≤◌, length, Decides, Err, IfOk, IfErr, OnOk};
 ghost use Rattle.st_image.specs.Counts.{CanBeCounted};
+ghost use Rattle.st_image.specs.declared.counts.Counts.{Counts as CountsOf};
 ghost use Rattle.st_image.specs.Loaded.{AreBaseActors, AreBaseSenders, Finishes};
 
 use crate::actor_part::ActorPart;
 use crate::counts::Counts;
 use crate::fitting::actors_fit;
 use crate::image::Image;
+use crate::letting_go::let_go;
 use crate::loader::Loader;
 use crate::senders::{in_sending_order, senders_are_there};
 use st_classes::limits::ACTORS;
@@ -27,6 +29,30 @@ fn are_base_actors(names: &Names, version: &Version, parts: &[ActorPart]) -> boo
 }
 
 impl Loader {
+    /// Why these are no actors and clients of a base with the names and the class table that were loaded, if they are none.
+    fn base_refusal(
+        &self,
+        alloc: Global,
+        parts: &[ActorPart],
+        clients: &[(u16, u64)],
+    ) -> Result<(), Refusal>
+        ensures ok { OnOk result (AreBaseActors self.now.names self.now.edits parts.now × AreBaseSenders self.now.edits parts.now clients.now) }
+        ensures err { IfErr result (λ e. (counts : CountsOf) → Finishes self.now.names self.now.edits parts.now clients.now counts (Err e)) }
+    {
+        if !are_base_actors(&self.names, &self.version, parts) {
+            return Err(Refusal::BadImage {
+                place: ImagePlace::Actors,
+            });
+        }
+        let is_in_order = in_sending_order(alloc, parts, clients)?;
+        if !is_in_order {
+            return Err(Refusal::BadImage {
+                place: ImagePlace::Senders,
+            });
+        }
+        Ok(())
+    }
+
     /// The image that begins with the names and the class table that were loaded, these actors, and these clients with the numbers of
     /// their last messages. It goes on from these counts of posts and steps, has the default settings, and its history is empty.
     ///
@@ -45,18 +71,12 @@ impl Loader {
         ensures { Finishes self.names self.edits parts.items clients.items counts result }
     {
         self.known();
-        let Loader { names, version } = self;
-        if !are_base_actors(&names, &version, parts.as_slice()) {
-            return Err(Refusal::BadImage {
-                place: ImagePlace::Actors,
-            });
+        match self.base_refusal(alloc, parts.as_slice(), clients.as_slice()) {
+            Ok(()) => {
+                let Loader { names, version } = self;
+                Ok(Image::at_base(alloc, names, version, parts, clients, counts)?)
+            }
+            Err(refusal) => Err(let_go(clients, let_go(parts, let_go(self, refusal)))),
         }
-        let is_in_order = in_sending_order(alloc, parts.as_slice(), clients.as_slice())?;
-        if !is_in_order {
-            return Err(Refusal::BadImage {
-                place: ImagePlace::Senders,
-            });
-        }
-        Ok(Image::at_base(alloc, names, version, parts, clients, counts)?)
     }
 }

@@ -1,10 +1,11 @@
-use Rattle.std.proofs.Common.{◌≡◌, ℕ, ◌≤◌, List, Some, false, true, slice_get, sym, ap, ◌∙◌, subst}
+use Rattle.std.proofs.Common.{◌≡◌, ℕ, ◌<◌, ◌^◌, ◌≤◌, length, List, Some, false, true, slice_get, sym, ap, ◌∙◌, subst}
 use Rattle.std.specs.Prelude.{All}
 use Rattle.st_turn.specs.Idle.{is_idle}
 use Rattle.st_image.specs.Worlds.{change_at}
-use Rattle.st_image.specs.ActResults.{IsShown, StandsBefore}
+use Rattle.st_image.specs.ActResults.{FewAccepted, IsShown, StandsBefore}
 use Rattle.st_image.specs.ActorViews.{ActorView, ActorsView, view_after_steps}
-use Rattle.st_image.proofs.Changing.{get-change}
+use Rattle.st_image.proofs.Changing.{All-change, get-change, length-change}
+use Rattle.st_image.proofs.Places.{at_all}
 use Rattle.st_image.proofs.Outer.{kept_there}
 use Rattle.st_image.proofs.Acts.{kept_is}
 use Rattle.st_image.proofs.Committing.{own_accepts, restored, stood_busy}
@@ -73,3 +74,23 @@ returns-in-Err-take_outer-clause-err g c =
     let busy : is_idle c.args.after.phase ≡ false = stood_busy c.args.names.now c.args.capacity c.args.version.now mid c.requires.shown.0 c.args.actor (view_after_steps c.args.after k.0) c.requires.shown.1 at stands in
     let all : c.take_outer.new.actors ≡ (let x : ActorsView = record c.args.actors.now { list = mid } in x) = same ∙ c.in-Ok.ensures.ok in
     c.put_back.ensures.back ∙ ap (λ (v : ActorsView). let x : ActorsView = record v { list = change_at (λ (y : ActorView). record y { body = c.in-Ok.was }) c.args.actor.0 v.list } in x) all ∙ ap (λ (xs : List ActorView). let x : ActorsView = record c.args.actors.now { list = xs } in x) (restored ks c.args.actor.0 k.0 c.args.after c.in-Ok.was k.1 busy (c.in-Ok.ensures.was k.0 k.1))
+
+pub put_body-requires-clause-few : goal.put_body-requires-clause-few
+put_body-requires-clause-few g c = λ k at. at_all (λ (x : ActorView). x.accepted < 2 ^ 63) c.args.actors.now.list c.args.actor.0 k c.requires.few at
+
+pub take_outer-requires-clause-there : goal.take_outer-requires-clause-there
+take_outer-requires-clause-there g c =
+    let ks : List ActorView = c.args.actors.now.list in
+    let put : c.put_body.new.self.list ≡ change_at (view_after_steps c.args.after) c.args.actor.0 ks = kept_is _ _ c.in-Ok.ensures.ok in
+    subst (λ (xs : List ActorView). c.args.actor.0 < length xs) (sym put) (subst (λ (n : ℕ). c.args.actor.0 < n) (sym (length-change (view_after_steps c.args.after) c.args.actor.0 ks)) c.requires.there)
+
+pub take_outer-requires-clause-few : goal.take_outer-requires-clause-few
+take_outer-requires-clause-few g c =
+    let ks : List ActorView = c.args.actors.now.list in
+    let put : c.put_body.new.self.list ≡ change_at (view_after_steps c.args.after) c.args.actor.0 ks = kept_is _ _ c.in-Ok.ensures.ok in
+    subst FewAccepted (sym put) (All-change (λ (x : ActorView). x.accepted < 2 ^ 63) (view_after_steps c.args.after) c.args.actor.0 ks (λ x at few. few) c.requires.few)
+
+pub take_outer-requires-clause-shown : goal.take_outer-requires-clause-shown
+take_outer-requires-clause-shown g c =
+    let put : c.put_body.new.self.list ≡ change_at (view_after_steps c.args.after) c.args.actor.0 c.args.actors.now.list = kept_is _ _ c.in-Ok.ensures.ok in
+    (c.requires.shown.0, subst (λ (xs : List ActorView). IsShown c.args.names.now c.args.capacity c.args.version.now xs c.requires.shown.0) (sym put) c.requires.shown.1)

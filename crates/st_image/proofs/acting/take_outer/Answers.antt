@@ -1,10 +1,14 @@
-use Rattle.std.proofs.Common.{Ok, Err, true, false, refl, sym, ap, ◌∙◌, subst, is_some}
+use Rattle.std.proofs.Common.{Result, Some, ◌≡◌, ◌<◌, ◌^◌, length, slice_get, Ok, Err, true, false, refl, sym, ap, ◌∙◌, subst, is_some}
 use Rattle.std.proofs.lemmas.Option.{slice_get_within}
 use Rattle.st_image.specs.Worlds.{World}
 use Rattle.st_image.specs.Replay.{act_result}
 use Rattle.st_image.specs.ActResults.{Does, IsShown, StandsBefore, constants_of}
 use Rattle.st_image.proofs.Running.{fits_some}
-use Rattle.st_image.specs.ActorViews.{ActorsView}
+use Rattle.st_image.specs.ActorViews.{ActorView, ActorsView}
+use Rattle.std.specs.Prelude.{IsErr}
+use Rattle.st_classes.specs.declared.faults.Fault.{Fault}
+use Rattle.st_classes.specs.declared.values.Value.{Value}
+use Rattle.st_image.proofs.Places.{at_all}
 use Rattle.st_image.proofs.Acts.{kept_is, then_out}
 use Rattle.st_image.proofs.Outer.{Performed, kept_there, next_names, on_err, performed, performed_busy, performed_fits, performed_given, performed_grows, performed_next, shown_runs, stands_by}
 use Rattle.st_image.proofs.acting.take_outer.Goals as goal
@@ -129,3 +133,13 @@ returns-in_ok-fail-in-Err-clause-out g c =
     let does : Does c.args.version.now c.perform.new.actors.list (act_result (constants_of c.args.names.now c.args.capacity) c.args.actor c.requires.shown.0 c.in-Some.act) (Err c.in-Err.fault) = subst (Does c.args.version.now c.perform.new.actors.list (act_result (constants_of c.args.names.now c.args.capacity) c.args.actor c.requires.shown.0 c.in-Some.act)) c.in-Err.is (c.in_ok-value.ensures.ok c.requires.shown.0 c.requires.shown.1) in
     let p : Performed c.args.names.now c.args.capacity c.args.version.now c.perform.new.actors.list c.args.actor c.requires.shown.0 c.in-Some.act (Err c.in-Err.fault) = performed c.args.names.now c.args.capacity c.args.version.now c.args.actors.now.list c.perform.new.actors.list c.requires.shown.0 c.args.actor k.0 c.in-Some.act (Err c.in-Err.fault) c.requires.shown.1 k.1 (sym (c.in_ok-act.ensures k.0 k.1) ∙ c.in-Some.is) does in
     then_out c.args.actors.now.out c.perform.new.actors.out c.fail.new.self.out c.in_ok-value.ensures.out (ap (λ (v : ActorsView). v.out) (c.in_ok-fail-in-Err.ensures.ok p.kept c.in-Some.act p.there p.next))
+
+pub fail-requires-clause-there : goal.fail-requires-clause-there
+fail-requires-clause-there g c =
+    let same : c.perform.new.actors ≡ c.args.actors.now = c.in_ok-value.ensures.fault (subst (λ (r : Result Value Fault). IsErr r) (sym c.in-Err.is) refl) in
+    subst (λ (v : ActorsView). c.args.actor.0 < length v.list) (sym same) c.requires.there
+
+pub fail-requires-clause-few : goal.fail-requires-clause-few
+fail-requires-clause-few g c = λ k at.
+    let same : c.perform.new.actors ≡ c.args.actors.now = c.in_ok-value.ensures.fault (subst (λ (r : Result Value Fault). IsErr r) (sym c.in-Err.is) refl) in
+    at_all (λ (x : ActorView). x.accepted < 2 ^ 63) c.args.actors.now.list c.args.actor.0 k c.requires.few (subst (λ (v : ActorsView). slice_get v.list c.args.actor.0 ≡ Some k) same at)

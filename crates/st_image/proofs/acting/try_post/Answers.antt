@@ -1,11 +1,14 @@
-use Rattle.std.proofs.Common.{Some, ◌≡◌, ◌+◌, ◌<◌, ◌-◌, ◌^◌, ℕ, None, sym, ap, ◌∙◌, arith, slice_get}
+use Rattle.std.proofs.Common.{List, length, subst, Some, ◌≡◌, ◌+◌, ◌<◌, ◌-◌, ◌^◌, ℕ, None, sym, ap, ◌∙◌, arith, slice_get}
 use Rattle.std.proofs.lemmas.Grind.{common_steps}
 use Rattle.st_classes.specs.Refusals.{first_of}
 use Rattle.st_image.specs.PostRules.{last_at, post_rules}
+use Rattle.st_image.specs.ClaimsOut.{claims_of}
 use Rattle.st_image.specs.Worlds.{change_at}
 use Rattle.st_image.specs.ActorViews.{ActorView, view_with_message}
 use Rattle.st_image.proofs.Showing.{being_at_kept}
-use Rattle.st_image.proofs.Acts.{kept_is, message_of, none_by, post_grows, post_tries}
+use Rattle.st_image.proofs.Acts.{kept_is, message_of, none_by, out_same, post_grows, post_tries, when_none}
+use Rattle.st_image.proofs.Places.{at_all}
+use Rattle.st_image.proofs.Changing.{length-change}
 use Rattle.st_image.proofs.acting.try_post.Goals as goal
 
 pub returns-clause-ok : goal.returns-clause-ok
@@ -21,3 +24,20 @@ returns-clause-ok g c = λ capacity w i.
 
 pub returns-clause-grown : goal.returns-clause-grown
 returns-clause-grown g c = post_grows c.args.actors.now.list c.deliver.new.self.list c.set_last.new.self.list (message_of c.args.actor (c.last-last.result + 1) c.args.selector c.from_vec.result) c.args.to.0 c.args.actor.0 (c.last-last.result + 1) (kept_is _ _ c.deliver.ensures.message) (kept_is _ _ c.set_last.ensures)
+
+pub deliver-requires-clause-there : goal.deliver-requires-clause-there
+deliver-requires-clause-there g c = when_none c.post_refusal.result _ (none_by c.post_refusal.result (sym c.if-is_some.ensures)) c.post_refusal.ensures.there
+
+pub deliver-requires-clause-few : goal.deliver-requires-clause-few
+deliver-requires-clause-few g c = λ k at. at_all (λ (x : ActorView). x.accepted < 2 ^ 63) c.args.actors.now.list c.args.to.0 k c.requires.few at
+
+pub deliver-requires-clause-accepts : goal.deliver-requires-clause-accepts
+deliver-requires-clause-accepts g c = when_none c.post_refusal.result _ (none_by c.post_refusal.result (sym c.if-is_some.ensures)) c.post_refusal.ensures.accepts
+
+pub returns-clause-out : goal.returns-clause-out
+returns-clause-out g c = λ b. ap (λ (ns : List ℕ). claims_of ns b) (out_same _ _ c.set_last.ensures ∙ out_same _ _ c.deliver.ensures.message)
+
+pub set_last-requires : goal.set_last-requires
+set_last-requires g c =
+    let ks : List ActorView = c.args.actors.now.list in
+    subst (λ (xs : List ActorView). c.args.actor.0 < length xs) (sym (kept_is _ _ c.deliver.ensures.message)) (subst (λ (n : ℕ). c.args.actor.0 < n) (sym (length-change _ c.args.to.0 ks)) c.requires.there)

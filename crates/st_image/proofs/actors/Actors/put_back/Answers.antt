@@ -37,3 +37,11 @@ returns-clause-back g c =
     let within : c.args.actor.0 < length i.items.items = subst (λ (x : ActorsView). c.args.actor.0 < length x.list) (sym c.self.view_is) c.requires.there in
     let at : slice_get i.items.items c.args.actor.0 ≡ Some k = here i.items.items c.args.actor.0 k within c.index_mut-item.ensures.value in
     put_view (λ (x : ActorView). record x { body = c.args.body }) v c.args.self.now c.args.actor.0 k c.put_back.new.self c.self.view_is at c.put_back.ensures.back
+
+pub put_back-requires : goal.put_back-requires
+put_back-requires g c =
+    let i = c.self.inside in
+    let k : ActorView = c.index_mut-item.result.now in
+    let within : c.args.actor.0 < length i.items.items = subst (λ (x : ActorsView). c.args.actor.0 < length x.list) (sym c.self.view_is) c.requires.there in
+    let at : slice_get i.items.items c.args.actor.0 ≡ Some k = here i.items.items c.args.actor.0 k within c.index_mut-item.ensures.value in
+    c.requires.busy k (subst (λ (x : ActorsView). slice_get x.list c.args.actor.0 ≡ Some k) c.self.view_is at)

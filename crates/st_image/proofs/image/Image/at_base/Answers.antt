@@ -14,8 +14,8 @@ use Rattle.st_image.proofs.Covering.{covers_none}
 use Rattle.st_image.proofs.ChangeBounds.{fits_loaded}
 use Rattle.st_image.proofs.image.Image.at_base.Goals as goal
 
-pub from_parts-requires-clause-fit : goal.from_parts-requires-clause-fit
-from_parts-requires-clause-fit g c = subst (λ (ps : List ActorPart). All FitsMailbox ps) (sym c.as_slice.ensures.value) (fit_mailboxes c.args.names c.args.version c.args.parts.items c.requires.actors)
+pub of-requires-clause-fit : goal.of-requires-clause-fit
+of-requires-clause-fit g c = subst (λ (ps : List ActorPart). All FitsMailbox ps) (sym c.as_slice.ensures.value) (fit_mailboxes c.args.names c.args.version c.args.parts.items c.requires.actors)
 
 pub invariant_of-result : goal.invariant_of-result
 invariant_of-result g c =
@@ -23,9 +23,9 @@ invariant_of-result g c =
     let edits : List Edit = c.args.version in
     let parts : List ActorPart = c.args.parts.items in
     let clients : List (ℕ × ℕ) = c.args.clients.items in
-    rw (c.new.ensures, c.in_ok-table.ensures, c.in_ok-token.ensures, kept_is _ _ c.in_ok-actors.ensures, c.as_slice.ensures.value, c.new-2.ensures.items, c.new-3.ensures, c.new-4.ensures, c.counted.ensures) (record {
+    rw (c.new.ensures, c.in_ok-made.ensures.table, c.in_ok-made.ensures.token, kept_is _ _ c.in_ok-made.ensures.actors, c.as_slice.ensures.value, c.new-2.ensures.items, c.new-3.ensures, c.new-4.ensures, c.counted.ensures) (record {
       image = at_base_is names edits parts clients c.known.ensures c.known-2.ensures.lawful c.requires.suited c.known-2.ensures.sound c.requires.actors c.requires.senders;
-      numbers_of_clients = λ s. subst (λ (ps : List (ℕ × ℕ)). client_last s ps ≡ number_of c.in_ok-numbers.numbers s) c.as_slice-2.ensures.value (c.in_ok-numbers.ensures s);
+      numbers_of_clients = λ s. subst (λ (ps : List (ℕ × ℕ)). client_last s ps ≡ number_of c.in_ok-made.made.clients s) c.as_slice-2.ensures.value (c.in_ok-made.ensures.clients s);
       sends = sends_new names (world_of_parts edits parts clients) default;
       places = covers_none [] edits;
       counts = λ a. refl;
@@ -36,6 +36,6 @@ invariant_of-result g c =
 
 pub returns : goal.returns
 returns g c =
-    let base : c.new.result ≡ world_of_parts c.args.version c.args.parts.items c.args.clients.items = c.new.ensures ∙ ap (λ (es : List Edit). world_of_parts es c.args.parts.items c.args.clients.items) (c.in_ok-table.ensures ∙ c.in_ok-token.ensures) in
-    let out : trimmed c.in_ok-actors.actors.out ≡ [] = ap (λ (v : ActorsView). trimmed v.out) c.in_ok-actors.ensures ∙ none_out (length c.as_slice.result.now) in
-    loaded_by c.args.names c.args.version c.args.parts.items c.args.clients.items c.new.result c.new-2.result.items c.in_ok-actors.actors.out c.new-3.result c.counted.result c.args.counts base c.new-2.ensures.items out c.new-3.ensures c.counted.ensures
+    let base : c.new.result ≡ world_of_parts c.args.version c.args.parts.items c.args.clients.items = c.new.ensures ∙ ap (λ (es : List Edit). world_of_parts es c.args.parts.items c.args.clients.items) c.in_ok-made.ensures.table in
+    let out : trimmed c.in_ok-made.made.actors.out ≡ [] = ap (λ (v : ActorsView). trimmed v.out) c.in_ok-made.ensures.actors ∙ none_out (length c.as_slice.result.now) in
+    loaded_by c.args.names c.args.version c.args.parts.items c.args.clients.items c.new.result c.new-2.result.items c.in_ok-made.made.actors.out c.new-3.result c.counted.result c.args.counts base c.new-2.ensures.items out c.new-3.ensures c.counted.ensures

@@ -44,3 +44,15 @@ returns g c =
     let out : trimmed c.push.new.self.out ≡ trimmed i.actors.out = ap trimmed (out_same _ _ c.in_ok-push.ensures.ok) ∙ trimmed_push i.actors.out in
     let number : c.len-number.result ≡ length (world c.args.self.now).actors = c.len-number.ensures.value ∙ count_is i.token i.actors.list (world_of (constants_of i.names i.settings.capacity) i.base i.history.items) c.self.invariant.image.shows ∙ ap (λ (v : ImageView). length (world v).actors) c.self.view_is in
     ((sym c.in_default.ensures, (rw (items, out, ← c.self.view_is) refl, ap (λ (n : ℕ). let x : ActorId = record { 0 = n } in x) number)), tt)
+
+pub invariant_of-self : goal.invariant_of-self
+invariant_of-self g c = rw c.reserve.ensures.items c.self.invariant
+
+pub invariant_of-self-in_err-body : goal.invariant_of-self-in_err-body
+invariant_of-self-in_err-body g c = rw c.reserve.ensures.items c.self.invariant
+
+pub invariant_of-self-in_err-actor : goal.invariant_of-self-in_err-actor
+invariant_of-self-in_err-actor g c = rw c.reserve.ensures.items c.self.invariant
+
+pub invariant_of-self-in_err-push : goal.invariant_of-self-in_err-push
+invariant_of-self-in_err-push g c = rw (c.reserve.ensures.items, c.in_err-push.ensures.err) c.self.invariant

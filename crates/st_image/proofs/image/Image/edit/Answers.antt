@@ -23,13 +23,8 @@ use Rattle.st_image.proofs.image.Image.edit.Goals as goal
 pub overflow_add-self : goal.overflow_add-self
 overflow_add-self g c = omega (arith, edits_few c.self.inside.history.items, c.self.invariant.image.counted, c.self.invariant.image.few_items, c.self.invariant.image.numbers.few_items)
 
-pub with_accepted-requires-clause-accepted : goal.with_accepted-requires-clause-accepted
-with_accepted-requires-clause-accepted g c =
-    let accepted = (off_append (edit_rules (world c.args.self.now).edits c.args.edit) (run_rules c.args.self.now) (sym c.in_default.ensures)).0 in
-    rw (c.version.ensures, c.in_ok-shared.ensures) accepted
-
-pub with_accepted-requires-clause-suits : goal.with_accepted-requires-clause-suits
-with_accepted-requires-clause-suits g c = (c.args.self.now.names, rw (c.version.ensures, c.in_ok-shared.ensures) c.requires.suits)
+pub with_edit-requires-clause-accepted : goal.with_edit-requires-clause-accepted
+with_edit-requires-clause-accepted g c = (off_append (edit_rules (world c.args.self.now).edits c.args.edit) (run_rules c.args.self.now) (sym c.in_default.ensures)).0
 
 pub invariant_of-self-2 : goal.invariant_of-self-2
 invariant_of-self-2 g c =
@@ -37,15 +32,13 @@ invariant_of-self-2 g c =
     let w = world_of (constants_of i.names i.settings.capacity) i.base i.history.items in
     let suits : edit_suits i.names w.edits c.args.edit ≡ true = subst (λ (v : ImageView). edit_suits v.names (world v).edits c.args.edit ≡ true) (sym c.self.view_is) c.requires.suits in
     let allowed : first_of (edit_rules w.edits c.args.edit ++ run_rules (seen i.base i.names i.history.items i.settings (standing_of i.earlier i.next_from i.actors.out i.tallies))) ≡ None = subst (λ (v : ImageView). first_of (edit_rules (world v).edits c.args.edit ++ run_rules v) ≡ None) (sym c.self.view_is) (sym c.in_default.ensures) in
-    let put_last : c.in_ok-token.token ≡ (world c.args.self.now).edits ++ c.args.edit ∷ [] = c.in_ok-token.ensures ∙ c.in_ok-version.ensures ∙ ap (λ (es : List Edit). es ++ c.in_ok-shared.shared ∷ []) c.version.ensures ∙ ap (λ (x : Edit). (world c.args.self.now).edits ++ x ∷ []) c.in_ok-shared.ensures in
-    let after : c.in_ok-token.token ≡ w.edits ++ c.args.edit ∷ [] = subst (λ (v : ImageView). c.in_ok-token.token ≡ (world v).edits ++ c.args.edit ∷ []) (sym c.self.view_is) put_last in
-    let item : c.in_ok-item.item ≡ c.args.edit = c.in_ok-item.ensures ∙ c.in_ok-shared.ensures in
-    let put : c.push.new.self.items ≡ i.history.items ++ Edited c.in_ok-item.item ∷ [] = grind (arith, common_steps) in
-    let items : c.push.new.self.items ≡ i.history.items ++ Edited c.args.edit ∷ [] = subst (λ (x : Edit). c.push.new.self.items ≡ i.history.items ++ Edited x ∷ []) item put in
+    let after : c.in_ok-made.made.token ≡ w.edits ++ c.args.edit ∷ [] = subst (λ (v : ImageView). c.in_ok-made.made.token ≡ (world v).edits ++ c.args.edit ∷ []) (sym c.self.view_is) c.in_ok-made.ensures.token in
+    let put : c.push.new.self.items ≡ i.history.items ++ Edited c.in_ok-made.made.item ∷ [] = grind (arith, common_steps) in
+    let items : c.push.new.self.items ≡ i.history.items ++ Edited c.args.edit ∷ [] = subst (λ (x : Edit). c.push.new.self.items ≡ i.history.items ++ Edited x ∷ []) c.in_ok-made.ensures.item put in
     let here : IsCompiledEdit i.names i.token c.args.edit = subst (λ (es : List Edit). IsCompiledEdit i.names es c.args.edit) (sym c.self.invariant.image.shows.edits_are) (subst (λ (v : ImageView). IsCompiledEdit v.names (world v).edits c.args.edit) (sym c.self.view_is) c.requires.compiled) in
-    let compiled : AllCompiled i.names c.in_ok-token.token = subst (AllCompiled i.names) (sym (after ∙ ap (λ (es : List Edit). es ++ c.args.edit ∷ []) (sym c.self.invariant.image.shows.edits_are))) (all_with i.names i.token c.args.edit c.self.invariant.compiled here) in
-    let e : IsEdited i.base i.names c.in_ok-token.token i.actors.list (i.history.items ++ Edited c.args.edit ∷ []) (i.edits_made + 1) i.settings = edited i.base i.names i.token c.in_ok-token.token i.actors.list i.history.items i.edits_made i.settings (standing_of i.earlier i.next_from i.actors.out i.tallies) c.args.edit c.self.invariant.image c.known.ensures suits allowed after in
-    rw items (record { image = e.image; numbers_of_clients = kept_other i.clients i.base.clients i.history.items (Edited c.args.edit) (λ qs. refl) c.self.invariant.numbers_of_clients; sends = sends_other i.base i.names i.token i.actors.list i.history.items i.edits_made i.settings i.tallies (Edited c.args.edit) c.self.invariant.image c.self.invariant.sends refl; places = covers_push i.tallies i.covered i.token c.in_ok-token.token c.args.edit (after ∙ ap (λ (es : List Edit). es ++ c.args.edit ∷ []) (sym c.self.invariant.image.shows.edits_are)) c.self.invariant.places; counts = counts_other i.changes i.history.items (Edited c.args.edit) (λ a. refl) c.self.invariant.counts; totals = items_other i.counts i.earlier i.history.items (Edited c.args.edit) refl refl c.self.invariant.totals; compiled = compiled; before = c.self.invariant.before })
+    let compiled : AllCompiled i.names c.in_ok-made.made.token = subst (AllCompiled i.names) (sym (after ∙ ap (λ (es : List Edit). es ++ c.args.edit ∷ []) (sym c.self.invariant.image.shows.edits_are))) (all_with i.names i.token c.args.edit c.self.invariant.compiled here) in
+    let e : IsEdited i.base i.names c.in_ok-made.made.token i.actors.list (i.history.items ++ Edited c.args.edit ∷ []) (i.edits_made + 1) i.settings = edited i.base i.names i.token c.in_ok-made.made.token i.actors.list i.history.items i.edits_made i.settings (standing_of i.earlier i.next_from i.actors.out i.tallies) c.args.edit c.self.invariant.image c.known.ensures suits allowed after in
+    rw items (record { image = e.image; numbers_of_clients = kept_other i.clients i.base.clients i.history.items (Edited c.args.edit) (λ qs. refl) c.self.invariant.numbers_of_clients; sends = sends_other i.base i.names i.token i.actors.list i.history.items i.edits_made i.settings i.tallies (Edited c.args.edit) c.self.invariant.image c.self.invariant.sends refl; places = covers_push i.tallies i.covered i.token c.in_ok-made.made.token c.args.edit (after ∙ ap (λ (es : List Edit). es ++ c.args.edit ∷ []) (sym c.self.invariant.image.shows.edits_are)) c.self.invariant.places; counts = counts_other i.changes i.history.items (Edited c.args.edit) (λ a. refl) c.self.invariant.counts; totals = items_other i.counts i.earlier i.history.items (Edited c.args.edit) refl refl c.self.invariant.totals; compiled = compiled; before = c.self.invariant.before })
 
 pub returns : goal.returns
 returns g c =
@@ -53,11 +46,9 @@ returns g c =
     let w = world_of (constants_of i.names i.settings.capacity) i.base i.history.items in
     let suits : edit_suits i.names w.edits c.args.edit ≡ true = subst (λ (v : ImageView). edit_suits v.names (world v).edits c.args.edit ≡ true) (sym c.self.view_is) c.requires.suits in
     let allowed : first_of (edit_rules w.edits c.args.edit ++ run_rules (seen i.base i.names i.history.items i.settings (standing_of i.earlier i.next_from i.actors.out i.tallies))) ≡ None = subst (λ (v : ImageView). first_of (edit_rules (world v).edits c.args.edit ++ run_rules v) ≡ None) (sym c.self.view_is) (sym c.in_default.ensures) in
-    let put_last : c.in_ok-token.token ≡ (world c.args.self.now).edits ++ c.args.edit ∷ [] = c.in_ok-token.ensures ∙ c.in_ok-version.ensures ∙ ap (λ (es : List Edit). es ++ c.in_ok-shared.shared ∷ []) c.version.ensures ∙ ap (λ (x : Edit). (world c.args.self.now).edits ++ x ∷ []) c.in_ok-shared.ensures in
-    let after : c.in_ok-token.token ≡ w.edits ++ c.args.edit ∷ [] = subst (λ (v : ImageView). c.in_ok-token.token ≡ (world v).edits ++ c.args.edit ∷ []) (sym c.self.view_is) put_last in
-    let item : c.in_ok-item.item ≡ c.args.edit = c.in_ok-item.ensures ∙ c.in_ok-shared.ensures in
-    let put : c.push.new.self.items ≡ i.history.items ++ Edited c.in_ok-item.item ∷ [] = grind (arith, common_steps) in
-    let items : c.push.new.self.items ≡ i.history.items ++ Edited c.args.edit ∷ [] = subst (λ (x : Edit). c.push.new.self.items ≡ i.history.items ++ Edited x ∷ []) item put in
-    let e : IsEdited i.base i.names c.in_ok-token.token i.actors.list (i.history.items ++ Edited c.args.edit ∷ []) (i.edits_made + 1) i.settings = edited i.base i.names i.token c.in_ok-token.token i.actors.list i.history.items i.edits_made i.settings (standing_of i.earlier i.next_from i.actors.out i.tallies) c.args.edit c.self.invariant.image c.known.ensures suits allowed after in
-    let count : c.edits-edits.result ≡ length (world_of (constants_of i.names i.settings.capacity) i.base (i.history.items ++ Edited c.args.edit ∷ [])).edits = c.edits-edits.ensures ∙ ap (λ (es : List Edit). length es) (sym c.in_ok-token.ensures) ∙ ap (λ (es : List Edit). length es) (sym e.edits_are) in
+    let after : c.in_ok-made.made.token ≡ w.edits ++ c.args.edit ∷ [] = subst (λ (v : ImageView). c.in_ok-made.made.token ≡ (world v).edits ++ c.args.edit ∷ []) (sym c.self.view_is) c.in_ok-made.ensures.token in
+    let put : c.push.new.self.items ≡ i.history.items ++ Edited c.in_ok-made.made.item ∷ [] = grind (arith, common_steps) in
+    let items : c.push.new.self.items ≡ i.history.items ++ Edited c.args.edit ∷ [] = subst (λ (x : Edit). c.push.new.self.items ≡ i.history.items ++ Edited x ∷ []) c.in_ok-made.ensures.item put in
+    let e : IsEdited i.base i.names c.in_ok-made.made.token i.actors.list (i.history.items ++ Edited c.args.edit ∷ []) (i.edits_made + 1) i.settings = edited i.base i.names i.token c.in_ok-made.made.token i.actors.list i.history.items i.edits_made i.settings (standing_of i.earlier i.next_from i.actors.out i.tallies) c.args.edit c.self.invariant.image c.known.ensures suits allowed after in
+    let count : c.edits-edits.result ≡ length (world_of (constants_of i.names i.settings.capacity) i.base (i.history.items ++ Edited c.args.edit ∷ [])).edits = c.edits-edits.ensures ∙ ap (λ (es : List Edit). length es) c.shown.ensures ∙ ap (λ (es : List Edit). length es) (sym e.edits_are) in
     ((sym c.in_default.ensures, (rw (items, ← c.self.view_is) refl, rw items count)), tt)

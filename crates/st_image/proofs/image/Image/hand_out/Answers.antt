@@ -17,6 +17,7 @@ use Rattle.st_image.specs.Commits.{HasCheckedOut, changed_at, checkout_rules, id
 use Rattle.st_image.specs.Changes.{change_count}
 use Rattle.st_image.specs.ClaimsOut.{one_more}
 use Rattle.st_image.specs.ImageInvariant.{IsImage}
+use Rattle.st_image.proofs.Outer.{on_err}
 use Rattle.st_image.proofs.Posting.{seen, standing_of}
 use Rattle.st_image.proofs.Running.{fits_some}
 use Rattle.st_image.proofs.CheckingOut.{IsOut, begun_items, checked, hands, idle_there, outs}
@@ -94,3 +95,53 @@ returns-clause-ok g c =
           rw (← c.self.view_is, w.self-inside-is, put, c.check_out-next.ensures.next) (subst (λ (x : List Item). HasCheckedOut (seen i.base i.names i.history.items i.settings beside) c.args.actor c.in_ok-claim.claim (seen i.base i.names x i.settings (standing_of i.earlier (c.args.actor.0 + 1) (change_at one_more c.args.actor.0 i.actors.out) i.tallies))) (append-nil i.history.items) (checked i.base i.names i.token i.actors.list i.history.items i.edits_made i.settings i.earlier i.next_from i.actors.out i.tallies c.args.actor k.0 false c.in_ok-claim.claim c.stamp_after-stamp.result c.self.invariant.image k.1 within (sym phase ∙ w.if-begins.false) out claim (stamp_is (change_count i.earlier.changes c.args.actor.0) i.history.items c.args.actor false c.stamp_after-stamp.result (c.stamp_after-stamp.ensures ∙ ap (λ (t : Bool). changed_at c.args.self.now c.args.actor.0 + cond t 1 0) w.if-begins.false ∙ ap (λ (v : ImageView). changed_at v c.args.actor.0 + cond false 1 0) (sym c.self.view_is)))))
           )
     ]
+
+pub body_to_check_out-requires : goal.body_to_check_out-requires
+body_to_check_out-requires g c =
+    let i = c.self.inside in
+    let beside : Standing = standing_of i.earlier i.next_from i.actors.out i.tallies in
+    let allowed : first_of (checkout_rules (seen i.base i.names i.history.items i.settings beside) (slice_get (world_of (constants_of i.names i.settings.capacity) i.base i.history.items).actors c.args.actor.0)) ≡ None = subst (λ (v : ImageView). first_of (checkout_rules v (slice_get (world v).actors c.args.actor.0)) ≡ None) (sym c.self.view_is) c.requires.allowed in
+    let k = hands i.base i.names i.token i.actors.list i.history.items i.edits_made i.settings beside c.args.actor c.self.invariant.image allowed in
+    slice_get_within i.actors.list c.args.actor.0 k.0 k.1
+
+pub invariant_of-self : goal.invariant_of-self
+invariant_of-self g c =
+    let i = c.self.inside in
+    let v = c.self.invariant in
+    (record { image = v.image; numbers_of_clients = v.numbers_of_clients; sends = v.sends; places = v.places; counts = counts_same i.changes c.make_room.new.self i.history.items c.make_room.ensures.same v.counts; totals = v.totals; compiled = v.compiled; before = v.before })
+
+pub invariant_of-self-in_err-again : goal.invariant_of-self-in_err-again
+invariant_of-self-in_err-again g c =
+    let i = c.self.inside in
+    let v = c.self.invariant in
+    (record { image = v.image; numbers_of_clients = v.numbers_of_clients; sends = v.sends; places = v.places; counts = counts_same i.changes c.make_room.new.self i.history.items c.make_room.ensures.same v.counts; totals = v.totals; compiled = v.compiled; before = v.before })
+
+pub invariant_of-self-in_err-claim : goal.invariant_of-self-in_err-claim
+invariant_of-self-in_err-claim g c =
+    let i = c.self.inside in
+    let v = c.self.invariant in
+    (record { image = v.image; numbers_of_clients = v.numbers_of_clients; sends = v.sends; places = v.places; counts = counts_same i.changes c.make_room.new.self i.history.items c.make_room.ensures.same v.counts; totals = v.totals; compiled = v.compiled; before = v.before })
+
+pub invariant_of-self-in_err-reserve : goal.invariant_of-self-in_err-reserve
+invariant_of-self-in_err-reserve g c =
+    let i = c.self.inside in
+    let v = c.self.invariant in
+    rw c.reserve.ensures.items (record { image = v.image; numbers_of_clients = v.numbers_of_clients; sends = v.sends; places = v.places; counts = counts_same i.changes c.make_room.new.self i.history.items c.make_room.ensures.same v.counts; totals = v.totals; compiled = v.compiled; before = v.before })
+
+pub returns-in_err-body-clause-err : goal.returns-in_err-body-clause-err
+returns-in_err-body-clause-err g c = on_err c.from_residual.result _ refl
+
+pub returns-in_err-make_room-clause-err : goal.returns-in_err-make_room-clause-err
+returns-in_err-make_room-clause-err g c = on_err c.from_residual-in_err-make_room.result _ c.self.view_is
+
+pub returns-in_err-again-clause-err : goal.returns-in_err-again-clause-err
+returns-in_err-again-clause-err g c = on_err c.from_residual-in_err-again.result _ c.self.view_is
+
+pub returns-in_err-claim-clause-err : goal.returns-in_err-claim-clause-err
+returns-in_err-claim-clause-err g c = on_err c.from_residual-in_err-claim.result _ c.self.view_is
+
+pub returns-in_err-reserve-clause-err : goal.returns-in_err-reserve-clause-err
+returns-in_err-reserve-clause-err g c = on_err c.from_residual-in_err-reserve.result _ (rw c.reserve.ensures.items c.self.view_is)
+
+pub raise-requires-clause-room : goal.raise-requires-clause-room
+raise-requires-clause-room g c = c.in_ok-make_room.ensures.room

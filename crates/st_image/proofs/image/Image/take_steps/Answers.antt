@@ -1,5 +1,6 @@
 use Rattle.std.proofs.Common.{length, ◌≡◌, ◌==◌, ◌+◌, cond, ℕ, ◌<◌, ◌≤◌, refl, sym, ap, subst, slice_get, ◌∙◌, ◌++◌, [], ◌∷◌, false, Some, List, Option, arith}
 use Rattle.std.proofs.lemmas.Grind.{common_steps}
+use Rattle.std.proofs.lemmas.Option.{slice_get_within}
 use Rattle.st_classes.specs.declared.values.ActorId.{ActorId}
 use Rattle.st_classes.specs.declared.keys.SiteId.{SiteId}
 use Rattle.st_classes.specs.declared.edits.Edit.{Edit}
@@ -19,7 +20,7 @@ use Rattle.st_image.specs.Changes.{change_count}
 use Rattle.st_image.specs.ClaimsOut.{one_less}
 use Rattle.st_image.specs.Commits.{CommitAllowed, HasCommitted, act_site}
 use Rattle.st_turn.specs.Tallies.{after_sends}
-use Rattle.st_image.specs.Tallies.{Covers, Tallied, after_act_at, tally_at}
+use Rattle.st_image.specs.Tallies.{Covers, SameTallies, Tallied, after_act_at, tally_at}
 use Rattle.st_turn.specs.declared.tally.Tally.{Tally}
 use Rattle.st_image.specs.declared.items.Item.{Item}
 use Rattle.st_image.specs.declared.items.Item.TheVariants.{Ran}
@@ -29,8 +30,9 @@ use Rattle.st_image.proofs.Acts.{kept_is, out_same, some_kept}
 use Rattle.st_image.proofs.Committing.{HasTaken, MayCommit, has_taken, items_are, may_commit, stands_after, steps_room}
 use Rattle.st_image.proofs.CountingOut.{counts_same_out}
 use Rattle.st_image.proofs.ClientNumbers.{kept_other}
-use Rattle.st_image.proofs.CountingChanges.{counts_one}
+use Rattle.st_image.proofs.CountingChanges.{counts_one, few_changes}
 use Rattle.st_image.proofs.Covering.{covers_kept, has_places}
+use Rattle.st_image.proofs.MakingRoom.{few_accepted_by, with_room}
 use Rattle.st_image.proofs.CountingItems.{items_ran}
 use Rattle.st_image.proofs.image.Image.take_steps.Goals as goal
 
@@ -72,9 +74,9 @@ count-requires-clause-places g c =
     let w : World = world_of (constants_of i.names i.settings.capacity) i.base i.history.items in
     let same : SameSteps w.edits d = claims_survive w.edits d c.self.invariant.image.world.lawful c.self.invariant.image.world.sound c.known.ensures allowed.survives in
     let edits : c.shown-version.result.now ≡ w.edits = c.shown-version.ensures ∙ c.self.invariant.image.shows.edits_are in
-    let all : Covers c.cover.new.self (length w.edits) w.edits = subst (λ (es : List Edit). Covers c.cover.new.self (length es) es) edits (subst (λ (n : ℕ). Covers c.cover.new.self n c.shown-version.result.now) c.in-Ok-cover.ensures.ok c.cover.ensures.covers) in
+    let all : Covers c.make_room.new.tallies (length w.edits) w.edits = subst (λ (es : List Edit). Covers c.make_room.new.tallies (length es) es) edits (subst (λ (n : ℕ). Covers c.make_room.new.tallies n c.shown-version.result.now) c.in-Ok.ensures.all c.make_room.ensures.covers) in
     let sent : c.as_slice.result.now ≡ d.sends = c.as_slice.ensures.value ∙ ap (λ (p : ClaimParts). p.sends.items) c.deref-in-Ok-put_steps.ensures ∙ c.in-Ok-into_parts.ensures.sends in
-    rw (c.site_to_commit-site.ensures, sent) (has_places c.cover.new.self w.edits d c.known.ensures same all)
+    rw (c.site_to_commit-site.ensures, sent) (has_places c.make_room.new.tallies w.edits d c.known.ensures same all)
 
 pub invariant_of-self-in-Ok-put_steps : goal.invariant_of-self-in-Ok-put_steps
 invariant_of-self-in-Ok-put_steps g c =
@@ -89,13 +91,13 @@ invariant_of-self-in-Ok-put_steps g c =
     let sent : c.as_slice.result.now ≡ d.sends = c.as_slice.ensures.value ∙ ap (λ (p : ClaimParts). p.sends.items) c.deref-in-Ok-put_steps.ensures ∙ c.in-Ok-into_parts.ensures.sends in
     let tallied : Tallied i.tallies d.sends (act_site d) c.count.new.self = λ id.
     c.count.ensures.tallied id
-    ∙ ap (λ (o : Option SiteId). after_act_at id o (after_sends id c.as_slice.result.now (tally_at c.cover.new.self id))) c.site_to_commit-site.ensures
-    ∙ ap (λ (ss : List Sent). after_act_at id (act_site d) (after_sends id ss (tally_at c.cover.new.self id))) sent
-    ∙ ap (λ (t : Tally). after_act_at id (act_site d) (after_sends id d.sends t)) (c.cover.ensures.same id) in
-    let pushed : c.push.new.self.items ≡ i.history.items ++ Ran c.actor-actor.result c.args.steps ∷ [] = grind (arith, common_steps) in
-    let items : c.push.new.self.items ≡ i.history.items ++ Ran d.actor c.args.steps ∷ [] = pushed ∙ ap (λ (b : ActorId). i.history.items ++ Ran b c.args.steps ∷ []) c.actor-actor.ensures in
+    ∙ ap (λ (o : Option SiteId). after_act_at id o (after_sends id c.as_slice.result.now (tally_at c.make_room.new.tallies id))) c.site_to_commit-site.ensures
+    ∙ ap (λ (ss : List Sent). after_act_at id (act_site d) (after_sends id ss (tally_at c.make_room.new.tallies id))) sent
+    ∙ ap (λ (t : Tally). after_act_at id (act_site d) (after_sends id d.sends t)) (c.make_room.ensures.tallies id) in
+    let pushed : c.push_reserved.new.self.items ≡ i.history.items ++ Ran c.actor-actor.result c.args.steps ∷ [] = grind (arith, common_steps) in
+    let items : c.push_reserved.new.self.items ≡ i.history.items ++ Ran d.actor c.args.steps ∷ [] = pushed ∙ ap (λ (b : ActorId). i.history.items ++ Ran b c.args.steps ∷ []) c.actor-actor.ensures in
     let taken : HasTaken i.base i.names i.token c.put_steps.new.actors.list i.history.items i.edits_made i.settings c.count.new.self d.actor c.args.steps = has_taken i.base i.names i.token i.actors.list c.put_steps.new.actors.list i.history.items i.edits_made i.settings beside i.tallies c.count.new.self d c.args.steps c.in-Ok-put_steps.field-0 c.self.invariant.image c.self.invariant.sends c.known.ensures allowed c.requires.steps c.requires.some may takes c.in-Ok-put_steps.ensures.grown tallied in
-    rw (items, kept_is _ _ c.release.ensures, c.from.ensures) (record { image = taken.image; numbers_of_clients = kept_other i.clients i.base.clients i.history.items (Ran d.actor c.args.steps) (λ qs. refl) c.self.invariant.numbers_of_clients; sends = taken.sends; places = covers_kept c.cover.new.self c.count.new.self c.cover.new.covered i.token c.count.ensures.keeps (subst (Covers c.cover.new.self c.cover.new.covered) c.shown-version.ensures c.cover.ensures.covers); counts = counts_one i.changes c.make_room.new.self c.raise.new.self i.history.items (Ran d.actor c.args.steps) d.actor.0 (λ a. refl) c.make_room.ensures.same (subst (λ (b : ActorId). (a : ℕ) → change_count c.raise.new.self a ≡ change_count c.make_room.new.self a + cond (a == b.0) 1 0) c.actor-actor.ensures c.raise.ensures) c.self.invariant.counts; totals = items_ran i.counts i.earlier i.history.items d.actor c.args.steps (subst (λ (n : ℕ). i.earlier.steps + weigh ran_of i.history.items + n ≤ most_counted) (sym c.requires.steps) (steps_room (seen i.base i.names i.history.items i.settings beside) d allowed.room)) c.self.invariant.totals; compiled = c.self.invariant.compiled; before = c.self.invariant.before })
+    rw (items, kept_is _ _ c.release.ensures, c.from.ensures) (record { image = taken.image; numbers_of_clients = kept_other i.clients i.base.clients i.history.items (Ran d.actor c.args.steps) (λ qs. refl) c.self.invariant.numbers_of_clients; sends = taken.sends; places = covers_kept c.make_room.new.tallies c.count.new.self c.make_room.new.covered i.token c.count.ensures.keeps (subst (Covers c.make_room.new.tallies c.make_room.new.covered) c.shown-version.ensures c.make_room.ensures.covers); counts = counts_one i.changes c.make_room.new.changes c.raise.new.self i.history.items (Ran d.actor c.args.steps) d.actor.0 (λ a. refl) c.make_room.ensures.changes (subst (λ (b : ActorId). (a : ℕ) → change_count c.raise.new.self a ≡ change_count c.make_room.new.changes a + cond (a == b.0) 1 0) c.actor-actor.ensures c.raise.ensures) c.self.invariant.counts; totals = items_ran i.counts i.earlier i.history.items d.actor c.args.steps (subst (λ (n : ℕ). i.earlier.steps + weigh ran_of i.history.items + n ≤ most_counted) (sym c.requires.steps) (steps_room (seen i.base i.names i.history.items i.settings beside) d allowed.room)) c.self.invariant.totals; compiled = c.self.invariant.compiled; before = c.self.invariant.before })
 
 pub returns-in-Ok-put_steps-clause-ok : goal.returns-in-Ok-put_steps-clause-ok
 returns-in-Ok-put_steps-clause-ok g c =
@@ -110,11 +112,11 @@ returns-in-Ok-put_steps-clause-ok g c =
     let sent : c.as_slice.result.now ≡ d.sends = c.as_slice.ensures.value ∙ ap (λ (p : ClaimParts). p.sends.items) c.deref-in-Ok-put_steps.ensures ∙ c.in-Ok-into_parts.ensures.sends in
     let tallied : Tallied i.tallies d.sends (act_site d) c.count.new.self = λ id.
     c.count.ensures.tallied id
-    ∙ ap (λ (o : Option SiteId). after_act_at id o (after_sends id c.as_slice.result.now (tally_at c.cover.new.self id))) c.site_to_commit-site.ensures
-    ∙ ap (λ (ss : List Sent). after_act_at id (act_site d) (after_sends id ss (tally_at c.cover.new.self id))) sent
-    ∙ ap (λ (t : Tally). after_act_at id (act_site d) (after_sends id d.sends t)) (c.cover.ensures.same id) in
-    let pushed : c.push.new.self.items ≡ i.history.items ++ Ran c.actor-actor.result c.args.steps ∷ [] = grind (arith, common_steps) in
-    let items : c.push.new.self.items ≡ i.history.items ++ Ran d.actor c.args.steps ∷ [] = pushed ∙ ap (λ (b : ActorId). i.history.items ++ Ran b c.args.steps ∷ []) c.actor-actor.ensures in
+    ∙ ap (λ (o : Option SiteId). after_act_at id o (after_sends id c.as_slice.result.now (tally_at c.make_room.new.tallies id))) c.site_to_commit-site.ensures
+    ∙ ap (λ (ss : List Sent). after_act_at id (act_site d) (after_sends id ss (tally_at c.make_room.new.tallies id))) sent
+    ∙ ap (λ (t : Tally). after_act_at id (act_site d) (after_sends id d.sends t)) (c.make_room.ensures.tallies id) in
+    let pushed : c.push_reserved.new.self.items ≡ i.history.items ++ Ran c.actor-actor.result c.args.steps ∷ [] = grind (arith, common_steps) in
+    let items : c.push_reserved.new.self.items ≡ i.history.items ++ Ran d.actor c.args.steps ∷ [] = pushed ∙ ap (λ (b : ActorId). i.history.items ++ Ran b c.args.steps ∷ []) c.actor-actor.ensures in
     let old : ImageView = seen i.base i.names i.history.items i.settings beside in
     let new : ImageView = seen i.base i.names (i.history.items ++ Ran d.actor c.args.steps ∷ []) i.settings (standing_of i.earlier i.next_from c.release.new.self.out c.count.new.self) in
     let out : c.release.new.self.out ≡ change_at one_less d.actor.0 c.put_steps.new.actors.out = out_same _ _ c.release.ensures ∙ ap (λ (b : ActorId). change_at one_less b.0 c.put_steps.new.actors.out) c.actor-actor.ensures in
@@ -128,3 +130,66 @@ returns-in-Ok-put_steps-clause-ok g c =
       tallied = tallied;
     } in
     rw (← c.self.view_is, items) committed
+
+pub make_room-requires : goal.make_room-requires
+make_room-requires g c = subst (Covers c.self.inside.tallies c.self.inside.covered) (sym c.shown-version.ensures) c.self.invariant.places
+
+pub invariant_of-self : goal.invariant_of-self
+invariant_of-self g c =
+    let i = c.self.inside in
+    rw c.make_room.ensures.items (with_room i.base i.names i.token i.actors.list i.history.items i.edits_made i.settings i.clients i.tallies c.make_room.new.tallies i.covered c.make_room.new.covered i.changes c.make_room.new.changes i.counts i.earlier c.self.invariant c.make_room.ensures.changes c.make_room.ensures.tallies (subst (Covers c.make_room.new.tallies c.make_room.new.covered) c.shown-version.ensures c.make_room.ensures.covers))
+
+pub invariant_of-self-in-Err : goal.invariant_of-self-in-Err
+invariant_of-self-in-Err g c =
+    let i = c.self.inside in
+    rw c.make_room.ensures.items (with_room i.base i.names i.token i.actors.list i.history.items i.edits_made i.settings i.clients i.tallies c.make_room.new.tallies i.covered c.make_room.new.covered i.changes c.make_room.new.changes i.counts i.earlier c.self.invariant c.make_room.ensures.changes c.make_room.ensures.tallies (subst (Covers c.make_room.new.tallies c.make_room.new.covered) c.shown-version.ensures c.make_room.ensures.covers))
+
+pub invariant_of-self-in-Err-put_steps : goal.invariant_of-self-in-Err-put_steps
+invariant_of-self-in-Err-put_steps g c =
+    let i = c.self.inside in
+    rw (c.make_room.ensures.items, c.in-Err-put_steps.ensures.err) (with_room i.base i.names i.token i.actors.list i.history.items i.edits_made i.settings i.clients i.tallies c.make_room.new.tallies i.covered c.make_room.new.covered i.changes c.make_room.new.changes i.counts i.earlier c.self.invariant c.make_room.ensures.changes c.make_room.ensures.tallies (subst (Covers c.make_room.new.tallies c.make_room.new.covered) c.shown-version.ensures c.make_room.ensures.covers))
+
+pub returns-in_default-clause-err : goal.returns-in_default-clause-err
+returns-in_default-clause-err g c = record {
+  image = rw (c.make_room.ensures.items, ← c.self.view_is) refl;
+  tallies = subst (λ (v : ImageView). SameTallies v.standing.tallies c.make_room.new.tallies) c.self.view_is c.make_room.ensures.tallies;
+}
+
+pub returns-in-Err-clause-err : goal.returns-in-Err-clause-err
+returns-in-Err-clause-err g c = record {
+  image = rw (c.make_room.ensures.items, ← c.self.view_is) refl;
+  tallies = subst (λ (v : ImageView). SameTallies v.standing.tallies c.make_room.new.tallies) c.self.view_is c.make_room.ensures.tallies;
+}
+
+pub returns-in-Err-put_steps-clause-err : goal.returns-in-Err-put_steps-clause-err
+returns-in-Err-put_steps-clause-err g c = record {
+  image = rw (c.make_room.ensures.items, c.in-Err-put_steps.ensures.err, ← c.self.view_is) refl;
+  tallies = subst (λ (v : ImageView). SameTallies v.standing.tallies c.make_room.new.tallies) c.self.view_is c.make_room.ensures.tallies;
+}
+
+pub put_steps-requires-clause-there : goal.put_steps-requires-clause-there
+put_steps-requires-clause-there g c =
+    let i = c.self.inside in
+    let d : ClaimView = c.args.claim in
+    let beside : Standing = standing_of i.earlier i.next_from i.actors.out i.tallies in
+    let allowed : CommitAllowed (seen i.base i.names i.history.items i.settings beside) d = subst (λ (v : ImageView). CommitAllowed v d) (sym c.self.view_is) c.requires.allowed in
+    let may : MayCommit i.base i.names i.token i.actors.list i.history.items i.settings d = may_commit i.base i.names i.token i.actors.list i.history.items i.edits_made i.settings beside d c.self.invariant.image allowed c.known.ensures (subst (λ (n : ℕ). 0 < n) c.requires.steps c.requires.some) in
+    let at : slice_get i.actors.list d.actor.0 ≡ Some (actor_view may.went.being) = kept_at i.token i.actors.list (world_of (constants_of i.names i.settings.capacity) i.base i.history.items) d.actor.0 may.went.being c.self.invariant.image.shows may.went.at in
+    subst (λ (b : ActorId). b.0 < length i.actors.list) (sym c.actor-actor.ensures) (slice_get_within i.actors.list d.actor.0 (actor_view may.went.being) at)
+
+pub put_steps-requires-clause-few : goal.put_steps-requires-clause-few
+put_steps-requires-clause-few g c =
+    let i = c.self.inside in
+    few_accepted_by i.actors.list (length i.history.items) (omega (arith, c.self.invariant.image.few_items, c.self.invariant.image.numbers.few_items)) c.self.invariant.image.few_accepted
+
+pub raise-requires-clause-room : goal.raise-requires-clause-room
+raise-requires-clause-room g c = c.in-Ok.ensures.place
+
+pub raise-requires-clause-few : goal.raise-requires-clause-few
+raise-requires-clause-few g c =
+    let i = c.self.inside in
+    let a : ℕ = c.actor-actor.result.0 in
+    omega (arith, c.make_room.ensures.changes a, c.self.invariant.counts a, few_changes i.history.items a, c.self.invariant.image.few_items, c.self.invariant.image.numbers.few_items)
+
+pub push_reserved-requires : goal.push_reserved-requires
+push_reserved-requires g c = c.in-Ok.ensures.room

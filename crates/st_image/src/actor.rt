@@ -4,6 +4,7 @@ ghost use Rattle.st_turn.specs.Steps.{step};
 
 mod plain_data;
 
+use crate::leavings::Leavings;
 use crate::results::Results;
 use st_classes::faults::Fault;
 use st_classes::refusals::Refusal;
@@ -188,15 +189,15 @@ impl<M: Mailbox> Actor<M> {
     }
 
     /// The body that a checkout hands out: that of an idle actor has begun the first pending message, where one is pending. It takes
-    /// the memory of a spare body, if there is one.
+    /// the memory of a body that was left, if that fits.
     pub(crate) fn body_to_check_out(
         &self,
         alloc: Global,
-        spare: Option<Body>,
+        leavings: &mut Leavings,
     ) -> Result<Body, AllocError>
         ensures { IfOk result (λ b. b ≡ (view_checked_out self.now).body) }
     {
-        let mut body = self.body.copy_into(alloc, spare)?;
+        let mut body = self.body.copy_into(alloc, leavings.spare_for(&self.body))?;
         if body.is_idle() {
             if let Some(message) = self.mailbox.item(0) {
                 let message = message.copy(alloc)?;

@@ -6,6 +6,7 @@ mod plain_data;
 mod renewal;
 
 use crate::actor::Actor;
+use crate::leavings::Leavings;
 use crate::letting_go::let_go;
 use st_classes::faults::Fault;
 use st_classes::values::{ActorId, Value};
@@ -178,13 +179,13 @@ impl<M: Mailbox> Actors<M> {
         &self,
         alloc: Global,
         actor: ActorId,
-        spare: Option<Body>,
+        leavings: &mut Leavings,
     ) -> Result<Body, AllocError>
         requires { actor.0 < length self.now.list }
         ensures { IfOk result (λ b. (k : ActorView) → slice_get self.now.list actor.0 ≡ Some k → b ≡ (view_checked_out k).body) }
     {
         let item = &self.items[actor.0 as usize];
-        item.body_to_check_out(alloc, spare)
+        item.body_to_check_out(alloc, leavings)
     }
 
     /// A claim more of an actor is out. An actor that is idle begins its first pending message, where one is pending. The answer is

@@ -71,26 +71,26 @@ pub fn checkpoint_leaves_claims()
     ensures { LeavesClaims }
 {}
 
-/// The kernel's names and its class table, twice.
+/// The kernel's names, and two pointers to its class table.
 #[derive(Drop)]
-struct Kernel {
+struct KernelParts {
     names: Names,
     token: Token,
     table: Token,
 }
 
-impl Kernel {
+impl KernelParts {
     ghost use Rattle.std.specs.Prelude.{◌≡◌, [], IfOk};
     ghost use Rattle.st_classes.specs.Kernel.{kernel_selectors};
 
-    fn of(alloc: Global) -> Result<Kernel, AllocError>
+    fn of(alloc: Global) -> Result<KernelParts, AllocError>
         ensures names { IfOk result (λ k. k.names ≡ kernel_selectors) }
         ensures token { IfOk result (λ k. k.token ≡ []) }
         ensures table { IfOk result (λ k. k.table ≡ []) }
     {
         let token = Token::publish(alloc, Version::kernel(alloc)?)?;
         let table = token.again()?;
-        Ok(Kernel {
+        Ok(KernelParts {
             names: Names::kernel(alloc)?,
             token,
             table,
@@ -167,7 +167,7 @@ impl<M: Mailbox> Image<M> {
         if let Some(refusal) = settings.refusal() {
             return Err(refusal);
         }
-        let first = Kernel::of(alloc)?;
+        let first = KernelParts::of(alloc)?;
         Ok(Image {
             base: Base::new(first.table, Vec::new(alloc), Vec::new(alloc)),
             names: first.names,

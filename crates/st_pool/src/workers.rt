@@ -88,7 +88,9 @@ fn next_work<K: Naming, M: Mailbox, R: Wait>(
     share: &mut WorkerShare<K>,
     leavings: &mut Leavings,
 ) -> Work<Held<K>> {
-    shared.enter(rt).work(alloc, share, leavings)
+    let work = shared.enter(rt).work(alloc, share, leavings);
+    leavings.let_go();
+    work
 }
 
 /// Commits the steps of a quantum, and answers what the worker does next, both in one hold. A commit readies at most one actor more
@@ -123,7 +125,7 @@ fn turn_over<K: Naming, M: Mailbox, R: Wait>(
     let is_hurried = is_short && (rests || goes_on(&work));
     let wants_more = !is_hurried && office.wants_more();
     drop(office);
-    // What the next claim does not take is let go after the lock is given back.
+    // What the next claim did not take is let go after the lock is given back.
     leavings.let_go();
     if answer.is_ok() && wants_help {
         shared.moved.notify_one();

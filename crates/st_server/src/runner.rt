@@ -145,6 +145,7 @@ impl Runner {
     {
         self.image.known();
         let claim = self.image.checkout_in(alloc, actor, &mut self.leavings)?;
+        self.leavings.let_go();
         self.image.known();
         let result = work(
             alloc,
@@ -154,7 +155,7 @@ impl Runner {
             quantum,
             &mut self.leavings,
         );
-        self.leavings.let_go();
+
         self.image.known();
         result
     }

@@ -68,7 +68,7 @@ pub struct ClaimParts {
     pub stamp: u64,
 }
 
-/// Gives the parts of a claim those of a claim of no steps, but for the memory that they have, and returns the token that they had.
+/// Makes the parts those of a claim of no steps. They keep their memory. The token that they had is returned.
 fn begin_again(
     parts: &mut ClaimParts,
     actor: ActorId,
@@ -76,7 +76,13 @@ fn begin_again(
     body: Body,
     stamp: u64,
 ) -> Token
-    ensures begins { (parts.new.actor ≡ actor) × (parts.new.token ≡ token) × (parts.new.before ≡ body) × (parts.new.after ≡ None) × (parts.new.steps ≡ 0) × (parts.new.sends.items ≡ []) × (parts.new.sums.items ≡ []) }
+    ensures actor { parts.new.actor ≡ actor }
+    ensures token { parts.new.token ≡ token }
+    ensures before { parts.new.before ≡ body }
+    ensures after { parts.new.after ≡ None }
+    ensures steps { parts.new.steps ≡ 0 }
+    ensures sends { parts.new.sends.items ≡ [] }
+    ensures sums { parts.new.sums.items ≡ [] }
     ensures stamp { parts.new.stamp ≡ stamp }
 {
     let before = std::mem::replace(&mut parts.before, body);

@@ -95,9 +95,7 @@ impl<M: Mailbox> Image<M> {
         ensures err { OnErr result (self.new ≡ self.old) }
     {
         let stamp = self.stamp_after(actor, begins);
-        let body = self
-            .actors
-            .body_to_check_out(alloc, actor, leavings.body.take())?;
+        let body = self.actors.body_to_check_out(alloc, actor, leavings)?;
         self.changes.make_room(actor)?;
         let claim = claim_in(alloc, actor, self.token.again()?, body, stamp, leavings)?;
         if begins {
@@ -121,7 +119,8 @@ impl<M: Mailbox> Image<M> {
         self.checkout_in(alloc, actor, &mut Leavings::none())
     }
 
-    /// The same. The claim takes the memory of what a commit left, if anything, so that quanta that are alike take no memory.
+    /// The same. The claim takes the memory of what a commit left, as far as it fits, so that quanta that are alike take no memory. What
+    /// it does not take stays. A call that is refused for want of memory may have spent what was left.
     pub fn checkout_in(
         &mut self,
         alloc: Global,

@@ -29,8 +29,9 @@ fn are_base_actors(names: &Names, version: &Version, parts: &[ActorPart]) -> boo
 }
 
 impl Loader {
-    /// Why these are no actors and clients of a base with the names and the class table that were loaded, if they are none.
-    fn base_refusal(
+    /// Whether these are actors and clients of a base with the names and the class table that were loaded; if not, why. Memory may run
+    /// out.
+    fn check_base(
         &self,
         alloc: Global,
         parts: &[ActorPart],
@@ -71,7 +72,7 @@ impl Loader {
         ensures { Finishes self.names self.edits parts.items clients.items counts result }
     {
         self.known();
-        match self.base_refusal(alloc, parts.as_slice(), clients.as_slice()) {
+        match self.check_base(alloc, parts.as_slice(), clients.as_slice()) {
             Ok(()) => {
                 let Loader { names, version } = self;
                 Ok(Image::at_base(alloc, names, version, parts, clients, counts)?)

@@ -44,20 +44,15 @@ impl Objects {
     fn copy(&self, alloc: Global) -> Result<Objects, AllocError>
         ensures { IfOk result (λ objects. objects ≡ self.now) }
     {
-        self.copy_into(
-            alloc,
-            Objects {
-                items: Vec::new(alloc),
-            },
-        )
+        let items = Vec::with_capacity(alloc, self.items.len())?;
+        self.copy_into(alloc, Objects { items })
     }
 
     /// A copy of the objects that takes the memory of other ones, as far as it goes.
     fn copy_into(&self, alloc: Global, spare: Objects) -> Result<Objects, AllocError>
         ensures { IfOk result (λ objects. objects ≡ self.now) }
     {
-        let Objects { mut items } = spare;
-        items.truncate(self.items.len());
+        let mut items = first_ones(spare, self.items.len());
         make_same(alloc, items.as_mut_slice(), self.items.as_slice())?;
         add_rest(alloc, &mut items, self.items.as_slice())?;
         Ok(Objects { items })
@@ -69,6 +64,19 @@ impl Objects {
     {
         same_objects(self.items.as_slice(), other.items.as_slice())
     }
+}
+
+/// The first objects of spare ones, at most this many. If there is room for many more, there are none, in a new vector, so that the
+/// room of an actor with many objects does not go on to others.
+fn first_ones(spare: Objects, count: usize) -> Vec<Object>
+    ensures { length result.items ≤ count }
+{
+    let Objects { mut items } = spare;
+    if items.capacity() / 2 > count.saturating_add(4) {
+        return Vec::new(*items.allocator());
+    }
+    items.truncate(count);
+    items
 }
 
 /// Makes objects the same as the first ones of a list that is not shorter.
@@ -90,7 +98,7 @@ fn add_rest(alloc: Global, objects: &mut Vec<Object>, others: &[Object]) -> Resu
     requires few { length objects.old.items ≤ length others.now }
     ensures { OnOk result (objects.new.items ≡ others.now) }
 {
-    objects.reserve(others.len() - objects.len())?;
+    objects.reserve_exact(others.len() - objects.len())?;
     'rest: while objects.len() < others.len() {
         let copy = others[objects.len()].copy(alloc)?;
         objects.push(copy)?;
@@ -179,6 +187,19 @@ impl Body {
             objects: self.objects.copy(alloc)?,
             phase: self.phase.copy(alloc)?,
         })
+    }
+
+    /// Whether a copy of this body finds what it needs in the memory of another one, and leaves little of that: the same number of
+    /// objects, and frames if it has some itself.
+    pub fn fits_in(&self, spare: &Body) -> bool {
+        if self.objects.len() != spare.objects.len() {
+            return false;
+        }
+        match (&self.phase, &spare.phase) {
+            (Phase::Frames(frames), Phase::Frames(others)) => frames.fits_in(others),
+            (Phase::Frames(_), _) | (_, Phase::Frames(_)) => false,
+            _ => true,
+        }
     }
 
     /// The same copy. It takes the memory of another body, if there is one, as far as it goes.

@@ -5,7 +5,7 @@ ghost use Rattle.st_turn.specs.StackLayout.{place_of, places_of, spread, spread_
 use crate::frame::Frame;
 use crate::stack::callers::Callers;
 use crate::stack::{Place, Stack};
-use crate::value_lists::same_values;
+use crate::value_lists::{emptied, same_values};
 use st_classes::limits::OPERANDS;
 use st_classes::values::Value;
 use std::alloc::{AllocError, Global};
@@ -40,12 +40,12 @@ impl Stack {
     }
 
     /// A copy of the frames in these lists, with as much room for calls as these have, up to a bound. The lists lose what they had.
-    fn copy_in(&self, mut values: Vec<Value>, callers: Callers) -> Result<Stack, AllocError>
+    fn copy_in(&self, values: Vec<Value>, callers: Callers) -> Result<Stack, AllocError>
         ensures { IfOk result (λ stack. stack ≡ self.now) }
     {
         let size = usize::min(self.values.len(), self.top.saturating_add(SPARE));
-        values.clear();
-        values.reserve(size)?;
+        let mut values = emptied(values, size.saturating_mul(2));
+        values.reserve_exact(size)?;
         // Values above the top are not copied: if another processor wrote them last, reading them is slow. The room is filled with
         // nils instead.
         values.extend_from_slice(&self.values[..self.top])?;
@@ -59,11 +59,17 @@ impl Stack {
         })
     }
 
-    /// A copy of the frames.
+    /// A copy of the frames, with as much room for calls as these have, up to a bound.
     pub fn copy(&self, alloc: Global) -> Result<Stack, AllocError>
         ensures { IfOk result (λ stack. stack ≡ self.now) }
     {
         self.copy_in(Vec::new(alloc), Callers::new(alloc))
+    }
+
+    /// Whether a copy of these frames finds in the memory of other ones enough room, and not too much.
+    pub(crate) fn fits_in(&self, spare: &Stack) -> bool {
+        let size = usize::min(self.values.len(), self.top.saturating_add(SPARE));
+        size <= spare.values.capacity() && spare.values.capacity() / 2 <= size
     }
 
     /// The same in the memory of other frames, as far as it goes.

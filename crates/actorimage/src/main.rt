@@ -11,7 +11,7 @@ mod socket_files;
 use crate::image_files::{Unreadable, load_file, save_file};
 use crate::options::{Request, ScriptOptions, ServeOptions, invalid_utf8_error, parsed_request};
 use crate::runs::{begin_with, saved_at};
-use crate::socket_files::bind;
+use crate::socket_files::{SocketFile, bind};
 use boxcar::Vec as Faults;
 use clap::Error;
 use st_classes::refusals::Refusal;
@@ -27,6 +27,7 @@ use std::env;
 use std::fs::{File, Files};
 use std::io::{self, BufWriter, ErrorKind};
 use std::net::Net;
+use std::os::unix::net::UnixListener;
 use std::process::ExitCode;
 use std::sync::Wait;
 use std::thread::Threads;
@@ -132,21 +133,15 @@ fn tell_end<R: Print + Eprint + AllocGlobal>(
     }
 }
 
-/// Serves sessions over a socket. Its file is made for the owner alone, and removed at the end.
-fn serve_over<R: Threads + Wait + Net + Files + Sync>(
+/// Serves sessions over a socket, and removes its file at the end.
+fn serve_bound<R: Threads + Wait + Files + Sync>(
     rt: &R,
     alloc: Global,
     options: ServeOptions<'_>,
+    (listener, file): (UnixListener, SocketFile<'_>),
     faults: &Faults<Refusal>,
     image: Image,
 ) -> Result<Served, Refusal> {
-    let (listener, file) = match bind(rt, options.socket) {
-        Ok(bound) => bound,
-        Err(refusal) => {
-            drop(image);
-            return Err(refusal);
-        }
-    };
     let result = serve_image(
         rt,
         alloc,
@@ -160,19 +155,20 @@ fn serve_over<R: Threads + Wait + Net + Files + Sync>(
     result
 }
 
-/// Saves the image of a server whose sessions have ended, and reports the end. Both are done even if accepting failed; the answer
-/// is then that refusal.
+/// Saves the image of a server whose sessions have ended, if a path is given, and reports the end. Both are done even if accepting
+/// failed; the answer is then that refusal. Neither is done if serving was refused.
 fn end_serving<R: Files + Print + Eprint + AllocGlobal>(
     rt: &R,
     path: Option<&str>,
     faults: &Faults<Refusal>,
-    served: Served,
+    ended: Result<Served, Refusal>,
 ) -> Result<(), Refusal> {
+    let path = saved_at(path, &ended);
     let Served {
         image,
         totals,
         fault,
-    } = served;
+    } = ended?;
     let saved = save_at(rt, rt.alloc(), path, image);
     tell_end(rt, faults, totals)?;
     saved?;
@@ -182,19 +178,33 @@ fn end_serving<R: Files + Print + Eprint + AllocGlobal>(
     }
 }
 
+/// Serves a new image or the image of a file over a socket, whose file is made for the owner alone. The refusals of sessions are
+/// added to `faults`.
+fn serve_with<R: Threads + Wait + Net + Files + Print + Eprint + AllocGlobal + Sync>(
+    rt: &R,
+    options: ServeOptions<'_>,
+    faults: &Faults<Refusal>,
+) -> Result<(), Refusal> {
+    let image = first_image(rt, options.image)?;
+    let ended = match bind(rt, options.socket) {
+        Ok(bound) => serve_bound(rt, rt.alloc(), options, bound, faults, image),
+        Err(refusal) => {
+            drop(image);
+            Err(refusal)
+        }
+    };
+    end_serving(rt, options.image, faults, ended)
+}
+
 /// Serves a new image or the image of a file. That file gets the image when all sessions have ended.
 fn serve<R: Threads + Wait + Net + Files + Print + Eprint + AllocGlobal + Sync>(
     rt: &R,
     options: ServeOptions<'_>,
 ) -> Result<(), Refusal> {
-    let alloc = rt.alloc();
-    let Ok(faults) = Faults::new(alloc) else {
-        return Err(Refusal::NoMemory);
-    };
-    let image = first_image(rt, options.image)?;
-    let ended = serve_over(rt, alloc, options, &faults, image);
-    let path = saved_at(options.image, &ended);
-    end_serving(rt, path, &faults, ended?)
+    match Faults::new(rt.alloc()) {
+        Ok(faults) => serve_with(rt, options, &faults),
+        Err(_) => Err(Refusal::NoMemory),
+    }
 }
 
 /// The words of the command line.

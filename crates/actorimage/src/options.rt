@@ -7,7 +7,7 @@ use st_server::settings::ScriptSettings;
 use std::alloc::{AllocError, Global};
 
 /// The options of a script.
-#[derive(Clone, Copy, PartialEq, Eq, Debug)]
+#[derive(Clone, Copy)]
 pub struct ScriptOptions<'a> {
     quantum: Option<u32>,
     capacity: Option<u32>,
@@ -36,7 +36,7 @@ impl<'a> ScriptOptions<'a> {
 }
 
 /// The options of a server.
-#[derive(Clone, Copy, PartialEq, Eq, Debug)]
+#[derive(Clone, Copy)]
 pub struct ServeOptions<'a> {
     /// The path of the socket.
     pub socket: &'a str,
@@ -49,7 +49,7 @@ pub struct ServeOptions<'a> {
 }
 
 /// What a command line asks for.
-#[derive(Clone, Copy, PartialEq, Eq, Debug)]
+#[derive(Clone, Copy)]
 pub enum Request<'a> {
     Script(ScriptOptions<'a>),
     Serve(ServeOptions<'a>),
@@ -57,57 +57,53 @@ pub enum Request<'a> {
     Check(&'a str),
 }
 
-/// The option for an image's file, of scripts and servers.
-fn image_option<'a>(alloc: Global) -> Arg<'a> {
-    Arg::new(alloc, "image")
-        .long("image")
-        .value_name("FILE")
-        .help(
-            "Keeps the image in a file: begins with it where it is there, and saves to it at the end",
-        )
+/// An option with a value.
+fn option<'a>(alloc: Global, name: &'a str, value: &'a str, help: &'a str) -> Arg<'a> {
+    Arg::new(alloc, name)
+        .long(name)
+        .value_name(value)
+        .help(help)
 }
 
+/// An option whose value is a number from 1 to the given one.
+fn number_option<'a>(
+    alloc: Global,
+    name: &'a str,
+    value: &'a str,
+    help: &'a str,
+    most: i64,
+) -> Arg<'a> {
+    Arg::new(alloc, name)
+        .long(name)
+        .value_name(value)
+        .help(help)
+        .value_parser(value_parser!(u32).range(1..=most))
+}
+
+/// What the option for an image's file does, of scripts and servers.
+const IMAGE_HELP: &str =
+    "Keeps the image in a file: begins with it where it is there, and saves to it at the end";
+
 fn script_command<'a>(alloc: Global) -> Result<Command<'a>, AllocError> {
-    let quantum = Arg::new(alloc, "quantum")
-        .long("quantum")
-        .value_name("N")
-        .help("Steps of a quantum, 1 to 1024 [default: 256]")
-        .value_parser(value_parser!(u32).range(1..=1024));
-    let capacity = Arg::new(alloc, "capacity")
-        .long("capacity")
-        .value_name("N")
-        .help("Messages that a new actor's mailbox holds, 1 to 1024 [default: 64]")
-        .value_parser(value_parser!(u32).range(1..=1024));
+    let quantum = "Steps of a quantum, 1 to 1024 [default: 256]";
+    let capacity = "Messages that a new actor's mailbox holds, 1 to 1024 [default: 64]";
     Command::new(alloc, "script")
         .about("Runs the commands on standard input and writes a reply to each")
-        .arg(image_option(alloc))?
-        .arg(quantum)?
-        .arg(capacity)
+        .arg(option(alloc, "image", "FILE", IMAGE_HELP))?
+        .arg(number_option(alloc, "quantum", "N", quantum, 1024))?
+        .arg(number_option(alloc, "capacity", "N", capacity, 1024))
 }
 
 fn serve_command<'a>(alloc: Global) -> Result<Command<'a>, AllocError> {
-    let socket = Arg::new(alloc, "socket")
-        .long("socket")
-        .value_name("PATH")
-        .help("Where the Unix socket is made; nothing may be there")
-        .required(true);
-    let workers = Arg::new(alloc, "workers")
-        .long("workers")
-        .value_name("N")
-        .help("Threads that run actors, 1 to 16")
-        .value_parser(value_parser!(u32).range(1..=16))
-        .required(true);
-    let sessions = Arg::new(alloc, "sessions")
-        .long("sessions")
-        .value_name("K")
-        .help("Ends after so many sessions, 1 to 1000000, and tells what they did together")
-        .value_parser(value_parser!(u32).range(1..=1_000_000));
+    let socket = "Where the Unix socket is made; nothing may be there";
+    let workers = "Threads that run actors, 1 to 16";
+    let sessions = "Ends after so many sessions, 1 to 1000000, and tells what they did together";
     Command::new(alloc, "serve")
         .about("Serves one image to sessions over a Unix socket")
-        .arg(socket)?
-        .arg(workers)?
-        .arg(sessions)?
-        .arg(image_option(alloc))
+        .arg(option(alloc, "socket", "PATH", socket).required(true))?
+        .arg(number_option(alloc, "workers", "N", workers, 16).required(true))?
+        .arg(number_option(alloc, "sessions", "K", sessions, 1_000_000))?
+        .arg(option(alloc, "image", "FILE", IMAGE_HELP))
 }
 
 fn check_command<'a>(alloc: Global) -> Result<Command<'a>, AllocError> {
@@ -122,14 +118,28 @@ fn check_command<'a>(alloc: Global) -> Result<Command<'a>, AllocError> {
         .arg(file)
 }
 
+/// A command with one more subcommand, if there was memory for that.
+fn with<'a>(
+    command: Command<'a>,
+    subcommand: Result<Command<'a>, AllocError>,
+) -> Result<Command<'a>, AllocError> {
+    match subcommand {
+        Ok(subcommand) => command.subcommand(subcommand),
+        Err(error) => {
+            drop(command);
+            Err(error)
+        }
+    }
+}
+
 fn program<'a>(alloc: Global) -> Result<Command<'a>, AllocError> {
-    Command::new(alloc, "actorimage")
+    let program = Command::new(alloc, "actorimage")
         .about("A live-editable Smalltalk image of actors")
         .subcommand_required(true)
-        .arg_required_else_help(true)
-        .subcommand(script_command(alloc)?)?
-        .subcommand(serve_command(alloc)?)?
-        .subcommand(check_command(alloc)?)
+        .arg_required_else_help(true);
+    let program = with(program, script_command(alloc))?;
+    let program = with(program, serve_command(alloc))?;
+    with(program, check_command(alloc))
 }
 
 fn script_options<'a>(matches: &ArgMatches<'a>) -> ScriptOptions<'a> {
@@ -149,25 +159,33 @@ fn serve_options<'a>(matches: &ArgMatches<'a>) -> ServeOptions<'a> {
     }
 }
 
+/// What the words of a command line ask for, once they are matched.
+fn request_of<'a>(matches: &ArgMatches<'a>) -> Request<'a> {
+    if let Some(serve) = matches.subcommand_matches("serve") {
+        return Request::Serve(serve_options(serve));
+    }
+    if let Some(check) = matches.subcommand_matches("check") {
+        return Request::Check(check.get_str("file").unwrap_or(""));
+    }
+    Request::Script(match matches.subcommand_matches("script") {
+        Some(script) => script_options(script),
+        None => ScriptOptions::NONE,
+    })
+}
+
 /// What a command line asks for, or the error or the help to show.
 pub fn parsed_request<'a>(alloc: Global, words: &'a [String]) -> Result<Request<'a>, Error> {
     let matches = program(alloc)?.try_get_matches_from(words)?;
-    if let Some(serve) = matches.subcommand_matches("serve") {
-        return Ok(Request::Serve(serve_options(serve)));
-    }
-    if let Some(check) = matches.subcommand_matches("check") {
-        return Ok(Request::Check(check.get_str("file").unwrap_or("")));
-    }
-    Ok(Request::Script(match matches.subcommand_matches("script") {
-        Some(script) => script_options(script),
-        None => ScriptOptions::NONE,
-    }))
+    Ok(request_of(&matches))
 }
 
 /// The error to show if a word of the command line is not UTF-8.
 pub fn invalid_utf8_error(alloc: Global) -> Result<Error, AllocError> {
-    program(alloc)?.error(
-        ErrorKind::InvalidValue,
-        "invalid UTF-8 was detected in one or more arguments",
-    )
+    match program(alloc) {
+        Ok(mut program) => program.error(
+            ErrorKind::InvalidValue,
+            "invalid UTF-8 was detected in one or more arguments",
+        ),
+        Err(error) => Err(error),
+    }
 }

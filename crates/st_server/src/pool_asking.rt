@@ -2,7 +2,7 @@
 //!
 //! A command may take the lock more than once, for instance to look up a class or to intern a text. Other commands may be answered
 //! in between.
-ghost use Rattle.std.specs.Prelude.{◌≡◌, ◌⊎◌, Err, Result};
+ghost use Rattle.std.specs.Prelude.{◌≡◌, ◌≢◌, ◌⊎◌, ℕ, List, Err, Result};
 ghost use Rattle.st_classes.specs.declared.refusals.Refusal.{Refusal as RefusalOf};
 ghost use Rattle.st_classes.specs.declared.refusals.Refusal.TheVariants.{NoMemory};
 ghost use Rattle.st_image.specs.declared.counts.Counts.{Counts as CountsOf};
@@ -10,6 +10,7 @@ ghost use Rattle.st_image.specs.Calls.{Closes, Creates, Defines, InstallsIn};
 ghost use Rattle.st_image.specs.Outcomes.{image_outcome};
 ghost use Rattle.st_pool.specs.Checkpointed.{Checkpoints};
 ghost use Rattle.st_pool.specs.Done.{HasAtLeast, OfficeView};
+ghost use Rattle.st_wire.specs.declared.commands.Command.TheVariants as commands;
 ghost use Rattle.st_wire.specs.declared.replies.Reply.TheVariants as replies;
 ghost use Rattle.st_server.specs.ArgumentValues.{found_selector};
 ghost use Rattle.st_server.specs.CommandReplies.{States, Tells, reply_by, counted_reply};
@@ -313,21 +314,18 @@ fn checkpoint<K: Naming, R: Wait>(
     }
 }
 
-/// The reply to a command. A run is refused by BadCommand, since the workers run the turns.
-pub(crate) fn ask<K: Naming, R: Wait>(
+/// The reply to a command that defines no class. The command is only read.
+fn ask_other<K: Naming, R: Wait>(
     rt: &R,
     alloc: Global,
     caller: &mut Caller<'_, K, Mailbox>,
-    command: Command,
+    command: &Command,
 ) -> Reply
-    ensures { Attends K.start caller.old command result caller.new }
+    requires { (name parent : List ℕ) → (slots : List (List ℕ)) → command.now ≢ commands.Define name parent slots }
+    ensures { Attends K.start caller.old command.now result caller.new }
 {
     match command {
-        Command::Define {
-            name,
-            parent,
-            slots,
-        } => define(rt, alloc, caller, name.as_slice(), parent.as_slice(), slots),
+        Command::Define { .. } => unreachable!(),
         Command::Method { class, source } => {
             install(rt, alloc, caller, class.as_slice(), source.as_slice())
         }
@@ -346,20 +344,39 @@ pub(crate) fn ask<K: Naming, R: Wait>(
             seq,
         } => {
             let posting = Posting {
-                actor,
+                actor: *actor,
                 arguments: args.as_slice(),
                 selector: selector.as_slice(),
-                sender,
-                seq,
+                sender: *sender,
+                seq: *seq,
             };
             post(rt, alloc, caller, &posting)
         }
-        Command::Outcome { actor, turn } => outcome(rt, alloc, caller, actor, turn),
-        Command::Close { actor } => close(rt, caller, actor),
+        Command::Outcome { actor, turn } => outcome(rt, alloc, caller, *actor, *turn),
+        Command::Close { actor } => close(rt, caller, *actor),
         Command::Stats { class, selector } => {
             stats(rt, alloc, caller, class.as_slice(), selector.as_slice())
         }
         Command::Checkpoint => checkpoint(rt, alloc, caller),
         Command::Run { .. } => Reply::Refused(Refusal::BadCommand),
+    }
+}
+
+/// The reply to a command. A run is refused by BadCommand, since the workers run the turns.
+pub(crate) fn ask<K: Naming, R: Wait>(
+    rt: &R,
+    alloc: Global,
+    caller: &mut Caller<'_, K, Mailbox>,
+    command: Command,
+) -> Reply
+    ensures { Attends K.start caller.old command result caller.new }
+{
+    match command {
+        Command::Define {
+            name,
+            parent,
+            slots,
+        } => define(rt, alloc, caller, name.as_slice(), parent.as_slice(), slots),
+        command => ask_other(rt, alloc, caller, &command),
     }
 }

@@ -1,5 +1,5 @@
 use Rattle.std.proofs.Common.{rules, ◌≡◌, ℕ, List, subst}
-use Rattle.st_image.specs.Calls.{Defines, InstallsIn}
+use Rattle.st_image.specs.Calls.{Defines}
 use Rattle.st_wire.specs.declared.replies.Reply.TheVariants.{Version}
 use Rattle.st_server.specs.PoolReplies.{CallsOnce, RepliesOn}
 use Rattle.st_server.proofs.pool_asking.ask.Goals as goal
@@ -13,13 +13,3 @@ returns-in-Define g c =
     let Under : List ℕ → Type 0 = λ text. RepliesOn start d text Version (λ k. CallsOnce start d (λ i. Defines i c.as_slice.result.now k c.in-Define.slots)) c.define.result in
     let Called : List ℕ → Type 0 = λ text. RepliesOn start d c.in-Define.parent Version (λ k. CallsOnce start d (λ i. Defines i text k c.in-Define.slots)) c.define.result in
     rw c.in-Define.is (subst Called name (subst Under parent c.define.ensures.replies), c.define.ensures.done)
-
-pub returns-in-Method : goal.returns-in-Method
-returns-in-Method g c =
-    let start = g.K.Naming.start in
-    let d = c.args.caller.now in
-    let class : c.as_slice-in-Method.result.now ≡ c.in-Method.class = search rules in
-    let source : c.as_slice-in-Method-2.result.now ≡ c.in-Method.source = search rules in
-    let Named : List ℕ → Type 0 = λ text. RepliesOn start d text Version (λ k. CallsOnce start d (λ i. InstallsIn i k c.as_slice-in-Method-2.result.now)) c.install.result in
-    let Of : List ℕ → Type 0 = λ text. RepliesOn start d c.in-Method.class Version (λ k. CallsOnce start d (λ i. InstallsIn i k text)) c.install.result in
-    rw c.in-Method.is (subst Of source (subst Named class c.install.ensures.replies), c.install.ensures.done)

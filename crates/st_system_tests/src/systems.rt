@@ -1,9 +1,8 @@
 //! A system of two workers and its events. Each call stands behind a function without a contract: what a test does with several of
-//! them is then proved in seconds.
-ghost use Rattle.std.specs.Prelude.{◌≡◌, All, IfOk, List, None};
-ghost use Rattle.st_classes.specs.declared.edits.Edit.{Edit as EditOf};
-ghost use Rattle.st_system.specs.Seats.{KeepsBeginning};
-
+//! them is then proved in seconds. An event is applied by the function for systems of any kind, and a system made by the one there: a
+//! function for this system alone would be proved over all that `System::apply` promises once more, or drop all parts of a system.
+use crate::workers::system_of;
+pub(crate) use crate::workers::{Answered, apply};
 use st_classes::kernel::{OBJECT, SMALL_INTEGER};
 use st_classes::refusals::Refusal;
 use st_classes::seq::Seq;
@@ -22,9 +21,6 @@ use std::alloc::{AllocError, Global};
 
 /// A system of two workers.
 pub(crate) type TwoWorkers = System<ListBox, GlobalGuard>;
-
-/// What an event answers.
-pub(crate) type Answered = Result<Answer, Refusal>;
 
 /// The only actor.
 pub(crate) const FIRST: ActorId = ActorId(0);
@@ -68,27 +64,18 @@ pub(crate) fn event(work: Work) -> Event {
 }
 
 /// A worker whose caches keep no list of edits.
-fn new_worker(alloc: Global) -> Result<Worker<GlobalGuard>, AllocError>
-    ensures { IfOk result (λ w. w.kept ≡ None) }
-{
+fn new_worker(alloc: Global) -> Result<Worker<GlobalGuard>, AllocError> {
     let mut worker = Worker::new(Caches::new(alloc, GlobalGuard::new())?);
     worker.forget();
     Ok(worker)
 }
 
-fn two_workers(alloc: Global) -> Result<Vec<Worker<GlobalGuard>>, AllocError>
-    ensures { IfOk result (λ ws. (edits : List EditOf) → All (KeepsBeginning edits) ws.items) }
-{
-    let first = new_worker(alloc)?;
-    let second = new_worker(alloc)?;
-    Ok(vec![in alloc; first, second]?)
-}
-
-/// An image with two workers without claims. It is put on the heap: where a system stands on the stack, the proof of each function
-/// that lets it go pays for all its parts.
-fn system_of(alloc: Global, image: Image<ListBox>) -> Result<Box<TwoWorkers>, AllocError> {
-    let system = System::new(alloc, image, two_workers(alloc)?)?;
-    Ok(Box::new(alloc, system)?)
+fn two_workers(alloc: Global) -> Result<Vec<Worker<GlobalGuard>>, AllocError> {
+    let mut workers = Vec::new(alloc);
+    for _ in 0..2 {
+        workers.push(new_worker(alloc)?)?;
+    }
+    Ok(workers)
 }
 
 /// A new image with a history of at most this many items, and two workers without claims.
@@ -97,11 +84,8 @@ pub(crate) fn new_system(alloc: Global, history: u32) -> Result<Box<TwoWorkers>,
         capacity: 64,
         history,
     };
-    Ok(system_of(alloc, Image::new(alloc, settings)?)?)
-}
-
-pub(crate) fn apply(alloc: Global, system: &mut TwoWorkers, event: &Event) -> Answered {
-    system.apply(alloc, event)
+    let workers = two_workers(alloc)?;
+    Ok(system_of(alloc, Image::new(alloc, settings)?, workers)?)
 }
 
 pub(crate) fn run(alloc: Global, system: &mut TwoWorkers, events: &[Event]) {

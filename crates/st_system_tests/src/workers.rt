@@ -62,7 +62,7 @@ fn new_image<M: Mailbox>(alloc: Global, capacity: u32) -> Result<Box<Image<M>>, 
 }
 
 /// A system of an image and workers without claims.
-fn system_of<M: Mailbox, G: Guard>(
+pub(crate) fn system_of<M: Mailbox, G: Guard>(
     alloc: Global,
     image: Image<M>,
     workers: Vec<Worker<G>>,

@@ -17,8 +17,8 @@ impl Object {
         })
     }
 
-    /// Makes this object the same as another one. It takes memory only if it has room for fewer values. If memory runs out, it has
-    /// no values.
+    /// Makes this object the same as another one. It takes memory only where its room does not fit the values. If memory runs out, it
+    /// has no values.
     fn become_same(&mut self, alloc: Global, other: &Object) -> Result<(), AllocError>
         ensures { OnOk result (self.new ≡ other.now) }
     {

@@ -155,7 +155,6 @@ impl Runner {
             quantum,
             &mut self.leavings,
         );
-
         self.image.known();
         result
     }

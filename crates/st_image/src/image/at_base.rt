@@ -15,7 +15,7 @@ use st_classes::version::Version;
 use st_mailbox::mailboxes::Mailbox;
 use std::alloc::{AllocError, Global};
 
-/// What is made for an image at a base: its class table, twice, and its actors and clients from copies of the parts.
+/// What is made for an image at a base: two pointers to its class table, its actors from copies of the parts, and its clients.
 #[derive(Drop)]
 struct Made<M: Mailbox> {
     token: Token,

@@ -251,7 +251,8 @@ impl<M: Mailbox> Image<M> {
         self.commit_leaving(alloc, claim, &mut Leavings::none())
     }
 
-    /// The same, and what the commit has no more use for is left to the caller, who lets it go when he likes.
+    /// The same, and what the commit has no more use for is left to the caller, for his next checkout, or to let it go when he likes. It
+    /// takes the place of what lay there before.
     pub fn commit_leaving(
         &mut self,
         alloc: Global,

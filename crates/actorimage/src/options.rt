@@ -73,11 +73,7 @@ fn number_option<'a>(
     help: &'a str,
     most: i64,
 ) -> Arg<'a> {
-    Arg::new(alloc, name)
-        .long(name)
-        .value_name(value)
-        .help(help)
-        .value_parser(value_parser!(u32).range(1..=most))
+    option(alloc, name, value, help).value_parser(value_parser!(u32).range(1..=most))
 }
 
 /// What the option for an image's file does, of scripts and servers.

@@ -46,7 +46,8 @@ use Rattle.st_image.proofs.Lasting.{after_keeps}
 use Rattle.st_image.proofs.OwnSteps.{outer_goes_on, own_busy, own_world, some_body}
 use Rattle.st_image.proofs.Keeping.{has_room, ran_kept}
 use Rattle.st_image.proofs.Counting.{counts_ran}
-use Rattle.st_image.proofs.ClaimSends.{few_sends, sites_outer, sites_own}
+use Rattle.st_turn.proofs.FewSends.{few_sends}
+use Rattle.st_image.proofs.ClaimSends.{sites_outer, sites_own}
 use Rattle.st_image.specs.ClaimsOut.{one_less}
 use Rattle.st_image.proofs.Posting.{seen, standing_of}
 use Rattle.st_image.proofs.CountingOut.{counts_out}

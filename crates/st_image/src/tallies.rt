@@ -2,15 +2,13 @@
 ghost use Rattle.std.specs.Prelude.{◌≡◌, ◌<◌, ◌≤◌, ◌+◌, ◌^◌, ℕ, [], length, slice_set, true, None, OnOk, All};
 ghost use Rattle.std.specs.List.{slice_index_or};
 ghost use Rattle.st_classes.specs.declared.keys.SiteId.{SiteId as SiteIdOf};
-ghost use Rattle.st_turn.specs.Tallies.{AreSums, after_sums, no_tally, sends_of, with_act, with_send, with_sum};
+ghost use Rattle.st_turn.specs.Tallies.{after_sums, no_tally, sends_of, with_act, with_sum};
 ghost use Rattle.st_image.specs.Tallies.{ChangesTally, Covers, HasPlaces, KeepsPlaces, SameTallies, Summed, Tallied, has_place, tally_at};
 
 use st_classes::keys::SiteId;
 use st_classes::values::{MethodId, Selector};
 use st_classes::version::Version;
-use st_guard::how::How;
-use st_sites::site::SiteState;
-use st_turn::claim::Sent;
+use st_turn::sends::Sends;
 use st_turn::sums::SiteSum;
 use st_turn::tally::Tally;
 use std::alloc::{AllocError, Global};
@@ -72,16 +70,6 @@ impl TallyRow {
         Ok(())
     }
 
-    #[inline(always)]
-    fn add_send(&mut self, place: u16, how: How, state: SiteState)
-        requires place { place < length self.old }
-        requires few { sends_of (slice_index_or self.old place no_tally) + 1 < 2 ^ 64 }
-        ensures { self.new ≡ slice_set self.old place (with_send how state (slice_index_or self.old place no_tally)) }
-    {
-        let tally = &mut self.tallies[usize::from(place)];
-        tally.add_send(how, state);
-    }
-
     #[inline]
     fn add_sum(&mut self, place: u16, sum: &Tally)
         requires place { place < length self.old }
@@ -131,31 +119,6 @@ fn make_rows(rows: &mut Vec<TallyRow>, method: usize) -> Result<(), AllocError>
     Ok(())
 }
 
-/// Counts a send.
-#[inline(always)]
-fn count_send(rows: &mut [TallyRow], sent: &Sent)
-    requires place { has_place rows.old sent.now.site ≡ true }
-    requires few { sends_of (tally_at rows.old sent.now.site) + 1 < 2 ^ 64 }
-    ensures tally { ChangesTally (with_send sent.now.how sent.now.state) sent.now.site rows.old rows.new }
-    ensures keeps { KeepsPlaces rows.old rows.new }
-{
-    let row = &mut rows[sent.site.method.0 as usize];
-    row.add_send(sent.site.place, sent.how, sent.state);
-}
-
-/// Counts sends, one after the other.
-#[inline(always)]
-fn count_each(rows: &mut [TallyRow], sends: &[Sent])
-    requires places { All (λ s. has_place rows.old s.site ≡ true) sends.now }
-    requires few { (id : SiteIdOf) → sends_of (tally_at rows.old id) + length sends.now < 2 ^ 64 }
-    ensures tallied { Tallied rows.old sends.now None rows.new }
-    ensures keeps { KeepsPlaces rows.old rows.new }
-{
-    for sent in sends {
-        count_send(rows, sent);
-    }
-}
-
 /// Counts the sends that were summed at a site.
 #[inline]
 fn count_sum(rows: &mut [TallyRow], sum: &SiteSum)
@@ -177,22 +140,6 @@ fn count_sums(rows: &mut [TallyRow], sums: &[SiteSum])
 {
     for sum in sums {
         count_sum(rows, sum);
-    }
-}
-
-/// Counts sends: by their sums, where there are any.
-#[inline(always)]
-fn count_all(rows: &mut [TallyRow], sends: &[Sent], sums: &[SiteSum])
-    requires sums { 0 < length sums.now → AreSums sums.now sends.now }
-    requires places { All (λ s. has_place rows.old s.site ≡ true) sends.now }
-    requires few { (id : SiteIdOf) → sends_of (tally_at rows.old id) + length sends.now < 2 ^ 64 }
-    ensures tallied { Tallied rows.old sends.now None rows.new }
-    ensures keeps { KeepsPlaces rows.old rows.new }
-{
-    if sums.is_empty() {
-        count_each(rows, sends);
-    } else {
-        count_sums(rows, sums);
     }
 }
 
@@ -286,27 +233,25 @@ impl Tallies {
         row.add_act(site.place);
     }
 
-    /// Counts sends, which may be summed by their sites.
+    /// Counts sends, by their sums.
     #[inline(always)]
-    fn count_sends(&mut self, sends: &[Sent], sums: &[SiteSum])
-        requires sums { 0 < length sums.now → AreSums sums.now sends.now }
-        requires places { All (λ s. has_place self.old s.site ≡ true) sends.now }
-        requires few { (id : SiteIdOf) → sends_of (tally_at self.old id) + length sends.now < 2 ^ 64 }
-        ensures tallied { Tallied self.old sends.now None self.new }
+    fn count_sends(&mut self, sends: &Sends)
+        requires places { All (λ s. has_place self.old s.site ≡ true) sends.now.items }
+        requires few { (id : SiteIdOf) → sends_of (tally_at self.old id) + length sends.now.items < 2 ^ 64 }
+        ensures tallied { Tallied self.old sends.now.items None self.new }
         ensures keeps { KeepsPlaces self.old self.new }
     {
-        count_all(self.rows.as_mut_slice(), sends, sums);
+        count_sums(self.rows.as_mut_slice(), sends.sums());
     }
 
-    /// Counts the sends of a claim, which may be summed by their sites, and an act behind them. No memory is taken.
-    pub(crate) fn count(&mut self, sends: &[Sent], sums: &[SiteSum], act: Option<SiteId>)
-        requires sums { 0 < length sums.now → AreSums sums.now sends.now }
-        requires places { HasPlaces self.old sends.now act }
-        requires few { (id : SiteIdOf) → sends_of (tally_at self.old id) + length sends.now + 1 < 2 ^ 64 }
-        ensures tallied { Tallied self.old sends.now act self.new }
+    /// Counts the sends of a claim, and an act behind them. No memory is taken.
+    pub(crate) fn count(&mut self, sends: &Sends, act: Option<SiteId>)
+        requires places { HasPlaces self.old sends.now.items act }
+        requires few { (id : SiteIdOf) → sends_of (tally_at self.old id) + length sends.now.items + 1 < 2 ^ 64 }
+        ensures tallied { Tallied self.old sends.now.items act self.new }
         ensures keeps { KeepsPlaces self.old self.new }
     {
-        self.count_sends(sends, sums);
+        self.count_sends(sends);
         if let Some(site) = act {
             self.count_act(site);
         }

@@ -62,8 +62,7 @@ impl<K: Naming, G: Guard> Hand<K, G> {
         Hand { worker, seen: None }
     }
 
-    /// Takes steps of a claim, as `Worker::run`, and sums its sends up. If the worker ran a claim of the same pool before, no edits are
-    /// compared.
+    /// Takes steps of a claim, as `Worker::run`. If the worker ran a claim of the same pool before, no edits are compared.
     pub fn run(&mut self, alloc: Global, held: &mut Held<K>, limit: u32) -> Result<Stop, AllocError>
         ensures runs { (moved : CachesView G) × HasMoved G.count G.floor G.raises self.old moved held.old.edits × Runs G.floor limit moved held.old result self.new held.new }
         ensures stands { StandsAt G.count G.floor self.new held.new.edits }
@@ -76,7 +75,6 @@ impl<K: Naming, G: Guard> Hand<K, G> {
         } = held;
         let is_known = precedes(seen, at_checkout);
         let stop = run_with(worker, alloc, claim, limit, is_known);
-        claim.sum_up();
         *seen = again(at_checkout);
         stop
     }

@@ -17,7 +17,10 @@ pub mod StackMoves
 pub mod StackDetermined
 pub mod StackMade
 pub mod WaitingFrames
+pub mod Walks
 pub mod Summing
+pub mod LastSums
+pub mod FewSends
 pub mod ClaimSteps
 pub mod Busy
 pub mod WorkerSteps

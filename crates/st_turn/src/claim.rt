@@ -1,17 +1,16 @@
 //! Steps of an actor that are taken apart from the image.
-ghost use Rattle.std.specs.Prelude.{◌≡◌, ◌<◌, [], None, Some, IfOk, IfErr, OnOk, length};
+ghost use Rattle.std.specs.Prelude.{◌≡◌, [], None, Some, IfOk, IfErr, OnOk};
 ghost use Rattle.std.specs.Option.{unwrap_or};
 ghost use Rattle.st_turn.specs.BodyFits.{FitsSome};
 ghost use Rattle.st_turn.specs.Claims.{IsSound};
 ghost use Rattle.st_turn.specs.Steps.{is_outer, step};
-ghost use Rattle.st_turn.specs.Tallies.{AreSums};
 
 pub(crate) mod stepping;
 mod using;
 
 use crate::acts::is_act_next;
 use crate::body::Body;
-use crate::sums::{SiteSum, sum_sends};
+use crate::sends::Sends;
 use st_classes::keys::SiteId;
 use st_classes::token::Token;
 use st_classes::values::ActorId;
@@ -61,9 +60,7 @@ pub struct ClaimParts {
     /// A body that nothing reads, whose memory the body after may take.
     pub spare: Option<Body>,
     pub steps: u32,
-    pub sends: Vec<Sent>,
-    /// The sums of the sends by their sites. None are made until they are asked for, and a step more takes them away.
-    pub sums: Vec<SiteSum>,
+    pub sends: Sends,
     /// A number that identifies the body before, given by the maker of the claim.
     pub stamp: u64,
 }
@@ -82,7 +79,6 @@ fn begin_again(
     ensures after { parts.new.after ≡ None }
     ensures steps { parts.new.steps ≡ 0 }
     ensures sends { parts.new.sends.items ≡ [] }
-    ensures sums { parts.new.sums.items ≡ [] }
     ensures stamp { parts.new.stamp ≡ stamp }
 {
     let before = std::mem::replace(&mut parts.before, body);
@@ -91,7 +87,6 @@ fn begin_again(
     parts.actor = actor;
     parts.steps = 0;
     parts.sends.clear();
-    parts.sums.clear();
     parts.stamp = stamp;
     std::mem::replace(&mut parts.token, token)
 }
@@ -137,8 +132,7 @@ impl Claim {
             after: None,
             spare: None,
             steps: 0,
-            sends: Vec::new(alloc),
-            sums: Vec::new(alloc),
+            sends: Sends::new(alloc),
             stamp,
         };
         match Box::new(alloc, parts) {
@@ -211,12 +205,12 @@ impl Claim {
         self.parts.steps
     }
 
-    /// The sends of the steps, in order.
+    /// The sends of the steps, of which their sums are kept.
     #[inline]
-    pub fn sends(&self) -> &[Sent]
-        ensures { result.now ≡ self.now.sends }
+    pub fn sends(&self) -> &Sends
+        ensures { result.now.items ≡ self.now.sends }
     {
-        self.parts.sends.as_slice()
+        &self.parts.sends
     }
 
     /// The number that identifies the body before.
@@ -234,15 +228,6 @@ impl Claim {
         is_act_next(self.after(), self.parts.actor, self.parts.token.shown())
     }
 
-    /// Adds up the sends of each call site, so that whoever counts them has less to do. It does nothing if there are few sends, many
-    /// sites or no memory.
-    pub fn sum_up(&mut self)
-        ensures { self.new ≡ self.old }
-    {
-        let parts = &mut *self.parts;
-        sum_sends(&mut parts.sums, parts.sends.as_slice());
-    }
-
     /// Takes the claim apart into the body to which the steps lead and the other parts. If no step was taken, this may need memory for
     /// a copy of the body; if there is none, the claim is handed back.
     pub fn into_parts(self, alloc: Global) -> Result<(Box<ClaimParts>, Body), Claim>
@@ -251,7 +236,6 @@ impl Claim {
         ensures before { IfOk result (λ r. r.0.value.before ≡ self.before) }
         ensures steps { IfOk result (λ r. r.0.value.steps ≡ self.steps) }
         ensures sends { IfOk result (λ r. r.0.value.sends.items ≡ self.sends) }
-        ensures sums { IfOk result (λ r. 0 < length r.0.value.sums.items → AreSums r.0.value.sums.items self.sends) }
         ensures stamp { IfOk result (λ r. r.0.value.stamp ≡ self.stamp) }
         ensures after { IfOk result (λ r. r.1 ≡ self.after) }
         ensures without { IfOk result (λ r. r.0.value.after ≡ None) }
@@ -268,13 +252,12 @@ impl Claim {
         Ok((parts, after))
     }
 
-    /// Puts the parts of a claim together again, without the sums. No memory is taken.
+    /// Puts the parts of a claim together again. No memory is taken.
     pub fn from_parts(mut parts: Box<ClaimParts>, after: Body) -> Claim
         requires { IsSound parts.value.actor parts.value.token parts.value.before after parts.value.steps parts.value.sends.items }
         ensures { result ≡ record { actor = parts.value.actor; edits = parts.value.token; before = parts.value.before; after = after; steps = parts.value.steps; sends = parts.value.sends.items; stamp = parts.value.stamp } }
     {
         parts.after = Some(after);
-        parts.sums.clear();
         Claim { parts }
     }
 }

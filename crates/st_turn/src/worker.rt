@@ -90,7 +90,7 @@ impl<G: Guard> Worker<G> {
         ensures edits { claim.new.edits ≡ claim.old.edits }
     {
         self.move_to(claim.token());
-        claim.step(alloc, &mut self.finder, 1)
+        claim.step(alloc, &mut self.finder)
     }
 
     /// The same, if the caller knows that the edits which the caches keep are a prefix of the claim's. No edits are compared: if there
@@ -102,7 +102,7 @@ impl<G: Guard> Worker<G> {
         ensures edits { claim.new.edits ≡ claim.old.edits }
     {
         self.move_unchecked(claim.token());
-        claim.step(alloc, &mut self.finder, 1)
+        claim.step(alloc, &mut self.finder)
     }
 
     /// Takes steps of a claim, one after the other, until it has taken this many (the answer is `More` then, also for 0), none is next,

@@ -49,7 +49,7 @@ fn take_cached(
 ) -> Result<u32, Refusal> {
     let mut claim = checkout(alloc, &mut twins.cached, actor)?;
     let _stop = run(alloc, &mut twins.worker, &mut claim, limit)?;
-    twins.counts.add(claim.sends());
+    twins.counts.add(claim.sends().sums());
     commit(alloc, &mut twins.cached, claim)
 }
 

@@ -95,7 +95,7 @@ fn counts_in(
     let mut claim = checkout(alloc, &mut image, actor)?;
     let _stop = worker.run(alloc, &mut claim, 100)?;
     let mut counts = Counts::none();
-    counts.add(claim.sends());
+    counts.add(claim.sends().sums());
     release(&mut image, claim);
     Ok(counts)
 }
@@ -178,7 +178,7 @@ fn next_counts(
     };
     let mut counts = Counts::none();
     if ended == Ok(true) {
-        counts.add(claim.sends());
+        counts.add(claim.sends().sums());
     }
     commit(alloc, image, claim)?;
     Ok(counts)

@@ -1,10 +1,9 @@
-//! Sums of a claim's sends: an image counts by them what it counts of the sends one by one.
-use crate::images::{A, GO, Image, checkout, commit, image_sent_go};
+//! Sums of a claim's sends: one for each site, and an image counts the same by many of them as by few.
+use crate::images::{A, GO, Image, checkout, commit, image_sent_go, release};
 use crate::workers::{new_worker, run};
 use st_classes::refusals::Refusal;
 use st_classes::values::Selector;
 use st_image::tallies::SiteStats;
-use st_turn::claim::Claim;
 use std::alloc::Global;
 use std::test::*;
 
@@ -14,19 +13,17 @@ const ASK: Selector = Selector(23);
 /// The lines of methods, each with its class; and how many sums are made of what an actor of class A sends when it runs `go`: one for
 /// each site.
 const ROWS: &[(&str, usize)] = &[
-    // 33 sends
+    ("A go ^self", 0),
     ("A go | n | n := 0. [n < 16] whileTrue: [n := n + 1]", 2),
-    // 31 sends are too few
-    ("A go | n | n := 0. [n < 15] whileTrue: [n := n + 1]", 0),
-    // 16 sites
+    // 16 sites, as many as there is room for at first
     (
         "A go | n | n := 0. [n < 40] whileTrue: [n := n + 1 + 0 + 0 + 0 + 0 + 0 + 0 + 0 + 0 + 0 + 0 + 0 + 0 + 0 + 0]",
         16,
     ),
-    // 17 sites are too many
+    // 17 sites
     (
         "A go | n | n := 0. [n < 40] whileTrue: [n := n + 1 + 0 + 0 + 0 + 0 + 0 + 0 + 0 + 0 + 0 + 0 + 0 + 0 + 0 + 0 + 0]",
-        0,
+        17,
     ),
     // five classes at the site of `tag`, whose targets the site, the lookup cache and walks have
     (
@@ -46,46 +43,28 @@ fn rows() -> &'static [(&'static str, usize)] {
     ROWS
 }
 
-/// When the sends of a claim are summed up.
-#[derive(Clone, Copy, PartialEq, Eq, Debug)]
-enum Summed {
-    Never,
-    AtTheEnd,
-    /// Before the last steps, and not behind them.
-    Before,
-}
-
-fn sum_up(claim: &mut Claim) {
-    claim.sum_up();
-}
-
 /// How many sums there are in a claim of the whole turn.
 fn sums_of(alloc: Global, methods: &str) -> Result<usize, Refusal> {
     let (mut image, actor) = image_sent_go(alloc, methods)?;
     let mut worker = new_worker(alloc)?;
     let mut claim = checkout(alloc, &mut image, actor)?;
     let _stop = run(alloc, &mut worker, &mut claim, 4000)?;
-    sum_up(&mut claim);
-    match Box::into_inner(claim).into_parts(alloc) {
-        Ok((parts, _)) => Ok(parts.sums.len()),
-        Err(_) => Err(Refusal::NoMemory),
-    }
+    let sums = claim.sends().sums().len();
+    release(&mut image, claim);
+    Ok(sums)
 }
 
-/// An image in which the turn was committed, of which some steps were taken first.
-fn committed(alloc: Global, methods: &str, summed: Summed) -> Result<Box<Image>, Refusal> {
+/// An image in which the turn was committed in quanta of this many steps.
+fn committed(alloc: Global, methods: &str, quantum: u32) -> Result<Box<Image>, Refusal> {
     let (mut image, actor) = image_sent_go(alloc, methods)?;
     let mut worker = new_worker(alloc)?;
-    let mut claim = checkout(alloc, &mut image, actor)?;
-    let _first = run(alloc, &mut worker, &mut claim, 120)?;
-    if summed == Summed::Before {
-        sum_up(&mut claim);
+    for _ in 0..4000 {
+        let Ok(mut claim) = checkout(alloc, &mut image, actor) else {
+            return Ok(image);
+        };
+        let _stop = run(alloc, &mut worker, &mut claim, quantum)?;
+        commit(alloc, &mut image, claim)?;
     }
-    let _rest = run(alloc, &mut worker, &mut claim, 4000)?;
-    if summed == Summed::AtTheEnd {
-        sum_up(&mut claim);
-    }
-    commit(alloc, &mut image, claim)?;
     Ok(image)
 }
 
@@ -104,13 +83,13 @@ fn tell_the_same(alloc: Global, one: &Image, other: &Image, selector: Selector) 
     }
 }
 
-/// Whether the image counts the same, whenever the sends are summed up.
+/// Whether the image counts the same of quanta of single steps, of some, and of a whole turn.
 fn is_counted_alike(alloc: Global, methods: &str) -> Result<bool, Refusal> {
-    let never = committed(alloc, methods, Summed::Never)?;
-    for summed in [Summed::AtTheEnd, Summed::Before] {
-        let image = committed(alloc, methods, summed)?;
+    let single = committed(alloc, methods, 1)?;
+    for quantum in [7, 120, 4000] {
+        let image = committed(alloc, methods, quantum)?;
         for selector in [GO, ASK] {
-            if !tell_the_same(alloc, &never, &image, selector) {
+            if !tell_the_same(alloc, &single, &image, selector) {
                 return Ok(false);
             }
         }
@@ -128,7 +107,7 @@ fn sends_are_summed_by_sites(rt: HostRuntime) -> Result<(), Fail> {
 }
 
 #[test]
-fn sums_count_what_sends_count(rt: HostRuntime) -> Result<(), Fail> {
+fn many_sums_count_as_few(rt: HostRuntime) -> Result<(), Fail> {
     for (methods, _) in rows() {
         assert!(rt; is_counted_alike(rt.alloc(), methods)?, "{methods}");
     }

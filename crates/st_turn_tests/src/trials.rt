@@ -6,7 +6,8 @@ use st_classes::keys::SiteId;
 use st_classes::refusals::Refusal;
 use st_classes::values::ActorId;
 use st_turn::body::Stop;
-use st_turn::claim::{Claim, Sent};
+use st_turn::claim::Claim;
+use st_turn::sums::SiteSum;
 use std::alloc::Global;
 
 /// In what two ways differ.
@@ -43,13 +44,54 @@ struct Taken {
     stop: Stop,
 }
 
-fn has_sites(sends: &[Sent], sites: &[SiteId]) -> bool {
-    sends.iter().map(|s| s.site).eq(sites.iter().copied())
+/// How many sends there are in sums; of a site, or of all if none is named.
+fn sends_in(sums: &[SiteSum], site: Option<SiteId>) -> u64 {
+    let mut sends: u64 = 0;
+    for sum in sums {
+        if site.is_none() || site == Some(sum.site) {
+            let tally = sum.tally;
+            sends = sends
+                .wrapping_add(tally.by_site)
+                .wrapping_add(tally.by_global)
+                .wrapping_add(tally.by_walk);
+        }
+    }
+    sends
 }
 
-fn have_same_states(some: &Worker, other: &Worker, sends: &[Sent]) -> bool {
-    for sent in sends {
-        if some.caches().state(sent.site) != other.caches().state(sent.site) {
+fn count_of(sites: &[SiteId], site: SiteId) -> u64 {
+    let mut count: u64 = 0;
+    for other in sites {
+        if *other == site {
+            count = count.wrapping_add(1);
+        }
+    }
+    count
+}
+
+/// Whether sums are of as many sends as there are in a list of sites, at each site and in all.
+fn has_sites(sums: &[SiteSum], sites: &[SiteId]) -> bool {
+    for sum in sums {
+        if sends_in(sums, Some(sum.site)) != count_of(sites, sum.site) {
+            return false;
+        }
+    }
+    sends_in(sums, None) == sites.len() as u64
+}
+
+fn are_same(some: &[SiteSum], others: &[SiteSum]) -> bool {
+    some.iter()
+        .map(|s| s.site)
+        .eq(others.iter().map(|s| s.site))
+        && some
+            .iter()
+            .map(|s| s.tally)
+            .eq(others.iter().map(|s| s.tally))
+}
+
+fn have_same_states(some: &Worker, other: &Worker, sums: &[SiteSum]) -> bool {
+    for sum in sums {
+        if some.caches().state(sum.site) != other.caches().state(sum.site) {
             return false;
         }
     }
@@ -67,7 +109,7 @@ fn difference_from(taken: &Taken, plain: &PlainSteps) -> Option<Part> {
     if !taken.claim.after().is_same(&plain.body) {
         return Some(Part::Bodies);
     }
-    if !has_sites(taken.claim.sends(), plain.sites.as_slice()) {
+    if !has_sites(taken.claim.sends().sums(), plain.sites.as_slice()) {
         return Some(Part::Sites);
     }
     None
@@ -97,10 +139,11 @@ impl Trial {
 
     /// In what the steps of the two workers differ.
     fn difference(&self, row: &Taken, single: &Taken) -> Option<Part> {
-        if row.claim.sends() != single.claim.sends() {
+        let sums = row.claim.sends().sums();
+        if !are_same(sums, single.claim.sends().sums()) {
             return Some(Part::Sends);
         }
-        if !have_same_states(&self.runner, &self.stepper, row.claim.sends()) {
+        if !have_same_states(&self.runner, &self.stepper, sums) {
             return Some(Part::States);
         }
         None
@@ -158,7 +201,7 @@ impl Trial {
     ) -> Result<Option<Part>, Refusal> {
         let row = self.take_row(alloc, actor, limit)?;
         let part = self.row_difference(alloc, actor, limit, &row)?;
-        self.counts.add(row.claim.sends());
+        self.counts.add(row.claim.sends().sums());
         commit(alloc, &mut self.image, row.claim)?;
         Ok(part)
     }

@@ -1,9 +1,9 @@
 //! Workers, and the steps of claims that they take.
 use st_guard::caches::Caches;
 use st_guard::global_guard::GlobalGuard;
-use st_guard::how::How;
 use st_turn::body::Stop;
-use st_turn::claim::{Claim, Sent};
+use st_turn::claim::Claim;
+use st_turn::sums::SiteSum;
 use std::alloc::{AllocError, Global};
 
 pub(crate) type Worker = st_turn::worker::Worker<GlobalGuard>;
@@ -60,9 +60,9 @@ pub(crate) fn walk(
 /// How many sends were found in each way.
 #[derive(Clone, Copy, PartialEq, Eq, Debug)]
 pub(crate) struct Counts {
-    pub by_site: u32,
-    pub by_global: u32,
-    pub by_walk: u32,
+    pub by_site: u64,
+    pub by_global: u64,
+    pub by_walk: u64,
 }
 
 impl Counts {
@@ -74,22 +74,16 @@ impl Counts {
         }
     }
 
-    fn add_one(&mut self, how: How) {
-        match how {
-            How::Site => self.by_site = self.by_site.wrapping_add(1),
-            How::Global => self.by_global = self.by_global.wrapping_add(1),
-            How::Walk => self.by_walk = self.by_walk.wrapping_add(1),
-        }
-    }
-
     /// Whether sends were found in all three ways.
     pub(crate) fn are_some(&self) -> bool {
         self.by_site > 0 && self.by_global > 0 && self.by_walk > 0
     }
 
-    pub(crate) fn add(&mut self, sends: &[Sent]) {
-        for sent in sends {
-            self.add_one(sent.how);
+    pub(crate) fn add(&mut self, sums: &[SiteSum]) {
+        for sum in sums {
+            self.by_site = self.by_site.wrapping_add(sum.tally.by_site);
+            self.by_global = self.by_global.wrapping_add(sum.tally.by_global);
+            self.by_walk = self.by_walk.wrapping_add(sum.tally.by_walk);
         }
     }
 }

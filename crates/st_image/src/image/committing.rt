@@ -185,8 +185,7 @@ impl<M: Mailbox> Image<M> {
             &mut leavings.body,
         ) {
             Ok(_) => {
-                let sums = parts.sums.as_slice();
-                self.tallies.count(parts.sends.as_slice(), sums, site);
+                self.tallies.count(&parts.sends, site);
                 self.actors.release(actor);
                 self.changes.raise(actor);
                 self.history.push_reserved(Item::Ran { actor, steps });

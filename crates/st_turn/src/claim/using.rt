@@ -9,6 +9,7 @@ ghost use Rattle.st_turn.specs.UsedSelectors.{first_touched, touches_asked, touc
 
 use crate::body::Phase;
 use crate::claim::Claim;
+use crate::sums::SiteSum;
 use st_classes::edits::Edit;
 use st_classes::instructions::Instruction;
 use st_classes::kernel::DOES_NOT_UNDERSTAND;
@@ -38,6 +39,14 @@ fn touches_site(version: &Version, site: SiteId, selector: Selector) -> bool
     }
 }
 
+/// Whether an edit that is for a selector touches one that is sent at a site of these sums.
+fn touches_some(version: &Version, sums: &[SiteSum], selector: Selector) -> bool
+    ensures { result ≡ list_any (λ m. touches_asked version.now selector m.site) sums.now }
+{
+    sums.iter()
+        .any(|sum| touches_site(version, sum.site, selector))
+}
+
 impl Claim {
     /// Whether an edit of a selector touches the first message of the turn, if the steps dispatched that message.
     fn is_first_touched(&self, selector: Selector) -> bool
@@ -59,11 +68,7 @@ impl Claim {
     fn is_send_touched(&self, selector: Selector) -> bool
         ensures { result ≡ list_any (λ s. touches_asked self.now.edits selector s.site) self.now.sends }
     {
-        let version = self.parts.token.shown();
-        self.parts
-            .sends
-            .iter()
-            .any(|sent| touches_site(version, sent.site, selector))
+        touches_some(self.parts.token.shown(), self.parts.sends.sums(), selector)
     }
 
     /// Whether an edit that is for a selector touches one that the steps used.

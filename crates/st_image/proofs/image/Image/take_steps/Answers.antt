@@ -9,6 +9,7 @@ use Rattle.st_turn.specs.declared.claim.Sent.{Sent}
 use Rattle.st_turn.specs.Claims.{ClaimView}
 use Rattle.st_turn.specs.Surviving.{SameSteps}
 use Rattle.st_turn.proofs.ClaimsLater.{claims_survive}
+use Rattle.st_turn.proofs.FewSends.{few_sends}
 use Rattle.st_turn.specs.Idle.{is_idle}
 use Rattle.st_image.specs.Worlds.{World, change, change_at}
 use Rattle.st_image.specs.Replay.{with_body}
@@ -19,7 +20,7 @@ use Rattle.st_image.specs.ActResults.{TakesOuter, constants_of}
 use Rattle.st_image.specs.Changes.{change_count}
 use Rattle.st_image.specs.ClaimsOut.{one_less}
 use Rattle.st_image.specs.Commits.{CommitAllowed, HasCommitted, act_site}
-use Rattle.st_turn.specs.Tallies.{after_sends}
+use Rattle.st_turn.specs.Tallies.{after_sends, sends_of}
 use Rattle.st_image.specs.Tallies.{Covers, SameTallies, Tallied, after_act_at, tally_at}
 use Rattle.st_turn.specs.declared.tally.Tally.{Tally}
 use Rattle.st_image.specs.declared.items.Item.{Item}
@@ -33,6 +34,7 @@ use Rattle.st_image.proofs.ClientNumbers.{kept_other}
 use Rattle.st_image.proofs.CountingChanges.{counts_one, few_changes}
 use Rattle.st_image.proofs.Covering.{covers_kept, has_places}
 use Rattle.st_image.proofs.MakingRoom.{few_accepted_by, with_room}
+use Rattle.st_image.proofs.Counting.{few_more}
 use Rattle.st_image.proofs.CountingItems.{items_ran}
 use Rattle.st_image.proofs.image.Image.take_steps.Goals as goal
 
@@ -75,8 +77,18 @@ count-requires-clause-places g c =
     let same : SameSteps w.edits d = claims_survive w.edits d c.self.invariant.image.world.lawful c.self.invariant.image.world.sound c.known.ensures allowed.survives in
     let edits : c.shown-version.result.now ≡ w.edits = c.shown-version.ensures ∙ c.self.invariant.image.shows.edits_are in
     let all : Covers c.make_room.new.tallies (length w.edits) w.edits = subst (λ (es : List Edit). Covers c.make_room.new.tallies (length es) es) edits (subst (λ (n : ℕ). Covers c.make_room.new.tallies n c.shown-version.result.now) c.in-Ok.ensures.all c.make_room.ensures.covers) in
-    let sent : c.as_slice.result.now ≡ d.sends = c.as_slice.ensures.value ∙ ap (λ (p : ClaimParts). p.sends.items) c.deref-in-Ok-put_steps.ensures ∙ c.in-Ok-into_parts.ensures.sends in
+    let sent : c.deref.result.now.sends.items ≡ d.sends = ap (λ (p : ClaimParts). p.sends.items) c.deref.ensures ∙ c.in-Ok-into_parts.ensures.sends in
     rw (c.site_to_commit-site.ensures, sent) (has_places c.make_room.new.tallies w.edits d c.known.ensures same all)
+
+pub count-requires-clause-few : goal.count-requires-clause-few
+count-requires-clause-few g c = λ id.
+    let i = c.self.inside in
+    let d : ClaimView = c.args.claim in
+    let sent : c.deref.result.now.sends.items ≡ d.sends = ap (λ (p : ClaimParts). p.sends.items) c.deref.ensures ∙ c.in-Ok-into_parts.ensures.sends in
+    let few : length d.sends ≤ d.steps = few_sends d.edits d.actor d.steps d.before d.sends c.known.ensures.sites in
+    let tally = ap (λ (t : Tally). sends_of t) (c.make_room.ensures.tallies id) in
+    let most = few_more (constants_of i.names i.settings.capacity) i.base i.history.items i.tallies d.sends id c.self.invariant.sends (omega (arith, c.self.invariant.image.few_items, c.self.invariant.image.numbers.few_items)) (omega (arith, few, c.known.ensures.few)) in
+    omega (arith, most, tally, ap (λ (ss : List Sent). length ss) sent)
 
 pub invariant_of-self-in-Ok-put_steps : goal.invariant_of-self-in-Ok-put_steps
 invariant_of-self-in-Ok-put_steps g c =
@@ -88,10 +100,10 @@ invariant_of-self-in-Ok-put_steps g c =
     let w : World = world_of (constants_of i.names i.settings.capacity) i.base i.history.items in
     let raw = c.in-Ok-put_steps.ensures.ok (change (with_body d.after) d.actor w) (rw (c.shown-version.ensures, c.actor-actor.ensures, c.in-Ok-into_parts.ensures.after) may.went.shown) in
     let takes : TakesOuter (constants_of i.names i.settings.capacity) i.token (change_at (view_after_steps d.after) d.actor.0 i.actors.list) c.put_steps.new.actors.list d.actor (change (with_body d.after) d.actor w) c.in-Ok-put_steps.field-0 = rw (c.shown-version.ensures, c.actor-actor.ensures, c.in-Ok-into_parts.ensures.after) at raw in
-    let sent : c.as_slice.result.now ≡ d.sends = c.as_slice.ensures.value ∙ ap (λ (p : ClaimParts). p.sends.items) c.deref-in-Ok-put_steps.ensures ∙ c.in-Ok-into_parts.ensures.sends in
+    let sent : c.deref.result.now.sends.items ≡ d.sends = ap (λ (p : ClaimParts). p.sends.items) c.deref.ensures ∙ c.in-Ok-into_parts.ensures.sends in
     let tallied : Tallied i.tallies d.sends (act_site d) c.count.new.self = λ id.
     c.count.ensures.tallied id
-    ∙ ap (λ (o : Option SiteId). after_act_at id o (after_sends id c.as_slice.result.now (tally_at c.make_room.new.tallies id))) c.site_to_commit-site.ensures
+    ∙ ap (λ (o : Option SiteId). after_act_at id o (after_sends id c.deref.result.now.sends.items (tally_at c.make_room.new.tallies id))) c.site_to_commit-site.ensures
     ∙ ap (λ (ss : List Sent). after_act_at id (act_site d) (after_sends id ss (tally_at c.make_room.new.tallies id))) sent
     ∙ ap (λ (t : Tally). after_act_at id (act_site d) (after_sends id d.sends t)) (c.make_room.ensures.tallies id) in
     let pushed : c.push_reserved.new.self.items ≡ i.history.items ++ Ran c.actor-actor.result c.args.steps ∷ [] = grind (arith, common_steps) in
@@ -109,10 +121,10 @@ returns-in-Ok-put_steps-clause-ok g c =
     let w : World = world_of (constants_of i.names i.settings.capacity) i.base i.history.items in
     let raw = c.in-Ok-put_steps.ensures.ok (change (with_body d.after) d.actor w) (rw (c.shown-version.ensures, c.actor-actor.ensures, c.in-Ok-into_parts.ensures.after) may.went.shown) in
     let takes : TakesOuter (constants_of i.names i.settings.capacity) i.token (change_at (view_after_steps d.after) d.actor.0 i.actors.list) c.put_steps.new.actors.list d.actor (change (with_body d.after) d.actor w) c.in-Ok-put_steps.field-0 = rw (c.shown-version.ensures, c.actor-actor.ensures, c.in-Ok-into_parts.ensures.after) at raw in
-    let sent : c.as_slice.result.now ≡ d.sends = c.as_slice.ensures.value ∙ ap (λ (p : ClaimParts). p.sends.items) c.deref-in-Ok-put_steps.ensures ∙ c.in-Ok-into_parts.ensures.sends in
+    let sent : c.deref.result.now.sends.items ≡ d.sends = ap (λ (p : ClaimParts). p.sends.items) c.deref.ensures ∙ c.in-Ok-into_parts.ensures.sends in
     let tallied : Tallied i.tallies d.sends (act_site d) c.count.new.self = λ id.
     c.count.ensures.tallied id
-    ∙ ap (λ (o : Option SiteId). after_act_at id o (after_sends id c.as_slice.result.now (tally_at c.make_room.new.tallies id))) c.site_to_commit-site.ensures
+    ∙ ap (λ (o : Option SiteId). after_act_at id o (after_sends id c.deref.result.now.sends.items (tally_at c.make_room.new.tallies id))) c.site_to_commit-site.ensures
     ∙ ap (λ (ss : List Sent). after_act_at id (act_site d) (after_sends id ss (tally_at c.make_room.new.tallies id))) sent
     ∙ ap (λ (t : Tally). after_act_at id (act_site d) (after_sends id d.sends t)) (c.make_room.ensures.tallies id) in
     let pushed : c.push_reserved.new.self.items ≡ i.history.items ++ Ran c.actor-actor.result c.args.steps ∷ [] = grind (arith, common_steps) in

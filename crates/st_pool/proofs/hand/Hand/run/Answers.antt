@@ -8,7 +8,7 @@ run_with-stop-requires g c = λ yes. hand_known c.self.inside.seen c.held.inside
 pub invariant_of-held : goal.invariant_of-held
 invariant_of-held g c =
     let runs = c.run_with-stop.ensures.runs in
-    rw c.sum_up.ensures (held_after c.held.inside.seen c.held.inside.claim c.run_with-stop.new.claim (runs_began g.G.Guard.floor c.args.limit runs.0 c.held.inside.claim c.run_with-stop.result c.run_with-stop.new.worker c.run_with-stop.new.claim runs.2) c.held.invariant)
+    held_after c.held.inside.seen c.held.inside.claim c.run_with-stop.new.claim (runs_began g.G.Guard.floor c.args.limit runs.0 c.held.inside.claim c.run_with-stop.result c.run_with-stop.new.worker c.run_with-stop.new.claim runs.2) c.held.invariant
 
 pub returns-clause-runs : goal.returns-clause-runs
-returns-clause-runs g c = rw (← c.self.view_is, ← c.held.view_is, c.sum_up.ensures) c.run_with-stop.ensures.runs
+returns-clause-runs g c = rw (← c.self.view_is, ← c.held.view_is) c.run_with-stop.ensures.runs

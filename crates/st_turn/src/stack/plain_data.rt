@@ -13,8 +13,8 @@ use std::alloc::{AllocError, Global};
 /// The most values above the top for which a copy has room.
 const SPARE: usize = 320;
 
-/// The values of a copy above the top.
-static NILS: [Value; SPARE] = [Value::Nil; SPARE];
+/// Values above the top, as of a copy.
+pub(crate) static NILS: [Value; SPARE] = [Value::Nil; SPARE];
 
 impl Stack {
     /// Makes the frames of a turn: those that wait, the last called last, and the running one. It fails only if memory runs out.

@@ -16,7 +16,7 @@ no_other : (b : Bool) → (b ≡ true → ⊥) → b ≡ false
 no_other true h = absurd (h refl)
 no_other false h = refl
 
--- the sum at the place that is kept for a remainder is the last of its site
+-- the sum at the place that is kept for a seat is the last of its site
 pub is_last : (lasts : List ℕ) (id : SiteId) (ms : List SiteSum) (i : ℕ) → AreLast lasts ms → i ≡ slice_index_or lasts (seat id) 0 → i < length ms → is_site id (slice_index_or ms i no_sum).site ≡ true → IsLastOf id ms i
 is_last lasts id ms i last e h here = record {
   within = h;

@@ -1,7 +1,7 @@
 //! The sends of a claim: how many there were at each call site, and in what state each site was then.
 //!
-//! Contracts see the sends themselves, one by one and in order. Of those nothing is kept at run time but their sums by sites, so a send
-//! costs no more than an addition, and whoever counts the sends of a claim adds its sums.
+//! Contracts see the sends themselves, one by one and in order. Of those nothing is kept at run time but their sums by sites: whoever
+//! counts the sends of a claim adds its sums.
 ghost use Rattle.std.specs.Prelude.{◌≡◌, ◌<◌, ◌+◌, ◌++◌, ◌^◌, [], ◌∷◌, IsTrue, OnOk, length, slice_set};
 ghost use Rattle.std.specs.Vec.{vec_len, vec_capacity};
 ghost use Rattle.std.specs.List.{slice_index_or};
@@ -17,8 +17,11 @@ use st_sites::site::SiteState;
 use std::alloc::{AllocError, Global};
 use std::marker::Model;
 
-/// How many places of last sums are kept.
+/// How many hints there are where the last sum of a site lies.
 const SEATS: usize = 512;
+
+/// How many of the last sums are looked at where a hint is of another site.
+const NEAR: usize = 64;
 
 /// For how many sums room is made at once.
 const MORE: usize = 16;
@@ -28,8 +31,9 @@ const MORE: usize = 16;
 pub struct Sends {
     /// The sums, in the order in which their first sends came. If a site has several, the later ones have the later sends.
     sums: Vec<SiteSum>,
-    /// By the seats of sites, where the last sum of such a site lies.
+    /// A hint for each seat: no sum of a site with this seat lies behind that place.
     lasts: [usize; SEATS],
+    /// The sends themselves, for proofs.
     all: Log<Sent>,
 }
 
@@ -45,7 +49,7 @@ impl Model for Sends {
     ghost invariant = { λ s. AreSums s.sums.items s.all.items × AreLast s.lasts s.sums.items };
 }
 
-/// The seat of a site. Sites that are close to each other have different ones.
+/// The seat of a site. The sites of one method have different ones, if it has no more than 512 places.
 #[inline(always)]
 fn seat_of(site: SiteId) -> usize
     ensures seat { result ≡ seat site }
@@ -54,16 +58,30 @@ fn seat_of(site: SiteId) -> usize
     (site.method.0 as usize * 167 + site.place as usize) % SEATS
 }
 
-/// Where the sum of a site lies to which its next send is added. There is none if the site has no sum, or if another site with the same
-/// seat had a send since.
+/// Where the last sum of a site lies, if the hint of its seat says so.
 #[inline(always)]
-fn place_of(sums: &[SiteSum], lasts: &[usize; 512], site: SiteId) -> Option<usize>
+fn place_of(sums: &[SiteSum], lasts: &[usize; SEATS], site: SiteId) -> Option<usize>
     requires { AreLast lasts.now sums.now }
     ensures { IfSome result (IsLastOf site sums.now) }
 {
     let place = lasts[seat_of(site)];
     if place < sums.len() && site == sums[place].site {
         return Some(place);
+    }
+    None
+}
+
+/// The same by looking at the last sums, of which there are `NEAR` at most.
+fn place_among(sums: &[SiteSum], site: SiteId) -> Option<usize>
+    ensures { IfSome result (IsLastOf site sums.now) }
+{
+    let first = sums.len().saturating_sub(NEAR);
+    let mut place = sums.len();
+    'search: while place > first {
+        place -= 1;
+        if site == sums[place].site {
+            return Some(place);
+        }
     }
     None
 }
@@ -82,23 +100,15 @@ fn add_at(sums: &mut Vec<SiteSum>, place: usize, sent: Sent)
 }
 
 /// Makes a sum of a send. The answer is whether there is room for another one.
-#[cold]
-#[inline(never)]
-fn add_sum(
-    sums: &mut Vec<SiteSum>,
-    lasts: &mut [usize; 512],
-    site: SiteId,
-    how: How,
-    state: SiteState,
-) -> bool
+fn add_sum(sums: &mut Vec<SiteSum>, lasts: &mut [usize; SEATS], sent: Sent) -> bool
     requires room { vec_len sums.old < vec_capacity sums.old }
     requires lasts { AreLast lasts.old sums.old.items }
-    ensures adds { AddsSend (record { site = site; how = how; state = state }) sums.old.items sums.new.items }
+    ensures adds { AddsSend sent sums.old.items sums.new.items }
     ensures lasts { AreLast lasts.new sums.new.items }
     ensures room { IsTrue result → vec_len sums.new < vec_capacity sums.new }
 {
-    lasts[seat_of(site)] = sums.len();
-    sums.push_reserved(SiteSum::of(Sent { site, how, state }));
+    lasts[seat_of(sent.site)] = sums.len();
+    sums.push_reserved(SiteSum::of(sent));
     sums.len() < sums.capacity()
 }
 
@@ -142,9 +152,11 @@ impl Sends {
         self.sums.len() < self.sums.capacity()
     }
 
-    /// Puts a send last. The answer is whether there is room for another sum.
-    #[inline(always)]
-    pub(crate) fn add(&mut self, site: SiteId, how: How, state: SiteState) -> bool
+    /// As `add`, for a site of which there is no hint: either it has no sum, or another site of its seat had a sum made since. What is
+    /// sent is passed in parts, so that it is not written to memory in the frequent case.
+    #[cold]
+    #[inline(never)]
+    fn add_rare(&mut self, site: SiteId, how: How, state: SiteState) -> bool
         requires room { 0 < self.old.room }
         requires few { length self.old.items + 1 < 2 ^ 64 }
         ensures items { self.new.items ≡ self.old.items ++ record { site = site; how = how; state = state } ∷ [] }
@@ -153,14 +165,31 @@ impl Sends {
         let sent = Sent { site, how, state };
         let Sends { sums, lasts, all } = self;
         *all = all.and(&sent);
-        if let Some(place) = place_of(sums, lasts, site) {
+        if let Some(place) = place_among(sums, site) {
             add_at(sums, place, sent);
             return true;
         }
-        add_sum(sums, lasts, site, how, state)
+        add_sum(sums, lasts, sent)
     }
 
-    /// The sums of the sends by their sites: each tally is that of some sends of its site, one after the other.
+    /// Puts a send last. The answer is whether there is room for another sum.
+    #[inline(always)]
+    pub(crate) fn add(&mut self, site: SiteId, how: How, state: SiteState) -> bool
+        requires room { 0 < self.old.room }
+        requires few { length self.old.items + 1 < 2 ^ 64 }
+        ensures items { self.new.items ≡ self.old.items ++ record { site = site; how = how; state = state } ∷ [] }
+        ensures room { IsTrue result → 0 < self.new.room }
+    {
+        let Some(place) = place_of(self.sums.as_slice(), &self.lasts, site) else {
+            return self.add_rare(site, how, state);
+        };
+        let sent = Sent { site, how, state };
+        self.all = self.all.and(&sent);
+        add_at(&mut self.sums, place, sent);
+        true
+    }
+
+    /// The sums of the sends: one after the other, they change each tally of a site as the sends do.
     #[inline]
     pub fn sums(&self) -> &[SiteSum]
         ensures { AreSums result.now self.now.items }

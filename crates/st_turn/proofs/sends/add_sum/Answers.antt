@@ -1,5 +1,4 @@
 use Rattle.std.proofs.Common.{ap, sym, subst, ◌≡◌, ◌∙◌, ◌++◌, ◌∷◌, [], List}
-use Rattle.st_turn.specs.declared.claim.Sent.{Sent}
 use Rattle.st_turn.specs.declared.sums.SiteSum.{SiteSum}
 use Rattle.st_turn.specs.Tallies.{AddsSend, sum_of}
 use Rattle.st_turn.proofs.Summing.{sent_pushed}
@@ -7,7 +6,6 @@ use Rattle.st_turn.proofs.sends.add_sum.Goals as goal
 
 pub returns-clause-adds : goal.returns-clause-adds
 returns-clause-adds c =
-    let s : Sent = record { site = c.args.site; how = c.args.how; state = c.args.state } in
     let ms : List SiteSum = c.args.sums.now.items in
-    let now : c.push_reserved.new.self.items ≡ ms ++ sum_of s ∷ [] = c.push_reserved.ensures.items ∙ ap (λ (m : SiteSum). ms ++ m ∷ []) c.of.ensures in
-    subst (AddsSend s ms) (sym now) (sent_pushed s ms)
+    let now : c.push_reserved.new.self.items ≡ ms ++ sum_of c.args.sent ∷ [] = c.push_reserved.ensures.items ∙ ap (λ (m : SiteSum). ms ++ m ∷ []) c.of.ensures in
+    subst (AddsSend c.args.sent ms) (sym now) (sent_pushed c.args.sent ms)

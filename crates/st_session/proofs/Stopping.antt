@@ -1,5 +1,5 @@
 -- How far a session over devices has come, and how it ends.
-use Rattle.std.proofs.Common.{◌≡◌, ℕ, ◌+◌, ◌*◌, ◌^◌, ◌≤◌, ◌<◌, Bool, true, false, List, [], ◌++◌, Option, Some, None, Ok, Err, length, refl, sym, ap, ◌∙◌, subst, inl, inr, arith, append-nil, length-append}
+use Rattle.std.proofs.Common.{◌≡◌, ℕ, ◌+◌, ◌*◌, ◌^◌, ◌≤◌, ◌<◌, Bool, true, false, List, [], ◌∷◌, ◌++◌, Option, Some, None, Ok, Err, length, refl, sym, ap, ◌∙◌, subst, inl, inr, arith, append-nil, length-append}
 use Rattle.std.specs.Int.{from_bool}
 use Rattle.std.specs.Io.KnownBytes.{Appends, Consumes, IsAtEnd, Keeps}
 use Rattle.std.proofs.KnownBytes.{Appends-trans, Consumes-trans}
@@ -20,6 +20,11 @@ pub kept_nothing : (a b : Option (List ℕ)) → Keeps a b → Appends a b []
 kept_nothing None b k = tt
 kept_nothing (Some xs) None k = k
 kept_nothing (Some xs) (Some ys) k = k ∙ sym (append-nil xs)
+
+-- an empty piece leaves the unread bytes as they were
+pub held_still : (pending piece : List ℕ) (n : ℕ) (u : Unread) → length piece ≡ n → n ≡ 0 → Holds (pending ++ piece) u → (piece ≡ []) × Holds pending u
+held_still pending [] n u long none held = (refl, subst (λ (bytes : List ℕ). Holds bytes u) (append-nil pending) held)
+held_still pending (b ∷ piece) n u long none held = absurd (omega arith)
 
 -- these bytes were read so often, and all their whole lines are answered, so many
 pub record Reached {S : Type 0} (replies : S → List ℕ → Reply → S → Type 0) (i : S) (before now : InputView) (out_before out : Option (List ℕ)) (k : S) (u : Unread) (count reads : ℕ) : Type 0 where

@@ -37,6 +37,7 @@ pub mod Editing
 pub mod Beginning
 pub mod Running
 pub mod Acts
+pub mod RefusedPosts
 pub mod Outer
 pub mod CountingOut
 pub mod CheckingOut

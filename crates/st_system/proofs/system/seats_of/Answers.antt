@@ -1,6 +1,9 @@
-use Rattle.std.proofs.Common.{rules, arith, refl, ◌≡◌, ◌++◌, [], ◌∷◌, List, subst, sym}
+use Rattle.std.proofs.Common.{rules, arith, refl, ◌≡◌, ◌++◌, [], ◌∷◌, List, subst, sym, ◌∙◌}
 use Rattle.std.specs.List.{AllZip}
 use Rattle.std.proofs.lemmas.Grind.{common_steps}
+use Rattle.std.proofs.lemmas.Iterator.Adapters.{YieldsList-from_vec}
+use Rattle.std.proofs.lemmas.Iterator.Consumers.{YieldsList-end}
+use Rattle.std.proofs.lemmas.List.{map-id}
 use Rattle.st_guard.specs.Moves.{CachesView}
 use Rattle.st_system.specs.Seats.{SeatView, TakesSeat}
 use Rattle.st_system.proofs.Seats.{zip_push}
@@ -13,3 +16,16 @@ loop-worker-preserved g c =
     let seats : AllZip (TakesSeat {G = g.row.G.Denot} edits) (c.loop-worker.yielded ++ c.in-Some.worker ∷ []) (c.loop-worker.seats.items ++ c.new.result ∷ []) = zip_push (TakesSeat {G = g.row.G.Denot} edits) c.loop-worker.yielded c.loop-worker.seats.items c.in-Some.worker c.new.result (c.loop-worker.invariant c.loop-worker.yielded refl) c.new.ensures in
     λ workers same. subst (λ (ws : List (CachesView g.row.G.Denot)). AllZip (TakesSeat {G = g.row.G.Denot} edits) ws c.push.new.self.items) same
     (subst (λ (ss : List (SeatView g.row.G.Denot)). AllZip (TakesSeat {G = g.row.G.Denot} edits) (c.loop-worker.yielded ++ c.in-Some.worker ∷ []) ss) (sym one) seats)
+
+pub loop-worker-init : goal.loop-worker-init
+loop-worker-init g c = λ workers same.
+    let edits = c.args.version.now in
+    let none : AllZip (TakesSeat {G = g.row.G.Denot} edits) [] [] = tt in
+    subst (λ (ws : List (CachesView g.row.G.Denot)). AllZip (TakesSeat {G = g.row.G.Denot} edits) ws c.in_ok-seats.seats.items) same
+    (subst (λ (ss : List (SeatView g.row.G.Denot)). AllZip (TakesSeat {G = g.row.G.Denot} edits) [] ss) (sym c.in_ok-seats.ensures.items) none)
+
+pub returns : goal.returns
+returns g c =
+    let steps = YieldsList-from_vec c.args.workers.items c.into_iter-worker-iterator.ensures.into_iter_gives.0 (omega (arith, c.args.workers.ok.0, c.into_iter-worker-iterator.ensures.into_iter_gives.1)) in
+    let end = YieldsList-end steps c.loop-worker.yielded c.loop-worker.worker-iterator c.loop-worker.yielded_by c.next.result c.next.new.self c.in-None.is c.next.ensures.steps in
+    c.loop-worker.invariant c.args.workers.items (sym (map-id c.loop-worker.yielded) ∙ end.0)

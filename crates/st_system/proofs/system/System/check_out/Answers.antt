@@ -1,15 +1,17 @@
-use Rattle.std.proofs.Common.{rules, refl, subst, ◌≡◌, Some}
+use Rattle.std.proofs.Common.{rules, refl, subst, ◌≡◌, Some, arith, ◌≤◌, Err}
 use Rattle.std.specs.Prelude.{length, slice_get, slice_set}
 use Rattle.std.proofs.lemmas.Option.{slice_get_read}
 use Rattle.st_system.specs.ClaimEvents.{AtWorker, TakesClaim}
 use Rattle.st_system.specs.Schedules.{schedule}
-use Rattle.st_system.specs.Seats.{SystemView}
+use Rattle.st_system.specs.Seats.{SystemView, FitsSeat}
 use Rattle.st_system.proofs.Seats.{all_set}
 use Rattle.st_system.specs.WorkerEvents.{ChecksOutSeat, TellsWork}
-use Rattle.st_system.proofs.WorkersActing.{seat_acts, worker_acts}
-use Rattle.st_system.proofs.OtherSeats.{leaves_others}
+use Rattle.st_system.proofs.WorkersActing.{seat_acts, worker_acts, no_seat, no_worker}
+use Rattle.st_system.proofs.OtherSeats.{leaves_others, leaves_all}
 use Rattle.st_system.specs.declared.events.Event.TheVariants.{Checkout}
 use Rattle.st_system.specs.Others.{LeavesOthers}
+use Rattle.st_classes.specs.declared.refusals.Refusal.TheVariants.{BadArguments}
+use Rattle.st_image.proofs.Places.{at_all}
 use Rattle.st_system.proofs.system.System.check_out.Goals as goal
 
 pub invariant_of-self : goal.invariant_of-self
@@ -39,3 +41,24 @@ returns-clause-work g c =
     let T : SystemView g.row.G.Denot = record { image = c.check_out.new.image; seats = slice_set seats c.args.worker c.check_out.new.self } in
     let work = seat_acts (λ i s answer j t. ChecksOutSeat c.args.actor i s s.claim answer j t) S T c.args.worker c.index_mut-seat.result.now c.check_out.new.self c.check_out.result there refl c.check_out.ensures.whole in
     subst (λ (X : SystemView g.row.G.Denot). TellsWork g.G.Guard.count g.G.Guard.floor g.G.Guard.raises X (Checkout c.args.worker c.args.actor) c.check_out.result T) c.self.view_is work
+
+pub returns-then-place-len-clause-acts : goal.returns-then-place-len-clause-acts
+returns-then-place-len-clause-acts g c =
+    let past : length c.self.inside.seats.items ≤ c.args.worker = omega arith in
+    let none = subst (λ (X : SystemView g.row.G.Denot). length X.seats ≤ c.args.worker) c.self.view_is past in
+    no_worker (TakesClaim c.args.actor) c.args.self.now c.args.self.now c.args.worker (Err BadArguments) none refl refl
+
+pub returns-then-place-len-clause-others : goal.returns-then-place-len-clause-others
+returns-then-place-len-clause-others g c = leaves_all (Checkout c.args.worker c.args.actor) c.args.self.now.seats c.args.self.now.seats refl
+
+pub returns-then-place-len-clause-work : goal.returns-then-place-len-clause-work
+returns-then-place-len-clause-work g c =
+    let past : length c.self.inside.seats.items ≤ c.args.worker = omega arith in
+    let none = subst (λ (X : SystemView g.row.G.Denot). length X.seats ≤ c.args.worker) c.self.view_is past in
+    no_seat (λ i s answer j t. ChecksOutSeat c.args.actor i s s.claim answer j t) c.args.self.now c.args.self.now c.args.worker (Err BadArguments) none refl
+
+pub check_out-requires : goal.check_out-requires
+check_out-requires g c =
+    let i = c.self.inside in
+    let there : slice_get i.seats.items c.args.worker ≡ Some c.index_mut-seat.result.now = slice_get_read i.seats.items (length i.seats.items) c.args.worker c.index_mut-seat.result.now refl (omega arith) c.index_mut-seat.ensures.value in
+    at_all (FitsSeat i.image) i.seats.items c.args.worker c.index_mut-seat.result.now c.self.invariant there

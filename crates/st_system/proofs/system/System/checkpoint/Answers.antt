@@ -1,5 +1,30 @@
+use Rattle.std.proofs.lemmas.Result.{err_from_is_err_and}
+use Rattle.std.proofs.Common.{ap, refl, subst, Err}
+use Rattle.st_image.specs.Checkpoints.{MakesCheckpoint}
+use Rattle.st_system.specs.declared.events.Answer.TheVariants.{Done}
+use Rattle.st_system.specs.ImageEvents.{OfImage}
+use Rattle.st_system.specs.Schedules.{schedule}
+use Rattle.st_system.specs.Seats.{SystemView}
 use Rattle.st_system.proofs.Seats.{all_later}
+use Rattle.st_system.proofs.OtherSeats.{leaves_all}
+use Rattle.st_system.proofs.WorkersActing.{image_acts}
 use Rattle.st_system.proofs.system.System.checkpoint.Goals as goal
 
 pub invariant_of-self-2 : goal.invariant_of-self-2
 invariant_of-self-2 g c = all_later c.self.inside.image c.checkpoint.new.image c.self.inside.seats.items c.in_ok-checkpoint.ensures.later c.self.invariant
+
+pub returns-in_err-checkpoint-clause-acts : goal.returns-in_err-checkpoint-clause-acts
+returns-in_err-checkpoint-clause-acts g c =
+    let S : SystemView g.row.G.Denot = record { image = c.self.inside.image; seats = c.self.inside.seats.items } in
+    let T : SystemView g.row.G.Denot = record { image = c.checkpoint.new.image; seats = c.self.inside.seats.items } in
+    let p = err_from_is_err_and c.from_residual.result c.from_residual.ensures.1 in
+    rw (p.1, p.2) (subst (λ (X : SystemView g.row.G.Denot). OfImage (λ _. Done) (MakesCheckpoint X.image) (schedule X) (Err c.in_err-checkpoint.field-0.0) (schedule T)) c.self.view_is (image_acts (λ _. Done) (λ i. MakesCheckpoint i) S T (Err c.in_err-checkpoint.field-0.0) c.in_err-checkpoint.ensures.makes refl))
+
+pub invariant_of-self : goal.invariant_of-self
+invariant_of-self g c = all_later c.self.inside.image c.checkpoint.new.image c.self.inside.seats.items c.in_err-checkpoint.ensures.later c.self.invariant
+
+pub returns-clause-others : goal.returns-clause-others
+returns-clause-others g c = leaves_all _ c.args.self.now.seats c.self.inside.seats.items (ap (λ (X : SystemView g.row.G.Denot). X.seats) c.self.view_is)
+
+pub returns-in_err-checkpoint-clause-others : goal.returns-in_err-checkpoint-clause-others
+returns-in_err-checkpoint-clause-others g c = leaves_all _ c.args.self.now.seats c.self.inside.seats.items (ap (λ (X : SystemView g.row.G.Denot). X.seats) c.self.view_is)

@@ -1,6 +1,6 @@
-use Rattle.std.proofs.Common.{rules, refl, ap, subst, sym, Option, ◌≡◌, Ok, Some}
+use Rattle.std.proofs.Common.{rules, refl, ap, subst, sym, Option, ◌≡◌, Ok, Some, arith, ◌≤◌, Err}
 use Rattle.std.specs.Prelude.{length, slice_get, slice_set}
-use Rattle.std.proofs.lemmas.Option.{slice_get_read}
+use Rattle.std.proofs.lemmas.Option.{slice_get_read, slice_get_past}
 use Rattle.std.specs.Option.{IfSome, option_map}
 use Rattle.st_system.specs.declared.events.Answer.TheVariants.{Done}
 use Rattle.st_image.proofs.Places.{at_all, get_set_same}
@@ -9,10 +9,11 @@ use Rattle.st_system.specs.Schedules.{bare, schedule}
 use Rattle.st_system.specs.Seats.{FitsSeat, HaveNothing, SeatView, SystemView}
 use Rattle.st_system.proofs.Seats.{all_set, goes_on_same}
 use Rattle.st_system.specs.WorkerEvents.{TellsWork}
-use Rattle.st_system.proofs.WorkersActing.{seat_acts, worker_acts}
-use Rattle.st_system.proofs.OtherSeats.{leaves_others}
+use Rattle.st_system.proofs.WorkersActing.{seat_acts, worker_acts, no_seat, no_worker}
+use Rattle.st_system.proofs.OtherSeats.{leaves_others, leaves_all}
 use Rattle.st_system.specs.declared.events.Event.TheVariants.{Forget}
 use Rattle.st_system.specs.Others.{LeavesOthers}
+use Rattle.st_classes.specs.declared.refusals.Refusal.TheVariants.{BadArguments}
 use Rattle.st_system.proofs.system.System.forget.Goals as goal
 
 pub invariant_of-self : goal.invariant_of-self
@@ -51,3 +52,24 @@ returns-clause-work g c =
     let T : SystemView g.row.G.Denot = record { image = c.self.inside.image; seats = slice_set seats c.args.worker c.forget.new.self } in
     let work = seat_acts (λ i s answer j t. t.claim ≡ s.claim) S T c.args.worker c.index_mut-seat.result.now c.forget.new.self (Ok Done) there refl c.forget.ensures.claim in
     subst (λ (X : SystemView g.row.G.Denot). TellsWork g.G.Guard.count g.G.Guard.floor g.G.Guard.raises X (Forget c.args.worker) (Ok Done) T) c.self.view_is work
+
+pub returns-then-place-len-clause-acts : goal.returns-then-place-len-clause-acts
+returns-then-place-len-clause-acts g c =
+    let past : length c.self.inside.seats.items ≤ c.args.worker = omega arith in
+    let none = subst (λ (X : SystemView g.row.G.Denot). length X.seats ≤ c.args.worker) c.self.view_is past in
+    no_worker KeepsClaim c.args.self.now c.args.self.now c.args.worker (Err BadArguments) none refl refl
+
+pub returns-then-place-len-clause-others : goal.returns-then-place-len-clause-others
+returns-then-place-len-clause-others g c = leaves_all (Forget c.args.worker) c.args.self.now.seats c.args.self.now.seats refl
+
+pub returns-then-place-len-clause-work : goal.returns-then-place-len-clause-work
+returns-then-place-len-clause-work g c =
+    let past : length c.self.inside.seats.items ≤ c.args.worker = omega arith in
+    let none = subst (λ (X : SystemView g.row.G.Denot). length X.seats ≤ c.args.worker) c.self.view_is past in
+    no_seat (λ i s answer j t. t.claim ≡ s.claim) c.args.self.now c.args.self.now c.args.worker (Err BadArguments) none refl
+
+pub returns-then-place-len-clause-forgotten : goal.returns-then-place-len-clause-forgotten
+returns-then-place-len-clause-forgotten g c =
+    let past : length c.self.inside.seats.items ≤ c.args.worker = omega arith in
+    let none = subst (λ (X : SystemView g.row.G.Denot). length X.seats ≤ c.args.worker) c.self.view_is past in
+    subst (λ (o : Option (SeatView g.row.G.Denot)). IfSome o (λ s. HaveNothing s.caches)) (sym (slice_get_past c.args.self.now.seats c.args.worker none)) tt

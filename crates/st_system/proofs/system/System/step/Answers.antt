@@ -1,4 +1,4 @@
-use Rattle.std.proofs.Common.{rules, refl, subst, ◌≡◌, Some}
+use Rattle.std.proofs.Common.{rules, refl, subst, ◌≡◌, Some, arith, ◌≤◌, Err}
 use Rattle.std.specs.Prelude.{length, slice_get, slice_set}
 use Rattle.std.proofs.lemmas.Option.{slice_get_read}
 use Rattle.st_image.proofs.Places.{at_all}
@@ -7,10 +7,11 @@ use Rattle.st_system.specs.Schedules.{schedule}
 use Rattle.st_system.specs.Seats.{FitsSeat, SystemView}
 use Rattle.st_system.proofs.Seats.{all_set, goes_on_same}
 use Rattle.st_system.specs.WorkerEvents.{StepsSeat, TellsWork}
-use Rattle.st_system.proofs.WorkersActing.{seat_acts, worker_acts}
-use Rattle.st_system.proofs.OtherSeats.{leaves_others}
+use Rattle.st_system.proofs.WorkersActing.{seat_acts, worker_acts, no_seat, no_worker}
+use Rattle.st_system.proofs.OtherSeats.{leaves_others, leaves_all}
 use Rattle.st_system.specs.declared.events.Event.TheVariants.{Local}
 use Rattle.st_system.specs.Others.{LeavesOthers}
+use Rattle.st_classes.specs.declared.refusals.Refusal.TheVariants.{BadArguments}
 use Rattle.st_system.proofs.system.System.step.Goals as goal
 
 pub invariant_of-self : goal.invariant_of-self
@@ -42,3 +43,18 @@ returns-clause-work g c =
     let T : SystemView g.row.G.Denot = record { image = c.self.inside.image; seats = slice_set seats c.args.worker c.step.new.self } in
     let work = seat_acts (λ i s answer j t. StepsSeat g.G.Guard.count g.G.Guard.floor g.G.Guard.raises s s.claim answer t) S T c.args.worker c.index_mut-seat.result.now c.step.new.self c.step.result there refl c.step.ensures.whole in
     subst (λ (X : SystemView g.row.G.Denot). TellsWork g.G.Guard.count g.G.Guard.floor g.G.Guard.raises X (Local c.args.worker) c.step.result T) c.self.view_is work
+
+pub returns-then-place-len-clause-acts : goal.returns-then-place-len-clause-acts
+returns-then-place-len-clause-acts g c =
+    let past : length c.self.inside.seats.items ≤ c.args.worker = omega arith in
+    let none = subst (λ (X : SystemView g.row.G.Denot). length X.seats ≤ c.args.worker) c.self.view_is past in
+    no_worker (OfClaim StepsClaim) c.args.self.now c.args.self.now c.args.worker (Err BadArguments) none refl refl
+
+pub returns-then-place-len-clause-others : goal.returns-then-place-len-clause-others
+returns-then-place-len-clause-others g c = leaves_all (Local c.args.worker) c.args.self.now.seats c.args.self.now.seats refl
+
+pub returns-then-place-len-clause-work : goal.returns-then-place-len-clause-work
+returns-then-place-len-clause-work g c =
+    let past : length c.self.inside.seats.items ≤ c.args.worker = omega arith in
+    let none = subst (λ (X : SystemView g.row.G.Denot). length X.seats ≤ c.args.worker) c.self.view_is past in
+    no_seat (λ i s answer j t. StepsSeat g.G.Guard.count g.G.Guard.floor g.G.Guard.raises s s.claim answer t) c.args.self.now c.args.self.now c.args.worker (Err BadArguments) none refl

@@ -1,8 +1,7 @@
 //! Images that go on where the texts of their files stood.
-use crate::texts::{LOOPING, MOVED, PENDING, VARIED};
+use crate::texts::{LOOPING, MOVED, PENDING, VARIED, on_heap, saved};
 use st_classes::refusals::Refusal;
 use st_file::files::image_of_bytes;
-use st_file::saving::save;
 use st_image::counts::Counts;
 use st_server::images::Image;
 use st_server::scripts::script_on;
@@ -19,16 +18,41 @@ struct Ended {
     file: MemoryOutput,
 }
 
+/// The image of a session that did not fail, on the heap. It may be of any type, since the proof of a function that lets an image go
+/// pays for all its parts.
+fn unless_failed<T: Drop>(
+    alloc: Global,
+    ended: (T, Result<u64, Refusal>),
+) -> Result<Box<T>, Refusal> {
+    let (image, end) = ended;
+    match end {
+        Ok(_) => on_heap(alloc, image),
+        Err(refusal) => Err(refusal),
+    }
+}
+
+/// The image that a session leaves of the image of a text.
+fn played(
+    alloc: Global,
+    text: &[u8],
+    input: &mut MemoryInput,
+    replies: &mut MemoryOutput,
+) -> Result<Box<Image>, Refusal> {
+    match image_of_bytes(alloc, text) {
+        Ok(image) => unless_failed(
+            alloc,
+            script_on(alloc, input, replies, ScriptSettings::DEFAULT, image),
+        ),
+        Err(refusal) => Err(refusal),
+    }
+}
+
 /// A session of the image of a text.
 fn session_of(alloc: Global, text: &[u8], script: &str) -> Result<Ended, Refusal> {
-    let image: Image = image_of_bytes(alloc, text)?;
     let mut input = MemoryInput::new(Vec::from_slice(alloc, script.as_bytes())?);
     let mut replies = MemoryOutput::new(alloc);
-    let settings = ScriptSettings::DEFAULT;
-    let (image, end) = script_on(alloc, &mut input, &mut replies, settings, image);
-    end?;
-    let mut file = MemoryOutput::new(alloc);
-    save(alloc, &image, &mut file)?;
+    let image = played(alloc, text, &mut input, &mut replies)?;
+    let file = saved(alloc, &image)?;
     Ok(Ended {
         replies,
         counts: image.counted(),

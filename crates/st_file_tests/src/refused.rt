@@ -1,6 +1,6 @@
 //! Image files for which memory is refused: no image, or no more than a front of the text, and what is asked again has the answer with
 //! ample memory. Memory is refused where this runs with an allocation that fails, as `tools/refused-growth` has it for each in turn.
-use crate::texts::{LOOPING, PENDING, VARIED, loaded};
+use crate::texts::{LOOPING, PENDING, VARIED, loaded, on_heap};
 use serde_json::Value;
 use st_classes::refusals::{ImagePlace, Refusal};
 use st_classes::seq::Seq;
@@ -59,10 +59,9 @@ fn value_again(alloc: Global, image: &Image) -> Result<Value, AllocError> {
 
 /// The image of a value, on the heap.
 fn image_in(alloc: Global, value: &Value) -> Result<Box<Image>, Refusal> {
-    let image = image_of(alloc, value)?;
-    match Box::new(alloc, image) {
-        Ok(image) => Ok(image),
-        Err(_) => Err(Refusal::NoMemory),
+    match image_of(alloc, value) {
+        Ok(image) => on_heap(alloc, image),
+        Err(refusal) => Err(refusal),
     }
 }
 
@@ -205,24 +204,40 @@ fn reparent(alloc: Global) -> Result<EditText, AllocError> {
     })
 }
 
+/// Whether a loader takes an edit that was made.
+fn takes(
+    alloc: Global,
+    loader: &mut Loader,
+    made: Result<EditText, AllocError>,
+) -> Result<bool, AllocError> {
+    let edit = made?;
+    Ok(is_edited(alloc, loader, &edit))
+}
+
+/// Whether a loader takes an edit of each kind.
+fn takes_each_kind(alloc: Global, loader: &mut Loader) -> Result<bool, AllocError> {
+    Ok(
+        takes(alloc, loader, define(alloc))?
+            && takes(alloc, loader, install(alloc))?
+            && takes(alloc, loader, remove(alloc))?
+            && takes(alloc, loader, reparent(alloc))?,
+    )
+}
+
 /// Whether a loader takes a name and an edit of each kind, and has them then.
 fn takes_all(alloc: Global, loader: &mut Loader) -> Result<bool, AllocError> {
-    let edits = [
-        define(alloc)?,
-        install(alloc)?,
-        remove(alloc)?,
-        reparent(alloc)?,
-    ];
-    let mut are_taken = is_named(alloc, loader, "first:");
-    for edit in &edits {
-        are_taken = are_taken && is_edited(alloc, loader, edit);
-    }
+    let are_taken = is_named(alloc, loader, "first:") && takes_each_kind(alloc, loader)?;
     Ok(are_taken && counts(loader) == (25, 4))
+}
+
+/// Whether a new loader takes all.
+fn a_new_one_takes_all(alloc: Global) -> Result<bool, AllocError> {
+    let mut loader = new_loader(alloc)?;
+    takes_all(alloc, &mut loader)
 }
 
 #[test]
 fn loaders_stay(rt: HostRuntime) -> Result<(), Fail> {
-    let mut loader = new_loader(rt.alloc())?;
-    assert!(rt; takes_all(rt.alloc(), &mut loader)?);
+    assert!(rt; a_new_one_takes_all(rt.alloc())?);
     Ok(())
 }

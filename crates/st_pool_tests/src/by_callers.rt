@@ -2,14 +2,12 @@
 use crate::calls::*;
 use crate::doors::Marks;
 use crate::plays::totals;
-use crate::pools::Caller;
 use crate::scenes::Scene;
 use st_classes::faults::Fault;
 use st_classes::kernel::OBJECT;
 use st_classes::refusals::Refusal;
 use st_classes::values::Selector;
 use st_image::tallies::SiteStats;
-use st_pool::naming::Naming;
 use st_pool::totals::Totals;
 use st_sites::site::SiteState;
 use st_turn::body::Outcome;
@@ -33,22 +31,17 @@ fn are_walks(sites: &[SiteStats], selector: Selector, sends: u64) -> bool {
 }
 
 /// What the caller is told of the sites of `A go`.
-fn sites_of_go<K: Naming, R: Wait>(
+fn sites_of_go<C: Calls, R: Wait>(
     rt: &R,
     alloc: Global,
-    caller: &mut Caller<'_, K>,
+    caller: &mut C,
 ) -> Result<Vec<SiteStats>, Refusal> {
     let go = caller.intern(rt, alloc, b"go")?;
     caller.stats(rt, alloc, A, go)
 }
 
 /// Whether the caller is told that this many sends of `missing` in `A go` were found by walks, and no others.
-fn has_walked<K: Naming, R: Wait>(
-    rt: &R,
-    alloc: Global,
-    caller: &mut Caller<'_, K>,
-    sends: u64,
-) -> bool {
+fn has_walked<C: Calls, R: Wait>(rt: &R, alloc: Global, caller: &mut C, sends: u64) -> bool {
     let Ok(missing) = caller.intern(rt, alloc, b"missing") else {
         return false;
     };
@@ -59,20 +52,12 @@ fn has_walked<K: Naming, R: Wait>(
 }
 
 /// Whether a turn of the first actor ends soon with the fault of a message that is not understood.
-fn is_not_understood<K: Naming, R: Wait + Clock>(
-    rt: &R,
-    caller: &mut Caller<'_, K>,
-    turn: u64,
-) -> bool {
+fn is_not_understood<C: Calls, R: Wait + Clock>(rt: &R, caller: &mut C, turn: u64) -> bool {
     ended(rt, caller, FIRST, turn) == Ok(Outcome::Fault(Fault::NotUnderstood))
 }
 
 /// A message that nobody understands, that all understand once Object has a method for it, and that nobody understands again.
-pub fn not_understood<K: Naming, R: Wait + Clock>(
-    rt: &R,
-    alloc: Global,
-    caller: &mut Caller<'_, K>,
-) -> bool {
+pub fn not_understood<C: Calls, R: Wait + Clock>(rt: &R, alloc: Global, caller: &mut C) -> bool {
     make_actor(rt, alloc, caller, "go ^self missing")
         && post(rt, alloc, caller, 1, FIRST, "go") == Ok(1)
         && is_not_understood(rt, caller, 1)
@@ -88,10 +73,10 @@ pub fn not_understood<K: Naming, R: Wait + Clock>(
 
 /// While the worker holds a claim of the first actor, the second gets two messages, and its mailbox is closed. Both turns end, and the
 /// first actor's mailbox is open still.
-pub fn closing<K: Naming, R: Wait + Clock>(
+pub fn closing<C: Calls, R: Wait + Clock>(
     rt: &R,
     alloc: Global,
-    caller: &mut Caller<'_, K>,
+    caller: &mut C,
     marks: &Marks,
 ) -> bool {
     let is_closed = make_actor(rt, alloc, caller, "a ^3 + 4 * 2")
@@ -114,10 +99,10 @@ pub fn closing<K: Naming, R: Wait + Clock>(
 }
 
 /// A sender's numbers only rise. Each turn has seven steps, which are three quanta of at most three.
-pub fn numbers<K: Naming, R: Wait + Clock>(
+pub fn numbers<C: Calls, R: Wait + Clock>(
     rt: &R,
     alloc: Global,
-    caller: &mut Caller<'_, K>,
+    caller: &mut C,
     marks: &Marks,
 ) -> bool {
     make_actor(rt, alloc, caller, "a ^3 + 4 * 2")

@@ -4,8 +4,9 @@ use crate::pools::{Caller, Image};
 use st_classes::kernel::OBJECT;
 use st_classes::refusals::Refusal;
 use st_classes::seq::Seq;
-use st_classes::values::{ActorId, ClassId, Value, Values};
+use st_classes::values::{ActorId, ClassId, Selector, Value, Values};
 use st_image::items::Item;
+use st_image::tallies::SiteStats;
 use st_pool::naming::Naming;
 use st_turn::body::Outcome;
 use std::alloc::{AllocError, Global};
@@ -22,167 +23,85 @@ pub const FIRST: ActorId = ActorId(0);
 
 pub const SECOND: ActorId = ActorId(1);
 
-/// Defines a class under Object without instance variables. Its number is that of the order of definition.
-pub fn define_under<K: Naming, R: Wait>(
-    rt: &R,
-    alloc: Global,
-    caller: &mut Caller<'_, K>,
-    name: &str,
-    parent: ClassId,
-) -> Result<u32, Refusal> {
-    let slots = Seq::from_vec(Vec::new(alloc));
-    caller.define(rt, alloc, name.as_bytes(), parent, slots)
-}
+/// What scenes do with a caller, without contracts. The proof of a scene, which is one for any of these, then carries nothing of a caller's
+/// parts and of what its calls promise.
+pub trait Calls {
+    fn intern<R: Wait>(&mut self, rt: &R, alloc: Global, text: &[u8]) -> Result<Selector, Refusal>;
 
-pub fn define<K: Naming, R: Wait>(
-    rt: &R,
-    alloc: Global,
-    caller: &mut Caller<'_, K>,
-    name: &str,
-) -> Result<u32, Refusal> {
-    define_under(rt, alloc, caller, name, OBJECT)
-}
+    /// Defines a class without instance variables. Its number is that of the order of definition.
+    fn define<R: Wait>(
+        &mut self,
+        rt: &R,
+        alloc: Global,
+        name: &str,
+        parent: ClassId,
+    ) -> Result<u32, Refusal>;
 
-pub fn install<K: Naming, R: Wait>(
-    rt: &R,
-    alloc: Global,
-    caller: &mut Caller<'_, K>,
-    class: ClassId,
-    source: &str,
-) -> Result<u32, Refusal> {
-    caller.install(rt, alloc, class, source.as_bytes())
-}
+    fn install<R: Wait>(
+        &mut self,
+        rt: &R,
+        alloc: Global,
+        class: ClassId,
+        source: &str,
+    ) -> Result<u32, Refusal>;
 
-pub fn remove<K: Naming, R: Wait>(
-    rt: &R,
-    alloc: Global,
-    caller: &mut Caller<'_, K>,
-    class: ClassId,
-    selector: &str,
-) -> Result<u32, Refusal> {
-    let selector = caller.intern(rt, alloc, selector.as_bytes())?;
-    caller.remove(rt, alloc, class, selector)
-}
+    fn remove<R: Wait>(
+        &mut self,
+        rt: &R,
+        alloc: Global,
+        class: ClassId,
+        selector: Selector,
+    ) -> Result<u32, Refusal>;
 
-pub fn reparent<K: Naming, R: Wait>(
-    rt: &R,
-    alloc: Global,
-    caller: &mut Caller<'_, K>,
-    class: ClassId,
-    parent: ClassId,
-) -> Result<u32, Refusal> {
-    caller.reparent(rt, alloc, class, parent)
-}
+    fn reparent<R: Wait>(
+        &mut self,
+        rt: &R,
+        alloc: Global,
+        class: ClassId,
+        parent: ClassId,
+    ) -> Result<u32, Refusal>;
 
-pub fn create<K: Naming, R: Wait>(
-    rt: &R,
-    alloc: Global,
-    caller: &mut Caller<'_, K>,
-    class: ClassId,
-) -> Result<ActorId, Refusal> {
-    caller.create(rt, alloc, class)
-}
+    fn create<R: Wait>(
+        &mut self,
+        rt: &R,
+        alloc: Global,
+        class: ClassId,
+    ) -> Result<ActorId, Refusal>;
 
-/// How many messages of clients were accepted, read in the hold of a checkpoint.
-pub fn checkpoint<K: Naming, R: Wait>(
-    rt: &R,
-    alloc: Global,
-    caller: &mut Caller<'_, K>,
-) -> Result<u64, Refusal> {
-    Ok(caller.checkpoint(rt, alloc)?.posts)
-}
+    /// How many messages of clients were accepted, read in the hold of a checkpoint.
+    fn checkpoint<R: Wait>(&mut self, rt: &R, alloc: Global) -> Result<u64, Refusal>;
 
-pub fn close<K: Naming, R: Wait>(
-    rt: &R,
-    caller: &mut Caller<'_, K>,
-    actor: ActorId,
-) -> Result<(), Refusal> {
-    caller.close(rt, actor)
-}
+    fn close<R: Wait>(&mut self, rt: &R, actor: ActorId) -> Result<(), Refusal>;
 
-fn one_value(alloc: Global, value: Value) -> Result<Values, AllocError> {
-    let mut values = Vec::new(alloc);
-    values.push(value)?;
-    Ok(Seq::from_vec(values))
-}
+    fn post<R: Wait>(
+        &mut self,
+        rt: &R,
+        alloc: Global,
+        sender: u16,
+        seq: u64,
+        actor: ActorId,
+        selector: Selector,
+        args: Values,
+    ) -> Result<u64, Refusal>;
 
-/// Posts a message without arguments, of a sender.
-pub fn post_of<K: Naming, R: Wait>(
-    rt: &R,
-    alloc: Global,
-    caller: &mut Caller<'_, K>,
-    sender: u16,
-    seq: u64,
-    actor: ActorId,
-    selector: &str,
-) -> Result<u64, Refusal> {
-    let selector = caller.intern(rt, alloc, selector.as_bytes())?;
-    let args = Seq::from_vec(Vec::new(alloc));
-    caller.post(rt, alloc, sender, seq, actor, selector, args)
-}
+    fn outcome<R: Wait>(&mut self, rt: &R, actor: ActorId, turn: u64) -> Result<Outcome, Refusal>;
 
-/// Posts a message without arguments, of sender 1.
-pub fn post<K: Naming, R: Wait>(
-    rt: &R,
-    alloc: Global,
-    caller: &mut Caller<'_, K>,
-    seq: u64,
-    actor: ActorId,
-    selector: &str,
-) -> Result<u64, Refusal> {
-    post_of(rt, alloc, caller, 1, seq, actor, selector)
-}
+    fn stats<R: Wait>(
+        &mut self,
+        rt: &R,
+        alloc: Global,
+        class: ClassId,
+        selector: Selector,
+    ) -> Result<Vec<SiteStats>, Refusal>;
 
-/// Posts a message with one argument, of sender 1.
-pub fn post_with<K: Naming, R: Wait>(
-    rt: &R,
-    alloc: Global,
-    caller: &mut Caller<'_, K>,
-    seq: u64,
-    actor: ActorId,
-    selector: &str,
-    value: Value,
-) -> Result<u64, Refusal> {
-    let selector = caller.intern(rt, alloc, selector.as_bytes())?;
-    let args = one_value(alloc, value)?;
-    caller.post(rt, alloc, 1, seq, actor, selector, args)
-}
+    /// How many messages of a number for an actor the caller sees.
+    fn seen_posts<R: Wait>(&mut self, rt: &R, actor: ActorId, number: u64) -> u64;
 
-pub fn outcome<K: Naming, R: Wait>(
-    rt: &R,
-    caller: &mut Caller<'_, K>,
-    actor: ActorId,
-    turn: u64,
-) -> Result<Outcome, Refusal> {
-    caller.outcome(rt, actor, turn)
-}
+    /// The class of a name that the caller sees.
+    fn seen_class<R: Wait>(&mut self, rt: &R, name: &[u8]) -> Option<ClassId>;
 
-/// How a turn ends soon. It is asked once in a millisecond, so often at most as a gate waits.
-pub fn ended<K: Naming, R: Wait + Clock>(
-    rt: &R,
-    caller: &mut Caller<'_, K>,
-    actor: ActorId,
-    turn: u64,
-) -> Result<Outcome, Refusal> {
-    for _ in 0..TURNS {
-        let answer = outcome(rt, caller, actor, turn);
-        if answer != Err(Refusal::Pending) {
-            return answer;
-        }
-        pause(rt, 1);
-    }
-    Err(Refusal::Pending)
-}
-
-/// Whether a turn answers a number soon.
-pub fn answers<K: Naming, R: Wait + Clock>(
-    rt: &R,
-    caller: &mut Caller<'_, K>,
-    actor: ActorId,
-    turn: u64,
-    number: i64,
-) -> bool {
-    ended(rt, caller, actor, turn) == Ok(Outcome::Answer(Value::Int(number)))
+    /// How many items, edits and actors the caller sees.
+    fn seen<R: Wait>(&mut self, rt: &R) -> (usize, u32, u32);
 }
 
 /// Whether an item is a message of a number for an actor.
@@ -202,34 +121,279 @@ fn posts_in(image: &Image, actor: ActorId, number: u64) -> u64 {
     count
 }
 
-/// How many messages of a number for an actor the caller sees.
-pub fn seen_posts<K: Naming, R: Wait>(
-    rt: &R,
-    caller: &mut Caller<'_, K>,
-    actor: ActorId,
-    number: u64,
-) -> u64 {
-    caller.look(rt, |image| posts_in(image, actor, number))
+/// How many items, edits and actors an image has.
+fn counts(image: &Image) -> (usize, u32, u32) {
+    (
+        image.history().len(),
+        image.version().edits(),
+        image.actors(),
+    )
 }
 
-/// The class of a name that the caller sees.
-fn seen_class<K: Naming, R: Wait>(
+impl<K: Naming> Calls for Caller<'_, K> {
+    fn intern<R: Wait>(&mut self, rt: &R, alloc: Global, text: &[u8]) -> Result<Selector, Refusal> {
+        self.intern(rt, alloc, text)
+    }
+
+    fn define<R: Wait>(
+        &mut self,
+        rt: &R,
+        alloc: Global,
+        name: &str,
+        parent: ClassId,
+    ) -> Result<u32, Refusal> {
+        let slots = Seq::from_vec(Vec::new(alloc));
+        self.define(rt, alloc, name.as_bytes(), parent, slots)
+    }
+
+    fn install<R: Wait>(
+        &mut self,
+        rt: &R,
+        alloc: Global,
+        class: ClassId,
+        source: &str,
+    ) -> Result<u32, Refusal> {
+        self.install(rt, alloc, class, source.as_bytes())
+    }
+
+    fn remove<R: Wait>(
+        &mut self,
+        rt: &R,
+        alloc: Global,
+        class: ClassId,
+        selector: Selector,
+    ) -> Result<u32, Refusal> {
+        self.remove(rt, alloc, class, selector)
+    }
+
+    fn reparent<R: Wait>(
+        &mut self,
+        rt: &R,
+        alloc: Global,
+        class: ClassId,
+        parent: ClassId,
+    ) -> Result<u32, Refusal> {
+        self.reparent(rt, alloc, class, parent)
+    }
+
+    fn create<R: Wait>(
+        &mut self,
+        rt: &R,
+        alloc: Global,
+        class: ClassId,
+    ) -> Result<ActorId, Refusal> {
+        self.create(rt, alloc, class)
+    }
+
+    fn checkpoint<R: Wait>(&mut self, rt: &R, alloc: Global) -> Result<u64, Refusal> {
+        Ok(self.checkpoint(rt, alloc)?.posts)
+    }
+
+    fn close<R: Wait>(&mut self, rt: &R, actor: ActorId) -> Result<(), Refusal> {
+        self.close(rt, actor)
+    }
+
+    fn post<R: Wait>(
+        &mut self,
+        rt: &R,
+        alloc: Global,
+        sender: u16,
+        seq: u64,
+        actor: ActorId,
+        selector: Selector,
+        args: Values,
+    ) -> Result<u64, Refusal> {
+        self.post(rt, alloc, sender, seq, actor, selector, args)
+    }
+
+    fn outcome<R: Wait>(&mut self, rt: &R, actor: ActorId, turn: u64) -> Result<Outcome, Refusal> {
+        self.outcome(rt, actor, turn)
+    }
+
+    fn stats<R: Wait>(
+        &mut self,
+        rt: &R,
+        alloc: Global,
+        class: ClassId,
+        selector: Selector,
+    ) -> Result<Vec<SiteStats>, Refusal> {
+        self.stats(rt, alloc, class, selector)
+    }
+
+    fn seen_posts<R: Wait>(&mut self, rt: &R, actor: ActorId, number: u64) -> u64 {
+        self.look(rt, |image| posts_in(image, actor, number))
+    }
+
+    fn seen_class<R: Wait>(&mut self, rt: &R, name: &[u8]) -> Option<ClassId> {
+        self.look(rt, |image| image.version().class_named(name))
+    }
+
+    fn seen<R: Wait>(&mut self, rt: &R) -> (usize, u32, u32) {
+        self.look(rt, |image| counts(image))
+    }
+}
+
+/// Defines a class under Object without instance variables. Its number is that of the order of definition.
+pub fn define_under<C: Calls, R: Wait>(
     rt: &R,
-    caller: &mut Caller<'_, K>,
-    name: &[u8],
-) -> Option<ClassId> {
-    caller.look(rt, |image| image.version().class_named(name))
+    alloc: Global,
+    caller: &mut C,
+    name: &str,
+    parent: ClassId,
+) -> Result<u32, Refusal> {
+    caller.define(rt, alloc, name, parent)
+}
+
+pub fn define<C: Calls, R: Wait>(
+    rt: &R,
+    alloc: Global,
+    caller: &mut C,
+    name: &str,
+) -> Result<u32, Refusal> {
+    define_under(rt, alloc, caller, name, OBJECT)
+}
+
+pub fn install<C: Calls, R: Wait>(
+    rt: &R,
+    alloc: Global,
+    caller: &mut C,
+    class: ClassId,
+    source: &str,
+) -> Result<u32, Refusal> {
+    caller.install(rt, alloc, class, source)
+}
+
+pub fn remove<C: Calls, R: Wait>(
+    rt: &R,
+    alloc: Global,
+    caller: &mut C,
+    class: ClassId,
+    selector: &str,
+) -> Result<u32, Refusal> {
+    let selector = caller.intern(rt, alloc, selector.as_bytes())?;
+    caller.remove(rt, alloc, class, selector)
+}
+
+pub fn reparent<C: Calls, R: Wait>(
+    rt: &R,
+    alloc: Global,
+    caller: &mut C,
+    class: ClassId,
+    parent: ClassId,
+) -> Result<u32, Refusal> {
+    caller.reparent(rt, alloc, class, parent)
+}
+
+pub fn create<C: Calls, R: Wait>(
+    rt: &R,
+    alloc: Global,
+    caller: &mut C,
+    class: ClassId,
+) -> Result<ActorId, Refusal> {
+    caller.create(rt, alloc, class)
+}
+
+pub fn checkpoint<C: Calls, R: Wait>(
+    rt: &R,
+    alloc: Global,
+    caller: &mut C,
+) -> Result<u64, Refusal> {
+    caller.checkpoint(rt, alloc)
+}
+
+pub fn close<C: Calls, R: Wait>(rt: &R, caller: &mut C, actor: ActorId) -> Result<(), Refusal> {
+    caller.close(rt, actor)
+}
+
+fn one_value(alloc: Global, value: Value) -> Result<Values, AllocError> {
+    let mut values = Vec::new(alloc);
+    values.push(value)?;
+    Ok(Seq::from_vec(values))
+}
+
+/// Posts a message without arguments, of a sender.
+pub fn post_of<C: Calls, R: Wait>(
+    rt: &R,
+    alloc: Global,
+    caller: &mut C,
+    sender: u16,
+    seq: u64,
+    actor: ActorId,
+    selector: &str,
+) -> Result<u64, Refusal> {
+    let selector = caller.intern(rt, alloc, selector.as_bytes())?;
+    let args = Seq::from_vec(Vec::new(alloc));
+    caller.post(rt, alloc, sender, seq, actor, selector, args)
+}
+
+/// Posts a message without arguments, of sender 1.
+pub fn post<C: Calls, R: Wait>(
+    rt: &R,
+    alloc: Global,
+    caller: &mut C,
+    seq: u64,
+    actor: ActorId,
+    selector: &str,
+) -> Result<u64, Refusal> {
+    post_of(rt, alloc, caller, 1, seq, actor, selector)
+}
+
+/// Posts a message with one argument, of sender 1.
+pub fn post_with<C: Calls, R: Wait>(
+    rt: &R,
+    alloc: Global,
+    caller: &mut C,
+    seq: u64,
+    actor: ActorId,
+    selector: &str,
+    value: Value,
+) -> Result<u64, Refusal> {
+    let selector = caller.intern(rt, alloc, selector.as_bytes())?;
+    let args = one_value(alloc, value)?;
+    caller.post(rt, alloc, 1, seq, actor, selector, args)
+}
+
+pub fn outcome<C: Calls, R: Wait>(
+    rt: &R,
+    caller: &mut C,
+    actor: ActorId,
+    turn: u64,
+) -> Result<Outcome, Refusal> {
+    caller.outcome(rt, actor, turn)
+}
+
+/// How a turn ends soon. It is asked once in a millisecond, so often at most as a gate waits.
+pub fn ended<C: Calls, R: Wait + Clock>(
+    rt: &R,
+    caller: &mut C,
+    actor: ActorId,
+    turn: u64,
+) -> Result<Outcome, Refusal> {
+    for _ in 0..TURNS {
+        let answer = outcome(rt, caller, actor, turn);
+        if answer != Err(Refusal::Pending) {
+            return answer;
+        }
+        pause(rt, 1);
+    }
+    Err(Refusal::Pending)
+}
+
+/// Whether a turn answers a number soon.
+pub fn answers<C: Calls, R: Wait + Clock>(
+    rt: &R,
+    caller: &mut C,
+    actor: ActorId,
+    turn: u64,
+    number: i64,
+) -> bool {
+    ended(rt, caller, actor, turn) == Ok(Outcome::Answer(Value::Int(number)))
 }
 
 /// Defines the class `A` with one method, the first actor, and says whether this was accepted.
-pub fn make_actor<K: Naming, R: Wait>(
-    rt: &R,
-    alloc: Global,
-    caller: &mut Caller<'_, K>,
-    source: &str,
-) -> bool {
+pub fn make_actor<C: Calls, R: Wait>(rt: &R, alloc: Global, caller: &mut C, source: &str) -> bool {
     define(rt, alloc, caller, "A") == Ok(1)
-        && seen_class(rt, caller, b"A") == Some(A)
+        && caller.seen_class(rt, b"A") == Some(A)
         && install(rt, alloc, caller, A, source) == Ok(2)
         && create(rt, alloc, caller, A) == Ok(FIRST)
 }

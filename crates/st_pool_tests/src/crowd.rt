@@ -24,10 +24,10 @@ const FIFTH: u16 = 5;
 
 /// Posts numbers 1 and on of a sender, and says whether all were accepted, each behind the one before, or where a checkpoint has begun
 /// the numbers of turns anew.
-fn post_all<K: Naming, R: Wait>(
+fn post_all<C: Calls, R: Wait>(
     rt: &R,
     alloc: Global,
-    caller: &mut Caller<'_, K>,
+    caller: &mut C,
     sender: u16,
     are_anew: bool,
 ) -> bool {
@@ -42,11 +42,7 @@ fn post_all<K: Naming, R: Wait>(
 }
 
 /// Makes ten checkpoints, and says whether none was refused and the posts that they count never fall.
-fn make_checkpoints<K: Naming, R: Wait + Clock>(
-    rt: &R,
-    alloc: Global,
-    caller: &mut Caller<'_, K>,
-) -> bool {
+fn make_checkpoints<C: Calls, R: Wait + Clock>(rt: &R, alloc: Global, caller: &mut C) -> bool {
     let mut last = 0;
     for _ in 0..10 {
         match checkpoint(rt, alloc, caller) {
@@ -71,11 +67,11 @@ fn has_receipts<K: Naming>(share: &CallerShare<K>, sender: u16) -> bool {
 }
 
 /// What the thread of a caller does, and whether it sees what it must.
-fn has_done<K: Naming, R: Wait + Clock>(
+fn has_done<C: Calls, R: Wait + Clock>(
     rt: &R,
     alloc: Global,
     scene: Scene,
-    caller: &mut Caller<'_, K>,
+    caller: &mut C,
     sender: u16,
 ) -> bool {
     if sender == FIFTH {

@@ -2,12 +2,10 @@
 use crate::calls::*;
 use crate::doors::Marks;
 use crate::plays::totals;
-use crate::pools::Caller;
 use crate::scenes::Scene;
 use st_classes::kernel::SMALL_INTEGER;
 use st_classes::refusals::Refusal;
 use st_classes::values::ClassId;
-use st_pool::naming::Naming;
 use st_pool::totals::Totals;
 use std::alloc::Global;
 use std::sync::Wait;
@@ -16,10 +14,10 @@ use std::time::Clock;
 
 /// The worker has a claim of a turn that sends `tag` when a method is installed. The turn answers a number, after this many claims,
 /// and the caller does nothing more for it: a worker whose claim was refused goes on by itself.
-fn edited<K: Naming, R: Wait + Clock>(
+fn edited<C: Calls, R: Wait + Clock>(
     rt: &R,
     alloc: Global,
-    caller: &mut Caller<'_, K>,
+    caller: &mut C,
     marks: &Marks,
     class: ClassId,
     source: &str,
@@ -38,20 +36,20 @@ fn edited<K: Naming, R: Wait + Clock>(
 }
 
 /// The method is replaced that the claim sends to: its steps do not count, and the turn is begun once more.
-pub fn used_selector<K: Naming, R: Wait + Clock>(
+pub fn used_selector<C: Calls, R: Wait + Clock>(
     rt: &R,
     alloc: Global,
-    caller: &mut Caller<'_, K>,
+    caller: &mut C,
     marks: &Marks,
 ) -> bool {
     edited(rt, alloc, caller, marks, SMALL_INTEGER, "tag ^2", 2, 2)
 }
 
 /// A method is installed that the claim does not send to.
-pub fn unused_selector<K: Naming, R: Wait + Clock>(
+pub fn unused_selector<C: Calls, R: Wait + Clock>(
     rt: &R,
     alloc: Global,
-    caller: &mut Caller<'_, K>,
+    caller: &mut C,
     marks: &Marks,
 ) -> bool {
     edited(rt, alloc, caller, marks, A, "bump ^0", 1, 1)
@@ -62,11 +60,7 @@ const B: ClassId = ClassId(9);
 const C: ClassId = ClassId(10);
 
 /// C is first under A and then under B, and each of the two answers a number of its own.
-pub fn reparented<K: Naming, R: Wait + Clock>(
-    rt: &R,
-    alloc: Global,
-    caller: &mut Caller<'_, K>,
-) -> bool {
+pub fn reparented<C: Calls, R: Wait + Clock>(rt: &R, alloc: Global, caller: &mut C) -> bool {
     define(rt, alloc, caller, "A") == Ok(1)
         && install(rt, alloc, caller, A, "who ^1") == Ok(2)
         && define(rt, alloc, caller, "B") == Ok(3)

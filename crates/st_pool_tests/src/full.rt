@@ -2,11 +2,9 @@
 use crate::calls::*;
 use crate::doors::{Marks, pause};
 use crate::plays::totals;
-use crate::pools::Caller;
 use crate::scenes::Scene;
 use st_classes::kernel::OBJECT;
 use st_classes::refusals::Refusal;
-use st_pool::naming::Naming;
 use st_pool::totals::Totals;
 use std::alloc::Global;
 use std::sync::Wait;
@@ -14,10 +12,10 @@ use std::test::*;
 use std::time::Clock;
 
 /// With four items the history has no room for the beginning of the turn: no claim is handed out, and a further post is refused.
-pub fn at_checkout<K: Naming, R: Wait + Clock>(
+pub fn at_checkout<C: Calls, R: Wait + Clock>(
     rt: &R,
     alloc: Global,
-    caller: &mut Caller<'_, K>,
+    caller: &mut C,
     marks: &Marks,
 ) -> bool {
     let is_posted = make_actor(rt, alloc, caller, "go ^1")
@@ -56,10 +54,10 @@ fn calls() -> &'static [(Call, u64)] {
 }
 
 /// Whether a call is refused, since the history is full.
-fn is_refused<K: Naming, R: Wait + Clock>(
+fn is_refused<C: Calls, R: Wait + Clock>(
     rt: &R,
     alloc: Global,
-    caller: &mut Caller<'_, K>,
+    caller: &mut C,
     call: Call,
 ) -> bool {
     let refused = match call {
@@ -82,10 +80,10 @@ fn rests_after<R: Clock>(rt: &R, marks: &Marks, quanta: u64) -> bool {
 
 /// With five items the turn is begun, and has no room for its steps. Its claim is handed back and released, so that the next call
 /// finds the actor ready again.
-pub fn at_commit<K: Naming, R: Wait + Clock>(
+pub fn at_commit<C: Calls, R: Wait + Clock>(
     rt: &R,
     alloc: Global,
-    caller: &mut Caller<'_, K>,
+    caller: &mut C,
     marks: &Marks,
 ) -> bool {
     let is_posted = make_actor(rt, alloc, caller, "go ^1")
@@ -102,10 +100,10 @@ pub fn at_commit<K: Naming, R: Wait + Clock>(
 }
 
 /// As before; but the worker is kept, after its commit was refused, until a call was made. It must not wait for another then.
-pub fn late_wait<K: Naming, R: Wait + Clock>(
+pub fn late_wait<C: Calls, R: Wait + Clock>(
     rt: &R,
     alloc: Global,
-    caller: &mut Caller<'_, K>,
+    caller: &mut C,
     marks: &Marks,
 ) -> bool {
     let is_called = make_actor(rt, alloc, caller, "go ^1")
@@ -117,10 +115,10 @@ pub fn late_wait<K: Naming, R: Wait + Clock>(
 }
 
 /// As before; but a checkpoint makes room, and a worker begins the quantum once more, in what is turn 0 then.
-pub fn room_again<K: Naming, R: Wait + Clock>(
+pub fn room_again<C: Calls, R: Wait + Clock>(
     rt: &R,
     alloc: Global,
-    caller: &mut Caller<'_, K>,
+    caller: &mut C,
     marks: &Marks,
 ) -> bool {
     make_actor(rt, alloc, caller, "go ^1")

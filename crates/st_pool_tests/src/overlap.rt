@@ -1,10 +1,8 @@
 //! Two workers whose quanta overlap.
 use crate::calls::*;
 use crate::plays::{Missing, totals, totals_without};
-use crate::pools::Caller;
 use crate::scenes::Scene;
 use st_classes::refusals::Refusal;
-use st_pool::naming::Naming;
 use st_pool::totals::Totals;
 use std::alloc::Global;
 use std::sync::Wait;
@@ -13,11 +11,7 @@ use std::time::Clock;
 
 /// Two actors get a message each, of which neither turn is let go before the other is begun. A third message is posted twice, of
 /// which the history shows one.
-pub fn overlap<K: Naming, R: Wait + Clock>(
-    rt: &R,
-    alloc: Global,
-    caller: &mut Caller<'_, K>,
-) -> bool {
+pub fn overlap<C: Calls, R: Wait + Clock>(rt: &R, alloc: Global, caller: &mut C) -> bool {
     make_actor(rt, alloc, caller, "a ^3 + 4 * 2")
         && create(rt, alloc, caller, A) == Ok(SECOND)
         && post(rt, alloc, caller, 1, FIRST, "a") == Ok(1)
@@ -26,7 +20,7 @@ pub fn overlap<K: Naming, R: Wait + Clock>(
         && answers(rt, caller, SECOND, 1, 14)
         && post(rt, alloc, caller, 3, FIRST, "a") == Ok(2)
         && post(rt, alloc, caller, 3, FIRST, "a") == Err(Refusal::Old { last: 3 })
-        && seen_posts(rt, caller, FIRST, 3) == 1
+        && caller.seen_posts(rt, FIRST, 3) == 1
         && answers(rt, caller, FIRST, 2, 14)
 }
 

@@ -3,7 +3,7 @@ ghost use Rattle.std.specs.Prelude.{◌≡◌};
 ghost use Rattle.st_pool.specs.Counts.{amounts};
 
 use crate::by_callers::{closing, not_understood, numbers};
-use crate::calls::{FIRST, close};
+use crate::calls::{Calls, FIRST, close};
 use crate::crowd::{among_checkpoints, crowd, hand_back};
 use crate::doors::{Door, Marks, TURNS, pause};
 use crate::edits::{reparented, unused_selector, used_selector};
@@ -81,15 +81,15 @@ fn work_on_thread<K: Naming, R: Wait + Clock>(
     stage.marks.leave();
 }
 
-/// What the caller of a scene does, and whether it sees what it must.
-fn act<K: Naming + Send + Sync, R: Threads + Wait + Clock + Sync>(
+/// What the caller of a scene does that needs the pool for nothing else, and whether it sees what it must.
+fn act_alone<C: Calls, R: Wait + Clock>(
     rt: &R,
     alloc: Global,
-    stage: &Stage<K>,
-    caller: &mut Caller<'_, K>,
+    scene: Scene,
+    caller: &mut C,
+    marks: &Marks,
 ) -> bool {
-    let marks = &stage.marks;
-    match stage.scene {
+    match scene {
         Scene::Overlap => overlap(rt, alloc, caller),
         Scene::NotUnderstood => not_understood(rt, alloc, caller),
         Scene::Closing => closing(rt, alloc, caller, marks),
@@ -105,13 +105,26 @@ fn act<K: Naming + Send + Sync, R: Threads + Wait + Clock + Sync>(
         Scene::Stopping => stopping(rt, alloc, caller, marks),
         Scene::Endless => endless(rt, alloc, caller, marks),
         Scene::LongTurn => long_turn(rt, alloc, caller, marks),
-        Scene::ManyCallers => many_callers(rt, alloc, stage),
         Scene::Waking => waking(rt, alloc, caller),
         Scene::WakingByCommit => waking_by_commit(rt, alloc, caller, marks),
         Scene::Rally => rally(rt, alloc, caller),
+        Scene::Refused => calls_alone(rt, alloc, caller),
+        Scene::ManyCallers | Scene::Crowd | Scene::Checkpoints => false,
+    }
+}
+
+/// What the caller of a scene does, and whether it sees what it must.
+fn act<K: Naming + Send + Sync, R: Threads + Wait + Clock + Sync>(
+    rt: &R,
+    alloc: Global,
+    stage: &Stage<K>,
+    caller: &mut Caller<'_, K>,
+) -> bool {
+    match stage.scene {
+        Scene::ManyCallers => many_callers(rt, alloc, stage),
         Scene::Crowd => crowd(rt, alloc, stage, caller),
         Scene::Checkpoints => among_checkpoints(rt, alloc, stage, caller),
-        Scene::Refused => calls_alone(rt, alloc, caller),
+        scene => act_alone(rt, alloc, scene, caller, &stage.marks),
     }
 }
 

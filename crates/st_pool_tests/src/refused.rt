@@ -3,11 +3,9 @@
 //! allocation that fails, as `tools/refused-growth` has it for each in turn.
 use crate::calls::*;
 use crate::plays::totals;
-use crate::pools::{Caller, Image};
 use crate::scenes::Scene;
 use st_classes::kernel::{OBJECT, SMALL_INTEGER};
 use st_classes::refusals::Refusal;
-use st_pool::naming::Naming;
 use st_pool::totals::Totals;
 use std::alloc::{AllocError, Global};
 use std::sync::Wait;
@@ -40,25 +38,11 @@ Ok(2) = checkpoint
 Err(Old { last: 2 }) = post 2 tag
 Err(Pending) = outcome";
 
-/// How many items, edits and actors an image has.
-fn counts(image: &Image) -> (usize, u32, u32) {
-    (
-        image.history().len(),
-        image.version().edits(),
-        image.actors(),
-    )
-}
-
-/// What the caller sees.
-fn seen<K: Naming, R: Wait>(rt: &R, caller: &mut Caller<'_, K>) -> (usize, u32, u32) {
-    caller.look(rt, |image| counts(image))
-}
-
 /// How many sites a method of class A has.
-fn sites<K: Naming, R: Wait>(
+fn sites<C: Calls, R: Wait>(
     rt: &R,
     alloc: Global,
-    caller: &mut Caller<'_, K>,
+    caller: &mut C,
     method: &str,
 ) -> Result<u64, Refusal> {
     let selector = caller.intern(rt, alloc, method.as_bytes())?;
@@ -66,10 +50,10 @@ fn sites<K: Naming, R: Wait>(
 }
 
 /// An edit answers the new number of edits.
-fn edit<K: Naming, R: Wait>(
+fn edit<C: Calls, R: Wait>(
     rt: &R,
     alloc: Global,
-    caller: &mut Caller<'_, K>,
+    caller: &mut C,
     word: &str,
     rest: &str,
 ) -> Result<u32, Refusal> {
@@ -83,10 +67,10 @@ fn edit<K: Naming, R: Wait>(
 }
 
 /// A message of this number for the first actor.
-fn post_line<K: Naming, R: Wait>(
+fn post_line<C: Calls, R: Wait>(
     rt: &R,
     alloc: Global,
-    caller: &mut Caller<'_, K>,
+    caller: &mut C,
     line: &str,
 ) -> Result<u64, Refusal> {
     let (number, name) = line.split_once(' ').ok_or(Refusal::BadCommand)?;
@@ -98,10 +82,10 @@ fn post_line<K: Naming, R: Wait>(
 }
 
 /// What is answered to a call that is no edit.
-fn act<K: Naming, R: Wait>(
+fn act<C: Calls, R: Wait>(
     rt: &R,
     alloc: Global,
-    caller: &mut Caller<'_, K>,
+    caller: &mut C,
     word: &str,
     rest: &str,
 ) -> Result<u64, Refusal> {
@@ -123,10 +107,10 @@ fn act<K: Naming, R: Wait>(
 }
 
 /// What a call answers.
-fn ask<K: Naming, R: Wait>(
+fn ask<C: Calls, R: Wait>(
     rt: &R,
     alloc: Global,
-    caller: &mut Caller<'_, K>,
+    caller: &mut C,
     call: &str,
 ) -> Result<u64, Refusal> {
     let (word, rest) = call.split_once(' ').unwrap_or((call, ""));
@@ -139,18 +123,18 @@ fn ask<K: Naming, R: Wait>(
 }
 
 /// The same, asked again where there was no memory; and `Changed` where something was changed then.
-fn ask_again<K: Naming, R: Wait>(
+fn ask_again<C: Calls, R: Wait>(
     rt: &R,
     alloc: Global,
-    caller: &mut Caller<'_, K>,
+    caller: &mut C,
     call: &str,
 ) -> Result<u64, Refusal> {
-    let before = seen(rt, caller);
+    let before = caller.seen(rt);
     let first = ask(rt, alloc, caller, call);
     if first != Err(Refusal::NoMemory) {
         return first;
     }
-    if seen(rt, caller) != before {
+    if caller.seen(rt) != before {
         return Err(Refusal::Changed);
     }
     ask(rt, alloc, caller, call)
@@ -168,7 +152,7 @@ fn is_written(alloc: Global, answer: Result<u64, Refusal>, wanted: &str) -> bool
 }
 
 /// Whether all calls are answered as they must be.
-pub fn calls_alone<K: Naming, R: Wait>(rt: &R, alloc: Global, caller: &mut Caller<'_, K>) -> bool {
+pub fn calls_alone<C: Calls, R: Wait>(rt: &R, alloc: Global, caller: &mut C) -> bool {
     for line in lines().lines() {
         let Some((wanted, call)) = line.split_once(" = ") else {
             return false;

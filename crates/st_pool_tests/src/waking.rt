@@ -2,10 +2,8 @@
 use crate::calls::*;
 use crate::doors::{Marks, pause};
 use crate::plays::totals;
-use crate::pools::Caller;
 use crate::scenes::Scene;
 use st_classes::values::Value;
-use st_pool::naming::Naming;
 use st_pool::totals::Totals;
 use std::alloc::Global;
 use std::sync::Wait;
@@ -19,10 +17,10 @@ pub fn rest<R: Clock>(rt: &R) -> bool {
 }
 
 /// The worker has a claim when it is told to stop, and is let go then. Its quantum is committed.
-pub fn stopping<K: Naming, R: Wait + Clock>(
+pub fn stopping<C: Calls, R: Wait + Clock>(
     rt: &R,
     alloc: Global,
-    caller: &mut Caller<'_, K>,
+    caller: &mut C,
     marks: &Marks,
 ) -> bool {
     make_actor(rt, alloc, caller, "a ^3 + 4 * 2")
@@ -31,10 +29,10 @@ pub fn stopping<K: Naming, R: Wait + Clock>(
 }
 
 /// The same with a turn that has no end: of it one quantum is committed.
-pub fn endless<K: Naming, R: Wait + Clock>(
+pub fn endless<C: Calls, R: Wait + Clock>(
     rt: &R,
     alloc: Global,
-    caller: &mut Caller<'_, K>,
+    caller: &mut C,
     marks: &Marks,
 ) -> bool {
     make_actor(rt, alloc, caller, "spin [true] whileTrue: [nil]")
@@ -43,10 +41,10 @@ pub fn endless<K: Naming, R: Wait + Clock>(
 }
 
 /// A turn of 3,012 steps has three quanta of at most 1,024.
-pub fn long_turn<K: Naming, R: Wait + Clock>(
+pub fn long_turn<C: Calls, R: Wait + Clock>(
     rt: &R,
     alloc: Global,
-    caller: &mut Caller<'_, K>,
+    caller: &mut C,
     marks: &Marks,
 ) -> bool {
     let source = "a | i | i := 0. [i < 300] whileTrue: [i := i + 1]. ^i";
@@ -57,11 +55,7 @@ pub fn long_turn<K: Naming, R: Wait + Clock>(
 }
 
 /// The worker waits each time that a message is posted.
-pub fn waking<K: Naming, R: Wait + Clock>(
-    rt: &R,
-    alloc: Global,
-    caller: &mut Caller<'_, K>,
-) -> bool {
+pub fn waking<C: Calls, R: Wait + Clock>(rt: &R, alloc: Global, caller: &mut C) -> bool {
     if !make_actor(rt, alloc, caller, "a ^3 + 4 * 2") {
         return false;
     }
@@ -78,10 +72,10 @@ pub fn waking<K: Naming, R: Wait + Clock>(
 
 /// The first quantum posts to the second actor, and its own turn goes on. Neither of the two claims that follow is let go before the
 /// other is out, so both workers are needed, and the commit must have woken the one that waits.
-pub fn waking_by_commit<K: Naming, R: Wait + Clock>(
+pub fn waking_by_commit<C: Calls, R: Wait + Clock>(
     rt: &R,
     alloc: Global,
-    caller: &mut Caller<'_, K>,
+    caller: &mut C,
     marks: &Marks,
 ) -> bool {
     make_actor(rt, alloc, caller, "ask: r ^r post: #tick")
@@ -96,11 +90,7 @@ pub fn waking_by_commit<K: Naming, R: Wait + Clock>(
 
 /// Each of two actors posts to itself 3,000 times. A turn that posts has 15 steps, the last one 9. Workers of so short quanta are in each
 /// other's way, so one of them may rest; it has to end all the same.
-pub fn rally<K: Naming, R: Wait + Clock>(
-    rt: &R,
-    alloc: Global,
-    caller: &mut Caller<'_, K>,
-) -> bool {
+pub fn rally<C: Calls, R: Wait + Clock>(rt: &R, alloc: Global, caller: &mut C) -> bool {
     let source = "rally: n n > 0 ifTrue: [thisActor post: #rally: with: n - 1]. ^n";
     make_actor(rt, alloc, caller, source)
         && create(rt, alloc, caller, A) == Ok(SECOND)

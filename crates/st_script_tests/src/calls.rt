@@ -18,9 +18,22 @@ pub(crate) const FIRST: ActorId = ActorId(0);
 
 pub(crate) const IS_NIL: Selector = Selector(3);
 
-/// Puts an image on the heap: where one stands on the stack, the proof of each function that lets it go pays for all its parts.
-fn boxed(alloc: Global, image: Image) -> Result<Box<Image>, AllocError> {
+/// Puts an image on the heap: where one stands on the stack, the proof of each function that lets it go pays for all its parts. So it may
+/// be a value of any type here.
+fn boxed<T: Drop>(alloc: Global, image: T) -> Result<Box<T>, AllocError> {
     Ok(Box::new(alloc, image)?)
+}
+
+/// Puts an image on the heap, unless what was done with it was refused.
+fn boxed_unless_refused<T: Drop>(
+    alloc: Global,
+    image: T,
+    answer: Result<(), Refusal>,
+) -> Result<Box<T>, Refusal> {
+    match answer {
+        Ok(()) => Ok(boxed(alloc, image)?),
+        Err(refusal) => Err(refusal),
+    }
 }
 
 /// A new image with these numbers.
@@ -34,9 +47,13 @@ pub(crate) fn new_image(alloc: Global) -> Result<Box<Image>, Refusal> {
 
 /// A new image in which the numbers are set to these.
 pub(crate) fn image_set_to(alloc: Global, settings: Settings) -> Result<Box<Image>, Refusal> {
-    let mut image = Image::new(alloc, Settings::DEFAULT)?;
-    image.set(settings)?;
-    Ok(boxed(alloc, image)?)
+    match Image::new(alloc, Settings::DEFAULT) {
+        Ok(mut image) => {
+            let answer = image.set(settings);
+            boxed_unless_refused(alloc, image, answer)
+        }
+        Err(refusal) => Err(refusal),
+    }
 }
 
 /// A class with these instance variables of its own.

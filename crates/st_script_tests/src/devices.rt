@@ -17,8 +17,9 @@ const TWO_RUNS: &[u8] = b"{\"cmd\":\"run\"}\n{\"cmd\":\"run\"}\n";
 
 const RAN: &str = "{\"ok\":{\"quanta\":0,\"steps\":0}}\n";
 
-/// How a script ended whose image is let go. It is let go here alone, since a proof pays for all its parts.
-fn end_of(done: (Image, Result<u64, Refusal>)) -> Result<u64, Refusal> {
+/// How a script ended whose image is let go. It may be of any type here, since the proof of a function that lets an image go pays for all
+/// its parts.
+fn end_of<T: Drop>(done: (T, Result<u64, Refusal>)) -> Result<u64, Refusal> {
     let (_image, end) = done;
     end
 }

@@ -43,15 +43,25 @@ fn in_memory(
     (image, output, result)
 }
 
+/// What a session wrote and how it ended, without its image. It may be of any type here, since the proof of a function that lets an image
+/// go pays for all its parts.
+fn written<T: Drop>(
+    done: (T, MemoryOutput, Result<u64, Refusal>),
+) -> (MemoryOutput, Result<u64, Refusal>) {
+    let (_image, output, end) = done;
+    (output, end)
+}
+
 /// What a new image answers to a text, and how the session ends.
 pub(crate) fn answered(
     alloc: Global,
     text: Vec<u8>,
     settings: ScriptSettings,
 ) -> Result<(MemoryOutput, Result<u64, Refusal>), Refusal> {
-    let image = Image::new(alloc, Settings::DEFAULT)?;
-    let (_, output, end) = in_memory(alloc, text, settings, image);
-    Ok((output, end))
+    match Image::new(alloc, Settings::DEFAULT) {
+        Ok(image) => Ok(written(in_memory(alloc, text, settings, image))),
+        Err(refusal) => Err(refusal),
+    }
 }
 
 /// Whether a script in memory is answered by these replies, and ends so.

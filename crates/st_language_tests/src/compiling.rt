@@ -25,9 +25,10 @@ pub(crate) fn kernel_names(alloc: Global) -> Result<Names, AllocError> {
     Names::kernel(alloc)
 }
 
-fn boxed(alloc: Global, tree: MethodTree) -> Result<Box<MethodTree>, Refusal> {
-    match Box::new(alloc, tree) {
-        Ok(tree) => Ok(tree),
+/// Puts a tree or a method on the heap. It may be of any type here, since the proof of a function that lets one go pays for all its parts.
+fn boxed<T: Drop>(alloc: Global, value: T) -> Result<Box<T>, Refusal> {
+    match Box::new(alloc, value) {
+        Ok(value) => Ok(value),
         Err(_) => Err(Refusal::NoMemory),
     }
 }

@@ -170,14 +170,29 @@ fn is_code(alloc: Global, method: &Method, code: &str) -> bool {
     false
 }
 
+/// The method of a tree, with the kernel's names.
+fn method_of(alloc: Global, tree: &MethodTree, version: &Version) -> Result<Box<Method>, Refusal> {
+    let mut names = names_again(alloc)?;
+    compiled_again(alloc, tree, version, &mut names)
+}
+
+/// Whether a tree is compiled to this code.
+fn has_code(
+    alloc: Global,
+    tree: &MethodTree,
+    version: &Version,
+    code: &str,
+) -> Result<bool, Refusal> {
+    let method = method_of(alloc, tree, version)?;
+    Ok(is_code(alloc, &method, code))
+}
+
 /// Whether the source in the first line of a sample is compiled to what the others list.
 fn is_compiled(alloc: Global, sample: &str) -> Result<bool, Refusal> {
     let (source, code) = sample.split_once('\n').ok_or(Refusal::BadCommand)?;
     let version = version(alloc)?;
-    let mut names = names_again(alloc)?;
     let tree = read_again(alloc, source)?;
-    let method = compiled_again(alloc, &tree, &version, &mut names)?;
-    Ok(is_code(alloc, &method, code))
+    has_code(alloc, &tree, &version, code)
 }
 
 #[test]

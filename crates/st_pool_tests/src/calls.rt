@@ -1,4 +1,5 @@
 //! The calls of callers, each behind a function without a contract: the proof of a scene then carries nothing of what a call promises.
+use crate::crowd::are_in_order;
 use crate::doors::{TURNS, pause};
 use crate::pools::{Caller, Image};
 use st_classes::kernel::OBJECT;
@@ -102,6 +103,9 @@ pub trait Calls {
 
     /// How many items, edits and actors the caller sees.
     fn seen<R: Wait>(&mut self, rt: &R) -> (usize, u32, u32);
+
+    /// Whether the caller sees the messages of all four senders of a crowd in their orders.
+    fn sees_order<R: Wait>(&mut self, rt: &R) -> bool;
 }
 
 /// Whether an item is a message of a number for an actor.
@@ -230,6 +234,10 @@ impl<K: Naming> Calls for Caller<'_, K> {
 
     fn seen<R: Wait>(&mut self, rt: &R) -> (usize, u32, u32) {
         self.look(rt, |image| counts(image))
+    }
+
+    fn sees_order<R: Wait>(&mut self, rt: &R) -> bool {
+        self.look(rt, |image| are_in_order(image))
     }
 }
 

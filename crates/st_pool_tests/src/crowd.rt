@@ -2,7 +2,7 @@
 use crate::calls::*;
 use crate::doors::pause;
 use crate::plays::totals;
-use crate::pools::{Caller, Image, Stage};
+use crate::pools::{Image, Stage};
 use crate::scenes::Scene;
 use st_image::items::Item;
 use st_mailbox::messages::{Message, Sender};
@@ -149,35 +149,30 @@ fn is_in_order(history: &[Item], sender: u16) -> bool {
 }
 
 /// Whether a history has the messages of all four senders in their orders.
-fn are_in_order(image: &Image) -> bool {
+pub fn are_in_order(image: &Image) -> bool {
     (1..5).all(|sender| is_in_order(image.history(), sender))
 }
 
-/// Whether the caller sees the messages of all four senders in their orders.
-fn sees_order<K: Naming, R: Wait>(rt: &R, caller: &mut Caller<'_, K>) -> bool {
-    caller.look(rt, |image| are_in_order(image))
-}
-
 /// Four callers post a hundred messages each, and the last turn ends.
-pub fn crowd<K: Naming + Send + Sync, R: Threads + Wait + Clock + Sync>(
+pub fn crowd<C: Calls, K: Naming + Send + Sync, R: Threads + Wait + Clock + Sync>(
     rt: &R,
     alloc: Global,
     stage: &Stage<K>,
-    caller: &mut Caller<'_, K>,
+    caller: &mut C,
 ) -> bool {
     if !make_actor(rt, alloc, caller, "a ^3 + 4 * 2") {
         return false;
     }
     call_together(rt, alloc, stage, 4);
-    sees_order(rt, caller) && answers(rt, caller, FIRST, 400, 14)
+    caller.sees_order(rt) && answers(rt, caller, FIRST, 400, 14)
 }
 
 /// The same while checkpoints are made. A message that is posted behind the last of them runs behind all others.
-pub fn among_checkpoints<K: Naming + Send + Sync, R: Threads + Wait + Clock + Sync>(
+pub fn among_checkpoints<C: Calls, K: Naming + Send + Sync, R: Threads + Wait + Clock + Sync>(
     rt: &R,
     alloc: Global,
     stage: &Stage<K>,
-    caller: &mut Caller<'_, K>,
+    caller: &mut C,
 ) -> bool {
     if !make_actor(rt, alloc, caller, "a ^3 + 4 * 2") {
         return false;

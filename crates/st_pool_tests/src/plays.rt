@@ -3,7 +3,7 @@ ghost use Rattle.std.specs.Prelude.{◌≡◌};
 ghost use Rattle.st_pool.specs.Counts.{amounts};
 
 use crate::by_callers::{closing, not_understood, numbers};
-use crate::calls::{Calls, FIRST, close};
+use crate::calls::{Calls, FIRST};
 use crate::crowd::{among_checkpoints, crowd, hand_back};
 use crate::doors::{Door, Marks, TURNS, pause};
 use crate::edits::{reparented, unused_selector, used_selector};
@@ -114,11 +114,11 @@ fn act_alone<C: Calls, R: Wait + Clock>(
 }
 
 /// What the caller of a scene does, and whether it sees what it must.
-fn act<K: Naming + Send + Sync, R: Threads + Wait + Clock + Sync>(
+fn act<C: Calls, K: Naming + Send + Sync, R: Threads + Wait + Clock + Sync>(
     rt: &R,
     alloc: Global,
     stage: &Stage<K>,
-    caller: &mut Caller<'_, K>,
+    caller: &mut C,
 ) -> bool {
     match stage.scene {
         Scene::ManyCallers => many_callers(rt, alloc, stage),
@@ -165,7 +165,7 @@ fn call_until_gone<K: Naming, R: Wait + Clock>(rt: &R, alloc: Global, stage: &St
         if stage.marks.are_gone(stage.scene.workers() as u64) {
             return;
         }
-        let _answer = close(rt, &mut caller, FIRST);
+        let _answer = caller.close(rt, FIRST);
         pause(rt, 1);
     }
 }

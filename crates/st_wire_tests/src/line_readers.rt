@@ -118,7 +118,7 @@ fn is_answer(answer: &Result<Command, Refusal>, wanted: &Option<Wanted>) -> bool
 }
 
 /// A reader on the heap, so that no proof that lets it go pays for its parts.
-fn new_reader(alloc: Global) -> Result<Box<LineReader>, AllocError> {
+pub(crate) fn new_reader(alloc: Global) -> Result<Box<LineReader>, AllocError> {
     Ok(Box::new(alloc, LineReader::new(alloc))?)
 }
 
@@ -317,6 +317,16 @@ fn is_post_of(answer: &Result<Command, Refusal>, text: &[u8]) -> bool {
     }
 }
 
+/// Whether a reader reads a post of a selector.
+fn reads_post(alloc: Global, reader: &mut LineReader, line: &str, selector: &str) -> bool {
+    is_post_of(&reader.read(alloc, line.as_bytes()), selector.as_bytes())
+}
+
+/// Whether both readers do.
+fn both_read_post(alloc: Global, reader: &mut LineReader, line: &str, selector: &str) -> bool {
+    is_post_of(&read(alloc, line), selector.as_bytes()) && reads_post(alloc, reader, line, selector)
+}
+
 /// Whether both readers read a selector of 8,000 letters.
 fn is_long_selector_read(alloc: Global) -> Result<bool, AllocError> {
     let text = repeated(alloc, "", "s", 8_000, "")?;
@@ -328,11 +338,7 @@ fn is_long_selector_read(alloc: Global) -> Result<bool, AllocError> {
         r#"","sender":0,"seq":0}"#,
     )?;
     let mut reader = new_reader(alloc)?;
-    let bytes = line.as_str().as_bytes();
-    Ok(
-        is_post_of(&read(alloc, line.as_str()), text.as_str().as_bytes())
-            && is_post_of(&reader.read(alloc, bytes), text.as_str().as_bytes()),
-    )
+    Ok(both_read_post(alloc, &mut reader, line.as_str(), text.as_str()))
 }
 
 #[test]
@@ -414,13 +420,28 @@ fn is_command(one: &Command, other: &Command) -> bool {
     }
 }
 
-/// Whether both readers say the same of a line.
-fn agree(alloc: Global, reader: &mut LineReader, line: &[u8]) -> bool {
-    match (read_command(alloc, line), reader.read(alloc, line)) {
-        (Ok(one), Ok(other)) => is_command(&one, &other),
+/// Whether two answers are the same, as far as [`is_command`] tells.
+fn are_same(one: &Result<Command, Refusal>, other: &Result<Command, Refusal>) -> bool {
+    match (one, other) {
+        (Ok(one), Ok(other)) => is_command(one, other),
         (Err(one), Err(other)) => one == other,
         _ => false,
     }
+}
+
+/// Whether a reader says the same of a line.
+fn agrees_with(
+    answer: &Result<Command, Refusal>,
+    alloc: Global,
+    reader: &mut LineReader,
+    line: &[u8],
+) -> bool {
+    are_same(answer, &reader.read(alloc, line))
+}
+
+/// Whether both readers say the same of a line.
+fn agree(alloc: Global, reader: &mut LineReader, line: &[u8]) -> bool {
+    agrees_with(&read_command(alloc, line), alloc, reader, line)
 }
 
 /// Bytes that are put in the place of one of a line.

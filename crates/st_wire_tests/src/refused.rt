@@ -1,6 +1,7 @@
 //! Lines and replies for which memory is refused: what is asked again has the answer with ample memory. Memory is refused where this runs
 //! with an allocation that fails, as `tools/refused-growth` has it for each in turn.
-use crate::commands::{commands, is_wanted, no_commands, read};
+use crate::commands::{Wanted, commands, is_wanted, no_commands, read};
+use crate::line_readers::new_reader;
 use crate::replies::two_sites;
 use st_classes::refusals::Refusal;
 use st_wire::commands::Command;
@@ -43,19 +44,38 @@ fn kept_again(alloc: Global, reader: &mut LineReader, line: &str) -> Result<Comm
     }
 }
 
+/// Whether a reader reads a command.
+fn is_read(
+    alloc: Global,
+    reader: &mut LineReader,
+    line: &str,
+    wanted: &Wanted,
+) -> Result<bool, Refusal> {
+    Ok(is_wanted(&kept_again(alloc, reader, line)?, wanted))
+}
+
+/// Whether a reader refuses a line.
+fn is_not_read(alloc: Global, reader: &mut LineReader, line: &str) -> bool {
+    matches!(kept_again(alloc, reader, line), Err(Refusal::BadCommand))
+}
+
+/// A reader on the heap, asked for again where memory was refused.
+fn reader_again(alloc: Global) -> Result<Box<LineReader>, AllocError> {
+    match new_reader(alloc) {
+        Ok(reader) => Ok(reader),
+        Err(AllocError) => new_reader(alloc),
+    }
+}
+
 #[test]
 fn lines_are_read_by_one_reader(rt: HostRuntime) -> Result<(), Fail> {
     let alloc = rt.alloc();
-    let mut reader = LineReader::new(alloc);
+    let mut reader = reader_again(alloc)?;
     for (line, wanted) in commands() {
-        assert!(rt;
-            is_wanted(&kept_again(alloc, &mut reader, line)?, wanted),
-            "{line}"
-        );
+        assert!(rt; is_read(alloc, &mut reader, line, wanted)?, "{line}");
     }
     for line in no_commands() {
-        let answer = kept_again(alloc, &mut reader, line);
-        assert!(rt; matches!(answer, Err(Refusal::BadCommand)), "{line}");
+        assert!(rt; is_not_read(alloc, &mut reader, line), "{line}");
     }
     Ok(())
 }

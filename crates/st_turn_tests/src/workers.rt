@@ -4,6 +4,7 @@ use st_guard::global_guard::GlobalGuard;
 use st_turn::body::Stop;
 use st_turn::claim::Claim;
 use st_turn::sums::SiteSum;
+use st_turn::tally::Tally;
 use std::alloc::{AllocError, Global};
 
 pub(crate) type Worker = st_turn::worker::Worker<GlobalGuard>;
@@ -81,9 +82,13 @@ impl Counts {
 
     pub(crate) fn add(&mut self, sums: &[SiteSum]) {
         for sum in sums {
-            self.by_site = self.by_site.wrapping_add(sum.tally.by_site);
-            self.by_global = self.by_global.wrapping_add(sum.tally.by_global);
-            self.by_walk = self.by_walk.wrapping_add(sum.tally.by_walk);
+            self.add_tally(&sum.tally);
         }
+    }
+
+    pub(crate) fn add_tally(&mut self, tally: &Tally) {
+        self.by_site = self.by_site.wrapping_add(tally.by_site);
+        self.by_global = self.by_global.wrapping_add(tally.by_global);
+        self.by_walk = self.by_walk.wrapping_add(tally.by_walk);
     }
 }

@@ -25,7 +25,10 @@ pub fn write(words: &mut [u64], at: u32, raised: bool) -> bool
 {
     let place = (at / BITS) as usize;
     let word = with_bit(words[place], at % BITS, raised);
-    words[place] = word;
+    // A write takes the word from the caches of other processors, so a word that stays is not written.
+    if words[place] != word {
+        words[place] = word;
+    }
     word != 0
 }
 

@@ -1,4 +1,5 @@
 //! One actor: its body, its mailbox and how its turns ended.
+ghost use Rattle.std.specs.Prelude.{◌≡◌, None};
 ghost use Rattle.st_turn.specs.Idle.{is_idle as idle};
 ghost use Rattle.st_turn.specs.Steps.{step};
 
@@ -17,6 +18,16 @@ use st_turn::body::{Body, Outcome, Phase};
 use std::alloc::{AllocError, Global};
 use std::marker::Model;
 
+/// Lets the copy of a body go, if there is one.
+#[inline(always)]
+fn drop_twin(twin: &mut Option<Body>)
+    ensures { twin.new ≡ None }
+{
+    if twin.is_some() {
+        *twin = None;
+    }
+}
+
 /// An actor. Contracts see what is kept of it.
 #[derive(Drop)]
 pub(crate) struct Actor<M: Mailbox> {
@@ -24,6 +35,8 @@ pub(crate) struct Actor<M: Mailbox> {
     /// What it accepted and has not begun.
     mailbox: M,
     body: Body,
+    /// A copy of the body, if there is one, for the next claim.
+    twin: Option<Body>,
     /// The number of the last message that it sent.
     last: u64,
     /// How many messages its mailbox accepted.
@@ -39,14 +52,14 @@ impl<M: Mailbox> Model for Actor<M> {
 
     ghost view = { λ a. record { class = a.class; capacity = (M.shown a.mailbox).capacity; is_open = (M.shown a.mailbox).is_open; body = a.body; last = a.last; pending = (M.shown a.mailbox).items; accepted = a.accepted; results = record { items = a.results.items; count = a.results.count } } };
 
-    ghost use Rattle.std.specs.Prelude.{◌+◌, ◌≤◌, length, if◌then◌else◌};
+    ghost use Rattle.std.specs.Prelude.{◌≡◌, ◌+◌, ◌≤◌, length, if◌then◌else◌, IfSome};
     ghost use Rattle.st_turn.specs.Idle.{is_idle as idle_phase};
 
-    ghost invariant = { λ a. a.results.count + length (M.shown a.mailbox).items + (if idle_phase a.body.phase then 0 else 1) ≤ a.accepted + 1 };
+    ghost invariant = { λ a. (a.results.count + length (M.shown a.mailbox).items + (if idle_phase a.body.phase then 0 else 1) ≤ a.accepted + 1) × IfSome a.twin (λ t. t ≡ a.body) };
 }
 
 impl<M: Mailbox> Actor<M> {
-    ghost use Rattle.std.specs.Prelude.{◌≡◌, ◌+◌, ◌<◌, ◌≤◌, ◌^◌, ◌==◌, length, not, true, false, IfOk, IfErr, OnOk, OnErr, Ok, Err};
+    ghost use Rattle.std.specs.Prelude.{◌≡◌, ◌+◌, ◌<◌, ◌≤◌, ◌^◌, ◌==◌, length, not, true, false, IfOk, IfErr, IfSome, OnOk, OnErr, Ok, Err};
     ghost use Rattle.st_classes.specs.Refusals.{first_of};
     ghost use Rattle.st_turn.specs.declared.acts.Act.{Act as ActOf};
     ghost use Rattle.st_turn.specs.BodyFits.{FitsSome};
@@ -71,6 +84,7 @@ impl<M: Mailbox> Actor<M> {
             class,
             mailbox: M::with_capacity(alloc, capacity)?,
             body,
+            twin: None,
             last: 0,
             accepted: 0,
             results: Results::new(alloc)?,
@@ -184,20 +198,36 @@ impl<M: Mailbox> Actor<M> {
         ensures { self.new ≡ view_after_begin self.old }
     {
         if let Some(message) = self.mailbox.take() {
+            drop_twin(&mut self.twin);
             self.body.begin(message.selector, message.args);
         }
+    }
+
+    /// A copy of the body: its twin, if there is one.
+    fn take_copy(&mut self, alloc: Global, leavings: &mut Leavings) -> Result<Body, AllocError>
+        ensures same { self.new ≡ self.old }
+        ensures copy { IfOk result (λ b. b ≡ self.old.body) }
+    {
+        // Mostly there is none, and to take it would move its whole room.
+        if self.twin.is_some() {
+            if let Some(twin) = self.twin.take() {
+                return Ok(twin);
+            }
+        }
+        self.body.copy_into(alloc, leavings.spare_for(&self.body))
     }
 
     /// The body that a checkout hands out: that of an idle actor has begun the first pending message, where one is pending. It takes
     /// the memory of a body that was left, if that fits.
     pub(crate) fn body_to_check_out(
-        &self,
+        &mut self,
         alloc: Global,
         leavings: &mut Leavings,
     ) -> Result<Body, AllocError>
-        ensures { IfOk result (λ b. b ≡ (view_checked_out self.now).body) }
+        ensures same { self.new ≡ self.old }
+        ensures body { IfOk result (λ b. b ≡ (view_checked_out self.old).body) }
     {
-        let mut body = self.body.copy_into(alloc, leavings.spare_for(&self.body))?;
+        let mut body = self.take_copy(alloc, leavings)?;
         if body.is_idle() {
             if let Some(message) = self.mailbox.item(0) {
                 let message = message.copy(alloc)?;
@@ -216,13 +246,15 @@ impl<M: Mailbox> Actor<M> {
         }
     }
 
-    /// The actor has this body after steps of its own, and the one before is given out. A turn that ended adds its result. For
-    /// want of memory nothing changes, and the body is given back.
-    pub(crate) fn put_body(&mut self, body: Body) -> Result<Body, Body>
+    /// The actor has this body after steps of its own, and the copy of it, if there is one; the body before is given out. A turn that
+    /// ended adds its result. For want of memory nothing changes, and the body is given back.
+    pub(crate) fn put_body(&mut self, body: Body, twin: &mut Option<Body>) -> Result<Body, Body>
         requires busy { idle self.old.body.phase ≡ false }
+        requires twin { IfSome twin.old (λ t. t ≡ body) }
         requires few { self.old.accepted < 2 ^ 63 }
         ensures was { IfOk result (λ was. was ≡ self.old.body) }
         ensures ok { OnOk result (self.new ≡ view_after_steps body self.old) }
+        ensures left { IfSome twin.new (λ t. t ≡ body) }
         ensures back { IfErr result (λ b. b ≡ body) }
         ensures err { OnErr result (self.new ≡ self.old) }
     {
@@ -231,6 +263,9 @@ impl<M: Mailbox> Actor<M> {
         };
         if let Phase::Done(outcome) = &body.phase {
             self.results.push(*outcome);
+        }
+        if twin.is_some() || self.twin.is_some() {
+            drop(std::mem::replace(&mut self.twin, twin.take()));
         }
         Ok(std::mem::replace(&mut self.body, body))
     }
@@ -241,6 +276,7 @@ impl<M: Mailbox> Actor<M> {
         ensures had { result ≡ self.old.body }
         ensures back { self.new ≡ record self.old { body = body } }
     {
+        drop_twin(&mut self.twin);
         std::mem::replace(&mut self.body, body)
     }
 
@@ -250,6 +286,7 @@ impl<M: Mailbox> Actor<M> {
         requires act { IsAct (step version.now number self.old.body) }
         ensures { (act : ActOf) → step version.now number self.old.body ≡ outer act → self.new ≡ view_after_steps (reply_body act (Ok value) self.old.body) self.old }
     {
+        drop_twin(&mut self.twin);
         reply(&mut self.body, number, version, Ok(value));
     }
 
@@ -267,6 +304,7 @@ impl<M: Mailbox> Actor<M> {
         ensures err { OnErr result (self.new ≡ self.old) }
     {
         self.results.reserve()?;
+        drop_twin(&mut self.twin);
         reply(&mut self.body, number, version, Err(fault));
         if let Phase::Done(outcome) = &self.body.phase {
             self.results.push(*outcome);

@@ -176,15 +176,16 @@ impl<M: Mailbox> Actors<M> {
 
     /// The body that a checkout of an actor hands out.
     pub(crate) fn body_to_check_out(
-        &self,
+        &mut self,
         alloc: Global,
         actor: ActorId,
         leavings: &mut Leavings,
     ) -> Result<Body, AllocError>
-        requires { actor.0 < length self.now.list }
-        ensures { IfOk result (λ b. (k : ActorView) → slice_get self.now.list actor.0 ≡ Some k → b ≡ (view_checked_out k).body) }
+        requires { actor.0 < length self.old.list }
+        ensures same { self.new ≡ self.old }
+        ensures body { IfOk result (λ b. (k : ActorView) → slice_get self.old.list actor.0 ≡ Some k → b ≡ (view_checked_out k).body) }
     {
-        let item = &self.items[actor.0 as usize];
+        let item = &mut self.items[actor.0 as usize];
         item.body_to_check_out(alloc, leavings)
     }
 
@@ -220,17 +221,24 @@ impl<M: Mailbox> Actors<M> {
 
     /// An actor has this body after steps of its own, and the one before is given out. A turn that ended adds its result. For want
     /// of memory nothing changes, and the body is given back.
-    pub(crate) fn put_body(&mut self, actor: ActorId, body: Body) -> Result<Body, Body>
+    pub(crate) fn put_body(
+        &mut self,
+        actor: ActorId,
+        body: Body,
+        twin: &mut Option<Body>,
+    ) -> Result<Body, Body>
         requires there { actor.0 < length self.old.list }
+        requires twin { IfSome twin.old (λ t. t ≡ body) }
         requires busy { (k : ActorView) → slice_get self.old.list actor.0 ≡ Some k → idle k.body.phase ≡ false }
         requires few { (k : ActorView) → slice_get self.old.list actor.0 ≡ Some k → k.accepted < 2 ^ 63 }
         ensures was { IfOk result (λ was. (k : ActorView) → slice_get self.old.list actor.0 ≡ Some k → was ≡ k.body) }
         ensures ok { OnOk result (self.new ≡ record self.old { list = change_at (view_after_steps body) actor.0 self.old.list }) }
+        ensures left { IfSome twin.new (λ t. t ≡ body) }
         ensures back { IfErr result (λ b. b ≡ body) }
         ensures err { OnErr result (self.new ≡ self.old) }
     {
         let item = &mut self.items[actor.0 as usize];
-        let was = item.put_body(body)?;
+        let was = item.put_body(body, twin)?;
         let free = is_free(item.is_ready(), self.out[actor.0 as usize]);
         self.free.set(actor.0, free);
         Ok(was)

@@ -112,19 +112,20 @@ pub struct Image<M: Mailbox> {
     token: Token,
     actors: Actors<M>,
     clients: Clients,
-    history: Vec<Item>,
     /// How many edits are in the history.
     edits_made: u32,
     settings: Settings,
-    /// The number from which the next ready actor is looked for.
-    next_from: u32,
     tallies: Tallies,
     /// The tallies have places for all code of the methods that the first edits install; this is the number of these edits.
     covered: u32,
     changes: Changes,
+    earlier: Earlier,
+    // Each quantum writes what follows, so it lies together: a processor that holds a lock on the image waits for fewer lines of memory.
+    history: Vec<Item>,
     /// The posts and the steps of the history.
     counts: Counts,
-    earlier: Earlier,
+    /// The number from which the next ready actor is looked for.
+    next_from: u32,
 }
 
 impl<M: Mailbox> Model for Image<M> {

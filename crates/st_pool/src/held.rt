@@ -1,7 +1,9 @@
 //! A claim of a pool: one that knows the image of its checkout.
 use crate::front::Front;
 use crate::naming::Naming;
+use st_image::leavings::Leavings;
 use st_turn::claim::Claim;
+use std::alloc::Global;
 use std::marker::Model;
 
 /// A claim, and, if they are known, the images that were seen up to that of its checkout. Contracts see the claim.
@@ -25,6 +27,13 @@ impl<K: Naming> Model for Held<K> {
 
 impl<K: Naming> Held<K> {
     ghost use Rattle.std.specs.Prelude.{◌≡◌};
+
+    /// The claim, which was run, makes the copy of its body with which the next one of the actor begins.
+    pub(crate) fn prepare(&mut self, alloc: Global, leavings: &mut Leavings)
+        ensures { self.new ≡ self.old }
+    {
+        leavings.prepare(alloc, &mut self.claim);
+    }
 
     /// The claim.
     pub fn claim(&self) -> &Claim

@@ -123,6 +123,7 @@ impl<K: Naming, M: Mailbox> Office<K, M> {
         ensures counts { IfOk result (λ r. AreCounts K.start r.0 r.1) }
         ensures all { OnOk result (AreAll self.books shares.callers.items shares.workers.items) }
         ensures stand { IfOk result (λ r. AllStand self.emptied r.0 shares.callers.items × AreFew self.emptied r.0 r.1.posts shares.callers.items) }
+        ensures named { IfErr result (λ e. (e ≡ refusals.BadArguments) ⊎ (e ≡ refusals.Changed)) }
         ensures refused { IfErr result (λ e. ((e ≡ refusals.BadArguments) × ¬ (AreAll self.books shares.callers.items shares.workers.items)) ⊎ ((e ≡ refusals.Changed) × AreAll self.books shares.callers.items shares.workers.items × ¬ (AllStand self.emptied self.image shares.callers.items × AreFew self.emptied self.image self.books.posts shares.callers.items))) }
     {
         let Shares { callers, workers } = shares;

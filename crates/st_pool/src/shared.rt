@@ -17,7 +17,7 @@ use std::alloc::Global;
 use std::hint::spin_loop;
 use std::sync::{Condvar, Mutex, MutexGuard, Wait};
 
-/// How often a thread looks for the lock at short intervals. A hold takes a few microseconds.
+/// How often a thread looks for the lock at short intervals. A hold takes about a microsecond.
 const LOOKS: usize = 100;
 
 /// How often it looks at long intervals then, before it sleeps for the lock. A sleep takes far more than a hold, and a thread that was

@@ -1,11 +1,12 @@
 //! Steps of an actor that are taken apart from the image.
 ghost use Rattle.std.specs.Prelude.{◌≡◌, [], None, Some, IfOk, IfErr, OnOk};
-ghost use Rattle.std.specs.Option.{unwrap_or};
+ghost use Rattle.std.specs.Option.{unwrap_or, IfSome};
 ghost use Rattle.st_turn.specs.BodyFits.{FitsSome};
 ghost use Rattle.st_turn.specs.Claims.{IsSound};
 ghost use Rattle.st_turn.specs.Steps.{is_outer, step};
 
 pub(crate) mod stepping;
+mod twin;
 mod using;
 
 use crate::acts::is_act_next;
@@ -59,6 +60,8 @@ pub struct ClaimParts {
     pub after: Option<Body>,
     /// A body that nothing reads, whose memory the body after may take.
     pub spare: Option<Body>,
+    /// A second copy of the body to which the steps lead, if one was made since the last of them.
+    pub twin: Option<Body>,
     pub steps: u32,
     pub sends: Sends,
     /// A number that identifies the body before, given by the maker of the claim.
@@ -80,10 +83,12 @@ fn begin_again(
     ensures steps { parts.new.steps ≡ 0 }
     ensures sends { parts.new.sends.items ≡ [] }
     ensures stamp { parts.new.stamp ≡ stamp }
+    ensures twin { parts.new.twin ≡ None }
 {
     let before = std::mem::replace(&mut parts.before, body);
     drop(parts.spare.replace(before));
     drop(parts.after.take());
+    drop(parts.twin.take());
     parts.actor = actor;
     parts.steps = 0;
     parts.sends.clear();
@@ -131,6 +136,7 @@ impl Claim {
             before: body,
             after: None,
             spare: None,
+            twin: None,
             steps: 0,
             sends: Sends::new(alloc),
             stamp,
@@ -239,6 +245,7 @@ impl Claim {
         ensures stamp { IfOk result (λ r. r.0.value.stamp ≡ self.stamp) }
         ensures after { IfOk result (λ r. r.1 ≡ self.after) }
         ensures without { IfOk result (λ r. r.0.value.after ≡ None) }
+        ensures twin { IfOk result (λ r. IfSome r.0.value.twin (λ t. t ≡ self.after)) }
         ensures back { IfErr result (λ c. c ≡ self) }
     {
         let Claim { mut parts } = self;
@@ -254,7 +261,8 @@ impl Claim {
 
     /// Puts the parts of a claim together again. No memory is taken.
     pub fn from_parts(mut parts: Box<ClaimParts>, after: Body) -> Claim
-        requires { IsSound parts.value.actor parts.value.token parts.value.before after parts.value.steps parts.value.sends.items }
+        requires sound { IsSound parts.value.actor parts.value.token parts.value.before after parts.value.steps parts.value.sends.items }
+        requires twin { IfSome parts.value.twin (λ t. t ≡ after) }
         ensures { result ≡ record { actor = parts.value.actor; edits = parts.value.token; before = parts.value.before; after = after; steps = parts.value.steps; sends = parts.value.sends.items; stamp = parts.value.stamp } }
     {
         parts.after = Some(after);

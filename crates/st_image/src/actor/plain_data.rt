@@ -91,6 +91,7 @@ impl<M: Mailbox> Actor<M> {
             class: part.class,
             mailbox,
             body: part.body.copy(alloc)?,
+            twin: None,
             last: part.last,
             accepted: part.pending.len() as u64,
             results,

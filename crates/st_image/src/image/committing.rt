@@ -169,7 +169,7 @@ impl<M: Mailbox> Image<M> {
         ) else {
             return Err(claim);
         };
-        let (parts, after) = match claim.into_parts(alloc) {
+        let (mut parts, after) = match claim.into_parts(alloc) {
             Ok(both) => both,
             Err(claim) => return Err(claim),
         };
@@ -181,6 +181,7 @@ impl<M: Mailbox> Image<M> {
             &mut self.actors,
             actor,
             after,
+            &mut parts.twin,
             is_act_next,
             &mut leavings.body,
         ) {

@@ -14,3 +14,6 @@ stood start emptied callers (Err e) counts stand = tt
 
 pub returns-clause-history : goal.returns-clause-history
 returns-clause-history g c = stood g.K.Naming.start c.into_inner.result.emptied c.args.shares.callers.items c.settle.result c.settle.ensures.counts c.settle.ensures.stand
+
+pub returns-clause-refused : goal.returns-clause-refused
+returns-clause-refused g c = c.settle.ensures.named

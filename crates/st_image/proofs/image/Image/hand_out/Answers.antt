@@ -36,7 +36,7 @@ claim_in-requires g c =
     let k = hands i.base i.names i.token i.actors.list i.history.items i.edits_made i.settings beside c.args.actor c.self.invariant.image allowed in
     let out : IsOut i.base i.names i.token (change_at view_checked_out c.args.actor.0 i.actors.list) _ i.edits_made i.settings c.args.actor (view_checked_out k.0).body = outs i.base i.names i.token i.actors.list i.history.items i.edits_made i.settings beside c.args.actor k.0 (is_idle k.0.body.phase) c.self.invariant.image allowed k.1 refl in
     let fits : FitsSome i.token c.args.actor (view_checked_out k.0).body = fits_some i.token c.args.actor (view_checked_out k.0).body out.runs in
-    subst (λ (es : List Edit). FitsSome es c.args.actor c.in_ok-body.body) (sym c.in_ok-again.ensures) (subst (FitsSome i.token c.args.actor) (sym (c.in_ok-body.ensures k.0 k.1)) fits)
+    subst (λ (es : List Edit). FitsSome es c.args.actor c.in_ok-body.body) (sym c.in_ok-again.ensures) (subst (FitsSome i.token c.args.actor) (sym (c.in_ok-body.ensures.body k.0 k.1)) fits)
 
 pub raise-requires-clause-few : goal.raise-requires-clause-few
 raise-requires-clause-few g c =
@@ -49,7 +49,8 @@ check_out-next-requires g c =
     let beside : Standing = standing_of i.earlier i.next_from i.actors.out i.tallies in
     let allowed : first_of (checkout_rules (seen i.base i.names i.history.items i.settings beside) (slice_get (world_of (constants_of i.names i.settings.capacity) i.base i.history.items).actors c.args.actor.0)) ≡ None = subst (λ (v : ImageView). first_of (checkout_rules v (slice_get (world v).actors c.args.actor.0)) ≡ None) (sym c.self.view_is) c.requires.allowed in
     let k = hands i.base i.names i.token i.actors.list i.history.items i.edits_made i.settings beside c.args.actor c.self.invariant.image allowed in
-    let same : c.if-begins.self-inside.actors ≡ i.actors = elim c.if-begins.branch [ then-begins+in_ok-reserve w ↦ ap (λ (x : Inside _). x.actors) w.self-inside-is | else-begins w ↦ ap (λ (x : Inside _). x.actors) w.self-inside-is ] in
+    let moved : c.if-begins.self-inside.actors ≡ c.body_to_check_out.new.self = elim c.if-begins.branch [ then-begins+in_ok-reserve w ↦ ap (λ (x : Inside _). x.actors) w.self-inside-is | else-begins w ↦ ap (λ (x : Inside _). x.actors) w.self-inside-is ] in
+    let same : c.if-begins.self-inside.actors ≡ i.actors = moved ∙ c.body_to_check_out.ensures.same in
     subst (λ (v : ActorsView). c.args.actor.0 < length v.list) (sym same) (slice_get_within i.actors.list c.args.actor.0 k.0 k.1)
 
 pub invariant_of-self-2 : goal.invariant_of-self-2
@@ -58,7 +59,8 @@ invariant_of-self-2 g c =
     let beside : Standing = standing_of i.earlier i.next_from i.actors.out i.tallies in
     let allowed : first_of (checkout_rules (seen i.base i.names i.history.items i.settings beside) (slice_get (world_of (constants_of i.names i.settings.capacity) i.base i.history.items).actors c.args.actor.0)) ≡ None = subst (λ (v : ImageView). first_of (checkout_rules v (slice_get (world v).actors c.args.actor.0)) ≡ None) (sym c.self.view_is) c.requires.allowed in
     let k = hands i.base i.names i.token i.actors.list i.history.items i.edits_made i.settings beside c.args.actor c.self.invariant.image allowed in
-    let same : c.if-begins.self-inside.actors ≡ i.actors = elim c.if-begins.branch [ then-begins+in_ok-reserve w ↦ ap (λ (x : Inside _). x.actors) w.self-inside-is | else-begins w ↦ ap (λ (x : Inside _). x.actors) w.self-inside-is ] in
+    let moved : c.if-begins.self-inside.actors ≡ c.body_to_check_out.new.self = elim c.if-begins.branch [ then-begins+in_ok-reserve w ↦ ap (λ (x : Inside _). x.actors) w.self-inside-is | else-begins w ↦ ap (λ (x : Inside _). x.actors) w.self-inside-is ] in
+    let same : c.if-begins.self-inside.actors ≡ i.actors = moved ∙ c.body_to_check_out.ensures.same in
     let put : c.check_out-next.new.self ≡ (let v : ActorsView = record { list = change_at view_checked_out c.args.actor.0 i.actors.list; out = change_at one_more c.args.actor.0 i.actors.out } in v) = c.check_out-next.ensures.checked ∙ ap (λ (x : ActorsView). let v : ActorsView = record { list = change_at view_checked_out c.args.actor.0 x.list; out = change_at one_more c.args.actor.0 x.out } in v) same in
     let phase : c.args.begins ≡ is_idle k.0.body.phase = c.requires.begins ∙ ap (λ (v : ImageView). idle_at (slice_get (world v).actors c.args.actor.0)) (sym c.self.view_is) ∙ idle_there i.token i.actors.list (world_of (constants_of i.names i.settings.capacity) i.base i.history.items) c.args.actor k.0 c.self.invariant.image.shows k.1 in
     elim c.if-begins.branch [
@@ -79,10 +81,11 @@ returns-clause-ok g c =
     let beside : Standing = standing_of i.earlier i.next_from i.actors.out i.tallies in
     let allowed : first_of (checkout_rules (seen i.base i.names i.history.items i.settings beside) (slice_get (world_of (constants_of i.names i.settings.capacity) i.base i.history.items).actors c.args.actor.0)) ≡ None = subst (λ (v : ImageView). first_of (checkout_rules v (slice_get (world v).actors c.args.actor.0)) ≡ None) (sym c.self.view_is) c.requires.allowed in
     let k = hands i.base i.names i.token i.actors.list i.history.items i.edits_made i.settings beside c.args.actor c.self.invariant.image allowed in
-    let same : c.if-begins.self-inside.actors ≡ i.actors = elim c.if-begins.branch [ then-begins+in_ok-reserve w ↦ ap (λ (x : Inside _). x.actors) w.self-inside-is | else-begins w ↦ ap (λ (x : Inside _). x.actors) w.self-inside-is ] in
+    let moved : c.if-begins.self-inside.actors ≡ c.body_to_check_out.new.self = elim c.if-begins.branch [ then-begins+in_ok-reserve w ↦ ap (λ (x : Inside _). x.actors) w.self-inside-is | else-begins w ↦ ap (λ (x : Inside _). x.actors) w.self-inside-is ] in
+    let same : c.if-begins.self-inside.actors ≡ i.actors = moved ∙ c.body_to_check_out.ensures.same in
     let put : c.check_out-next.new.self ≡ (let v : ActorsView = record { list = change_at view_checked_out c.args.actor.0 i.actors.list; out = change_at one_more c.args.actor.0 i.actors.out } in v) = c.check_out-next.ensures.checked ∙ ap (λ (x : ActorsView). let v : ActorsView = record { list = change_at view_checked_out c.args.actor.0 x.list; out = change_at one_more c.args.actor.0 x.out } in v) same in
     let phase : c.args.begins ≡ is_idle k.0.body.phase = c.requires.begins ∙ ap (λ (v : ImageView). idle_at (slice_get (world v).actors c.args.actor.0)) (sym c.self.view_is) ∙ idle_there i.token i.actors.list (world_of (constants_of i.names i.settings.capacity) i.base i.history.items) c.args.actor k.0 c.self.invariant.image.shows k.1 in
-    let claim : c.in_ok-claim.claim ≡ new_claim i.token c.args.actor (view_checked_out k.0).body c.stamp_after-stamp.result = c.in_ok-claim.ensures ∙ ap (λ (es : List Edit). new_claim es c.args.actor c.in_ok-body.body c.stamp_after-stamp.result) c.in_ok-again.ensures ∙ ap (λ (b : Body). new_claim i.token c.args.actor b c.stamp_after-stamp.result) (c.in_ok-body.ensures k.0 k.1) in
+    let claim : c.in_ok-claim.claim ≡ new_claim i.token c.args.actor (view_checked_out k.0).body c.stamp_after-stamp.result = c.in_ok-claim.ensures ∙ ap (λ (es : List Edit). new_claim es c.args.actor c.in_ok-body.body c.stamp_after-stamp.result) c.in_ok-again.ensures ∙ ap (λ (b : Body). new_claim i.token c.args.actor b c.stamp_after-stamp.result) (c.in_ok-body.ensures.body k.0 k.1) in
     let within : c.args.actor.0 < length i.actors.out = subst (λ (v : ActorsView). c.args.actor.0 < length v.out) same c.check_out-next.ensures.counted in
     elim c.if-begins.branch [
       | then-begins+in_ok-reserve w ↦ (
@@ -105,43 +108,46 @@ body_to_check_out-requires g c =
     slice_get_within i.actors.list c.args.actor.0 k.0 k.1
 
 pub invariant_of-self : goal.invariant_of-self
-invariant_of-self g c =
+invariant_of-self g c = rw c.body_to_check_out.ensures.same c.self.invariant
+
+pub invariant_of-self-in_err-make_room : goal.invariant_of-self-in_err-make_room
+invariant_of-self-in_err-make_room g c =
     let i = c.self.inside in
     let v = c.self.invariant in
-    (record { image = v.image; numbers_of_clients = v.numbers_of_clients; sends = v.sends; places = v.places; counts = counts_same i.changes c.make_room.new.self i.history.items c.make_room.ensures.same v.counts; totals = v.totals; compiled = v.compiled; before = v.before })
+    rw c.body_to_check_out.ensures.same (record { image = v.image; numbers_of_clients = v.numbers_of_clients; sends = v.sends; places = v.places; counts = counts_same i.changes c.make_room.new.self i.history.items c.make_room.ensures.same v.counts; totals = v.totals; compiled = v.compiled; before = v.before })
 
 pub invariant_of-self-in_err-again : goal.invariant_of-self-in_err-again
 invariant_of-self-in_err-again g c =
     let i = c.self.inside in
     let v = c.self.invariant in
-    (record { image = v.image; numbers_of_clients = v.numbers_of_clients; sends = v.sends; places = v.places; counts = counts_same i.changes c.make_room.new.self i.history.items c.make_room.ensures.same v.counts; totals = v.totals; compiled = v.compiled; before = v.before })
+    rw c.body_to_check_out.ensures.same (record { image = v.image; numbers_of_clients = v.numbers_of_clients; sends = v.sends; places = v.places; counts = counts_same i.changes c.make_room.new.self i.history.items c.make_room.ensures.same v.counts; totals = v.totals; compiled = v.compiled; before = v.before })
 
 pub invariant_of-self-in_err-claim : goal.invariant_of-self-in_err-claim
 invariant_of-self-in_err-claim g c =
     let i = c.self.inside in
     let v = c.self.invariant in
-    (record { image = v.image; numbers_of_clients = v.numbers_of_clients; sends = v.sends; places = v.places; counts = counts_same i.changes c.make_room.new.self i.history.items c.make_room.ensures.same v.counts; totals = v.totals; compiled = v.compiled; before = v.before })
+    rw c.body_to_check_out.ensures.same (record { image = v.image; numbers_of_clients = v.numbers_of_clients; sends = v.sends; places = v.places; counts = counts_same i.changes c.make_room.new.self i.history.items c.make_room.ensures.same v.counts; totals = v.totals; compiled = v.compiled; before = v.before })
 
 pub invariant_of-self-in_err-reserve : goal.invariant_of-self-in_err-reserve
 invariant_of-self-in_err-reserve g c =
     let i = c.self.inside in
     let v = c.self.invariant in
-    rw c.reserve.ensures.items (record { image = v.image; numbers_of_clients = v.numbers_of_clients; sends = v.sends; places = v.places; counts = counts_same i.changes c.make_room.new.self i.history.items c.make_room.ensures.same v.counts; totals = v.totals; compiled = v.compiled; before = v.before })
+    rw (c.body_to_check_out.ensures.same, c.reserve.ensures.items) (record { image = v.image; numbers_of_clients = v.numbers_of_clients; sends = v.sends; places = v.places; counts = counts_same i.changes c.make_room.new.self i.history.items c.make_room.ensures.same v.counts; totals = v.totals; compiled = v.compiled; before = v.before })
 
 pub returns-in_err-body-clause-err : goal.returns-in_err-body-clause-err
-returns-in_err-body-clause-err g c = on_err c.from_residual.result _ refl
+returns-in_err-body-clause-err g c = on_err c.from_residual.result _ (rw c.body_to_check_out.ensures.same c.self.view_is)
 
 pub returns-in_err-make_room-clause-err : goal.returns-in_err-make_room-clause-err
-returns-in_err-make_room-clause-err g c = on_err c.from_residual-in_err-make_room.result _ c.self.view_is
+returns-in_err-make_room-clause-err g c = on_err c.from_residual-in_err-make_room.result _ (rw c.body_to_check_out.ensures.same c.self.view_is)
 
 pub returns-in_err-again-clause-err : goal.returns-in_err-again-clause-err
-returns-in_err-again-clause-err g c = on_err c.from_residual-in_err-again.result _ c.self.view_is
+returns-in_err-again-clause-err g c = on_err c.from_residual-in_err-again.result _ (rw c.body_to_check_out.ensures.same c.self.view_is)
 
 pub returns-in_err-claim-clause-err : goal.returns-in_err-claim-clause-err
-returns-in_err-claim-clause-err g c = on_err c.from_residual-in_err-claim.result _ c.self.view_is
+returns-in_err-claim-clause-err g c = on_err c.from_residual-in_err-claim.result _ (rw c.body_to_check_out.ensures.same c.self.view_is)
 
 pub returns-in_err-reserve-clause-err : goal.returns-in_err-reserve-clause-err
-returns-in_err-reserve-clause-err g c = on_err c.from_residual-in_err-reserve.result _ (rw c.reserve.ensures.items c.self.view_is)
+returns-in_err-reserve-clause-err g c = on_err c.from_residual-in_err-reserve.result _ (rw (c.body_to_check_out.ensures.same, c.reserve.ensures.items) c.self.view_is)
 
 pub raise-requires-clause-room : goal.raise-requires-clause-room
 raise-requires-clause-room g c = c.in_ok-make_room.ensures.room

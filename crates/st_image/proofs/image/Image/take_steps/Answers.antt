@@ -77,14 +77,14 @@ count-requires-clause-places g c =
     let same : SameSteps w.edits d = claims_survive w.edits d c.self.invariant.image.world.lawful c.self.invariant.image.world.sound c.known.ensures allowed.survives in
     let edits : c.shown-version.result.now ≡ w.edits = c.shown-version.ensures ∙ c.self.invariant.image.shows.edits_are in
     let all : Covers c.make_room.new.tallies (length w.edits) w.edits = subst (λ (es : List Edit). Covers c.make_room.new.tallies (length es) es) edits (subst (λ (n : ℕ). Covers c.make_room.new.tallies n c.shown-version.result.now) c.in-Ok.ensures.all c.make_room.ensures.covers) in
-    let sent : c.deref.result.now.sends.items ≡ d.sends = ap (λ (p : ClaimParts). p.sends.items) c.deref.ensures ∙ c.in-Ok-into_parts.ensures.sends in
+    let sent : c.deref.result.now.sends.items ≡ d.sends = ap (λ (p : ClaimParts). p.sends.items) c.deref.ensures ∙ ap (λ (p : ClaimParts). p.sends.items) c.deref_mut.ensures.value ∙ c.in-Ok-into_parts.ensures.sends in
     rw (c.site_to_commit-site.ensures, sent) (has_places c.make_room.new.tallies w.edits d c.known.ensures same all)
 
 pub count-requires-clause-few : goal.count-requires-clause-few
 count-requires-clause-few g c = λ id.
     let i = c.self.inside in
     let d : ClaimView = c.args.claim in
-    let sent : c.deref.result.now.sends.items ≡ d.sends = ap (λ (p : ClaimParts). p.sends.items) c.deref.ensures ∙ c.in-Ok-into_parts.ensures.sends in
+    let sent : c.deref.result.now.sends.items ≡ d.sends = ap (λ (p : ClaimParts). p.sends.items) c.deref.ensures ∙ ap (λ (p : ClaimParts). p.sends.items) c.deref_mut.ensures.value ∙ c.in-Ok-into_parts.ensures.sends in
     let few : length d.sends ≤ d.steps = few_sends d.edits d.actor d.steps d.before d.sends c.known.ensures.sites in
     let tally = ap (λ (t : Tally). sends_of t) (c.make_room.ensures.tallies id) in
     let most = few_more (constants_of i.names i.settings.capacity) i.base i.history.items i.tallies d.sends id c.self.invariant.sends (omega (arith, c.self.invariant.image.few_items, c.self.invariant.image.numbers.few_items)) (omega (arith, few, c.known.ensures.few)) in
@@ -100,7 +100,7 @@ invariant_of-self-in-Ok-put_steps g c =
     let w : World = world_of (constants_of i.names i.settings.capacity) i.base i.history.items in
     let raw = c.in-Ok-put_steps.ensures.ok (change (with_body d.after) d.actor w) (rw (c.shown-version.ensures, c.actor-actor.ensures, c.in-Ok-into_parts.ensures.after) may.went.shown) in
     let takes : TakesOuter (constants_of i.names i.settings.capacity) i.token (change_at (view_after_steps d.after) d.actor.0 i.actors.list) c.put_steps.new.actors.list d.actor (change (with_body d.after) d.actor w) c.in-Ok-put_steps.field-0 = rw (c.shown-version.ensures, c.actor-actor.ensures, c.in-Ok-into_parts.ensures.after) at raw in
-    let sent : c.deref.result.now.sends.items ≡ d.sends = ap (λ (p : ClaimParts). p.sends.items) c.deref.ensures ∙ c.in-Ok-into_parts.ensures.sends in
+    let sent : c.deref.result.now.sends.items ≡ d.sends = ap (λ (p : ClaimParts). p.sends.items) c.deref.ensures ∙ ap (λ (p : ClaimParts). p.sends.items) c.deref_mut.ensures.value ∙ c.in-Ok-into_parts.ensures.sends in
     let tallied : Tallied i.tallies d.sends (act_site d) c.count.new.self = λ id.
     c.count.ensures.tallied id
     ∙ ap (λ (o : Option SiteId). after_act_at id o (after_sends id c.deref.result.now.sends.items (tally_at c.make_room.new.tallies id))) c.site_to_commit-site.ensures
@@ -121,7 +121,7 @@ returns-in-Ok-put_steps-clause-ok g c =
     let w : World = world_of (constants_of i.names i.settings.capacity) i.base i.history.items in
     let raw = c.in-Ok-put_steps.ensures.ok (change (with_body d.after) d.actor w) (rw (c.shown-version.ensures, c.actor-actor.ensures, c.in-Ok-into_parts.ensures.after) may.went.shown) in
     let takes : TakesOuter (constants_of i.names i.settings.capacity) i.token (change_at (view_after_steps d.after) d.actor.0 i.actors.list) c.put_steps.new.actors.list d.actor (change (with_body d.after) d.actor w) c.in-Ok-put_steps.field-0 = rw (c.shown-version.ensures, c.actor-actor.ensures, c.in-Ok-into_parts.ensures.after) at raw in
-    let sent : c.deref.result.now.sends.items ≡ d.sends = ap (λ (p : ClaimParts). p.sends.items) c.deref.ensures ∙ c.in-Ok-into_parts.ensures.sends in
+    let sent : c.deref.result.now.sends.items ≡ d.sends = ap (λ (p : ClaimParts). p.sends.items) c.deref.ensures ∙ ap (λ (p : ClaimParts). p.sends.items) c.deref_mut.ensures.value ∙ c.in-Ok-into_parts.ensures.sends in
     let tallied : Tallied i.tallies d.sends (act_site d) c.count.new.self = λ id.
     c.count.ensures.tallied id
     ∙ ap (λ (o : Option SiteId). after_act_at id o (after_sends id c.deref.result.now.sends.items (tally_at c.make_room.new.tallies id))) c.site_to_commit-site.ensures

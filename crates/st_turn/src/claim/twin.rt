@@ -1,0 +1,59 @@
+//! The second copy of the body to which the steps of a claim lead.
+ghost use Rattle.std.specs.Prelude.{◌≡◌, None};
+ghost use Rattle.std.specs.Option.{IfSome, unwrap_or};
+
+use crate::body::{Body, Phase};
+use crate::claim::Claim;
+use std::alloc::Global;
+
+/// The twin becomes a spare body: steps are taken, so it is no longer a copy.
+#[inline(always)]
+pub(crate) fn forget_twin(twin: &mut Option<Body>, spare: &mut Option<Body>)
+    ensures { twin.new ≡ None }
+{
+    if twin.is_some() {
+        spare_twin(twin, spare);
+    }
+}
+
+/// The twin becomes a spare body. This is a function apart, since few calls come here.
+#[cold]
+#[inline(never)]
+fn spare_twin(twin: &mut Option<Body>, spare: &mut Option<Body>)
+    ensures { twin.new ≡ None }
+{
+    if let Some(body) = twin.take() {
+        drop(spare.replace(body));
+    }
+}
+
+/// A copy of the body to which steps lead, if there is memory: the body before, where no copy of that was made yet. It takes the memory
+/// of a spare body, if there is one.
+fn copy_of(alloc: Global, before: &Body, after: &Option<Body>, spare: Option<Body>) -> Option<Body>
+    ensures { IfSome result (λ copy. copy ≡ unwrap_or after.now before.now) }
+{
+    let copy = match after {
+        Some(after) => after.copy_into(alloc, spare),
+        None => before.copy_into(alloc, spare),
+    };
+    copy.ok()
+}
+
+impl Claim {
+    /// Whether the turn goes on with a step of the actor's own.
+    pub fn goes_on(&self) -> bool {
+        match self.after().phase {
+            Phase::Frames(_) => !self.is_act_next(),
+            _ => false,
+        }
+    }
+
+    /// Makes a second copy of the body to which the steps lead, if there is memory. A commit leaves it to the image, whose next claim of
+    /// the actor begins with it, so that no copy is made under a lock. It takes the memory of a spare body, if there is one.
+    pub fn make_twin(&mut self, alloc: Global, spare: Option<Body>)
+        ensures { self.new ≡ self.old }
+    {
+        let parts = &mut *self.parts;
+        parts.twin = copy_of(alloc, &parts.before, &parts.after, spare);
+    }
+}

@@ -1,4 +1,5 @@
-//! When a worker is in the way of others: its quanta are short, and it finds the lock held each time.
+//! When a worker is in the way of others: its quanta are short, and it finds the lock held each time; or it has taken many long ones
+//! while they may want its processor.
 //!
 //! A short quantum takes no longer than the hold that ends it. Then more workers bring nothing: each hold takes longer, because what
 //! it reads was written by another processor.
@@ -13,11 +14,17 @@ const MET: u32 = 2;
 /// The count at which a worker is to rest.
 const MOST: u32 = 64;
 
-/// The count of short quanta that found the lock held, and whether the worker is to rest.
+/// How many quanta that are not short a worker takes before it lets another thread run that has no processor. Each takes some 2.5
+/// microseconds. On a machine with no more processors than workers one caller in a hundred would otherwise wait for 5 milliseconds.
+const LONG_AT_ONCE: u32 = 64;
+
+/// The count of short quanta that found the lock held, whether the worker is to rest, and the count of those that were not short since
+/// it let others run.
 #[derive(Drop)]
 pub(crate) struct Crowding {
     met: u32,
     rests: bool,
+    long: u32,
 }
 
 impl Crowding {
@@ -28,6 +35,7 @@ impl Crowding {
         Crowding {
             met: 0,
             rests: false,
+            long: 0,
         }
     }
 
@@ -36,6 +44,9 @@ impl Crowding {
         ensures { IsTrue result ↔ steps < 256 }
     {
         let is_short = steps < SHORT;
+        if !is_short {
+            self.long = self.long.saturating_add(1);
+        }
         self.met = if !is_short {
             0
         } else if was_free {
@@ -52,6 +63,15 @@ impl Crowding {
     {
         self.rests = self.met >= MOST && has_helpers;
         self.rests
+    }
+
+    /// Whether the worker is to let other threads run. It is asked once.
+    pub(crate) fn lets_others_run(&mut self) -> bool {
+        let lets = self.long >= LONG_AT_ONCE;
+        if lets {
+            self.long = 0;
+        }
+        lets
     }
 
     /// Whether the worker is to rest. It is asked once.

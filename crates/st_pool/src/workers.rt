@@ -24,10 +24,6 @@ use std::alloc::Global;
 use std::sync::Wait;
 use std::thread::yield_now;
 
-/// How many quanta a worker takes before it lets another thread run that has no processor. A quantum of 1,024 steps takes some 2.5
-/// microseconds. On a machine with no more processors than workers one caller in a hundred would otherwise wait for 5 milliseconds.
-const QUANTA_AT_ONCE: u32 = 64;
-
 /// What a worker calls round each of its quanta, while it does not hold the lock.
 pub trait Gate {
     /// After the checkout, before the first step. The worker is named by the number that its loop was given.
@@ -173,16 +169,6 @@ fn take_quantum<G: Guard, K: Naming, M: Mailbox, T: Gate, R: Wait>(
     work
 }
 
-/// After a few quanta a worker lets other threads run. Nobody else can take the actor of its claim meanwhile.
-fn let_others_run(quanta: &mut u32) {
-    if *quanta >= QUANTA_AT_ONCE {
-        *quanta = 1;
-        yield_now();
-    } else {
-        *quanta += 1;
-    }
-}
-
 /// Takes quanta until the workers are to end.
 fn take_turns<G: Guard, K: Naming, M: Mailbox, T: Gate, R: Wait>(
     rt: &R,
@@ -196,7 +182,6 @@ fn take_turns<G: Guard, K: Naming, M: Mailbox, T: Gate, R: Wait>(
 ) {
     let mut crowding = Crowding::none();
     let mut leavings = Leavings::none();
-    let mut quanta = 0;
     let mut work = next_work(rt, alloc, shared, share, &mut leavings);
     for _ in rt.forever() {
         work = match work {
@@ -206,7 +191,10 @@ fn take_turns<G: Guard, K: Naming, M: Mailbox, T: Gate, R: Wait>(
                 next_work(rt, alloc, shared, share, &mut leavings)
             }
             Work::Turn(held) => {
-                let_others_run(&mut quanta);
+                // Nobody else can take the actor of the claim meanwhile.
+                if crowding.lets_others_run() {
+                    yield_now();
+                }
                 take_quantum(
                     rt,
                     alloc,

@@ -126,7 +126,8 @@ fn turn_over<K: Naming, M: Mailbox, R: Wait>(
     let is_hurried = is_short && (rests || goes_on(&work));
     let wants_more = !is_hurried && office.wants_more();
     drop(office);
-    // What the next claim did not take is let go after the lock is given back.
+    // What the next claim did not take is let go after the lock is given back; but a body stays while the worker goes on, since the
+    // copy at the end of the next quantum may take its memory.
     if goes_on(&work) {
         leavings.let_go_but_body();
     } else {

@@ -58,6 +58,17 @@ def idle_workers_sleep(program, Server, _post):
         assert ticks(server) <= before + 5, f"workers with nothing to do run for {ticks(server) - before} ticks in a second"
 
 
+def idle_sessions_sleep(program, Server, _post):
+    """A session looks some times for the next line before it sleeps for it, and no longer."""
+    with Server(program, 16) as server, contextlib.ExitStack() as stack:
+        for client in [stack.enter_context(server.client()) for _ in range(16)]:
+            assert client.ask(cmd="outcome", actor=0, turn=1) == {"error": "UnknownActor"}
+        time.sleep(0.2)
+        before = ticks(server)
+        time.sleep(1)
+        assert ticks(server) <= before + 5, f"sessions with nothing to do run for {ticks(server) - before} ticks in a second"
+
+
 def a_post_wakes_one(program, Server, post):
     """16 workers of which all wake at each post go to sleep some 15 times as often as posts are made."""
     with Server(program, 1, 16) as server, server.client() as client:
@@ -180,6 +191,7 @@ def full_output(program, Server, _post):
 TRIALS = (
     each_worker_has_a_thread,
     idle_workers_sleep,
+    idle_sessions_sleep,
     a_post_wakes_one,
     a_turn_without_end_ends_with_the_server,
     quanta_are_long,

@@ -4,10 +4,19 @@ use std::alloc::{AllocError, Global};
 use std::marker::Model;
 use std::sync::Arc;
 
+/// A version, apart from the count of its pointers, which stands before it in memory. All workers write the count, twice for each
+/// claim, and read the version, twice for each send. If the two were in one line of a processor's cache, each write would make the
+/// others wait.
+#[derive(Drop)]
+struct Apart {
+    _room: [u64; 16],
+    version: Version,
+}
+
 /// A version that many can read at the same time, even while the image goes on to a later one. Contracts see its edits.
 #[derive(Drop)]
 pub struct Token {
-    version: Arc<Version>,
+    apart: Arc<Apart>,
 }
 
 impl Model for Token {
@@ -17,7 +26,7 @@ impl Model for Token {
 
     ghost Value = { List Edit };
 
-    ghost view = { λ t. arc_value t.version };
+    ghost view = { λ t. (arc_value t.apart).version };
 }
 
 impl Token {
@@ -28,7 +37,13 @@ impl Token {
         ensures { IfOk result (λ t. t ≡ version) }
     {
         Ok(Token {
-            version: Arc::new(alloc, version)?,
+            apart: Arc::new(
+                alloc,
+                Apart {
+                    _room: [0; 16],
+                    version,
+                },
+            )?,
         })
     }
 
@@ -37,7 +52,7 @@ impl Token {
         ensures { IfOk result (λ t. t ≡ self.now) }
     {
         Ok(Token {
-            version: Arc::try_clone(&self.version)?,
+            apart: Arc::try_clone(&self.apart)?,
         })
     }
 
@@ -46,6 +61,6 @@ impl Token {
     pub fn shown(&self) -> &Version
         ensures { result.now ≡ self.now }
     {
-        &self.version
+        &self.apart.version
     }
 }

@@ -8,6 +8,7 @@ mod asking;
 pub mod attending;
 pub mod checking;
 pub mod images;
+mod polling;
 mod pool_asking;
 mod postings;
 mod quantum;

@@ -11,6 +11,7 @@ ghost use Rattle.st_server.specs.Serving.{AreInRange, AreSumsOver};
 
 use crate::attending::attend;
 use crate::images::{Image, Mailbox, Worker};
+use crate::polling::Polled;
 use crate::quantum::Quantum;
 use crate::runner::new_worker;
 use boxcar::Vec as Faults;
@@ -92,10 +93,12 @@ fn converse<K: Naming, R: Wait>(
     caller: Caller<'_, K, Mailbox>,
     stream: &UnixStream,
 ) -> (CallerShare<K>, Result<u64, Refusal>) {
-    let Ok(buffered) = BufWriter::new(alloc, stream) else {
+    // If the stream stays in the mode in which reads block, the session goes on without looks.
+    let _ = stream.set_nonblocking(true);
+    let Ok(buffered) = BufWriter::new(alloc, Polled::new(stream)) else {
         return (caller.end(), Err(Refusal::NoMemory));
     };
-    let mut input = Reader::new(stream);
+    let mut input = Reader::new(Polled::new(stream));
     let mut output = Writer::new(buffered);
     let (share, result) = attend(rt, alloc, caller, &mut input, &mut output);
     match output.finish() {

@@ -4,6 +4,8 @@
 //! A short quantum takes no longer than the hold that ends it. Then more workers bring nothing: each hold takes longer, because what
 //! it reads was written by another processor.
 
+ghost use Rattle.std.specs.Prelude.{◌<◌, ◌↔◌, IsTrue};
+
 /// A quantum of fewer steps than this is short.
 const SHORT: u32 = 256;
 
@@ -18,6 +20,13 @@ const MOST: u32 = 64;
 /// microseconds. On a machine with no more processors than workers one caller in a hundred would otherwise wait for 5 milliseconds.
 const LONG_AT_ONCE: u32 = 64;
 
+/// Whether a quantum of this many steps is short.
+pub(crate) fn is_short(steps: u32) -> bool
+    ensures { IsTrue result ↔ steps < 256 }
+{
+    steps < SHORT
+}
+
 /// The count of short quanta that found the lock held, whether the worker is to rest, and the count of those that were not short since
 /// it let others run.
 #[derive(Drop)]
@@ -28,8 +37,6 @@ pub(crate) struct Crowding {
 }
 
 impl Crowding {
-    ghost use Rattle.std.specs.Prelude.{◌<◌, ◌↔◌, IsTrue};
-
     /// No quantum was taken yet.
     pub(crate) fn none() -> Crowding {
         Crowding {
@@ -39,13 +46,10 @@ impl Crowding {
         }
     }
 
-    /// Notes how many steps a quantum had, and whether the lock was free at its end. The answer is whether it is short.
-    pub(crate) fn note(&mut self, steps: u32, was_free: bool) -> bool
-        ensures { IsTrue result ↔ steps < 256 }
-    {
-        let is_short = steps < SHORT;
+    /// Notes how many quanta ended together, whether one of them is short, and whether the lock was free at their end.
+    pub(crate) fn note(&mut self, quanta: u32, is_short: bool, was_free: bool) {
         if !is_short {
-            self.long = self.long.saturating_add(1);
+            self.long = self.long.saturating_add(quanta);
         }
         self.met = if !is_short {
             0
@@ -54,7 +58,6 @@ impl Crowding {
         } else {
             self.met.saturating_add(MET)
         };
-        is_short
     }
 
     /// Whether the worker is to rest. It is not if no other worker is awake.

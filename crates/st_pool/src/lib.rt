@@ -16,6 +16,7 @@ pub mod held;
 pub mod naming;
 pub(crate) mod office;
 pub mod receipts;
+mod seats;
 pub mod settling;
 pub mod shared;
 pub mod shares;

@@ -99,7 +99,7 @@ fn takes_more(answer: &Result<u32, Refusal>, is_starved: bool) -> bool
 }
 
 /// Whether a worker goes on with a claim.
-pub(crate) fn goes_on<T>(work: &Work<T>) -> bool {
+fn goes_on<T>(work: &Work<T>) -> bool {
     matches!(work, Work::Turn(_))
 }
 
@@ -459,6 +459,16 @@ impl<K: Naming, M: Mailbox> Office<K, M> {
             self.waiting.note_hurried(has_steps(&answer));
         }
         (answer, work)
+    }
+
+    /// How often something has moved.
+    pub(crate) fn moves(&self) -> u64 {
+        self.waiting.moves()
+    }
+
+    /// Whether a worker may be asleep.
+    pub(crate) fn has_sleepers(&self) -> bool {
+        self.waiting.has_sleepers()
     }
 
     /// Whether another worker than the one that asks neither sleeps nor rests.

@@ -2,21 +2,20 @@
 //!
 //! A worker holds the lock once for a quantum: it commits the steps that it took, finds the next ready actor and checks it out. Between
 //! two holds it takes the steps on its own claim, with its own caches. What it does first, and after a wait, it finds in a hold of its
-//! own.
+//! own. A worker that finds the lock held takes several claims, and commits them in one hold.
 ghost use Rattle.std.specs.Prelude.{◌≡◌, ◌≤◌, IfErr};
 ghost use Rattle.st_classes.specs.declared.refusals.Refusal.TheVariants as refusals;
 ghost use Rattle.st_classes.specs.declared.refusals.Limited.TheVariants as limits;
 
 use crate::crowding::Crowding;
 use crate::hand::Hand;
-use crate::held::Held;
 use crate::naming::Naming;
-use crate::office::{Work, goes_on};
+use crate::office::Work;
+use crate::seats::{Ran, Seats};
 use crate::shared::Shared;
 use crate::shares::WorkerShare;
 use st_classes::refusals::Refusal;
 use st_guard::guard::Guard;
-use st_image::leavings::Leavings;
 use st_mailbox::mailboxes::Mailbox;
 use st_turn::claim::Claim;
 use st_turn::worker::Worker;
@@ -26,10 +25,11 @@ use std::thread::yield_now;
 
 /// What a worker calls round each of its quanta, while it does not hold the lock.
 pub trait Gate {
-    /// After the checkout, before the first step. The worker is named by the number that its loop was given.
+    /// After the checkout, before the first step. The worker is named by the number that its loop was given. A worker with several
+    /// claims may have taken the steps of another one meanwhile.
     fn before(&mut self, worker: u32, claim: &Claim);
 
-    /// After the commit was answered. The worker may have its next claim by then.
+    /// After the commit was answered, once for each claim. The worker may have its next claims by then.
     fn after(&mut self, worker: u32);
 }
 
@@ -81,92 +81,81 @@ fn pause<K: Naming, M: Mailbox, R: Wait>(
     }
 }
 
-/// What a worker does first, or after a wait.
+/// What a worker without claims does first, or after a wait.
 fn next_work<K: Naming, M: Mailbox, R: Wait>(
     rt: &R,
     alloc: Global,
     shared: &Shared<K, M>,
     share: &mut WorkerShare<K>,
-    leavings: &mut Leavings,
-) -> Work<Held<K>> {
-    let work = shared.enter(rt).work(alloc, share, leavings);
-    leavings.let_go();
+    seats: &mut Seats<K>,
+) -> Work<()> {
+    let work = seats.find(alloc, &mut shared.enter(rt), share);
+    seats.let_go();
     work
 }
 
-/// Commits the steps of a quantum, and answers what the worker does next, both in one hold. A commit readies at most one actor more
-/// than this worker takes next, so one other worker is woken if one sleeps and an actor is ready. One that rests is woken too, but not
-/// after a short quantum whose worker goes on or rests.
+/// Commits the steps of the worker's quanta, and answers what the worker does next, both in one hold. A commit readies at most one
+/// actor more than its seat takes next, so for each one other worker is woken if one sleeps and an actor is ready. One that rests is
+/// woken too, but not after short quanta whose worker goes on or rests.
 fn turn_over<K: Naming, M: Mailbox, R: Wait>(
     rt: &R,
     alloc: Global,
     shared: &Shared<K, M>,
     share: &mut WorkerShare<K>,
-    held: Held<K>,
-    is_starved: bool,
+    seats: &mut Seats<K>,
+    ran: Ran,
     crowding: &mut Crowding,
-    leavings: &mut Leavings,
-) -> Work<Held<K>> {
+) -> Work<()> {
     let at_once = shared.office.try_lock();
-    let is_short = crowding.note(held.claim().steps(), at_once.is_some());
+    let was_free = at_once.is_some();
+    crowding.note(ran.count, ran.is_short, was_free);
     let mut office = match at_once {
         Some(office) => office,
         None => shared.enter(rt),
     };
-    let rests = crowding.asks_for_rest(!is_starved && office.has_helpers());
-    let (answer, work) = office.turn_over(
-        alloc,
-        share,
-        held,
-        is_starved || rests,
-        is_short,
-        leavings,
-    );
+    let rests = crowding.asks_for_rest(!ran.is_starved && office.has_helpers());
+    let turned = seats.turn_over(alloc, &mut office, share, rests, ran.is_short);
+    if turned.goes_on && !was_free && !ran.is_short && !office.has_sleepers() {
+        seats.take_more(alloc, &mut office, share);
+    }
     let wants_help = office.wants_help();
-    let is_hurried = is_short && (rests || goes_on(&work));
+    let is_hurried = ran.is_short && (rests || turned.goes_on);
     let wants_more = !is_hurried && office.wants_more();
     drop(office);
-    // What the next claim did not take is let go after the lock is given back; but a body stays while the worker goes on, since the
-    // copy at the end of the next quantum may take its memory.
-    if goes_on(&work) {
-        leavings.let_go_but_body();
+    seats.let_go();
+    for _ in 0..turned.committed {
+        if wants_help {
+            shared.moved.notify_one();
+        }
+        if wants_more {
+            shared.eased.notify_one();
+        }
+    }
+    if turned.goes_on {
+        Work::Turn(())
     } else {
-        leavings.let_go();
+        turned.next
     }
-    if answer.is_ok() && wants_help {
-        shared.moved.notify_one();
-    }
-    if answer.is_ok() && wants_more {
-        shared.eased.notify_one();
-    }
-    work
 }
 
-/// Lets a claim take its quantum, and answers what the worker does next.
-fn take_quantum<G: Guard, K: Naming, M: Mailbox, T: Gate, R: Wait>(
+/// Lets the worker's claims take their quanta, and answers what the worker does next.
+fn take_quanta<G: Guard, K: Naming, M: Mailbox, T: Gate, R: Wait>(
     rt: &R,
     alloc: Global,
     shared: &Shared<K, M>,
     share: &mut WorkerShare<K>,
     hand: &mut Hand<K, G>,
-    mut held: Held<K>,
+    seats: &mut Seats<K>,
     quantum: u32,
     number: u32,
     gate: &mut T,
     crowding: &mut Crowding,
-    leavings: &mut Leavings,
-) -> Work<Held<K>> {
-    gate.before(number, held.claim());
-    let is_starved = hand.run(alloc, &mut held, quantum).is_err();
-    if is_starved {
-        leavings.let_go();
-    } else {
-        held.prepare(alloc, leavings);
+) -> Work<()> {
+    let ran = seats.run(alloc, hand, quantum, number, gate);
+    let work = turn_over(rt, alloc, shared, share, seats, ran, crowding);
+    for _ in 0..ran.count {
+        gate.after(number);
     }
-    let work = turn_over(
-        rt, alloc, shared, share, held, is_starved, crowding, leavings,
-    );
-    gate.after(number);
     work
 }
 
@@ -182,32 +171,31 @@ fn take_turns<G: Guard, K: Naming, M: Mailbox, T: Gate, R: Wait>(
     quantum: u32,
 ) {
     let mut crowding = Crowding::none();
-    let mut leavings = Leavings::none();
-    let mut work = next_work(rt, alloc, shared, share, &mut leavings);
+    let mut seats = Seats::new(alloc);
+    let mut work = next_work(rt, alloc, shared, share, &mut seats);
     for _ in rt.forever() {
         work = match work {
             Work::Stop => return,
             Work::Wait(seen) => {
                 pause(rt, shared, &mut crowding, seen);
-                next_work(rt, alloc, shared, share, &mut leavings)
+                next_work(rt, alloc, shared, share, &mut seats)
             }
-            Work::Turn(held) => {
-                // Nobody else can take the actor of the claim meanwhile.
+            Work::Turn(()) => {
+                // Nobody else can take the actors of the claims meanwhile.
                 if crowding.lets_others_run() {
                     yield_now();
                 }
-                take_quantum(
+                take_quanta(
                     rt,
                     alloc,
                     shared,
                     share,
                     hand,
-                    held,
+                    &mut seats,
                     quantum,
                     number,
                     gate,
                     &mut crowding,
-                    &mut leavings,
                 )
             }
         };
@@ -225,6 +213,8 @@ fn take_turns<G: Guard, K: Naming, M: Mailbox, T: Gate, R: Wait>(
 /// `stats` and `look` wake nobody.
 ///
 /// A worker whose quanta are short and that often finds the lock held rests while another worker is awake, although actors are ready.
+/// One whose quanta are long and that finds it held takes up to four claims at a time, lets one after the other take its quantum, and
+/// commits them in one hold.
 pub fn worker_loop<G: Guard, K: Naming, M: Mailbox, T: Gate, R: Wait>(
     rt: &R,
     alloc: Global,

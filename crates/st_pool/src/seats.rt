@@ -1,0 +1,268 @@
+//! The claims that a worker has at a time.
+//!
+//! That is one, as long as the worker finds the lock free at the end of its quantum. Where others hold it, the worker takes a claim
+//! more in its own hold. So each hold commits and checks out several: fewer holds have to be waited for, and what is read in them was
+//! less often written last by another processor. If a quantum is short, or while another worker sleeps, the worker goes back to one.
+
+use crate::crowding::is_short;
+use crate::hand::Hand;
+use crate::held::Held;
+use crate::naming::Naming;
+use crate::office::{Office, Work};
+use crate::shares::WorkerShare;
+use crate::workers::Gate;
+use st_classes::refusals::Refusal;
+use st_guard::guard::Guard;
+use st_image::leavings::Leavings;
+use st_mailbox::mailboxes::Mailbox;
+use std::alloc::Global;
+
+/// How many claims a worker has at most.
+const MOST: usize = 4;
+
+/// The place of a claim, whether memory ran out in its quantum, and what the claim before it left.
+#[derive(Drop)]
+struct Seat<K: Naming> {
+    held: Option<Held<K>>,
+    is_starved: bool,
+    leavings: Leavings,
+}
+
+impl<K: Naming> Seat<K> {
+    fn empty() -> Seat<K> {
+        Seat {
+            held: None,
+            is_starved: false,
+            leavings: Leavings::none(),
+        }
+    }
+
+    /// Takes the claim that was found, if one was. The answer is what was found.
+    fn put(&mut self, work: Work<Held<K>>) -> Work<()> {
+        match work {
+            Work::Stop => Work::Stop,
+            Work::Wait(seen) => Work::Wait(seen),
+            Work::Turn(held) => {
+                self.held = Some(held);
+                Work::Turn(())
+            }
+        }
+    }
+
+    /// Looks for a claim.
+    fn find<M: Mailbox>(
+        &mut self,
+        alloc: Global,
+        office: &mut Office<K, M>,
+        share: &mut WorkerShare<K>,
+    ) -> Work<()> {
+        let work = office.work(alloc, share, &mut self.leavings);
+        self.put(work)
+    }
+
+    /// Lets the claim take its quantum. The answer is whether it is short, if there is a claim.
+    fn run<G: Guard, T: Gate>(
+        &mut self,
+        alloc: Global,
+        hand: &mut Hand<K, G>,
+        quantum: u32,
+        number: u32,
+        gate: &mut T,
+    ) -> Option<bool> {
+        let Some(held) = &mut self.held else {
+            return None;
+        };
+        gate.before(number, held.claim());
+        self.is_starved = hand.run(alloc, held, quantum).is_err();
+        if self.is_starved {
+            self.leavings.let_go();
+        } else {
+            held.prepare(alloc, &mut self.leavings);
+        }
+        Some(is_short(held.claim().steps()))
+    }
+
+    /// Commits the claim, if there is one, and looks for the next one if the seat goes on. The answer is that of the commit, and what
+    /// was found.
+    fn turn_over<M: Mailbox>(
+        &mut self,
+        alloc: Global,
+        office: &mut Office<K, M>,
+        share: &mut WorkerShare<K>,
+        goes_on: bool,
+        is_short: bool,
+    ) -> Option<(Result<u32, Refusal>, Work<()>)> {
+        let held = self.held.take()?;
+        let (answer, work) = office.turn_over(
+            alloc,
+            share,
+            held,
+            self.is_starved || !goes_on,
+            is_short,
+            &mut self.leavings,
+        );
+        Some((answer, self.put(work)))
+    }
+
+    /// Lets go what the claim did not take of what the one before it left; but a body stays while the seat goes on, since the copy at
+    /// the end of the next quantum may take its memory. The lock is not held.
+    fn let_go(&mut self) {
+        if self.held.is_some() {
+            self.leavings.let_go_but_body();
+        } else {
+            self.leavings.let_go();
+        }
+    }
+}
+
+/// What the quanta of a worker's claims were: how many, whether one was short, and whether memory ran out in one.
+#[derive(Clone, Copy)]
+pub(crate) struct Ran {
+    pub(crate) count: u32,
+    pub(crate) is_short: bool,
+    pub(crate) is_starved: bool,
+}
+
+impl Ran {
+    /// Adds the quantum of a seat's claim, if there was one: whether it was short, and whether memory ran out in it.
+    fn add(&mut self, was_short: Option<bool>, was_starved: bool) {
+        if let Some(was_short) = was_short {
+            self.count = self.count.saturating_add(1);
+            self.is_short = self.is_short || was_short;
+            self.is_starved = self.is_starved || was_starved;
+        }
+    }
+}
+
+/// What a hold came to: how many claims were committed, whether the worker has claims, and what it is to do if it has none.
+#[derive(Drop)]
+pub(crate) struct Turned {
+    pub(crate) committed: u32,
+    pub(crate) goes_on: bool,
+    pub(crate) next: Work<()>,
+}
+
+impl Turned {
+    fn add(&mut self, turned: Option<(Result<u32, Refusal>, Work<()>)>) {
+        let Some((answer, work)) = turned else {
+            return;
+        };
+        if answer.is_ok() {
+            self.committed = self.committed.saturating_add(1);
+        }
+        self.goes_on = self.goes_on || matches!(work, Work::Turn(_));
+        self.next = work;
+    }
+}
+
+/// The seats of a worker. Most of the time the first one alone has a claim, and the others are not looked at.
+#[derive(Drop)]
+pub(crate) struct Seats<K: Naming> {
+    first: Seat<K>,
+    others: Vec<Seat<K>>,
+    /// Whether one of the others may have a claim.
+    are_several: bool,
+}
+
+impl<K: Naming> Seats<K> {
+    /// Seats without claims. If there is no memory for others, there is the first one alone.
+    pub(crate) fn new(alloc: Global) -> Seats<K> {
+        let mut others = Vec::new(alloc);
+        for _ in 1..MOST {
+            let _ = others.push(Seat::empty());
+        }
+        Seats {
+            first: Seat::empty(),
+            others,
+            are_several: false,
+        }
+    }
+
+    /// What a worker without claims does first, or after a wait.
+    pub(crate) fn find<M: Mailbox>(
+        &mut self,
+        alloc: Global,
+        office: &mut Office<K, M>,
+        share: &mut WorkerShare<K>,
+    ) -> Work<()> {
+        self.first.find(alloc, office, share)
+    }
+
+    /// Lets each claim take its quantum.
+    pub(crate) fn run<G: Guard, T: Gate>(
+        &mut self,
+        alloc: Global,
+        hand: &mut Hand<K, G>,
+        quantum: u32,
+        number: u32,
+        gate: &mut T,
+    ) -> Ran {
+        let mut ran = Ran {
+            count: 0,
+            is_short: false,
+            is_starved: false,
+        };
+        let was_short = self.first.run(alloc, hand, quantum, number, gate);
+        ran.add(was_short, self.first.is_starved);
+        if self.are_several {
+            for seat in &mut self.others {
+                let was_short = seat.run(alloc, hand, quantum, number, gate);
+                ran.add(was_short, seat.is_starved);
+            }
+        }
+        ran
+    }
+
+    /// Commits all claims, and looks for the next ones, all in one hold. `rests` says that the worker is to take none.
+    pub(crate) fn turn_over<M: Mailbox>(
+        &mut self,
+        alloc: Global,
+        office: &mut Office<K, M>,
+        share: &mut WorkerShare<K>,
+        rests: bool,
+        is_short: bool,
+    ) -> Turned {
+        let mut turned = Turned {
+            committed: 0,
+            goes_on: false,
+            next: Work::Wait(office.moves()),
+        };
+        turned.add(self.first.turn_over(alloc, office, share, !rests, is_short));
+        if self.are_several {
+            for seat in &mut self.others {
+                let goes_on = !rests && !is_short && !office.has_sleepers();
+                turned.add(seat.turn_over(alloc, office, share, goes_on, is_short));
+            }
+        }
+        turned
+    }
+
+    /// Takes one claim more, if there is a seat for it and an actor is ready.
+    pub(crate) fn take_more<M: Mailbox>(
+        &mut self,
+        alloc: Global,
+        office: &mut Office<K, M>,
+        share: &mut WorkerShare<K>,
+    ) {
+        for seat in &mut self.others {
+            if seat.held.is_none() {
+                let _ = seat.find(alloc, office, share);
+                self.are_several = true;
+                return;
+            }
+        }
+    }
+
+    /// Lets go what no claim took of what others left. The lock is not held.
+    pub(crate) fn let_go(&mut self) {
+        self.first.let_go();
+        if self.are_several {
+            let mut are_several = false;
+            for seat in &mut self.others {
+                seat.let_go();
+                are_several = are_several || seat.held.is_some();
+            }
+            self.are_several = are_several;
+        }
+    }
+}

@@ -46,11 +46,9 @@ impl Crowding {
         }
     }
 
-    /// Notes how many quanta ended together, whether one of them is short, and whether the lock was free at their end.
-    pub(crate) fn note(&mut self, quanta: u32, is_short: bool, was_free: bool) {
-        if !is_short {
-            self.long = self.long.saturating_add(quanta);
-        }
+    /// Notes the quanta that ended together: how many were not short, whether one is short, and whether the lock was free at their end.
+    pub(crate) fn note(&mut self, long: u32, is_short: bool, was_free: bool) {
+        self.long = self.long.saturating_add(long);
         self.met = if !is_short {
             0
         } else if was_free {

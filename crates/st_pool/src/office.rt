@@ -466,9 +466,9 @@ impl<K: Naming, M: Mailbox> Office<K, M> {
         self.waiting.moves()
     }
 
-    /// Whether a worker may be asleep.
-    pub(crate) fn has_sleepers(&self) -> bool {
-        self.waiting.has_sleepers()
+    /// Whether a worker may be asleep or rest.
+    pub(crate) fn has_idle(&self) -> bool {
+        self.waiting.has_sleepers() || self.waiting.has_resting()
     }
 
     /// Whether another worker than the one that asks neither sleeps nor rests.

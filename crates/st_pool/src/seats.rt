@@ -2,7 +2,8 @@
 //!
 //! That is one, as long as the worker finds the lock free at the end of its quantum. Where others hold it, the worker takes a claim
 //! more in its own hold. So each hold commits and checks out several: fewer holds have to be waited for, and what is read in them was
-//! less often written last by another processor. If a quantum is short, or while another worker sleeps, the worker goes back to one.
+//! less often written last by another processor. If a quantum is short, or while another worker sleeps or rests, the worker goes back
+//! to one.
 
 use crate::crowding::is_short;
 use crate::hand::Hand;
@@ -20,10 +21,11 @@ use std::alloc::Global;
 /// How many claims a worker has at most.
 const MOST: usize = 4;
 
-/// The place of a claim, whether memory ran out in its quantum, and what the claim before it left.
+/// The place of a claim, whether its quantum was short and whether memory ran out in it, and what the claim before it left.
 #[derive(Drop)]
 struct Seat<K: Naming> {
     held: Option<Held<K>>,
+    was_short: bool,
     is_starved: bool,
     leavings: Leavings,
 }
@@ -32,6 +34,7 @@ impl<K: Naming> Seat<K> {
     fn empty() -> Seat<K> {
         Seat {
             held: None,
+            was_short: false,
             is_starved: false,
             leavings: Leavings::none(),
         }
@@ -60,7 +63,7 @@ impl<K: Naming> Seat<K> {
         self.put(work)
     }
 
-    /// Lets the claim take its quantum. The answer is whether it is short, if there is a claim.
+    /// Lets the claim take its quantum, if there is a claim, and adds it to those of the worker.
     fn run<G: Guard, T: Gate>(
         &mut self,
         alloc: Global,
@@ -68,18 +71,20 @@ impl<K: Naming> Seat<K> {
         quantum: u32,
         number: u32,
         gate: &mut T,
-    ) -> Option<bool> {
+        ran: &mut Ran,
+    ) {
         let Some(held) = &mut self.held else {
-            return None;
+            return;
         };
         gate.before(number, held.claim());
         self.is_starved = hand.run(alloc, held, quantum).is_err();
+        self.was_short = is_short(held.claim().steps());
         if self.is_starved {
             self.leavings.let_go();
         } else {
             held.prepare(alloc, &mut self.leavings);
         }
-        Some(is_short(held.claim().steps()))
+        ran.add(self.was_short, self.is_starved);
     }
 
     /// Commits the claim, if there is one, and looks for the next one if the seat goes on. The answer is that of the commit, and what
@@ -90,7 +95,6 @@ impl<K: Naming> Seat<K> {
         office: &mut Office<K, M>,
         share: &mut WorkerShare<K>,
         goes_on: bool,
-        is_short: bool,
     ) -> Option<(Result<u32, Refusal>, Work<()>)> {
         let held = self.held.take()?;
         let (answer, work) = office.turn_over(
@@ -98,7 +102,7 @@ impl<K: Naming> Seat<K> {
             share,
             held,
             self.is_starved || !goes_on,
-            is_short,
+            self.was_short,
             &mut self.leavings,
         );
         Some((answer, self.put(work)))
@@ -115,22 +119,26 @@ impl<K: Naming> Seat<K> {
     }
 }
 
-/// What the quanta of a worker's claims were: how many, whether one was short, and whether memory ran out in one.
+/// What the quanta of a worker's claims were: how many, how many were not short, and whether memory ran out in one.
 #[derive(Clone, Copy)]
 pub(crate) struct Ran {
     pub(crate) count: u32,
-    pub(crate) is_short: bool,
+    pub(crate) long: u32,
     pub(crate) is_starved: bool,
 }
 
 impl Ran {
-    /// Adds the quantum of a seat's claim, if there was one: whether it was short, and whether memory ran out in it.
-    fn add(&mut self, was_short: Option<bool>, was_starved: bool) {
-        if let Some(was_short) = was_short {
-            self.count = self.count.saturating_add(1);
-            self.is_short = self.is_short || was_short;
-            self.is_starved = self.is_starved || was_starved;
+    fn add(&mut self, was_short: bool, was_starved: bool) {
+        self.count = self.count.saturating_add(1);
+        if !was_short {
+            self.long = self.long.saturating_add(1);
         }
+        self.is_starved = self.is_starved || was_starved;
+    }
+
+    /// Whether one of them was short.
+    pub(crate) fn has_short(&self) -> bool {
+        self.long < self.count
     }
 }
 
@@ -199,39 +207,38 @@ impl<K: Naming> Seats<K> {
     ) -> Ran {
         let mut ran = Ran {
             count: 0,
-            is_short: false,
+            long: 0,
             is_starved: false,
         };
-        let was_short = self.first.run(alloc, hand, quantum, number, gate);
-        ran.add(was_short, self.first.is_starved);
+        self.first.run(alloc, hand, quantum, number, gate, &mut ran);
         if self.are_several {
             for seat in &mut self.others {
-                let was_short = seat.run(alloc, hand, quantum, number, gate);
-                ran.add(was_short, seat.is_starved);
+                seat.run(alloc, hand, quantum, number, gate, &mut ran);
             }
         }
         ran
     }
 
-    /// Commits all claims, and looks for the next ones, all in one hold. `rests` says that the worker is to take none.
+    /// Commits all claims, and looks for the next ones, all in one hold. `rests` says that the worker is to take none. Otherwise one
+    /// seat at least goes on if an actor is ready behind the last commit, and all do if `are_several` says so and no worker is idle.
     pub(crate) fn turn_over<M: Mailbox>(
         &mut self,
         alloc: Global,
         office: &mut Office<K, M>,
         share: &mut WorkerShare<K>,
         rests: bool,
-        is_short: bool,
+        are_several: bool,
     ) -> Turned {
         let mut turned = Turned {
             committed: 0,
             goes_on: false,
             next: Work::Wait(office.moves()),
         };
-        turned.add(self.first.turn_over(alloc, office, share, !rests, is_short));
+        turned.add(self.first.turn_over(alloc, office, share, !rests));
         if self.are_several {
             for seat in &mut self.others {
-                let goes_on = !rests && !is_short && !office.has_sleepers();
-                turned.add(seat.turn_over(alloc, office, share, goes_on, is_short));
+                let goes_on = !turned.goes_on || are_several && !office.has_idle();
+                turned.add(seat.turn_over(alloc, office, share, goes_on && !rests));
             }
         }
         turned
@@ -244,6 +251,10 @@ impl<K: Naming> Seats<K> {
         office: &mut Office<K, M>,
         share: &mut WorkerShare<K>,
     ) {
+        if self.first.held.is_none() {
+            let _ = self.first.find(alloc, office, share);
+            return;
+        }
         for seat in &mut self.others {
             if seat.held.is_none() {
                 let _ = seat.find(alloc, office, share);

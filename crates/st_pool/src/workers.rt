@@ -25,8 +25,9 @@ use std::thread::yield_now;
 
 /// What a worker calls round each of its quanta, while it does not hold the lock.
 pub trait Gate {
-    /// After the checkout, before the first step. The worker is named by the number that its loop was given. A worker with several
-    /// claims may have taken the steps of another one meanwhile.
+    /// After the checkout, before the first step. The worker is named by the number that its loop was given. A worker may have claims
+    /// beside this one, whose steps are taken before or after, and which are committed with it: what waits here for one of their
+    /// commits waits for ever.
     fn before(&mut self, worker: u32, claim: &Claim);
 
     /// After the commit was answered, once for each claim. The worker may have its next claims by then.
@@ -108,18 +109,20 @@ fn turn_over<K: Naming, M: Mailbox, R: Wait>(
 ) -> Work<()> {
     let at_once = shared.office.try_lock();
     let was_free = at_once.is_some();
-    crowding.note(ran.count, ran.is_short, was_free);
+    crowding.note(ran.long, ran.has_short(), was_free);
     let mut office = match at_once {
         Some(office) => office,
         None => shared.enter(rt),
     };
     let rests = crowding.asks_for_rest(!ran.is_starved && office.has_helpers());
-    let turned = seats.turn_over(alloc, &mut office, share, rests, ran.is_short);
-    if turned.goes_on && !was_free && !ran.is_short && !office.has_sleepers() {
+    let are_long = !ran.has_short();
+    let turned = seats.turn_over(alloc, &mut office, share, rests, are_long);
+    let is_well = turned.committed == ran.count && !ran.is_starved;
+    if turned.goes_on && is_well && are_long && !was_free && !office.has_idle() {
         seats.take_more(alloc, &mut office, share);
     }
     let wants_help = office.wants_help();
-    let is_hurried = ran.is_short && (rests || turned.goes_on);
+    let is_hurried = ran.long == 0 && (rests || turned.goes_on);
     let wants_more = !is_hurried && office.wants_more();
     drop(office);
     seats.let_go();

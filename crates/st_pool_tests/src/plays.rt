@@ -13,7 +13,7 @@ use crate::overlap::overlap;
 use crate::pools::{Caller, Image, Shared, Stage, new_image, new_worker, no_shares};
 use crate::refused::calls_alone;
 use crate::scenes::Scene;
-use crate::waking::{endless, long_turn, rally, rest, stopping, waking, waking_by_commit};
+use crate::waking::{endless, hurried, long_turn, rally, rest, stopping, waking, waking_by_commit};
 use st_classes::refusals::Refusal;
 use st_pool::books::Blanks;
 use st_pool::front::Opened;
@@ -105,6 +105,7 @@ fn act_alone<C: Calls, R: Wait + Clock>(
         Scene::Stopping => stopping(rt, alloc, caller, marks),
         Scene::Endless => endless(rt, alloc, caller, marks),
         Scene::LongTurn => long_turn(rt, alloc, caller, marks),
+        Scene::Hurried => hurried(rt, alloc, caller),
         Scene::Waking => waking(rt, alloc, caller),
         Scene::WakingByCommit => waking_by_commit(rt, alloc, caller, marks),
         Scene::Rally => rally(rt, alloc, caller),

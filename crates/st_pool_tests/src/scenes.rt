@@ -36,6 +36,8 @@ pub enum Scene {
     Endless,
     /// A turn of more steps than the longest quantum has.
     LongTurn,
+    /// Two turns of unlike length, while a caller asks all the time, so that the worker finds the lock held.
+    Hurried,
     /// Callers are given out, and never hand their shares back.
     ManyCallers,
     /// A worker that waits is asked.
@@ -96,7 +98,7 @@ impl Scene {
     {
         match self {
             Scene::Numbers => 3,
-            Scene::LongTurn => 1024,
+            Scene::LongTurn | Scene::Hurried => 1024,
             _ => 256,
         }
     }

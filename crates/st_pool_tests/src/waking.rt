@@ -3,7 +3,8 @@ use crate::calls::*;
 use crate::doors::{Marks, pause};
 use crate::plays::totals;
 use crate::scenes::Scene;
-use st_classes::values::Value;
+use st_classes::refusals::Refusal;
+use st_classes::values::{ActorId, Value};
 use st_pool::totals::Totals;
 use std::alloc::Global;
 use std::sync::Wait;
@@ -52,6 +53,26 @@ pub fn long_turn<C: Calls, R: Wait + Clock>(
         && post(rt, alloc, caller, 1, FIRST, "a") == Ok(1)
         && answers(rt, caller, FIRST, 1, 300)
         && marks.claims() == 3
+}
+
+/// Asks for a turn without a pause, so that the worker often finds the lock held.
+fn hurry<C: Calls, R: Wait>(rt: &R, caller: &mut C, actor: ActorId, turn: u64) {
+    for _ in 0..100_000 {
+        if outcome(rt, caller, actor, turn) != Err(Refusal::Pending) {
+            return;
+        }
+    }
+}
+
+/// A turn of 200,862 steps, whose last quantum is short, and one twice as long. A worker that finds the lock held has claims of both.
+pub fn hurried<C: Calls, R: Wait + Clock>(rt: &R, alloc: Global, caller: &mut C) -> bool {
+    let source = "count: n | i | i := 0. [i < n] whileTrue: [i := i + 1]. ^i";
+    let is_posted = make_actor(rt, alloc, caller, source)
+        && create(rt, alloc, caller, A) == Ok(SECOND)
+        && post_with(rt, alloc, caller, 1, FIRST, "count:", Value::Int(20085)) == Ok(1)
+        && post_with(rt, alloc, caller, 2, SECOND, "count:", Value::Int(40170)) == Ok(1);
+    hurry(rt, caller, FIRST, 1);
+    is_posted && answers(rt, caller, FIRST, 1, 20085) && answers(rt, caller, SECOND, 1, 40170)
 }
 
 /// The worker waits each time that a message is posted.
@@ -132,6 +153,14 @@ const SCENES: &[(Scene, Totals)] = &[
             posts: 1,
             edits: 2,
             steps: 3012,
+        },
+    ),
+    (
+        Scene::Hurried,
+        Totals {
+            posts: 2,
+            edits: 2,
+            steps: 602574,
         },
     ),
     (

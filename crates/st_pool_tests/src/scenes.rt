@@ -36,7 +36,7 @@ pub enum Scene {
     Endless,
     /// A turn of more steps than the longest quantum has.
     LongTurn,
-    /// Two turns of unlike length, while a caller asks all the time, so that the worker finds the lock held.
+    /// Turns of unlike length, while a caller looks all the time, so that the worker finds the lock held.
     Hurried,
     /// Callers are given out, and never hand their shares back.
     ManyCallers,

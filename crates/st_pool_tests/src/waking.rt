@@ -55,24 +55,33 @@ pub fn long_turn<C: Calls, R: Wait + Clock>(
         && marks.claims() == 3
 }
 
-/// Asks for a turn without a pause, so that the worker often finds the lock held.
+/// Looks at the image without a pause until a turn has ended, so that the worker often finds the lock held.
 fn hurry<C: Calls, R: Wait>(rt: &R, caller: &mut C, actor: ActorId, turn: u64) {
     for _ in 0..100_000 {
+        let _ = caller.seen_posts(rt, actor, 1);
         if outcome(rt, caller, actor, turn) != Err(Refusal::Pending) {
             return;
         }
     }
 }
 
-/// A turn of 200,862 steps, whose last quantum is short, and one twice as long. A worker that finds the lock held has claims of both.
+/// Turns of 200,862 steps, whose last quantum is short, beside turns twice as long. A worker that finds the lock held has claims of
+/// both, and goes on with the one when a turn of the other ends.
 pub fn hurried<C: Calls, R: Wait + Clock>(rt: &R, alloc: Global, caller: &mut C) -> bool {
     let source = "count: n | i | i := 0. [i < n] whileTrue: [i := i + 1]. ^i";
-    let is_posted = make_actor(rt, alloc, caller, source)
-        && create(rt, alloc, caller, A) == Ok(SECOND)
-        && post_with(rt, alloc, caller, 1, FIRST, "count:", Value::Int(20085)) == Ok(1)
-        && post_with(rt, alloc, caller, 2, SECOND, "count:", Value::Int(40170)) == Ok(1);
-    hurry(rt, caller, FIRST, 1);
-    is_posted && answers(rt, caller, FIRST, 1, 20085) && answers(rt, caller, SECOND, 1, 40170)
+    if !make_actor(rt, alloc, caller, source) || create(rt, alloc, caller, A) != Ok(SECOND) {
+        return false;
+    }
+    for turn in 1..9 {
+        let (first, second) = (Value::Int(20085), Value::Int(40170));
+        let are_posted = post_with(rt, alloc, caller, turn * 2, FIRST, "count:", first) == Ok(turn)
+            && post_with(rt, alloc, caller, turn * 2 + 1, SECOND, "count:", second) == Ok(turn);
+        if !are_posted {
+            return false;
+        }
+    }
+    hurry(rt, caller, FIRST, 8);
+    answers(rt, caller, FIRST, 8, 20085) && answers(rt, caller, SECOND, 8, 40170)
 }
 
 /// The worker waits each time that a message is posted.
@@ -158,9 +167,9 @@ const SCENES: &[(Scene, Totals)] = &[
     (
         Scene::Hurried,
         Totals {
-            posts: 2,
+            posts: 16,
             edits: 2,
-            steps: 602574,
+            steps: 4820592,
         },
     ),
     (

@@ -92,9 +92,10 @@ class Terminal:
 
 
 def own_terminal():
-    """The terminal's Ctrl-C reaches the workspace."""
+    """The terminal's Ctrl-C reaches the workspace, and so does its end, also where the trials run under nohup."""
     import fcntl
     import termios
 
     os.setsid()
     fcntl.ioctl(0, termios.TIOCSCTTY, 0)
+    signal.signal(signal.SIGHUP, signal.SIG_DFL)

@@ -1,6 +1,5 @@
 """Trials of images that are kept in a file: what a workspace knows of one, and how the file stands at each end."""
 
-import contextlib
 import glob
 import json
 import os
@@ -143,17 +142,9 @@ def at_signals(program):
             terminal.see("\n> ")
             same(terminal.ask("C : Object"), "class C, version 1\n")
             terminal.signal(number)
-            same(status_of(terminal, number), status)
+            same(terminal.process.wait(20), status)
             wait_for(os.path.join(folder, NAME))
             same(typed(program, folder, [":classes"])[0][1:], ["C : Object"])
-
-
-def status_of(terminal, number):
-    """Python sees a signal that comes just before it waits for the terminal's next key with that key, or with the next signal."""
-    with contextlib.suppress(subprocess.TimeoutExpired):
-        return terminal.process.wait(10)
-    terminal.process.send_signal(number)
-    return terminal.process.wait(10)
 
 
 def wait_for(path):

@@ -201,8 +201,3 @@ TRIALS = (
     another_servers_socket_stays,
     full_output,
 )
-
-
-def try_resources(program, Server, post):
-    for trial in TRIALS:
-        trial(program, Server, post)

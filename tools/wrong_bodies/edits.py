@@ -52,6 +52,20 @@ def test_of(edit):
     return (found[1], found[2]) if found else None
 
 
+def trial_of(edit):
+    """The words of the trial of the built program that refuses an edit which no clause refuses, as its line `trial:` says; or None."""
+    found = re.search(r"^trial: (\S.*)$", read(edit), re.M)
+    return tuple(found[1].split()) if found else None
+
+
+def by_of(edit):
+    """The test or the trial that an edit names, as the page says it, or None."""
+    test, trial = test_of(edit), trial_of(edit)
+    if test:
+        return f"the test `{test[0]}::{test[1]}`"
+    return f"the trial `{' '.join(trial)}`" if trial else None
+
+
 def why_not(edit, crate):
     """Why an edit cannot be applied to the crate in a folder, or None."""
     if not edit.endswith(".edit"):
@@ -70,7 +84,7 @@ def why_not(edit, crate):
         if found != 1:
             return f"{path} has {found} times: {old}"
         texts[path] = texts[path].replace(old, new)
-    return why_no_test(edit) if changes else "it changes nothing"
+    return why_no_test(edit) or why_no_trial(edit) if changes else "it changes nothing"
 
 
 def why_no_test(edit):
@@ -85,6 +99,27 @@ def why_no_test(edit):
         return "it names a test, and the gate tries what the prover refuses"
     if not os.path.isfile(source) or not re.search(rf"#\[test\]\nfn {name}\b", read(source)):
         return f"there is no test {path} in {crate}"
+    return None
+
+
+def why_no_trial(edit):
+    """Why the trial that an edit names cannot be run, or None. A word that is a name must be that of a function of the tool."""
+    trial = trial_of(edit)
+    if not trial:
+        return None
+    tool, *words = trial
+    if f"/{TRIED}/" in edit:
+        return "it names a trial, and the gate tries what the prover refuses"
+    if test_of(edit):
+        return "it names a test and a trial"
+    if not re.fullmatch(r"tools/[\w-]+", tool) or not os.access(f"{TOP}/{tool}", os.X_OK):
+        return f"there is no tool {tool}"
+    folder = f"{TOP}/{tool.replace('-', '_')}_parts"
+    parts = [f"{folder}/{name}" for name in os.listdir(folder) if name.endswith(".py")] if os.path.isdir(folder) else []
+    texts = [read(path) for path in (f"{TOP}/{tool}", *parts)]
+    for word in words:
+        if word.isidentifier() and not any(f"\ndef {word}(" in text for text in texts):
+            return f"there is no trial {word} in {tool}"
     return None
 
 

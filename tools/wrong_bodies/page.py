@@ -3,13 +3,13 @@
 import os
 import re
 
-from wrong_bodies.edits import TOP, crates_of, edits_of, function_of, read, test_of, title_of, write
+from wrong_bodies.edits import TOP, by_of, crates_of, edits_of, function_of, read, title_of, write
 
 PAGE = f"{TOP}/docs/WRONG-BODIES.md"
 
 HEAD = """# Wrong bodies
 
-Edits of the code that must be refused. The name says what the body does. Most are refused by the prover: by the contract of the function that is edited, or, if that function is private and has no clause on the matter, by the contract of its caller. The others are waste that a clause allows, since the body could be one that ran out of memory; a test refuses these, and the fourth column names it.
+Edits of the code that must be refused. The name says what the body does. Most are refused by the prover: by the contract of the function that is edited, or, if that function is private and has no clause on the matter, by the contract of its caller. The others are waste that a clause allows, since the body could be one that ran out of memory; a test refuses these, or a trial of the built program, and the fourth column names it.
 
 The gate applies those of `crates/*/must-fail/` one at a time; they are marked in the third column. The others are in `crates/*/wrong-bodies/`. `tools/wrong-bodies --try` tries all, or those of a crate, or one that is named, and writes what it found into the last two columns: the function that is not proved then, with its goals, and the commit at which it was tried. Where they are empty, the edit was tried when it was written, and not since this page keeps count. `tools/wrong-bodies` alone checks that each can still be applied, and that this page lists them all; `./check` calls it before the gate. `tools/wrong-bodies --list` writes this page.
 """
@@ -31,9 +31,7 @@ def results():
 
 def row(edit, is_tried, crate, name, known):
     by, at = known.get((name, title_of(edit)), ("", ""))
-    test = test_of(edit)
-    by = f"the test `{test[0]}::{test[1]}`" if test else by
-    cells = [title_of(edit), function_of(edit, crate), "yes" if is_tried else "", by, at]
+    cells = [title_of(edit), function_of(edit, crate), "yes" if is_tried else "", by_of(edit) or by, at]
     return "| " + " | ".join(cells).replace("|  |", "| |").replace("|  |", "| |") + " |\n"
 
 

@@ -1,4 +1,4 @@
-"""Trying edits: by the prover, or by the test that an edit names."""
+"""Trying edits: by the prover, or by the test or the trial that an edit names."""
 
 import os
 import re
@@ -6,7 +6,8 @@ import shutil
 import subprocess
 import tempfile
 
-from wrong_bodies.edits import TOP, apply, crates_of, test_of
+from wrong_bodies.edits import TOP, apply, by_of, crates_of, test_of, trial_of
+from wrong_bodies.program import build
 
 # What a check says where a stored proof no longer fits the code: that shows nothing about the clauses.
 UNFIT = re.compile(r"has no field|not in scope|no such name|unknown name|that can be named")
@@ -80,19 +81,66 @@ def by_a_test(edit, top, crate):
     lines = ended.stdout.rstrip("\n").split("\n")
     failed = re.findall(r"^test (\S+) \.\.\. FAILED", ended.stdout, re.M)
     is_well = name in failed
-    return is_well, f"the test `{test_crate}::{name}`" if is_well else "NOT REFUSED BY ITS TEST", lines
+    return is_well, by_of(edit) if is_well else "NOT REFUSED BY ITS TEST", lines
 
 
-def try_edits(crate, edits):
+class Unedited:
+    """The program of the sources as they are, without proofs. A trial that fails on it too shows nothing of an edit."""
+
+    def __init__(self, room):
+        self.program = f"{room}/unedited"
+        self.failed = {}
+
+    def why_not(self, trial, top):
+        """Why the program does not pass a trial, or None. The copy in a folder is without edits."""
+        if not os.path.exists(self.program):
+            said = build(top, self.program)
+            if said is not None:
+                return said
+        if trial not in self.failed:
+            ended = run_trial(trial, self.program)
+            self.failed[trial] = ended.stdout if ended.returncode else None
+        return self.failed[trial]
+
+
+def run_trial(trial, program):
+    """Runs a trial: a tool, whose first word is the program, and its other words."""
+    tool, *words = trial
+    return run([f"{TOP}/{tool}", program, *words], TOP)
+
+
+def by_a_trial(edit, top, crate, unedited):
+    """The same of the trial that an edit names. It is run on the program of the edited sources, which is built without proofs."""
+    trial = trial_of(edit)
+    why = unedited.why_not(trial, top)
+    if why is not None:
+        return False, "NOT TRIED: its trial fails on the sources as they are", why.rstrip("\n").split("\n")
+    program = f"{top}/edited"
+    back = apply(edit, f"{top}/crates/{crate}")
+    try:
+        said = build(top, program)
+    finally:
+        back()
+    if said is not None:
+        return False, "BAD EDIT: no program is built", said.rstrip("\n").split("\n")
+    ended = run_trial(trial, program)
+    lines = ended.stdout.rstrip("\n").split("\n")
+    return ended.returncode != 0, by_of(edit) if ended.returncode else "NOT REFUSED BY ITS TRIAL", lines
+
+
+def try_edits(crate, edits, unedited):
     """Tries edits of one crate in a copy, and gives for each whether it is refused, by what, and what was said."""
+    by_trials = [edit for edit in edits if trial_of(edit)]
     by_tests = [edit for edit in edits if test_of(edit)]
-    by_clauses = [edit for edit in edits if not test_of(edit)]
+    by_clauses = [edit for edit in edits if not by_of(edit)]
     with tempfile.TemporaryDirectory(prefix="wrong-bodies-") as room:
         if by_clauses:
             copy_of(f"{room}/proved", crate)
             for edit in by_clauses:
                 yield edit, *by_the_prover(edit, f"{room}/proved/crates/{crate}")
-        if by_tests:
+        if by_tests or by_trials:
             copy_of(f"{room}/run")
-            for edit in by_tests:
-                yield edit, *by_a_test(edit, f"{room}/run", crate)
+        for edit in by_tests:
+            yield edit, *by_a_test(edit, f"{room}/run", crate)
+        for edit in by_trials:
+            yield edit, *by_a_trial(edit, f"{room}/run", crate, unedited)

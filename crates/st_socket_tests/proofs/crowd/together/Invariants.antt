@@ -1,6 +1,0 @@
-use Rattle.st_pool.specs.Counts.{amounts}
-use Rattle.st_socket_tests.proofs.crowd.together.Given as goal
-
--- the ledgers are the blanks', the book is that of what was opened, and all begin at what the image has counted
-abbrev pub ghosts-played : goal.ghosts-played
-ghosts-played g a = record { posts = a.blanks.posts.name; edits = a.blanks.edits.name; steps = a.blanks.steps.name; start = amounts a.image.value; book = a.opened.seen.book }

@@ -1,0 +1,55 @@
+"""The program without proofs: `rt try` builds it from the sources of a copy and runs it as a server, out of whose process it is copied."""
+
+import os
+import shutil
+import socket
+import stat
+import struct
+import subprocess
+import tempfile
+import time
+
+# The seconds after which a build is given up.
+LONGEST = 3600
+
+
+def listens(path):
+    """Whether a server listens there: it gives the socket's file its rights last."""
+    return os.path.exists(path) and stat.S_IMODE(os.stat(path).st_mode) == 0o600
+
+
+def server_at(path):
+    """The number of the process that listens at a socket."""
+    with socket.socket(socket.AF_UNIX) as client:
+        client.connect(path)
+        return struct.unpack("3i", client.getsockopt(socket.SOL_SOCKET, socket.SO_PEERCRED, 12))[0]
+
+
+def end(started):
+    """Ends rt, which is told so and ends what it has started itself."""
+    started.terminate()
+    try:
+        started.wait(60)
+    except subprocess.TimeoutExpired:
+        started.kill()
+        started.wait()
+
+
+def build(top, path):
+    """Builds the program from the sources of the repository in a folder. The answer is what was said where that fails, or None."""
+    with tempfile.TemporaryDirectory(prefix="wrong-bodies-") as room, open(f"{room}/said", "w+", errors="replace") as said:
+        at = f"{room}/socket"
+        how = {"stdin": subprocess.DEVNULL, "stdout": said, "stderr": subprocess.STDOUT, "env": {**os.environ, "TMPDIR": room}}
+        started = subprocess.Popen(["rt", "try", "--", "serve", "--socket", at, "--workers", "1"], cwd=f"{top}/crates/actorimage", **how)
+        try:
+            ends = time.monotonic() + LONGEST
+            while not listens(at):
+                if started.poll() is not None or time.monotonic() > ends:
+                    said.seek(0)
+                    return said.read()
+                time.sleep(0.2)
+            shutil.copyfile(f"/proc/{server_at(at)}/exe", path)
+            os.chmod(path, 0o755)
+            return None
+        finally:
+            end(started)

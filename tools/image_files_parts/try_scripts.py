@@ -6,6 +6,7 @@ import re
 from itertools import chain, repeat
 
 from inspect_parts.try_common import EXAMPLES, FILES, TOP, read
+from scripts_parts import texts
 
 from .program import same, settings
 from .sessions import MOST_STEPS, Cut, Kept, command_of
@@ -53,16 +54,13 @@ def line_by_line(program):
 
 
 CHECKPOINT = b'{"cmd":"checkpoint"}'
-# A worked script begins with its settings: the quantum, the room of mailboxes, and that of the history, which the program does not offer.
-WORKED = re.compile(r"^(?:const TEXT.*\")?(\d+) (\d+) 1000000 (.*)\n((?:\{.*\n?)+)", re.MULTILINE)
 
 
 def worked_scripts():
-    """The scripts of the crate of worked scripts, as all_scripts has them. A reply stands below each line."""
-    folder = os.path.join(TOP, "crates", "st_script_tests", "src", "scripts")
-    for name in sorted(os.listdir(folder)):
-        for quantum, capacity, says, text in WORKED.findall(read(os.path.join(folder, name)).decode()):
-            yield f"{name}: {says}", [line.encode() for line in text.splitlines()[::2]], int(quantum), int(capacity)
+    """The scripts of tests/scripts, as all_scripts has them."""
+    for name in texts.names():
+        for script in texts.scripts(name):
+            yield script.name, [line.encode() for line in script.lines], script.quantum, script.capacity
 
 
 class Anew(Kept):

@@ -15,7 +15,12 @@ FIRST = [
     '{"class":"A","cmd":"actor"}',
     '{"actor":0,"args":[],"cmd":"post","selector":"go","sender":1,"seq":1}',
 ]
-LINES = ['{"actor":0,"args":[],"cmd":"post","selector":"go","sender":1,"seq":2}', '{"cmd":"run"}', '{"actor":0,"cmd":"outcome","turn":2}']
+# The first has two new names, which the file tells in their order.
+LINES = [
+    '{"actor":0,"args":[1,{"sym":"foo"}],"cmd":"post","selector":"at:put:","sender":1,"seq":2}',
+    '{"cmd":"run"}',
+    '{"actor":0,"cmd":"outcome","turn":2}',
+]
 
 
 class Session:

@@ -1,45 +1,36 @@
 //! Compiling: the code of methods, written down by hand from the equations.
-pub(crate) mod codes;
+mod codes;
 
-use crate::classes::{define, kernel_version};
 use crate::compiling::codes::codes;
+use crate::tables::{boxed, define, kernel_version};
 use st_classes::methods::Method;
 use st_classes::names::Names;
 use st_classes::refusals::Refusal;
 use st_classes::values::{ClassId, Selector};
 use st_classes::version::Version;
 use st_compile::compile::compile;
-use st_compile::names::joined_pattern;
 use st_reader::reader::read_method;
-use st_reader::trees::{MethodTree, Parameter, Pattern};
+use st_reader::trees::MethodTree;
 use std::alloc::{AllocError, Global};
 use std::test::*;
 
 /// The kernel's classes and Counter, which is number 8.
-pub(crate) fn version(alloc: Global) -> Result<Box<Version>, Refusal> {
+fn version(alloc: Global) -> Result<Box<Version>, Refusal> {
     let kernel = kernel_version(alloc)?;
     define(alloc, &kernel, b"Counter", ClassId(0), &[b"count"])
 }
 
-pub(crate) fn kernel_names(alloc: Global) -> Result<Names, AllocError> {
+fn kernel_names(alloc: Global) -> Result<Names, AllocError> {
     Names::kernel(alloc)
 }
 
-/// Puts a tree or a method on the heap. It may be of any type here, since the proof of a function that lets one go pays for all its parts.
-fn boxed<T: Drop>(alloc: Global, value: T) -> Result<Box<T>, Refusal> {
-    match Box::new(alloc, value) {
-        Ok(value) => Ok(value),
-        Err(_) => Err(Refusal::NoMemory),
-    }
-}
-
 /// The tree of a source, on the heap as class tables are.
-pub(crate) fn read(alloc: Global, source: &str) -> Result<Box<MethodTree>, Refusal> {
+fn read(alloc: Global, source: &str) -> Result<Box<MethodTree>, Refusal> {
     boxed(alloc, read_method(alloc, source.as_bytes())?)
 }
 
 /// What a tree in Counter is compiled to.
-pub(crate) fn compiled_tree(
+fn compiled_tree(
     alloc: Global,
     tree: &MethodTree,
     version: &Version,
@@ -48,10 +39,7 @@ pub(crate) fn compiled_tree(
     if !version.is_class(ClassId(8)) {
         return Err(Refusal::UnknownClass);
     }
-    match Box::new(alloc, compile(alloc, tree, ClassId(8), version, names)?) {
-        Ok(method) => Ok(method),
-        Err(_) => Err(Refusal::NoMemory),
-    }
+    boxed(alloc, compile(alloc, tree, ClassId(8), version, names)?)
 }
 
 /// What a source in Counter is compiled to.
@@ -68,7 +56,7 @@ fn compiled_first(alloc: Global, source: &str) -> Result<Box<Method>, Refusal> {
 }
 
 /// The depth and the instruction of each place of a method's code, a line each.
-pub(crate) fn listing(alloc: Global, method: &Method) -> Result<String, AllocError> {
+fn listing(alloc: Global, method: &Method) -> Result<String, AllocError> {
     let mut text = String::new(alloc);
     for (instruction, depth) in method.code().iter().zip(method.depths()) {
         let line = format!(in alloc; "{depth} {instruction:?}\n")?;
@@ -128,60 +116,4 @@ fn has_parts_and_names(alloc: Global) -> Result<(bool, bool), Refusal> {
 #[test]
 fn parts(rt: HostRuntime) {
     assert!(rt; has_parts_and_names(rt.alloc()) == Ok((true, true)));
-}
-
-/// The keywords of a method's pattern.
-fn keywords(tree: &MethodTree) -> Option<&[Parameter]> {
-    match tree.pattern() {
-        Pattern::Keyword(parameters) => Some(parameters.as_slice()),
-        _ => None,
-    }
-}
-
-fn joined(alloc: Global, keywords: &[Parameter]) -> Result<Vec<u8>, Refusal> {
-    joined_pattern(alloc, keywords)
-}
-
-/// Whether the keywords make this selector.
-fn make(alloc: Global, keywords: &[Parameter], selector: &[u8]) -> bool {
-    match joined(alloc, keywords) {
-        Ok(text) => text.as_slice() == selector,
-        Err(_) => false,
-    }
-}
-
-/// The selector of a pattern is its keywords joined.
-#[test]
-fn keywords_of_a_pattern(rt: HostRuntime) -> Result<(), Fail> {
-    let tree = read(rt.alloc(), "at: i put: v ^v")?;
-    let keywords = keywords(&tree).ok_or("no keywords")?;
-    assert!(rt; make(rt.alloc(), keywords, b"at:put:"));
-    Ok(())
-}
-
-/// `m ^1+(1+( ..`: this many brackets, and as many operands and one.
-fn deep(alloc: Global, brackets: usize) -> Result<String, AllocError> {
-    let open = "1+(".repeat(alloc, brackets)?;
-    let closed = ")".repeat(alloc, brackets)?;
-    format!(in alloc; "m ^{open}1{closed}")
-}
-
-/// So many statements, which are twice as many instructions and two.
-fn long(alloc: Global, statements: usize) -> Result<String, AllocError> {
-    let statements = "1. ".repeat(alloc, statements)?;
-    format!(in alloc; "m {statements}")
-}
-
-/// How many instructions a source is compiled to.
-fn instructions(alloc: Global, source: &str) -> Result<usize, Refusal> {
-    Ok(compiled_first(alloc, source)?.code().len())
-}
-
-/// A code of 1,024 instructions, and one of 64 operands.
-#[test]
-fn largest(rt: HostRuntime) -> Result<(), Fail> {
-    let alloc = rt.alloc();
-    assert!(rt; instructions(alloc, &long(alloc, 511)?)? == 1024);
-    assert!(rt; instructions(alloc, &deep(alloc, 63)?)? == 128);
-    Ok(())
 }

@@ -6,7 +6,7 @@ ghost use Rattle.st_classes.specs.Classes.{is_class};
 ghost use Rattle.st_guard.specs.Moves.{IsAt};
 ghost use Rattle.st_guard.specs.ValidCaches.{asks};
 
-use crate::classes::{boxed, define, kernel_version, remove, reparent};
+use crate::tables::{boxed, define, kernel_version};
 use st_classes::code::Code;
 use st_classes::counted_rows::CountedRows;
 use st_classes::edits::Edit;
@@ -33,9 +33,9 @@ const B: ClassId = ClassId(9);
 
 const C: ClassId = ClassId(10);
 
-pub(crate) const WHO: Selector = Selector(22);
+const WHO: Selector = Selector(22);
 
-pub(crate) const MISSING: Selector = Selector(23);
+const MISSING: Selector = Selector(23);
 
 /// A method that sends a message without arguments to itself.
 fn asking(
@@ -98,7 +98,7 @@ fn install(
 }
 
 /// Classes A, B under A and C under B, each with a method `who` that sends `missing`.
-pub(crate) fn three_classes(alloc: Global) -> Result<Box<Version>, Refusal> {
+fn three_classes(alloc: Global) -> Result<Box<Version>, Refusal> {
     let mut version = kernel_version(alloc)?;
     for (name, parent) in [("A", OBJECT), ("B", A), ("C", B)] {
         version = define(alloc, &version, name.as_bytes(), parent, &[])?;
@@ -110,7 +110,7 @@ pub(crate) fn three_classes(alloc: Global) -> Result<Box<Version>, Refusal> {
 }
 
 /// The site of `missing` in the method `who` of C.
-pub(crate) const SITE: SiteId = SiteId {
+const SITE: SiteId = SiteId {
     method: MethodId(5),
     place: 1,
 };
@@ -128,7 +128,7 @@ fn asked_at(version: &Version, site: SiteId) -> Option<(Option<ClassId>, Selecto
 }
 
 /// Whether there is the holder of a super send.
-pub(crate) fn has_holder(version: &Version, key: Key) -> bool
+fn has_holder(version: &Version, key: Key) -> bool
     ensures { result ≡ true → IfSome key.holder (λ h. is_class version.now h ≡ true) }
 {
     match key.holder {
@@ -138,7 +138,7 @@ pub(crate) fn has_holder(version: &Version, key: Key) -> bool
 }
 
 /// Whether a site looks up this, where there is a site.
-pub(crate) fn has_site(version: &Version, site: Option<SiteId>, key: Key) -> bool
+fn has_site(version: &Version, site: Option<SiteId>, key: Key) -> bool
     ensures { result ≡ true → IfSome site (λ id. asks version.now id ≡ Some (key.holder, key.selector)) }
 {
     let Some(id) = site else {
@@ -171,7 +171,7 @@ fn look<G: Guard>(
 }
 
 /// A send to an instance of C, or a super send in a method of a holder.
-pub(crate) fn key(holder: Option<ClassId>, selector: Selector) -> Key {
+fn key(holder: Option<ClassId>, selector: Selector) -> Key {
     Key {
         holder,
         class: C,
@@ -206,40 +206,6 @@ const FIRST: [Option<(How, u64)>; 6] = [
     Some((How::Site, 0)),
 ];
 
-/// What the first six lookups of new caches answer, and how many classes the site has met then.
-fn first_looks(alloc: Global, version: &Version) -> Result<bool, AllocError> {
-    let mut caches = Caches::new(alloc, GlobalGuard::new())?;
-    let answers = looks(&mut caches, alloc, version);
-    Ok(answers == FIRST && caches.state(SITE) == SiteState::Mono)
-}
-
-#[test]
-fn rows_are_read_by_walks_alone(rt: HostRuntime) -> Result<(), Fail> {
-    let version = three_classes(rt.alloc())?;
-    assert!(rt; first_looks(rt.alloc(), &version)?);
-    Ok(())
-}
-
-/// Whether caches follow a version and one that goes on from it, and are emptied by the way back.
-fn moves<G: Guard>(
-    caches: &mut Caches<G>,
-    alloc: Global,
-    version: &Version,
-    later: &Version,
-) -> bool {
-    for (to, moved) in [
-        (version, Moved::Followed),
-        (version, Moved::Followed),
-        (later, Moved::Followed),
-        (version, Moved::Emptied),
-    ] {
-        if caches.move_to(alloc, to) != moved {
-            return false;
-        }
-    }
-    true
-}
-
 /// Whether caches find again what they found, and nothing is left once they have forgotten it.
 fn forgets<G: Guard>(caches: &mut Caches<G>, alloc: Global, version: &Version) -> bool {
     let _answers = looks(caches, alloc, version);
@@ -252,17 +218,36 @@ fn forgets<G: Guard>(caches: &mut Caches<G>, alloc: Global, version: &Version) -
         && looks(caches, alloc, version) == FIRST
 }
 
-/// Whether new caches move so, and those that were emptied by a move are filled again, and forget.
-fn move_and_forget(alloc: Global, version: &Version, later: &Version) -> Result<bool, AllocError> {
-    let mut caches = Caches::new(alloc, GlobalGuard::new())?;
-    Ok(moves(&mut caches, alloc, version, later) && forgets(&mut caches, alloc, version))
+/// New caches on the heap, in which each edit ends all that was found.
+fn new_caches(alloc: Global) -> Result<Box<Caches<GlobalGuard>>, AllocError> {
+    Ok(Box::new(alloc, Caches::new(alloc, GlobalGuard::new())?)?)
+}
+
+/// What becomes of caches that are moved to a version.
+fn moved<G: Guard>(caches: &mut Caches<G>, alloc: Global, version: &Version) -> Moved {
+    caches.move_to(alloc, version)
+}
+
+/// Whether new caches find what they should in a version, follow one that goes on from it, are emptied by the way back, and then are
+/// filled again and forget.
+fn find_follow_and_forget(alloc: Global) -> Result<bool, Refusal> {
+    let version = three_classes(alloc)?;
+    let later = define(alloc, &version, b"D", C, &[])?;
+    let mut caches = new_caches(alloc)?;
+    Ok(
+        moved(&mut caches, alloc, &version) == Moved::Followed
+            && looks(&mut caches, alloc, &version) == FIRST
+            && caches.state(SITE) == SiteState::Mono
+            && moved(&mut caches, alloc, &version) == Moved::Followed
+            && moved(&mut caches, alloc, &later) == Moved::Followed
+            && moved(&mut caches, alloc, &version) == Moved::Emptied
+            && forgets(&mut caches, alloc, &version),
+    )
 }
 
 #[test]
-fn caches_follow_the_edits(rt: HostRuntime) -> Result<(), Fail> {
-    let version = three_classes(rt.alloc())?;
-    let later = define(rt.alloc(), &version, b"D", C, &[])?;
-    assert!(rt; move_and_forget(rt.alloc(), &version, &later)?);
+fn caches_find_follow_and_forget(rt: HostRuntime) -> Result<(), Fail> {
+    assert!(rt; find_follow_and_forget(rt.alloc())?);
     Ok(())
 }
 
@@ -298,19 +283,19 @@ fn all_go<G: Guard>(
 }
 
 /// Whether the lookup cache has the newest 1,024 of 1,025 keys.
-fn keeps_the_newest(alloc: Global, version: &Version) -> Result<bool, AllocError> {
-    let mut caches = Caches::new(alloc, GlobalGuard::new())?;
+fn keeps_the_newest(alloc: Global) -> Result<bool, Refusal> {
+    let version = three_classes(alloc)?;
+    let mut caches = new_caches(alloc)?;
     Ok(
-        all_go(&mut caches, alloc, version, (0, 1025), How::Walk)
-            && all_go(&mut caches, alloc, version, (1, 1025), How::Global)
-            && all_go(&mut caches, alloc, version, (0, 1), How::Walk),
+        all_go(&mut caches, alloc, &version, (0, 1025), How::Walk)
+            && all_go(&mut caches, alloc, &version, (1, 1025), How::Global)
+            && all_go(&mut caches, alloc, &version, (0, 1), How::Walk),
     )
 }
 
 #[test]
 fn newest_keys_are_kept(rt: HostRuntime) -> Result<(), Fail> {
-    let version = three_classes(rt.alloc())?;
-    assert!(rt; keeps_the_newest(rt.alloc(), &version)?);
+    assert!(rt; keeps_the_newest(rt.alloc())?);
     Ok(())
 }
 
@@ -343,26 +328,48 @@ fn are_at_sites<G: Guard>(
     true
 }
 
-fn keeps_all_sites(alloc: Global, version: &Version) -> Result<bool, AllocError> {
-    let mut caches = Caches::new(alloc, GlobalGuard::new())?;
-    let first = are_at_sites(&mut caches, alloc, version, false);
-    Ok(first && are_at_sites(&mut caches, alloc, version, true))
+fn keeps_all_sites(alloc: Global) -> Result<bool, Refusal> {
+    let version = hundred_methods(alloc)?;
+    let mut caches = new_caches(alloc)?;
+    let first = are_at_sites(&mut caches, alloc, &version, false);
+    Ok(first && are_at_sites(&mut caches, alloc, &version, true))
 }
 
 #[test]
 fn each_site_is_kept(rt: HostRuntime) -> Result<(), Fail> {
-    let version = hundred_methods(rt.alloc())?;
-    assert!(rt; keeps_all_sites(rt.alloc(), &version)?);
+    assert!(rt; keeps_all_sites(rt.alloc())?);
     Ok(())
+}
+
+/// The class loses its method.
+fn remove(
+    alloc: Global,
+    version: &Version,
+    class: ClassId,
+    selector: Selector,
+) -> Result<Box<Version>, Refusal> {
+    boxed(
+        alloc,
+        version.with_edit(alloc, Edit::Remove { class, selector })?,
+    )
+}
+
+/// Another superclass of a class.
+fn reparent(
+    alloc: Global,
+    version: &Version,
+    class: ClassId,
+    parent: ClassId,
+) -> Result<Box<Version>, Refusal> {
+    boxed(
+        alloc,
+        version.with_edit(alloc, Edit::Reparent { class, parent })?,
+    )
 }
 
 /// An edit of each kind: a definition, an install, a removal, another superclass, and an install of a method for the last name that a
 /// table can have.
-pub(crate) fn next_edit(
-    alloc: Global,
-    version: &Version,
-    kind: u32,
-) -> Result<Box<Version>, Refusal> {
+fn next_edit(alloc: Global, version: &Version, kind: u32) -> Result<Box<Version>, Refusal> {
     match kind {
         0 => define(alloc, version, b"D", C, &[]),
         1 => install(alloc, version, B, MISSING, WHO),
@@ -378,16 +385,14 @@ fn follow_each_kind<G: Guard>(alloc: Global, caches: &mut Caches<G>) -> Result<b
     let mut follow = ask(caches, alloc, &version, None, key(None, WHO)) == Some(How::Walk);
     for kind in 0..5 {
         version = next_edit(alloc, &version, kind)?;
-        follow = caches.move_to(alloc, &version) == Moved::Followed && follow;
+        follow = moved(caches, alloc, &version) == Moved::Followed && follow;
     }
     Ok(follow)
 }
 
 fn global_guard_follows(alloc: Global) -> Result<bool, Refusal> {
-    match Caches::new(alloc, GlobalGuard::new()) {
-        Ok(mut caches) => follow_each_kind(alloc, &mut caches),
-        Err(AllocError) => Err(Refusal::NoMemory),
-    }
+    let mut caches = new_caches(alloc)?;
+    follow_each_kind(alloc, &mut caches)
 }
 
 fn switch_guard_follows(alloc: Global) -> Result<bool, Refusal> {

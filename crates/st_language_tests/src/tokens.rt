@@ -1,6 +1,6 @@
 //! Texts and their tokens, by hand.
 use st_classes::limits;
-use st_reader::tokens::{Kind, Lexeme, cut, fits};
+use st_reader::tokens::{Kind, Lexeme, cut};
 use std::alloc::Global;
 use std::test::*;
 
@@ -93,31 +93,5 @@ fn tokens_of_texts(rt: HostRuntime) -> Result<(), Fail> {
             "{source}"
         );
     }
-    Ok(())
-}
-
-/// Whether a text has just this many tokens, each within its limits or not, as it is said.
-fn fit_so(alloc: Global, source: &[u8], wanted: &[bool]) -> bool {
-    if source.len() > limits::SOURCE {
-        return false;
-    }
-    match cut(alloc, source) {
-        Ok(tokens) => tokens
-            .lexemes
-            .iter()
-            .map(|lexeme| fits(source, *lexeme))
-            .eq(wanted.iter().copied()),
-        Err(_) => false,
-    }
-}
-
-/// An identifier or a part of a keyword has at most 64 bytes, and a symbol at most 8 keywords.
-#[test]
-fn tokens_in_their_limits(rt: HostRuntime) -> Result<(), Fail> {
-    let words =
-        b"aaaaaaaaaaaaaaaabbbbbbbbbbbbbbbbccccccccccccccccdddddddddddddddd: aaaaaaaaaaaaaaaabbbbbbbbbbbbbbbbccccccccccccccccdddddddddddddddde";
-    assert!(rt; fit_so(rt.alloc(), words, &[true, false]));
-    let symbols = b"#a:b:c:d:e:f:g:h: #a:b:c:d:e:f:g:h:i: #foo #+";
-    assert!(rt; fit_so(rt.alloc(), symbols, &[true, false, true, true]));
     Ok(())
 }

@@ -75,6 +75,19 @@ m ^(1 - (2 - 3)) foo
 1 Send(Selector(23), 0)
 1 Answer
 
+foo ^(self at: 1 \\ 2 put: #doesNotUnderstand:) class foo newActor last
+0 PushSelf
+1 PushLit(Int(1))
+2 PushLit(Int(2))
+3 Send(Selector(9), 1)
+2 PushLit(Sym(Selector(4)))
+3 Send(Selector(23), 2)
+1 Send(Selector(2), 0)
+1 Send(Selector(22), 0)
+1 Send(Selector(21), 0)
+1 Send(Selector(24), 0)
+1 Answer
+
 m ^self at: -1 put: #foo:bar:
 0 PushSelf
 1 PushLit(Int(-1))
@@ -248,6 +261,6 @@ m ^(true and: [false]) or: [nil]
 1 Answer"#;
 
 /// The text behind a function without a contract, so that the proof of a test carries none of it.
-pub(crate) fn codes() -> &'static str {
+pub(super) fn codes() -> &'static str {
     CODES
 }

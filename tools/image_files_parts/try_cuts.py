@@ -2,6 +2,7 @@
 
 from inspect_parts.try_common import good_files, read
 
+from .program import same
 from .said import only_check, try_file
 
 # Which good files, and after how many bytes each is cut.
@@ -16,7 +17,8 @@ def cut(program):
         for end in range(0, len(text) - 2, step):
             only_check(program, f"{name}, its first {end} bytes", text[:end], "json")
             cuts += 1
-        try_file(program, f"{name} before its last bracket", text[:-2])
+        said = try_file(program, f"{name} before its last bracket", text[:-2])
+        same(f"{name} before its last bracket: place", said.place, "json")
         try_file(program, f"{name} without its newline", text[:-1])
     return f"{cuts + 2 * len(CUTS)} cuts"
 

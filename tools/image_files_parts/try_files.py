@@ -10,6 +10,11 @@ from .going_on import go_on
 from .program import Ended, same
 from .said import Said, try_file
 
+# How many actors, classes and edits some files have.
+COUNTS = {"loop": (1, 9, 5), "message-waits": (1, 9, 2), "varied": (3, 9, 3)}
+# A file that is no text of the program's.
+BY_HAND = "by-hand"
+
 
 def scripts():
     """The names of the scripts that wrote a file beside them."""
@@ -17,15 +22,33 @@ def scripts():
 
 
 def good(program):
-    """Each good file is counted right and saved as it is to be: if a script wrote it, as it was. Its turns go on."""
+    """Each good file is counted right and saved as it is to be: as it was, but for one that was written by hand. Its turns go on."""
     files = good_files()
     for name, path in files.items():
         said = try_file(program, name, read(path))
         same(f"{name}: is it good", said.place, None)
-        if name in scripts():
-            same(f"{name}: the text of a script", said.text, read(path))
+        if name != BY_HAND:
+            same(f"{name}: the text of the program", said.text, read(path))
+        if name in COUNTS:
+            same(f"{name}: counts", said.check.out, b'{"ok":{"actors":%d,"classes":%d,"edits":%d}}\n' % COUNTS[name])
         go_on(program, name, read(path))
     return f"{len(files)} files"
+
+
+def anew(program):
+    """A file of the first format counts nothing, and is saved in the second; names that methods have are listed, and white space is not
+    saved."""
+    text = read(good_files()["message-waits"])
+    first = text.replace(b'"format":2', b'"format":1').replace(b'"posts":1,', b"").replace(b',"steps":0', b"")
+    texts = (
+        ("the first format", first, text.replace(b'"posts":1', b'"posts":0')),
+        ("no names, and white space", text.replace(b'["a"]', b" [ ]\n"), text),
+    )
+    for about, data, wanted in texts:
+        said = try_file(program, about, data)
+        same(f"{about}: is it good", said.place, None)
+        same(f"{about}: what is saved", said.text, wanted)
+    return f"{len(texts)} files"
 
 
 def malformed(program):
@@ -63,4 +86,4 @@ def written(program):
     return f"{len(scripts()) + 1} files"
 
 
-TRIALS = (good, malformed, changed, written)
+TRIALS = (good, anew, malformed, changed, written)

@@ -1,8 +1,11 @@
-"""Sessions on an image file of which one allocation fails."""
+"""Sessions on an image file, and checks of one, of which one allocation fails."""
 
 import os
 import shutil
+import subprocess
 import tempfile
+
+from inspect_parts.try_common import good_files, read
 
 from .scripts import NO_MEMORY, run
 from .shim import Failing
@@ -21,6 +24,12 @@ LINES = [
     '{"cmd":"run"}',
     '{"actor":0,"cmd":"outcome","turn":2}',
 ]
+# Good files that are loaded and saved by a session without lines. Together they have edits, values and phases of all kinds.
+SAVED = ("loop", "message-waits", "moved", "varied")
+# A good file that is checked, and a text that is no file's, with what is told of each.
+CHECKED = "message-waits"
+TOLD = '{"ok":{"actors":1,"classes":9,"edits":2}}\n'
+NO_FILE, REFUSED = b"{}", '{"error":"BadImage","place":"shape"}\n'
 
 
 class Session:
@@ -30,10 +39,10 @@ class Session:
         with tempfile.TemporaryDirectory() as folder:
             file = os.path.join(folder, "image")
             shutil.copyfile(good, file)
+            self.lines = lines
             self.status, self.replies, self.said = run(program, lines, failing, ("--image", file))
             self.names = os.listdir(folder)
-            with open(file, "rb") as it:
-                self.data = it.read()
+            self.data = read(file)
 
 
 def goes_on(program, ended, wanted):
@@ -43,7 +52,7 @@ def goes_on(program, ended, wanted):
         left = os.path.join(folder, "left")
         with open(left, "wb") as it:
             it.write(ended.data)
-        session = Session(program, left, LINES[ended.replies.index(NO_MEMORY) :])
+        session = Session(program, left, ended.lines[ended.replies.index(NO_MEMORY) :])
     return session.status == 0 and session.data == wanted.data
 
 
@@ -64,25 +73,77 @@ def what_is_wrong(program, old, ended, wanted):
     return None
 
 
-def check(program, shim, every):
-    with tempfile.TemporaryDirectory() as folder:
-        good = os.path.join(folder, "good")
-        status, _, said = run(program, FIRST, options=("--image", good))
-        if status != 0:
-            print(f"an image file is not written: {said}")
-            return False
-        with open(good, "rb") as it:
-            old = it.read()
-        wanted = Session(program, good, LINES)
-        refused, kept, wrong = 0, 0, []
-        for failing in Failing.each(shim, "files", every):
-            ended = Session(program, good, LINES, failing)
-            refused += ended.status != 0
-            kept += ended.data == old
-            why = what_is_wrong(program, old, ended, wanted)
-            if why:
-                wrong.append(f"allocation {failing.at}: {why}")
-    print(f"sessions on an image file: {failing.at} allocations, {refused} sessions refused, {kept} left the file as it was; {len(wrong)} were wrong")
+def told(what, wrong):
+    """Whether nothing was wrong, which is printed."""
+    print(f"{what}; {len(wrong)} were wrong")
     for it in wrong[:10]:
         print(f"  {it}")
     return not wrong
+
+
+def check_sessions(program, shim, every, file, lines, about):
+    """Sessions of these lines on a good file."""
+    old, wanted = read(file), Session(program, file, lines)
+    if wanted.status != 0:
+        return told(f"sessions on {about}", [f"with ample memory it ended with status {wanted.status} and said {wanted.said!r}"])
+    refused, kept, wrong = 0, 0, []
+    for failing in Failing.each(shim, "files", every):
+        ended = Session(program, file, lines, failing)
+        refused += ended.status != 0
+        kept += ended.data == old
+        why = what_is_wrong(program, old, ended, wanted)
+        if why:
+            wrong.append(f"allocation {failing.at}: {why}")
+    return told(f"sessions on {about}: {failing.at} allocations, {refused} sessions refused, {kept} left the file as it was", wrong)
+
+
+def checked(program, file, failing=None):
+    """The status of a check, and what it says on standard output and standard error."""
+    ended = subprocess.run([program, "check", file], capture_output=True, text=True, env=failing.env if failing else None, timeout=120)
+    return ended.returncode, ended.stdout, ended.stderr
+
+
+def is_starved(line, status, out, said):
+    """Whether the end of a check says that memory ran out: by the refusal; or, where there was none for the line itself, by no more than
+    a front of it and the status; or on standard error, where there was none before that."""
+    if out == NO_MEMORY + "\n":
+        return status == 1 and not said
+    is_cut = line.startswith(out) and out != line
+    return is_cut and (status in (1, 2) and "emory" in said or status == 1 and not said)
+
+
+def check_checks(program, shim, every, file, wanted):
+    """Checks of a file, which tell a line with ample memory, and have a status."""
+    line, status = wanted
+    starved, wrong = 0, []
+    for failing in Failing.each(shim, "checks", every):
+        ended = checked(program, file, failing)
+        starved += ended[0] != status or ended[1] != line
+        if ended != (status, line, "") and not is_starved(line, *ended):
+            wrong.append(f"allocation {failing.at}: it ended with {ended}")
+    if ended != (status, line, ""):
+        wrong.append(f"no allocation failed, and it ended with {ended}")
+    return told(f"checks that tell {line.strip()}: {failing.at} allocations, {starved} checks found no memory", wrong)
+
+
+def parts(program, shim, every, folder):
+    """Whether all was well, of each part."""
+    good, text = os.path.join(folder, "good"), os.path.join(folder, "text")
+    status, _, said = run(program, FIRST, options=("--image", good))
+    if status != 0:
+        print(f"an image file is not written: {said}")
+        yield False
+        return
+    yield check_sessions(program, shim, every, good, LINES, "an image file")
+    files = good_files()
+    for name in SAVED:
+        yield check_sessions(program, shim, every, files[name], [], os.path.basename(files[name]))
+    with open(text, "wb") as it:
+        it.write(NO_FILE)
+    yield check_checks(program, shim, every, files[CHECKED], (TOLD, 0))
+    yield check_checks(program, shim, every, text, (REFUSED, 1))
+
+
+def check(program, shim, every):
+    with tempfile.TemporaryDirectory() as folder:
+        return all(list(parts(program, shim, every, folder)))

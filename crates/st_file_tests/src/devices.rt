@@ -1,13 +1,20 @@
-//! Devices that fail while an image is loaded or saved.
-use crate::texts::{PENDING, loaded};
+//! Devices that fail while an image is loaded or saved, and such that do not.
 use st_classes::refusals::Refusal;
-use st_file::files::load;
+use st_file::files::{image_of_bytes, load};
 use st_file::saving::save;
 use st_server::images::{Image, Mailbox};
 use st_wire::streams::{Reader, Writer};
 use std::alloc::Global;
 use std::io::{self, ErrorKind, Read, Write};
 use std::test::*;
+
+/// An actor with a message pending.
+const PENDING: &str =
+    r#"{"actors":[{"body":{"objects":[{"class":"M","slots":[]}],"phase":"fresh"},"capacity":64,"class":"M","last":0,"open":true,"pending":[{"args":[],"selector":"a","sender":1,"seq":1}]}],"edits":[{"define":{"name":"M","slots":[],"super":"Object"}},{"install":{"class":"M","source":"a ^3 + 4 * 2"}}],"format":2,"names":["a"],"posts":1,"senders":[[1,1]],"steps":0}"#;
+
+fn pending() -> &'static [u8] {
+    PENDING.as_bytes()
+}
 
 /// How many bytes are moved at once.
 const PIECE: usize = 100;
@@ -54,7 +61,7 @@ impl<'a> Write for Taking<'a> {
 
 /// Why the text is refused that a device gives with this many reads, if it is.
 fn refused_after(alloc: Global, reads: u32) -> Option<Refusal> {
-    let left = PENDING.as_bytes();
+    let left = pending();
     let image: Result<Image, Refusal> = load::<Mailbox, _>(
         alloc,
         &mut Reader::new(Giving { left, reads }),
@@ -62,9 +69,25 @@ fn refused_after(alloc: Global, reads: u32) -> Option<Refusal> {
     image.err()
 }
 
+/// Puts a value on the heap. It may be of any type, since the proof of a function that lets an image go pays for all its parts.
+fn on_heap<T: Drop>(alloc: Global, value: T) -> Result<Box<T>, Refusal> {
+    match Box::new(alloc, value) {
+        Ok(value) => Ok(value),
+        Err(_) => Err(Refusal::NoMemory),
+    }
+}
+
+/// The image of the text, on the heap.
+fn loaded(alloc: Global) -> Result<Box<Image>, Refusal> {
+    match image_of_bytes(alloc, pending()) {
+        Ok(image) => on_heap(alloc, image),
+        Err(refusal) => Err(refusal),
+    }
+}
+
 /// Whether a device that takes this many writes is left with as many pieces of the text.
 fn holds_after(alloc: Global, writes: u32, wanted: Result<(), Refusal>) -> Result<bool, Refusal> {
-    let image = loaded(alloc, PENDING.as_bytes())?;
+    let image = loaded(alloc)?;
     let mut taken = Vec::new(alloc);
     let result = save(
         alloc,
@@ -75,7 +98,7 @@ fn holds_after(alloc: Global, writes: u32, wanted: Result<(), Refusal>) -> Resul
         }),
     );
     let length = PIECE * writes as usize;
-    let text = PENDING.as_bytes();
+    let text = pending();
     let is_front = if length < text.len() + 1 {
         taken.as_slice() == &text[..length]
     } else {

@@ -1,14 +1,6 @@
-//! Tests of image files: texts that load and are saved again, images that go on, texts that are refused by a place, and devices that
-//! fail.
+//! Tests of image files on devices that fail. Texts of files, what becomes of them and why they are refused are tried on the built
+//! program, by `tools/image-files` with the files of `tests/inspect`.
 #![tactic(auto)]
 
 #[cfg(test)]
 mod devices;
-#[cfg(test)]
-mod going_on;
-#[cfg(test)]
-mod places;
-#[cfg(test)]
-mod refused;
-#[cfg(test)]
-mod texts;

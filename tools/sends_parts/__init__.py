@@ -1,0 +1,1 @@
+"""Programs with counts by hand, run by a built program."""

@@ -1,17 +1,82 @@
-//! Events of a system of two workers, and what they answer.
-use crate::systems::*;
+//! Events of a system of two workers, and what they answer: scenes in tables, which one function plays.
+use crate::lists::text;
+use crate::workers::{Answered, apply, system_of};
 use st_classes::kernel::{OBJECT, SMALL_INTEGER};
 use st_classes::refusals::Refusal;
-use st_classes::values::ClassId;
+use st_classes::seq::Seq;
+use st_classes::values::{ActorId, ClassId, Selector};
+use st_guard::caches::Caches;
+use st_guard::global_guard::GlobalGuard;
+use st_image::image::Image;
+use st_image::items::Item;
+use st_image::settings::Settings;
+use st_mailbox::list_box::ListBox;
 use st_system::events::{Answer, Event};
+use st_system::system::System;
+use st_turn::body::Stop;
+use st_turn::worker::Worker;
 use std::alloc::{AllocError, Global};
 use std::test::*;
+
+/// A system of two workers.
+type TwoWorkers = System<ListBox, GlobalGuard>;
+
+/// The only actor.
+const FIRST: ActorId = ActorId(0);
+
+/// The first class of the user's.
+const A: ClassId = ClassId(8);
+
+/// The first name of the user's.
+const GO: Selector = Selector(22);
+
+/// A number that is no class's.
+const NOWHERE: ClassId = ClassId(40);
+
+/// What a scene does: an event of a worker, of the only actor; or another event.
+#[derive(Clone, Copy)]
+enum Work {
+    Checkout(u32),
+    Local(u32),
+    Commit(u32),
+    Release(u32),
+    Forget(u32),
+    /// Defines class A.
+    Define,
+    Install(ClassId, &'static str),
+    Reparent(ClassId, ClassId),
+    /// Interns `go`.
+    Intern,
+    /// Makes an actor of class A.
+    Create,
+    /// Posts `go` as client 1, with this number.
+    Post(u64),
+}
+
+/// What is done, each with what it has to answer.
+type Rows = &'static [(Work, Answered)];
+
+/// How a history ends.
+#[derive(Clone, Copy, PartialEq, Eq)]
+enum End {
+    /// With the beginning of a turn.
+    Begun,
+    /// With the beginning of a turn, and this many steps of it in one item.
+    Ran(u32),
+    /// In another way.
+    Other,
+}
+
+/// The most items of the history, what is done, how many items there are then, and how the history ends.
+type Scene = (u32, &'static [Rows], usize, End);
 
 /// The most items of a history where nothing is said.
 const MOST: u32 = 1_000_000;
 
-/// A number that is no class's.
-const NOWHERE: ClassId = ClassId(40);
+const DONE: Answered = Ok(Answer::Done);
+
+/// A step was taken.
+const STEPPED: Answered = Ok(Answer::Stopped(Stop::More));
 
 const UNKNOWN: Answered = Err(Refusal::BadArguments);
 
@@ -24,6 +89,22 @@ const FULL: Answered = Err(Refusal::HistoryFull);
 const THREE: Answered = Ok(Answer::Steps(3));
 
 const NONE: Answered = Ok(Answer::Steps(0));
+
+const FOURTH: Answered = Ok(Answer::Version(4));
+
+/// A class A with a method `go` that sends `tag` to a number, the number's method, and an actor of A to which `go` was sent. The
+/// history has five items then.
+const POSTED: Rows = &[
+    (Work::Define, Ok(Answer::Version(1))),
+    (Work::Install(A, "go ^3 tag + 1"), Ok(Answer::Version(2))),
+    (
+        Work::Install(SMALL_INTEGER, "tag ^1"),
+        Ok(Answer::Version(3)),
+    ),
+    (Work::Intern, Ok(Answer::Interned(GO))),
+    (Work::Create, Ok(Answer::Created(FIRST))),
+    (Work::Post(1), Ok(Answer::Position(1))),
+];
 
 /// Events of workers that are not there, or that have no claim or one too many.
 const MISPLACED: Rows = &[
@@ -72,11 +153,32 @@ const THREE_STEPS: Rows = &[
     (Work::Local(0), STEPPED),
 ];
 
+/// An edit of a message that the steps sent.
+const TAG_EDITED: Rows = &[(Work::Install(SMALL_INTEGER, "tag ^2"), FOURTH)];
+
+/// An edit of the message for messages that are not understood.
+const UNHEARD_EDITED: Rows = &[(Work::Install(A, "doesNotUnderstand: s ^s"), FOURTH)];
+
+/// An edit of a message that nobody sends.
+const OTHER_EDITED: Rows = &[(Work::Install(A, "bump ^0"), FOURTH)];
+
+/// Class A gets the superclass again that it has: that touches every selector.
+const MOVED: Rows = &[(Work::Reparent(A, OBJECT), FOURTH)];
+
 /// A claim that does not survive an edit is refused, and spent.
 const STALE_CLAIM: Rows = &[(Work::Commit(0), STALE), (Work::Commit(0), NOTHING)];
 
 /// One that survives it is committed.
 const SURVIVING_CLAIM: Rows = &[(Work::Commit(0), THREE), (Work::Commit(0), NOTHING)];
+
+/// Reparents that are refused: another superclass of Object, and a superclass that is the kernel's, are none.
+const REPARENTS: Rows = &[
+    (Work::Reparent(OBJECT, OBJECT), Err(Refusal::KernelClass)),
+    (Work::Reparent(SMALL_INTEGER, A), Err(Refusal::KernelClass)),
+    (Work::Reparent(A, SMALL_INTEGER), Err(Refusal::KernelClass)),
+    (Work::Reparent(A, A), Err(Refusal::Cycle)),
+    (Work::Reparent(A, NOWHERE), Err(Refusal::UnknownClass)),
+];
 
 /// A commit that the history has no place for is refused again, until the claim is given back.
 const FULL_HISTORY: Rows = &[
@@ -92,257 +194,240 @@ const FULL_HISTORY: Rows = &[
     (Work::Commit(0), NONE),
 ];
 
-/// The tables behind functions without a contract, so that the proof of a test carries none of them.
-fn misplaced() -> Rows {
-    MISPLACED
-}
-
-fn two_claims() -> Rows {
-    TWO_CLAIMS
-}
-
-fn no_steps() -> Rows {
-    NO_STEPS
-}
-
-fn three_steps() -> Rows {
-    THREE_STEPS
-}
-
-fn stale_claim() -> Rows {
-    STALE_CLAIM
-}
-
-fn surviving_claim() -> Rows {
-    SURVIVING_CLAIM
-}
-
-fn full_history() -> Rows {
-    FULL_HISTORY
-}
-
-/// A new system with a history of at most this many items, whose actor has a message.
-fn posted(alloc: Global, history: u32) -> Result<Box<TwoWorkers>, Refusal> {
-    let mut system = new_system(alloc, history)?;
-    if is_posted(alloc, &mut system)? {
-        Ok(system)
-    } else {
-        Err(Refusal::BadArguments)
-    }
-}
-
-/// The place of the first event that does not answer as it has to, and how many items there are behind all.
-fn after(alloc: Global, rows: Rows) -> Result<(Option<usize>, usize), Refusal> {
-    let mut system = posted(alloc, MOST)?;
-    let wrong = first_wrong(alloc, &mut system, rows);
-    Ok((wrong, items(&system)))
-}
-
-#[test]
-fn refuses_misplaced_events(rt: HostRuntime) {
-    assert_eq!(rt; after(rt.alloc(), misplaced()), Ok((None, 6)));
-}
-
-/// Whether the history ends with one run of three steps, and has no other.
-fn has_run_three(system: &TwoWorkers) -> bool {
-    items(system) == 7 && ends_with_a_run(system, 3)
-}
-
-/// The same of one of two claims, and then of a claim of no steps, each with whether there is one run of three steps.
-fn after_two_claims(alloc: Global) -> Result<(Option<usize>, bool, Option<usize>, bool), Refusal> {
-    let mut system = posted(alloc, MOST)?;
-    let two = first_wrong(alloc, &mut system, two_claims());
-    let has_run = has_run_three(&system);
-    let none = first_wrong(alloc, &mut system, no_steps());
-    Ok((two, has_run, none, has_run_three(&system)))
-}
-
-#[test]
-fn commits_one_of_two_claims(rt: HostRuntime) {
-    assert_eq!(rt; after_two_claims(rt.alloc()), Ok((None, true, None, true)));
-}
-
-/// Whether the events behind a claim of three steps and an install answer as they have to, and leave this many items.
-fn is_answered(
-    alloc: Global,
-    class: ClassId,
-    source: &str,
-    rows: Rows,
-    wanted: usize,
-) -> Result<bool, Refusal> {
-    let mut system = posted(alloc, MOST)?;
-    Ok(
-        first_wrong(alloc, &mut system, three_steps()).is_none()
-            && install(alloc, &mut system, class, source) == Ok(Answer::Version(4))
-            && first_wrong(alloc, &mut system, rows).is_none()
-            && items(&system) == wanted,
-    )
-}
-
-/// The second of two claims is refused, and so is one after an edit of a message that its steps sent, or of the one for messages
-/// that are not understood; one after an edit of another message is committed.
-#[test]
-fn by_events(rt: HostRuntime) {
-    let alloc = rt.alloc();
-    let unheard = "doesNotUnderstand: s ^s";
-    assert_eq!(rt; after(alloc, two_claims()), Ok((None, 7)));
-    assert!(rt; is_answered(alloc, SMALL_INTEGER, "tag ^2", stale_claim(), 7) == Ok(true));
-    assert!(rt; is_answered(alloc, A, unheard, stale_claim(), 7) == Ok(true));
-    assert!(rt; is_answered(alloc, A, "bump ^0", surviving_claim(), 8) == Ok(true));
-}
-
-/// Whether a claim of this many rows of steps commits so after class A got the superclass again that it has.
-fn is_answered_after_reparent(alloc: Global, rows: Rows, wanted: usize) -> Result<bool, Refusal> {
-    let mut system = posted(alloc, MOST)?;
-    Ok(
-        first_wrong(alloc, &mut system, three_steps()).is_none()
-            && reparent(alloc, &mut system, A, OBJECT) == Ok(Answer::Version(4))
-            && first_wrong(alloc, &mut system, rows).is_none()
-            && items(&system) == wanted,
-    )
-}
-
-/// Reparents that are refused, and how: another superclass of Object, and a superclass that is the kernel's, are none.
-const REPARENTS: &[(ClassId, ClassId, Refusal)] = &[
-    (OBJECT, OBJECT, Refusal::KernelClass),
-    (SMALL_INTEGER, A, Refusal::KernelClass),
-    (A, SMALL_INTEGER, Refusal::KernelClass),
-    (A, A, Refusal::Cycle),
-    (A, NOWHERE, Refusal::UnknownClass),
+const SCENES: &[Scene] = &[
+    (MOST, &[POSTED], 5, End::Other),
+    (MOST, &[POSTED, MISPLACED], 6, End::Begun),
+    (MOST, &[POSTED, TWO_CLAIMS], 7, End::Ran(3)),
+    (MOST, &[POSTED, TWO_CLAIMS, NO_STEPS], 7, End::Ran(3)),
+    (
+        MOST,
+        &[POSTED, THREE_STEPS, TAG_EDITED, STALE_CLAIM],
+        7,
+        End::Other,
+    ),
+    (
+        MOST,
+        &[POSTED, THREE_STEPS, UNHEARD_EDITED, STALE_CLAIM],
+        7,
+        End::Other,
+    ),
+    (
+        MOST,
+        &[POSTED, THREE_STEPS, OTHER_EDITED, SURVIVING_CLAIM],
+        8,
+        End::Other,
+    ),
+    (
+        MOST,
+        &[POSTED, THREE_STEPS, SURVIVING_CLAIM],
+        7,
+        End::Ran(3),
+    ),
+    (
+        MOST,
+        &[POSTED, THREE_STEPS, MOVED, STALE_CLAIM],
+        7,
+        End::Other,
+    ),
+    (MOST, &[POSTED, REPARENTS], 5, End::Other),
+    // A history of six items has no place for the steps that follow the beginning of a turn.
+    (6, &[POSTED, FULL_HISTORY], 6, End::Begun),
 ];
 
-fn reparents() -> &'static [(ClassId, ClassId, Refusal)] {
-    REPARENTS
-}
-
-/// The place, from 0, of the first of these that is answered otherwise.
-fn first_reparented(alloc: Global, system: &mut TwoWorkers) -> Option<usize> {
-    for (place, (class, parent, refusal)) in reparents().iter().enumerate() {
-        if reparent(alloc, system, *class, *parent) != Err(*refusal) {
-            return Some(place);
-        }
-    }
-    None
-}
-
-fn after_reparents(alloc: Global) -> Result<(Option<usize>, usize), Refusal> {
-    let mut system = posted(alloc, MOST)?;
-    let wrong = first_reparented(alloc, &mut system);
-    Ok((wrong, items(&system)))
-}
-
-/// A reparent touches every selector, though it leaves the class where it was: a claim that used one is refused.
-#[test]
-fn a_reparent_touches_every_selector(rt: HostRuntime) {
-    assert!(rt; is_answered_after_reparent(rt.alloc(), stale_claim(), 7) == Ok(true));
-    assert_eq!(rt; after_reparents(rt.alloc()), Ok((None, 5)));
-}
-
-fn after_full_history(alloc: Global) -> Result<(Option<usize>, usize, bool), Refusal> {
-    let mut system = posted(alloc, 6)?;
-    let wrong = first_wrong(alloc, &mut system, full_history());
-    Ok((wrong, items(&system), ends_with_a_beginning(&system)))
-}
-
-/// A history of six items has no place for the steps that follow the beginning of a turn.
-#[test]
-fn hands_claims_back(rt: HostRuntime) {
-    assert_eq!(rt; after_full_history(rt.alloc()), Ok((None, 6, true)));
-}
-
-/// Commits a claim, and tries again where memory was refused.
-fn commit(alloc: Global, system: &mut TwoWorkers) -> Answered {
-    match apply(alloc, system, &Event::Commit(0)) {
-        Err(Refusal::NoMemory) => apply(alloc, system, &Event::Commit(0)),
-        answer => answer,
-    }
-}
-
-/// Whether three steps are committed, in one run.
-fn commits_three(alloc: Global) -> Result<bool, Refusal> {
-    let mut system = posted(alloc, MOST)?;
-    Ok(
-        first_wrong(alloc, &mut system, three_steps()).is_none()
-            && commit(alloc, &mut system) == THREE
-            && has_run_three(&system),
-    )
-}
-
-/// A commit for which memory was refused can be tried again. Memory is refused where this test is run with an allocation that
-/// fails, by `rt try --test --fail-alloc N`.
-#[test]
-fn commits_when_tried_again(rt: HostRuntime) -> Result<(), Fail> {
-    assert!(rt; commits_three(rt.alloc())?);
-    Ok(())
-}
-
 /// Events, of which the second is refused.
-const RUN: &[Work] = &[
-    Work::Checkout(0),
-    Work::Checkout(0),
-    Work::Local(0),
-    Work::Local(0),
-    Work::Commit(0),
+const RUN: Rows = &[
+    (Work::Checkout(0), DONE),
+    (Work::Checkout(0), UNKNOWN),
+    (Work::Local(0), STEPPED),
+    (Work::Local(0), STEPPED),
+    (Work::Commit(0), Ok(Answer::Steps(2))),
 ];
 
 /// A whole turn by the first worker: the dispatch, and seven instructions.
-const TURN: &[Work] = &[
-    Work::Checkout(0),
-    Work::Local(0),
-    Work::Local(0),
-    Work::Local(0),
-    Work::Local(0),
-    Work::Local(0),
-    Work::Local(0),
-    Work::Local(0),
-    Work::Local(0),
-    Work::Commit(0),
+const TURN: Rows = &[
+    (Work::Checkout(0), DONE),
+    (Work::Local(0), STEPPED),
+    (Work::Local(0), STEPPED),
+    (Work::Local(0), STEPPED),
+    (Work::Local(0), STEPPED),
+    (Work::Local(0), STEPPED),
+    (Work::Local(0), STEPPED),
+    (Work::Local(0), STEPPED),
+    (Work::Local(0), STEPPED),
+    (Work::Commit(0), Ok(Answer::Steps(8))),
 ];
 
-fn events(alloc: Global, work: &[Work]) -> Result<Vec<Event>, AllocError> {
-    let mut events = Vec::new(alloc);
-    for work in work {
-        events.push(event(*work))?;
-    }
-    Ok(events)
+/// The message is posted once more.
+const POSTED_AGAIN: Rows = &[(Work::Post(2), Ok(Answer::Position(2)))];
+
+// The tables stand behind functions without a contract, so that the proofs of tests carry none of them.
+fn scenes() -> &'static [Scene] {
+    SCENES
 }
 
-/// Lets a list of events happen.
-fn run_all(alloc: Global, system: &mut TwoWorkers, work: &[Work]) -> Result<(), AllocError> {
-    let events = events(alloc, work)?;
-    run(alloc, system, events.as_slice());
+fn posted() -> Rows {
+    POSTED
+}
+
+fn run_of_five() -> Rows {
+    RUN
+}
+
+fn turn() -> Rows {
+    TURN
+}
+
+fn posted_again() -> Rows {
+    POSTED_AGAIN
+}
+
+fn event(alloc: Global, work: Work) -> Result<Event, AllocError> {
+    Ok(match work {
+        Work::Checkout(worker) => Event::Checkout {
+            worker,
+            actor: FIRST,
+        },
+        Work::Local(worker) => Event::Local(worker),
+        Work::Commit(worker) => Event::Commit(worker),
+        Work::Release(worker) => Event::Release(worker),
+        Work::Forget(worker) => Event::Forget(worker),
+        Work::Define => Event::Define {
+            name: text(alloc, "A")?,
+            parent: OBJECT,
+            slots: Seq::from_vec(Vec::new(alloc)),
+        },
+        Work::Install(class, source) => Event::Install {
+            class,
+            source: text(alloc, source)?,
+        },
+        Work::Reparent(class, parent) => Event::Reparent { class, parent },
+        Work::Intern => Event::Intern(text(alloc, "go")?),
+        Work::Create => Event::Create(A),
+        Work::Post(seq) => Event::Post {
+            sender: 1,
+            seq,
+            actor: FIRST,
+            selector: GO,
+            args: Seq::from_vec(Vec::new(alloc)),
+        },
+    })
+}
+
+/// A worker whose caches keep no list of edits.
+fn new_worker(alloc: Global) -> Result<Worker<GlobalGuard>, AllocError> {
+    let mut worker = Worker::new(Caches::new(alloc, GlobalGuard::new())?);
+    worker.forget();
+    Ok(worker)
+}
+
+fn two_workers(alloc: Global) -> Result<Vec<Worker<GlobalGuard>>, AllocError> {
+    let mut workers = Vec::new(alloc);
+    for _ in 0..2 {
+        workers.push(new_worker(alloc)?)?;
+    }
+    Ok(workers)
+}
+
+/// A new image with a history of at most this many items, and two workers without claims.
+fn new_system(alloc: Global, history: u32) -> Result<Box<TwoWorkers>, Refusal> {
+    let settings = Settings {
+        capacity: 64,
+        history,
+    };
+    let workers = two_workers(alloc)?;
+    Ok(system_of(alloc, Image::new(alloc, settings)?, workers)?)
+}
+
+/// Whether each event of some rows answers as it has to.
+fn is_played(alloc: Global, system: &mut TwoWorkers, rows: Rows) -> Result<bool, AllocError> {
+    for (work, wanted) in rows {
+        let event = event(alloc, *work)?;
+        if apply(alloc, system, &event) != *wanted {
+            return Ok(false);
+        }
+    }
+    Ok(true)
+}
+
+/// How many items the history has, and how it ends.
+fn items_and_end(system: &TwoWorkers) -> (usize, End) {
+    let history = system.image().history();
+    let end = match history {
+        [.., Item::Begun(begun), Item::Ran { actor, steps }]
+            if *begun == FIRST && *actor == FIRST => End::Ran(*steps),
+        [.., Item::Begun(begun)] if *begun == FIRST => End::Begun,
+        _ => End::Other,
+    };
+    (history.len(), end)
+}
+
+/// Whether a scene goes as it has to.
+fn is_well(alloc: Global, scene: Scene) -> Result<bool, Refusal> {
+    let (history, parts, items, end) = scene;
+    let mut system = new_system(alloc, history)?;
+    for rows in parts {
+        if !is_played(alloc, &mut system, *rows)? {
+            return Ok(false);
+        }
+    }
+    Ok(items_and_end(&system) == (items, end))
+}
+
+#[test]
+fn scenes_of_two_workers(rt: HostRuntime) -> Result<(), Fail> {
+    for (place, scene) in scenes().iter().enumerate() {
+        assert!(rt; is_well(rt.alloc(), *scene)?, "scene {place}");
+    }
     Ok(())
 }
 
-/// How many workers and items there are behind a run, and whether it ends with a run of two steps.
-fn after_run(alloc: Global) -> Result<(usize, usize, bool), Refusal> {
-    let mut system = posted(alloc, MOST)?;
-    run_all(alloc, &mut system, RUN)?;
-    known(&system);
-    Ok((
-        workers(&system),
-        items(&system),
-        ends_with_a_run(&system, 2),
-    ))
+/// Lets a list of events happen.
+fn run(alloc: Global, system: &mut TwoWorkers, rows: Rows) -> Result<(), AllocError> {
+    let mut events = Vec::new(alloc);
+    for (work, _) in rows {
+        events.push(event(alloc, *work)?)?;
+    }
+    system.run(alloc, events.as_slice());
+    system.known();
+    Ok(())
 }
 
-/// A run goes on after a refused event.
+/// A run goes on after a refused event: whether there are two workers then, and two steps were taken.
+fn goes_on(alloc: Global) -> Result<bool, Refusal> {
+    let mut system = new_system(alloc, MOST)?;
+    let is_posted = is_played(alloc, &mut system, posted())?;
+    run(alloc, &mut system, run_of_five())?;
+    Ok(is_posted && system.workers() == 2 && items_and_end(&system) == (7, End::Ran(2)))
+}
+
 #[test]
-fn runs_events(rt: HostRuntime) {
-    assert_eq!(rt; after_run(rt.alloc()), Ok((2, 7, true)));
+fn runs_events(rt: HostRuntime) -> Result<(), Fail> {
+    assert!(rt; goes_on(rt.alloc())?);
+    Ok(())
 }
 
-/// Whether the message is posted again between two turns, and how its first sends were found in both.
-fn after_two_turns(alloc: Global) -> Result<(bool, Option<(u64, u64, u64)>), Refusal> {
-    let mut system = posted(alloc, MOST)?;
-    run_all(alloc, &mut system, TURN)?;
-    let is_posted = is_posted_again(alloc, &mut system);
-    run_all(alloc, &mut system, TURN)?;
-    Ok((is_posted, first_site_of_go(alloc, &system)))
+/// How the sends of the first site of `go` were found: at their site, by the lookup cache, by walks.
+fn first_site_of_go(alloc: Global, system: &TwoWorkers) -> Result<(u64, u64, u64), Refusal> {
+    let sites = system.image().stats(alloc, A, GO)?;
+    let site = sites.first().ok_or(Refusal::NoSuchMethod)?;
+    Ok((site.tally.by_site, site.tally.by_global, site.tally.by_walk))
+}
+
+/// How the first sends of two turns were found, where the message is posted again between them.
+fn after_two_turns(alloc: Global) -> Result<(u64, u64, u64), Refusal> {
+    let mut system = new_system(alloc, MOST)?;
+    let is_posted = is_played(alloc, &mut system, posted())?;
+    run(alloc, &mut system, turn())?;
+    if !is_posted || !is_played(alloc, &mut system, posted_again())? {
+        return Err(Refusal::BadArguments);
+    }
+    run(alloc, &mut system, turn())?;
+    first_site_of_go(alloc, &system)
 }
 
 /// What was found in a run is found at its site in the next one.
 #[test]
-fn runs_keep_what_they_found(rt: HostRuntime) {
-    assert_eq!(rt; after_two_turns(rt.alloc()), Ok((true, Some((1, 0, 1)))));
+fn runs_keep_what_they_found(rt: HostRuntime) -> Result<(), Fail> {
+    assert!(rt; after_two_turns(rt.alloc())? == (1, 0, 1));
+    Ok(())
 }

@@ -19,6 +19,4 @@ mod refused;
 #[cfg(test)]
 mod rounds;
 #[cfg(test)]
-mod systems;
-#[cfg(test)]
 mod workers;

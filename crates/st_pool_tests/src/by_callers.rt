@@ -61,7 +61,7 @@ pub fn not_understood<C: Calls, R: Wait + Clock>(rt: &R, alloc: Global, caller: 
     make_actor(rt, alloc, caller, "go ^self missing")
         && post(rt, alloc, caller, 1, FIRST, "go") == Ok(1)
         && is_not_understood(rt, caller, 1)
-        && install(rt, alloc, caller, OBJECT, "missing ^7") == Ok(3)
+        && caller.install(rt, alloc, OBJECT, "missing ^7") == Ok(3)
         && post(rt, alloc, caller, 2, FIRST, "go") == Ok(2)
         && answers(rt, caller, FIRST, 2, 7)
         && remove(rt, alloc, caller, OBJECT, "missing") == Ok(4)
@@ -80,14 +80,14 @@ pub fn closing<C: Calls, R: Wait + Clock>(
     marks: &Marks,
 ) -> bool {
     let is_closed = make_actor(rt, alloc, caller, "a ^3 + 4 * 2")
-        && create(rt, alloc, caller, A) == Ok(SECOND)
+        && caller.create(rt, alloc, A) == Ok(SECOND)
         && post(rt, alloc, caller, 1, FIRST, "a") == Ok(1)
         && marks.await_claims(rt, 1)
         && post(rt, alloc, caller, 2, SECOND, "a") == Ok(1)
         && post(rt, alloc, caller, 3, SECOND, "a") == Ok(2)
-        && close(rt, caller, SECOND) == Ok(())
+        && caller.close(rt, SECOND) == Ok(())
         && post(rt, alloc, caller, 4, SECOND, "a") == Err(Refusal::Closed)
-        && close(rt, caller, SECOND) == Err(Refusal::Closed)
+        && caller.close(rt, SECOND) == Err(Refusal::Closed)
         && post(rt, alloc, caller, 5, FIRST, "a") == Ok(2);
     marks.tell();
     is_closed
@@ -95,7 +95,7 @@ pub fn closing<C: Calls, R: Wait + Clock>(
         && answers(rt, caller, SECOND, 2, 14)
         && answers(rt, caller, FIRST, 1, 14)
         && answers(rt, caller, FIRST, 2, 14)
-        && outcome(rt, caller, SECOND, 3) == Err(Refusal::Pending)
+        && caller.outcome(rt, SECOND, 3) == Err(Refusal::Pending)
 }
 
 /// A sender's numbers only rise. Each turn has seven steps, which are three quanta of at most three.

@@ -241,34 +241,13 @@ impl<K: Naming> Calls for Caller<'_, K> {
     }
 }
 
-/// Defines a class under Object without instance variables. Its number is that of the order of definition.
-pub fn define_under<C: Calls, R: Wait>(
-    rt: &R,
-    alloc: Global,
-    caller: &mut C,
-    name: &str,
-    parent: ClassId,
-) -> Result<u32, Refusal> {
-    caller.define(rt, alloc, name, parent)
-}
-
 pub fn define<C: Calls, R: Wait>(
     rt: &R,
     alloc: Global,
     caller: &mut C,
     name: &str,
 ) -> Result<u32, Refusal> {
-    define_under(rt, alloc, caller, name, OBJECT)
-}
-
-pub fn install<C: Calls, R: Wait>(
-    rt: &R,
-    alloc: Global,
-    caller: &mut C,
-    class: ClassId,
-    source: &str,
-) -> Result<u32, Refusal> {
-    caller.install(rt, alloc, class, source)
+    caller.define(rt, alloc, name, OBJECT)
 }
 
 pub fn remove<C: Calls, R: Wait>(
@@ -280,37 +259,6 @@ pub fn remove<C: Calls, R: Wait>(
 ) -> Result<u32, Refusal> {
     let selector = caller.intern(rt, alloc, selector.as_bytes())?;
     caller.remove(rt, alloc, class, selector)
-}
-
-pub fn reparent<C: Calls, R: Wait>(
-    rt: &R,
-    alloc: Global,
-    caller: &mut C,
-    class: ClassId,
-    parent: ClassId,
-) -> Result<u32, Refusal> {
-    caller.reparent(rt, alloc, class, parent)
-}
-
-pub fn create<C: Calls, R: Wait>(
-    rt: &R,
-    alloc: Global,
-    caller: &mut C,
-    class: ClassId,
-) -> Result<ActorId, Refusal> {
-    caller.create(rt, alloc, class)
-}
-
-pub fn checkpoint<C: Calls, R: Wait>(
-    rt: &R,
-    alloc: Global,
-    caller: &mut C,
-) -> Result<u64, Refusal> {
-    caller.checkpoint(rt, alloc)
-}
-
-pub fn close<C: Calls, R: Wait>(rt: &R, caller: &mut C, actor: ActorId) -> Result<(), Refusal> {
-    caller.close(rt, actor)
 }
 
 fn one_value(alloc: Global, value: Value) -> Result<Values, AllocError> {
@@ -361,15 +309,6 @@ pub fn post_with<C: Calls, R: Wait>(
     caller.post(rt, alloc, 1, seq, actor, selector, args)
 }
 
-pub fn outcome<C: Calls, R: Wait>(
-    rt: &R,
-    caller: &mut C,
-    actor: ActorId,
-    turn: u64,
-) -> Result<Outcome, Refusal> {
-    caller.outcome(rt, actor, turn)
-}
-
 /// How a turn ends soon. It is asked once in a millisecond, so often at most as a gate waits.
 pub fn ended<C: Calls, R: Wait + Clock>(
     rt: &R,
@@ -378,7 +317,7 @@ pub fn ended<C: Calls, R: Wait + Clock>(
     turn: u64,
 ) -> Result<Outcome, Refusal> {
     for _ in 0..TURNS {
-        let answer = outcome(rt, caller, actor, turn);
+        let answer = caller.outcome(rt, actor, turn);
         if answer != Err(Refusal::Pending) {
             return answer;
         }
@@ -402,6 +341,6 @@ pub fn answers<C: Calls, R: Wait + Clock>(
 pub fn make_actor<C: Calls, R: Wait>(rt: &R, alloc: Global, caller: &mut C, source: &str) -> bool {
     define(rt, alloc, caller, "A") == Ok(1)
         && caller.seen_class(rt, b"A") == Some(A)
-        && install(rt, alloc, caller, A, source) == Ok(2)
-        && create(rt, alloc, caller, A) == Ok(FIRST)
+        && caller.install(rt, alloc, A, source) == Ok(2)
+        && caller.create(rt, alloc, A) == Ok(FIRST)
 }

@@ -45,7 +45,7 @@ fn post_all<C: Calls, R: Wait>(
 fn make_checkpoints<C: Calls, R: Wait + Clock>(rt: &R, alloc: Global, caller: &mut C) -> bool {
     let mut last = 0;
     for _ in 0..10 {
-        match checkpoint(rt, alloc, caller) {
+        match caller.checkpoint(rt, alloc) {
             Ok(posts) if posts >= last => last = posts,
             _ => return false,
         }

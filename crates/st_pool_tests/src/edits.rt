@@ -25,12 +25,12 @@ fn edited<C: Calls, R: Wait + Clock>(
     claims: u64,
 ) -> bool {
     let is_edited = define(rt, alloc, caller, "A") == Ok(1)
-        && install(rt, alloc, caller, A, "go ^3 tag") == Ok(2)
-        && install(rt, alloc, caller, SMALL_INTEGER, "tag ^1") == Ok(3)
-        && create(rt, alloc, caller, A) == Ok(FIRST)
+        && caller.install(rt, alloc, A, "go ^3 tag") == Ok(2)
+        && caller.install(rt, alloc, SMALL_INTEGER, "tag ^1") == Ok(3)
+        && caller.create(rt, alloc, A) == Ok(FIRST)
         && post(rt, alloc, caller, 1, FIRST, "go") == Ok(1)
         && marks.await_claims(rt, 1)
-        && install(rt, alloc, caller, class, source) == Ok(4);
+        && caller.install(rt, alloc, class, source) == Ok(4);
     marks.tell();
     is_edited && answers(rt, caller, FIRST, 1, number) && marks.claims() == claims
 }
@@ -62,16 +62,16 @@ const C: ClassId = ClassId(10);
 /// C is first under A and then under B, and each of the two answers a number of its own.
 pub fn reparented<C: Calls, R: Wait + Clock>(rt: &R, alloc: Global, caller: &mut C) -> bool {
     define(rt, alloc, caller, "A") == Ok(1)
-        && install(rt, alloc, caller, A, "who ^1") == Ok(2)
+        && caller.install(rt, alloc, A, "who ^1") == Ok(2)
         && define(rt, alloc, caller, "B") == Ok(3)
-        && install(rt, alloc, caller, B, "who ^2") == Ok(4)
-        && define_under(rt, alloc, caller, "C", A) == Ok(5)
-        && install(rt, alloc, caller, C, "go ^self who") == Ok(6)
-        && create(rt, alloc, caller, C) == Ok(FIRST)
+        && caller.install(rt, alloc, B, "who ^2") == Ok(4)
+        && caller.define(rt, alloc, "C", A) == Ok(5)
+        && caller.install(rt, alloc, C, "go ^self who") == Ok(6)
+        && caller.create(rt, alloc, C) == Ok(FIRST)
         && post(rt, alloc, caller, 1, FIRST, "go") == Ok(1)
         && answers(rt, caller, FIRST, 1, 1)
-        && reparent(rt, alloc, caller, A, C) == Err(Refusal::Cycle)
-        && reparent(rt, alloc, caller, C, B) == Ok(7)
+        && caller.reparent(rt, alloc, A, C) == Err(Refusal::Cycle)
+        && caller.reparent(rt, alloc, C, B) == Ok(7)
         && post(rt, alloc, caller, 2, FIRST, "go") == Ok(2)
         && answers(rt, caller, FIRST, 2, 2)
 }

@@ -23,7 +23,7 @@ pub fn at_checkout<C: Calls, R: Wait + Clock>(
     pause(rt, 20);
     is_posted
         && post(rt, alloc, caller, 2, FIRST, "go") == Err(Refusal::HistoryFull)
-        && outcome(rt, caller, FIRST, 1) == Err(Refusal::Pending)
+        && caller.outcome(rt, FIRST, 1) == Err(Refusal::Pending)
         && marks.claims() == 0
 }
 
@@ -62,11 +62,11 @@ fn is_refused<C: Calls, R: Wait + Clock>(
 ) -> bool {
     let refused = match call {
         Call::Define => define(rt, alloc, caller, "B").err(),
-        Call::Install => install(rt, alloc, caller, A, "stop ^2").err(),
+        Call::Install => caller.install(rt, alloc, A, "stop ^2").err(),
         Call::Remove => remove(rt, alloc, caller, A, "go").err(),
-        Call::Reparent => reparent(rt, alloc, caller, A, OBJECT).err(),
-        Call::Create => create(rt, alloc, caller, A).err(),
-        Call::Close => close(rt, caller, FIRST).err(),
+        Call::Reparent => caller.reparent(rt, alloc, A, OBJECT).err(),
+        Call::Create => caller.create(rt, alloc, A).err(),
+        Call::Close => caller.close(rt, FIRST).err(),
     };
     refused == Some(Refusal::HistoryFull)
 }
@@ -96,7 +96,7 @@ pub fn at_commit<C: Calls, R: Wait + Clock>(
             return false;
         }
     }
-    outcome(rt, caller, FIRST, 1) == Err(Refusal::Pending)
+    caller.outcome(rt, FIRST, 1) == Err(Refusal::Pending)
 }
 
 /// As before; but the worker is kept, after its commit was refused, until a call was made. It must not wait for another then.
@@ -126,7 +126,7 @@ pub fn room_again<C: Calls, R: Wait + Clock>(
         && rests_after(rt, marks, 1)
         && is_refused(rt, alloc, caller, Call::Close)
         && rests_after(rt, marks, 2)
-        && checkpoint(rt, alloc, caller) == Ok(1)
+        && caller.checkpoint(rt, alloc) == Ok(1)
         && answers(rt, caller, FIRST, 0, 1)
         && post(rt, alloc, caller, 2, FIRST, "go") == Ok(1)
         && answers(rt, caller, FIRST, 1, 1)

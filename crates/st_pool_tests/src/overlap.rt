@@ -13,7 +13,7 @@ use std::time::Clock;
 /// which the history shows one.
 pub fn overlap<C: Calls, R: Wait + Clock>(rt: &R, alloc: Global, caller: &mut C) -> bool {
     make_actor(rt, alloc, caller, "a ^3 + 4 * 2")
-        && create(rt, alloc, caller, A) == Ok(SECOND)
+        && caller.create(rt, alloc, A) == Ok(SECOND)
         && post(rt, alloc, caller, 1, FIRST, "a") == Ok(1)
         && post(rt, alloc, caller, 2, SECOND, "a") == Ok(1)
         && answers(rt, caller, FIRST, 1, 14)

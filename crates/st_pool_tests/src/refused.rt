@@ -59,9 +59,9 @@ fn edit<C: Calls, R: Wait>(
 ) -> Result<u32, Refusal> {
     match word {
         "define" => define(rt, alloc, caller, rest),
-        "install" => install(rt, alloc, caller, A, rest),
-        "tag" => install(rt, alloc, caller, SMALL_INTEGER, rest),
-        "reparent" => reparent(rt, alloc, caller, A, OBJECT),
+        "install" => caller.install(rt, alloc, A, rest),
+        "tag" => caller.install(rt, alloc, SMALL_INTEGER, rest),
+        "reparent" => caller.reparent(rt, alloc, A, OBJECT),
         _ => remove(rt, alloc, caller, A, rest),
     }
 }
@@ -90,17 +90,17 @@ fn act<C: Calls, R: Wait>(
     rest: &str,
 ) -> Result<u64, Refusal> {
     match word {
-        "create" => Ok(u64::from(create(rt, alloc, caller, A)?.0)),
+        "create" => Ok(u64::from(caller.create(rt, alloc, A)?.0)),
         "post" => post_line(rt, alloc, caller, rest),
         "intern" => Ok(u64::from(caller.intern(rt, alloc, rest.as_bytes())?.0)),
         "sites" => sites(rt, alloc, caller, rest),
-        "checkpoint" => checkpoint(rt, alloc, caller),
+        "checkpoint" => caller.checkpoint(rt, alloc),
         "close" => {
-            close(rt, caller, FIRST)?;
+            caller.close(rt, FIRST)?;
             Ok(0)
         }
         _ => {
-            outcome(rt, caller, FIRST, 1)?;
+            caller.outcome(rt, FIRST, 1)?;
             Ok(0)
         }
     }

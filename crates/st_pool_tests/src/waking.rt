@@ -59,7 +59,7 @@ pub fn long_turn<C: Calls, R: Wait + Clock>(
 fn hurry<C: Calls, R: Wait>(rt: &R, caller: &mut C, actor: ActorId, turn: u64) {
     for _ in 0..100_000 {
         let _ = caller.seen_posts(rt, actor, 1);
-        if outcome(rt, caller, actor, turn) != Err(Refusal::Pending) {
+        if caller.outcome(rt, actor, turn) != Err(Refusal::Pending) {
             return;
         }
     }
@@ -69,7 +69,7 @@ fn hurry<C: Calls, R: Wait>(rt: &R, caller: &mut C, actor: ActorId, turn: u64) {
 /// both, and goes on with the one when a turn of the other ends.
 pub fn hurried<C: Calls, R: Wait + Clock>(rt: &R, alloc: Global, caller: &mut C) -> bool {
     let source = "count: n | i | i := 0. [i < n] whileTrue: [i := i + 1]. ^i";
-    if !make_actor(rt, alloc, caller, source) || create(rt, alloc, caller, A) != Ok(SECOND) {
+    if !make_actor(rt, alloc, caller, source) || caller.create(rt, alloc, A) != Ok(SECOND) {
         return false;
     }
     for turn in 1..9 {
@@ -110,8 +110,8 @@ pub fn waking_by_commit<C: Calls, R: Wait + Clock>(
 ) -> bool {
     make_actor(rt, alloc, caller, "ask: r ^r post: #tick")
         && define(rt, alloc, caller, "Kid") == Ok(3)
-        && install(rt, alloc, caller, KID, "tick ^7") == Ok(4)
-        && create(rt, alloc, caller, KID) == Ok(SECOND)
+        && caller.install(rt, alloc, KID, "tick ^7") == Ok(4)
+        && caller.create(rt, alloc, KID) == Ok(SECOND)
         && post_with(rt, alloc, caller, 1, FIRST, "ask:", Value::Actor(SECOND)) == Ok(1)
         && answers(rt, caller, SECOND, 1, 7)
         && marks.await_ended(rt, 3)
@@ -123,7 +123,7 @@ pub fn waking_by_commit<C: Calls, R: Wait + Clock>(
 pub fn rally<C: Calls, R: Wait + Clock>(rt: &R, alloc: Global, caller: &mut C) -> bool {
     let source = "rally: n n > 0 ifTrue: [thisActor post: #rally: with: n - 1]. ^n";
     make_actor(rt, alloc, caller, source)
-        && create(rt, alloc, caller, A) == Ok(SECOND)
+        && caller.create(rt, alloc, A) == Ok(SECOND)
         && post_with(rt, alloc, caller, 1, FIRST, "rally:", Value::Int(3000)) == Ok(1)
         && post_with(rt, alloc, caller, 2, SECOND, "rally:", Value::Int(3000)) == Ok(1)
         && answers(rt, caller, FIRST, 3001, 0)

@@ -1,7 +1,7 @@
 """What there may be at most, and the refusal of one more."""
 
-from .commands import HISTORY, IS_NIL, accepted, actor, answer, define, error, fault, made, method, outcome, post, ran, remove, reparent, run
-from .commands import stats, too_many, version
+from .commands import HISTORY, IS_NIL, accepted, actor, answer, define, error, fault, made, method, outcome, post, ran, remove, reparent
+from .commands import run, stats, too_many, version
 from .looks import actors, edits, names
 from .running import run as run_script
 from .script import Script
@@ -109,8 +109,8 @@ def most_names(program):
 
 
 def items_of_history(program):
-    """A full history tells how many items there were: each edit that was accepted is one, and what is refused is none. An actor, its message and
-    the beginning of its turn are three more. Its turn does not end, and each quantum is one item up to the last."""
+    """A full history tells how many items there were: each edit that was accepted is one, and what is refused is none. An actor, its
+    message and the beginning of its turn are three more. Its turn does not end, and each quantum is one item up to the last."""
     for script, count in ((all_edits(), 2048), (all_names(), 2)):
         left = HISTORY - count - 3
         script.ask(run(left), ran(left, left))

@@ -18,8 +18,8 @@ def filled(script, most):
 
 
 def filled_by_a_client(program):
-    """A full mailbox refuses a message twice, and takes it, with the same number, where its actor has begun one. It is closed once, and takes
-    no message then, be it full or not. The turns of all that it took end, and there are no more."""
+    """A full mailbox refuses a message twice, and takes it, with the same number, where its actor has begun one. It is closed once, and
+    takes no message then, be it full or not. The turns of all that it took end, and there are no more."""
     for most in (1, 1024):
         script = Script(f"filled_by_a_client: {most}", capacity=most)
         filled(script, most)
@@ -51,9 +51,9 @@ def own(first, count):
 
 
 def fills_its_own(script, most):
-    """An actor fills its mailbox with messages to itself, of which it answers the number. The last post is refused, and takes no number. A pass
-    of the loop has ten steps; before the loop there are four, and the last one has four and four behind it. Each is a quantum but for
-    the posts, which are the image's."""
+    """An actor fills its mailbox with messages to itself, of which it answers the number. The last post is refused, and takes no number. A
+    pass of the loop has ten steps; before the first one there are four, and the last one has four and four behind it. Each is a quantum
+    but for the posts, which are the image's."""
     script.ask(post(1, "fill"), accepted(1))
     script.ask(run(9 * most + 11), ran(9 * most + 11, 10 * most + 12))
     script.ask(outcome(1), answer(most))

@@ -33,19 +33,22 @@ def whole(program, data, options=()):
     return Ended(ended.returncode, ended.stdout, ended.stderr)
 
 
-def in_pieces(program, data, size, options=()):
-    """The end of a session of which each read is given so many bytes: those of one packet of a socket."""
+def over_packets(program, options, give, is_waited_for=True):
+    """The end of a session whose reads are each given one packet of a socket: what `give` sends."""
     ours, its = socket.socketpair(socket.AF_UNIX, socket.SOCK_SEQPACKET)
+    ours.settimeout(SECONDS)
+    its.setblocking(is_waited_for)
     with ours, tempfile.TemporaryFile() as out, tempfile.TemporaryFile() as said:
         with its:
+            if not is_waited_for:
+                give(ours)
             process = subprocess.Popen([program, "script", *options], stdin=its, stdout=out, stderr=said)
-        ours.settimeout(SECONDS)
         try:
-            # A session may end before its last byte.
-            with contextlib.suppress(BrokenPipeError, ConnectionResetError):
-                for place in range(0, len(data), size):
-                    ours.send(data[place : place + size])
-            ours.close()
+            if is_waited_for:
+                # A session may end before its last byte.
+                with contextlib.suppress(BrokenPipeError, ConnectionResetError):
+                    give(ours)
+                ours.close()
             status = process.wait(SECONDS)
         finally:
             process.kill()
@@ -53,6 +56,26 @@ def in_pieces(program, data, size, options=()):
         for file in (out, said):
             file.seek(0)
         return Ended(status, out.read(), said.read())
+
+
+def in_pieces(program, data, size, options=()):
+    """The end of a session of which each read is given so many bytes."""
+
+    def give(ours):
+        for place in range(0, len(data), size):
+            ours.send(data[place : place + size])
+
+    return over_packets(program, options, give)
+
+
+def failing(program, pieces):
+    """The end of a session whose reads are given these pieces, and of which the next read fails."""
+
+    def give(ours):
+        for piece in pieces:
+            ours.send(piece)
+
+    return over_packets(program, (), give, is_waited_for=False)
 
 
 def shown(data):
@@ -104,4 +127,5 @@ def run(program, script, is_cut=False):
             images[count] = image_behind(program, script, count)
         found = look(images[count])
         if found != what:
-            raise Wrong(f"{script.name}: behind {count} lines {look.__name__} says {shown(repr(found).encode())}, not {shown(repr(what).encode())}")
+            texts = (shown(repr(it).encode()) for it in (found, what))
+            raise Wrong(f"{script.name}: behind {count} lines {look.__name__} says {', not '.join(texts)}")

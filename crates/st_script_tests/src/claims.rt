@@ -3,199 +3,227 @@ use crate::calls::*;
 use st_classes::kernel::{OBJECT, SMALL_INTEGER};
 use st_classes::refusals::Refusal;
 use st_classes::values::ClassId;
+use st_image::settings::Settings;
 use st_server::images::Image;
+use st_turn::claim::Claim;
 use std::alloc::Global;
+use std::collections::VecDeque;
 use std::test::*;
 
 const A: ClassId = ClassId(8);
 
+/// A class that is defined below.
 const OTHER: ClassId = ClassId(9);
+
+/// What happens to an image.
+enum Event {
+    /// It is a new one with an actor to which a message was sent, after three edits. No claim is out.
+    Anew,
+    /// A new worker takes so many steps on a claim of the actor, or fewer if no step of the actor's own is next.
+    Take(u32),
+    /// Of the claims that are out the first one is committed, and the answer is this.
+    Commit(Result<u32, Refusal>),
+    /// So many steps are taken and committed.
+    Advance(u32),
+    Install(ClassId, &'static str),
+    /// The method of numbers is removed.
+    Remove,
+    /// A class is defined under Object.
+    Define,
+    /// That class gets the superclass again that it has.
+    Reparent,
+    Checkpoint,
+}
+
+const CHANGED: Event = Event::Commit(Err(Refusal::Changed));
+
+const STALE: Event = Event::Commit(Err(Refusal::Stale { version: 4 }));
+
+const STALE_BY_OTHER: Event = Event::Commit(Err(Refusal::Stale { version: 5 }));
+
+const EVENTS: &[Event] = &[
+    // Of two claims on one body one counts.
+    Event::Anew,
+    Event::Take(3),
+    Event::Take(3),
+    Event::Commit(Ok(3)),
+    CHANGED,
+    // An install of what a claim sent makes it stale; one of what nobody sends does not; one for messages that are not understood does, and
+    // one for the message that it has dispatched.
+    Event::Anew,
+    Event::Take(3),
+    Event::Install(SMALL_INTEGER, "tag ^2"),
+    STALE,
+    Event::Anew,
+    Event::Take(3),
+    Event::Install(A, "bump ^0"),
+    Event::Commit(Ok(3)),
+    Event::Anew,
+    Event::Take(3),
+    Event::Install(A, "doesNotUnderstand: s ^s"),
+    STALE,
+    Event::Anew,
+    Event::Take(3),
+    Event::Install(A, "go ^4"),
+    STALE,
+    // Behind its last send the turn of `go` has one step, its answer. A claim of that one used nothing, and survives each of these.
+    Event::Anew,
+    Event::Advance(7),
+    Event::Take(8),
+    Event::Install(SMALL_INTEGER, "tag ^2"),
+    Event::Commit(Ok(1)),
+    Event::Anew,
+    Event::Advance(7),
+    Event::Take(8),
+    Event::Install(A, "bump ^0"),
+    Event::Commit(Ok(1)),
+    Event::Anew,
+    Event::Advance(7),
+    Event::Take(8),
+    Event::Install(A, "doesNotUnderstand: s ^s"),
+    Event::Commit(Ok(1)),
+    Event::Anew,
+    Event::Advance(7),
+    Event::Take(8),
+    Event::Install(A, "go ^4"),
+    Event::Commit(Ok(1)),
+    // A removal makes a claim stale, and a definition does not.
+    Event::Anew,
+    Event::Take(3),
+    Event::Remove,
+    STALE,
+    Event::Take(1),
+    Event::Define,
+    Event::Commit(Ok(1)),
+    // A reparent of an unrelated class makes stale what used a selector, and nothing else.
+    Event::Anew,
+    Event::Define,
+    Event::Take(3),
+    Event::Reparent,
+    STALE_BY_OTHER,
+    Event::Anew,
+    Event::Define,
+    Event::Take(1),
+    Event::Reparent,
+    STALE_BY_OTHER,
+    Event::Anew,
+    Event::Define,
+    Event::Take(0),
+    Event::Reparent,
+    Event::Commit(Ok(0)),
+    Event::Anew,
+    Event::Define,
+    Event::Advance(7),
+    Event::Take(8),
+    Event::Reparent,
+    Event::Commit(Ok(1)),
+    // No step uses nothing, and a super send its selector.
+    Event::Anew,
+    Event::Take(0),
+    Event::Install(A, "go ^4"),
+    Event::Commit(Ok(0)),
+    Event::Install(A, "go ^super above"),
+    Event::Install(OBJECT, "above ^1"),
+    Event::Take(3),
+    Event::Install(OBJECT, "above ^2"),
+    Event::Commit(Err(Refusal::Stale { version: 7 })),
+    // A checkpoint is nothing to claims: behind it, between them, and before an edit.
+    Event::Anew,
+    Event::Take(3),
+    Event::Take(3),
+    Event::Checkpoint,
+    Event::Commit(Ok(3)),
+    CHANGED,
+    Event::Anew,
+    Event::Take(3),
+    Event::Take(3),
+    Event::Commit(Ok(3)),
+    Event::Checkpoint,
+    CHANGED,
+    Event::Anew,
+    Event::Take(3),
+    Event::Checkpoint,
+    Event::Install(SMALL_INTEGER, "tag ^2"),
+    STALE,
+];
+
+/// The table behind a function without a contract, so that the proof of a test carries none of it.
+fn events() -> &'static [Event] {
+    EVENTS
+}
 
 /// An image with an actor to which a message was sent, after three edits.
 fn asked(alloc: Global) -> Result<Box<Image>, Refusal> {
-    let mut image = new_image(alloc)?;
+    let mut image = new_image(alloc, Settings::DEFAULT)?;
     define(alloc, &mut image, b"A", OBJECT)?;
     install(alloc, &mut image, A, "go ^3 tag + 1")?;
     install(alloc, &mut image, SMALL_INTEGER, "tag ^1")?;
     create(alloc, &mut image, A)?;
     let go = intern(alloc, &mut image, b"go")?;
-    post(alloc, &mut image, 1, 1, go)?;
+    post(alloc, &mut image, go)?;
     Ok(image)
 }
 
-/// What the commits of two claims on one body answer, the later one last.
-fn two_commits(alloc: Global) -> Result<[Result<u32, Refusal>; 2], Refusal> {
-    let mut image = asked(alloc)?;
-    let first = claim_of(alloc, &mut image, 3)?;
-    let second = claim_of(alloc, &mut image, 3)?;
-    let answer = commit(alloc, &mut image, first);
-    Ok([answer, commit(alloc, &mut image, second)])
-}
-
-#[test]
-fn one_of_two_claims_counts(rt: HostRuntime) -> Result<(), Fail> {
-    let answers = two_commits(rt.alloc())?;
-    assert!(rt; answers == [Ok(3), Err(Refusal::Changed)]);
-    Ok(())
-}
-
-/// Methods that are installed while a claim is out, and what the claim's commit answers: one for a message that it has sent, one
-/// for a message that nobody sends, one for messages that are not understood, and one for the message that it has dispatched.
-const INSTALLS: &[(ClassId, &str, Result<u32, Refusal>)] = &[
-    (SMALL_INTEGER, "tag ^2", Err(Refusal::Stale { version: 4 })),
-    (A, "bump ^0", Ok(3)),
-    (
-        A,
-        "doesNotUnderstand: s ^s",
-        Err(Refusal::Stale { version: 4 }),
-    ),
-    (A, "go ^4", Err(Refusal::Stale { version: 4 })),
-];
-
-/// The table behind a function without a contract, so that the proof of a test carries none of it.
-fn installs() -> &'static [(ClassId, &'static str, Result<u32, Refusal>)] {
-    INSTALLS
-}
-
-/// What the commit of a claim of this many steps answers after an install, where others were committed before it.
-fn commit_after(
+/// A claim is the last of those that are out.
+fn take(
     alloc: Global,
-    before: u32,
-    steps: u32,
-    class: ClassId,
-    source: &str,
-) -> Result<Result<u32, Refusal>, Refusal> {
-    let mut image = asked(alloc)?;
-    if before > 0 {
-        advance(alloc, &mut image, before)?;
+    image: &mut Image,
+    claims: &mut VecDeque<Claim>,
+    most: u32,
+) -> Result<bool, Refusal> {
+    let claim = claim_of(alloc, image, most)?;
+    match claims.push_back(claim) {
+        Ok(()) => Ok(true),
+        Err(_) => Err(Refusal::NoMemory),
     }
-    let claim = claim_of(alloc, &mut image, steps)?;
-    install(alloc, &mut image, class, source)?;
-    Ok(commit(alloc, &mut image, claim))
 }
 
-#[test]
-fn an_edit_of_a_used_selector_makes_a_claim_stale(rt: HostRuntime) -> Result<(), Fail> {
-    for (class, source, wanted) in installs() {
-        let answer = commit_after(rt.alloc(), 0, 3, *class, source)?;
-        assert!(rt; answer == *wanted, "{source}");
-    }
-    Ok(())
-}
-
-/// What the commit of a claim answers after a removal of `tag`, and after a definition.
-fn commits_after_others(alloc: Global) -> Result<[Result<u32, Refusal>; 2], Refusal> {
-    let mut image = asked(alloc)?;
-    let claim = claim_of(alloc, &mut image, 3)?;
-    let tag = intern(alloc, &mut image, b"tag")?;
-    remove(alloc, &mut image, SMALL_INTEGER, tag)?;
-    let removed = commit(alloc, &mut image, claim);
-    let claim = claim_of(alloc, &mut image, 1)?;
-    define(alloc, &mut image, b"D", OBJECT)?;
-    Ok([removed, commit(alloc, &mut image, claim)])
-}
-
-#[test]
-fn a_removal_touches_and_a_definition_does_not(rt: HostRuntime) -> Result<(), Fail> {
-    let answers = commits_after_others(rt.alloc())?;
-    assert!(rt; answers == [Err(Refusal::Stale { version: 4 }), Ok(1)]);
-    Ok(())
-}
-
-/// What the commit of a claim of this many steps answers after an unrelated class got the superclass again that it has.
-fn commit_after_reparent(
+/// Whether the first of the claims that are out is committed with this answer.
+fn is_committed(
     alloc: Global,
-    before: u32,
-    steps: u32,
-) -> Result<Result<u32, Refusal>, Refusal> {
-    let mut image = asked(alloc)?;
-    define(alloc, &mut image, b"Other", OBJECT)?;
-    if before > 0 {
-        advance(alloc, &mut image, before)?;
+    image: &mut Image,
+    claims: &mut VecDeque<Claim>,
+    wanted: Result<u32, Refusal>,
+) -> bool {
+    match claims.pop_front() {
+        Some(claim) => commit(alloc, image, claim) == wanted,
+        None => false,
     }
-    let claim = claim_of(alloc, &mut image, steps)?;
-    reparent(alloc, &mut image, OTHER, OBJECT)?;
-    Ok(commit(alloc, &mut image, claim))
+}
+
+/// Whether an event happens, and has the answer that it names.
+fn happens(
+    alloc: Global,
+    image: &mut Box<Image>,
+    claims: &mut VecDeque<Claim>,
+    event: &Event,
+) -> Result<bool, Refusal> {
+    match event {
+        Event::Anew => {
+            *image = asked(alloc)?;
+            Ok(claims.is_empty())
+        }
+        Event::Take(most) => take(alloc, image, claims, *most),
+        Event::Commit(wanted) => Ok(is_committed(alloc, image, claims, *wanted)),
+        Event::Advance(most) => Ok(advance(alloc, image, *most)? == *most),
+        Event::Install(class, source) => Ok(install(alloc, image, *class, source)? > 3),
+        Event::Remove => {
+            let tag = intern(alloc, image, b"tag")?;
+            Ok(remove(alloc, image, SMALL_INTEGER, tag)? == 4)
+        }
+        Event::Define => Ok(define(alloc, image, b"D", OBJECT)? > 3),
+        Event::Reparent => Ok(reparent(alloc, image, OTHER, OBJECT)? == 5),
+        Event::Checkpoint => Ok(checkpoint(alloc, image).is_ok()),
+    }
 }
 
 #[test]
-fn a_reparent_makes_stale_what_used_a_selector(rt: HostRuntime) -> Result<(), Fail> {
+fn claims_and_edits(rt: HostRuntime) -> Result<(), Fail> {
     let alloc = rt.alloc();
-    assert!(rt; commit_after_reparent(alloc, 0, 3)? == Err(Refusal::Stale { version: 5 }));
-    assert!(rt; commit_after_reparent(alloc, 0, 1)? == Err(Refusal::Stale { version: 5 }));
-    assert!(rt; commit_after_reparent(alloc, 0, 0)? == Ok(0));
-    assert!(rt; commit_after_reparent(alloc, 7, 8)? == Ok(1));
-    Ok(())
-}
-
-/// What the commit of a claim answers that took no step, and of one whose third step was a super send, where the method above was
-/// installed anew.
-fn commits_of_others(alloc: Global) -> Result<[Result<u32, Refusal>; 2], Refusal> {
     let mut image = asked(alloc)?;
-    let none = claim_of(alloc, &mut image, 0)?;
-    install(alloc, &mut image, A, "go ^4")?;
-    let nothing = commit(alloc, &mut image, none);
-    install(alloc, &mut image, A, "go ^super above")?;
-    install(alloc, &mut image, OBJECT, "above ^1")?;
-    let above = claim_of(alloc, &mut image, 3)?;
-    install(alloc, &mut image, OBJECT, "above ^2")?;
-    Ok([nothing, commit(alloc, &mut image, above)])
-}
-
-#[test]
-fn no_step_uses_nothing_and_a_super_send_its_selector(rt: HostRuntime) -> Result<(), Fail> {
-    let answers = commits_of_others(rt.alloc())?;
-    assert!(rt; answers == [Ok(0), Err(Refusal::Stale { version: 7 })]);
-    Ok(())
-}
-
-/// Behind its last send the turn of `go` has one step, its answer.
-#[test]
-fn a_claim_that_used_nothing_survives_every_edit(rt: HostRuntime) -> Result<(), Fail> {
-    for (class, source, _) in installs() {
-        let answer = commit_after(rt.alloc(), 7, 8, *class, source)?;
-        assert!(rt; answer == Ok(1), "{source}");
+    let mut claims = VecDeque::new(alloc);
+    for (place, event) in events().iter().enumerate() {
+        assert!(rt; happens(alloc, &mut image, &mut claims, event)?, "{place}");
     }
-    Ok(())
-}
-
-/// What the commits of two claims on one body answer, which are both out at a checkpoint.
-fn two_commits_behind_a_checkpoint(alloc: Global) -> Result<[Result<u32, Refusal>; 2], Refusal> {
-    let mut image = asked(alloc)?;
-    let first = claim_of(alloc, &mut image, 3)?;
-    let second = claim_of(alloc, &mut image, 3)?;
-    checkpoint(alloc, &mut image)?;
-    let answer = commit(alloc, &mut image, first);
-    Ok([answer, commit(alloc, &mut image, second)])
-}
-
-/// What the commits answer where a checkpoint comes between them, and where an edit comes behind one.
-fn commits_round_a_checkpoint(alloc: Global) -> Result<[Result<u32, Refusal>; 3], Refusal> {
-    let mut image = asked(alloc)?;
-    let first = claim_of(alloc, &mut image, 3)?;
-    let second = claim_of(alloc, &mut image, 3)?;
-    let answer = commit(alloc, &mut image, first);
-    checkpoint(alloc, &mut image)?;
-    let changed = commit(alloc, &mut image, second);
-    let mut image = asked(alloc)?;
-    let used = claim_of(alloc, &mut image, 3)?;
-    checkpoint(alloc, &mut image)?;
-    install(alloc, &mut image, SMALL_INTEGER, "tag ^2")?;
-    Ok([answer, changed, commit(alloc, &mut image, used)])
-}
-
-#[test]
-fn a_checkpoint_is_nothing_to_claims(rt: HostRuntime) -> Result<(), Fail> {
-    let answers = two_commits_behind_a_checkpoint(rt.alloc())?;
-    assert!(rt; answers == [Ok(3), Err(Refusal::Changed)]);
-    let answers = commits_round_a_checkpoint(rt.alloc())?;
-    assert!(rt;
-        answers
-            == [
-                Ok(3),
-                Err(Refusal::Changed),
-                Err(Refusal::Stale { version: 4 })
-            ]
-    );
     Ok(())
 }

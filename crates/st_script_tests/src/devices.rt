@@ -19,7 +19,7 @@ const RAN: &str = "{\"ok\":{\"quanta\":0,\"steps\":0}}\n";
 
 /// How a script ended whose image is let go. It may be of any type here, since the proof of a function that lets an image go pays for all
 /// its parts.
-fn end_of<T: Drop>(done: (T, Result<u64, Refusal>)) -> Result<u64, Refusal> {
+pub(crate) fn end_of<T: Drop>(done: (T, Result<u64, Refusal>)) -> Result<u64, Refusal> {
     let (_image, end) = done;
     end
 }
@@ -45,33 +45,15 @@ fn end_on<O: Output>(
     Ok(end_over(alloc, &mut input, output))
 }
 
-/// Whether a new image answers so to what a device gives, and ends so.
-fn says_to<R: Read + Drop>(
-    alloc: Global,
-    device: R,
-    replies: &str,
-    end: Result<u64, Refusal>,
-) -> bool {
-    let mut input = Reader::new(device);
-    let mut output = MemoryOutput::new(alloc);
-    let ended = end_over(alloc, &mut input, &mut output);
-    ended == end && output.as_slice() == replies.as_bytes()
-}
-
-/// A device that gives its bytes in pieces, and fails after this many of them.
+/// A device that gives its bytes in pieces.
 #[derive(Drop)]
 struct Pieces<'a> {
     left: &'a [u8],
     longest: usize,
-    reads: u32,
 }
 
 impl Read for Pieces<'_> {
     fn read(&mut self, buffer: &mut [u8]) -> io::Result<usize> {
-        if self.reads == 0 {
-            return Err(io::Error::from(ErrorKind::BrokenPipe));
-        }
-        self.reads -= 1;
         let end = self.longest.min(buffer.len());
         self.left.read(&mut buffer[..end])
     }
@@ -88,7 +70,6 @@ fn written_in_pieces(
     let mut input = Reader::new(Pieces {
         left: script,
         longest,
-        reads: u32::MAX,
     });
     let mut output = MemoryOutput::new(alloc);
     let done = script_on(alloc, &mut input, &mut output, settings, image);
@@ -112,20 +93,6 @@ pub(crate) fn says_in_pieces(
     Ok(true)
 }
 
-/// The lines that are whole before a read fails are answered.
-#[test]
-fn input_fails(rt: HostRuntime) -> Result<(), Fail> {
-    for (reads, replies) in [(0, ""), (1, ""), (4, ""), (5, RAN), (8, RAN)] {
-        let pieces = Pieces {
-            left: TWO_RUNS,
-            longest: 3,
-            reads,
-        };
-        assert!(rt; says_to(rt.alloc(), pieces, replies, Err(Refusal::ReadFault)));
-    }
-    Ok(())
-}
-
 /// A reader whose every other read is interrupted.
 #[derive(Drop)]
 struct Interrupted {
@@ -143,13 +110,23 @@ impl Read for Interrupted {
     }
 }
 
+/// How a script ends over devices, and what it wrote.
+fn written_to_a_device(alloc: Global) -> (Vec<u8>, Result<u64, Refusal>) {
+    let mut bytes = Vec::new(alloc);
+    let mut input = Reader::new(Interrupted {
+        left: b"{\"cmd\":\"run\"}\nno\n",
+        is_next: false,
+    });
+    let end = end_over(alloc, &mut input, &mut Writer::new(&mut bytes));
+    (bytes, end)
+}
+
 #[test]
 fn an_interrupted_read_is_no_failure(rt: HostRuntime) -> Result<(), Fail> {
-    let device = Interrupted {
-        left: RUN,
-        is_next: false,
-    };
-    assert!(rt; says_to(rt.alloc(), device, RAN, Ok(1)));
+    let (bytes, end) = written_to_a_device(rt.alloc());
+    assert!(rt; end == Ok(2));
+    let wanted = b"{\"ok\":{\"quanta\":0,\"steps\":0}}\n{\"error\":\"BadCommand\"}\n";
+    assert!(rt; bytes.as_slice() == wanted.as_slice());
     Ok(())
 }
 
@@ -241,22 +218,5 @@ impl Write for Idle {
 fn a_writer_that_takes_nothing_fails(rt: HostRuntime) -> Result<(), Fail> {
     let end = end_on(rt.alloc(), RUN, &mut Writer::new(Idle))?;
     assert!(rt; end == Err(Refusal::WriteFault));
-    Ok(())
-}
-
-/// How a script ends over devices, and what it wrote.
-fn written_to_a_device(alloc: Global, text: &[u8]) -> (Vec<u8>, Result<u64, Refusal>) {
-    let mut bytes = Vec::new(alloc);
-    let mut input = Reader::new(text);
-    let end = end_over(alloc, &mut input, &mut Writer::new(&mut bytes));
-    (bytes, end)
-}
-
-#[test]
-fn output_to_a_device(rt: HostRuntime) -> Result<(), Fail> {
-    let (bytes, end) = written_to_a_device(rt.alloc(), b"{\"cmd\":\"run\"}\nno\n");
-    assert!(rt; end == Ok(2));
-    let wanted = b"{\"ok\":{\"quanta\":0,\"steps\":0}}\n{\"error\":\"BadCommand\"}\n";
-    assert!(rt; bytes.as_slice() == wanted.as_slice());
     Ok(())
 }

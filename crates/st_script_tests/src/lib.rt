@@ -1,5 +1,5 @@
-//! Tests of public calls of images and scripts, all in one crate, so that no library is proved twice for them; and worked scripts
-//! with the replies that they must have. Lines and sources are in tests/ at the top of the repository, and run on the built program.
+//! Tests of what no script on the built program shows: claims, steps by themselves, devices that fail, the numbers of an image, and worked
+//! scripts with another history than the program's. Scripts, lines and sources are in tests/ at the top of the repository.
 #![tactic(auto)]
 
 #[cfg(test)]
@@ -10,12 +10,6 @@ mod claims;
 mod devices;
 #[cfg(test)]
 mod images;
-#[cfg(test)]
-mod limits;
-#[cfg(test)]
-mod mailboxes;
-#[cfg(test)]
-mod refused;
 #[cfg(test)]
 mod scripts;
 #[cfg(test)]

@@ -1,34 +1,284 @@
-//! Scripts and their replies.
-pub(crate) mod acts;
-mod checkpoints;
-mod dialogues;
-mod lookups;
-mod mailboxes;
-mod reparenting;
-pub(crate) mod statistics;
-
+//! Worked scripts with other histories than the program's, and the replies that they must have.
 use crate::sessions_in_memory::says;
-use st_image::settings::Settings;
 use st_server::settings::ScriptSettings;
 use std::alloc::{AllocError, Global};
 use std::test::*;
 
-/// The lines of a script, and the replies to them.
-#[derive(Drop)]
-struct Parts {
-    script: Vec<u8>,
-    replies: Vec<u8>,
-    lines: u64,
+/// The messages of a mailbox, the items of the history, and lines that are each answered by the next one.
+type Script = (u32, u32, &'static str);
+
+/// The table stands behind a function without a contract, so that the proof of a test carries nothing of it.
+fn scripts() -> &'static [Script] {
+    SCRIPTS
 }
 
-pub(crate) fn push_line(text: &mut Vec<u8>, line: &str) -> Result<(), AllocError> {
+const SCRIPTS: &[Script] = &[
+    // A `run` that finds the history full says so and nothing else. What ran before stands, and what did not is
+    // pending.
+    (
+        2,
+        6,
+        r#"{"class":"Object","cmd":"actor"}
+{"ok":{"actor":0}}
+{"actor":0,"args":[],"cmd":"post","selector":"isNil","sender":1,"seq":1}
+{"ok":{"turn":1}}
+{"actor":0,"args":[],"cmd":"post","selector":"class","sender":1,"seq":2}
+{"ok":{"turn":2}}
+{"class":"Object","cmd":"actor"}
+{"ok":{"actor":1}}
+{"cmd":"run"}
+{"error":"HistoryFull"}
+{"actor":0,"cmd":"outcome","turn":1}
+{"ok":{"answer":false}}
+{"actor":0,"cmd":"outcome","turn":2}
+{"error":"Pending"}
+{"class":"Object","cmd":"actor"}
+{"error":"HistoryFull"}
+{"cmd":"run"}
+{"error":"HistoryFull"}"#,
+    ),
+    // A history that is full has room behind a checkpoint, and a full mailbox has not.
+    (
+        1,
+        4,
+        r#"{"cmd":"define","name":"A","slots":[],"super":"Object"}
+{"ok":{"version":1}}
+{"class":"A","cmd":"method","source":"go ^1"}
+{"ok":{"version":2}}
+{"class":"A","cmd":"actor"}
+{"ok":{"actor":0}}
+{"actor":0,"args":[],"cmd":"post","selector":"go","sender":1,"seq":1}
+{"ok":{"turn":1}}
+{"class":"A","cmd":"actor"}
+{"error":"HistoryFull"}
+{"cmd":"checkpoint"}
+{"ok":{"posts":1,"steps":0}}
+{"actor":0,"args":[],"cmd":"post","selector":"go","sender":1,"seq":2}
+{"error":"Full"}
+{"class":"A","cmd":"actor"}
+{"ok":{"actor":1}}
+{"cmd":"run"}
+{"ok":{"quanta":1,"steps":3}}
+{"actor":0,"cmd":"outcome","turn":1}
+{"ok":{"answer":1}}
+{"cmd":"checkpoint","quanta":1}
+{"error":"BadCommand"}"#,
+    ),
+    // In a history of three items: a close that finds no room for its own is refused, and the mailbox stays open. An
+    // unknown actor and a closed mailbox are told before.
+    (
+        64,
+        3,
+        r#"{"class":"Object","cmd":"actor"}
+{"ok":{"actor":0}}
+{"class":"Object","cmd":"actor"}
+{"ok":{"actor":1}}
+{"actor":0,"cmd":"close"}
+{"ok":{}}
+{"actor":1,"cmd":"close"}
+{"error":"HistoryFull"}
+{"actor":0,"cmd":"close"}
+{"error":"Closed"}
+{"actor":2,"cmd":"close"}
+{"error":"UnknownActor"}
+{"actor":1,"args":[],"cmd":"post","selector":"isNil","sender":1,"seq":1}
+{"error":"HistoryFull"}"#,
+    ),
+    // A history of one item has room for an actor, and for no message. No actor is ready.
+    (
+        1,
+        1,
+        r#"{"class":"Object","cmd":"actor"}
+{"ok":{"actor":0}}
+{"actor":0,"args":[],"cmd":"post","selector":"isNil","sender":1,"seq":1}
+{"error":"HistoryFull"}
+{"cmd":"run"}
+{"ok":{"quanta":0,"steps":0}}
+{"cmd":"define","name":"M","slots":[],"super":"Object"}
+{"error":"HistoryFull"}
+{"cmd":"run"}
+{"ok":{"quanta":0,"steps":0}}"#,
+    ),
+    // One of two items has room for a message, and not for the beginning of its turn: the message is pending, and
+    // its actor ready.
+    (
+        1,
+        2,
+        r#"{"class":"Object","cmd":"actor"}
+{"ok":{"actor":0}}
+{"actor":0,"args":[],"cmd":"post","selector":"isNil","sender":1,"seq":1}
+{"ok":{"turn":1}}
+{"cmd":"run"}
+{"error":"HistoryFull"}
+{"cmd":"define","name":"M","slots":[],"super":"Object"}
+{"error":"HistoryFull"}
+{"cmd":"run"}
+{"error":"HistoryFull"}
+{"actor":0,"args":[],"cmd":"post","selector":"isNil","sender":1,"seq":2}
+{"error":"Full"}"#,
+    ),
+    // One of three items has room for the beginning, and not for the quantum: the message has begun and stays so,
+    // and its actor is ready.
+    (
+        1,
+        3,
+        r#"{"class":"Object","cmd":"actor"}
+{"ok":{"actor":0}}
+{"actor":0,"args":[],"cmd":"post","selector":"isNil","sender":1,"seq":1}
+{"ok":{"turn":1}}
+{"cmd":"run"}
+{"error":"HistoryFull"}
+{"cmd":"define","name":"M","slots":[],"super":"Object"}
+{"error":"HistoryFull"}
+{"cmd":"run"}
+{"error":"HistoryFull"}
+{"actor":0,"args":[],"cmd":"post","selector":"isNil","sender":1,"seq":2}
+{"error":"HistoryFull"}
+{"actor":0,"cmd":"outcome","turn":1}
+{"error":"Pending"}"#,
+    ),
+    // One of four items has room for both, and for nothing more. No actor is ready then.
+    (
+        1,
+        4,
+        r#"{"class":"Object","cmd":"actor"}
+{"ok":{"actor":0}}
+{"actor":0,"args":[],"cmd":"post","selector":"isNil","sender":1,"seq":1}
+{"ok":{"turn":1}}
+{"cmd":"run"}
+{"ok":{"quanta":1,"steps":1}}
+{"cmd":"define","name":"M","slots":[],"super":"Object"}
+{"error":"HistoryFull"}
+{"cmd":"run"}
+{"ok":{"quanta":0,"steps":0}}
+{"actor":0,"cmd":"outcome","turn":1}
+{"ok":{"answer":false}}"#,
+    ),
+    // A definition and an actor are two items.
+    (
+        64,
+        2,
+        r#"{"cmd":"define","name":"M","slots":[],"super":"Object"}
+{"ok":{"version":1}}
+{"class":"M","cmd":"actor"}
+{"ok":{"actor":0}}
+{"actor":0,"args":[],"cmd":"post","selector":"isNil","sender":1,"seq":1}
+{"error":"HistoryFull"}
+{"cmd":"run"}
+{"ok":{"quanta":0,"steps":0}}"#,
+    ),
+    // Without room for it, a close is refused, and the mailbox stays open: it tells of the history, and not that it
+    // is closed.
+    (
+        1,
+        1,
+        r#"{"actor":0,"cmd":"close"}
+{"error":"UnknownActor"}
+{"class":"Object","cmd":"actor"}
+{"ok":{"actor":0}}
+{"actor":0,"cmd":"close"}
+{"error":"HistoryFull"}
+{"actor":0,"args":[],"cmd":"post","selector":"isNil","sender":1,"seq":1}
+{"error":"HistoryFull"}"#,
+    ),
+    // With room for it, a mailbox is closed.
+    (
+        1,
+        2,
+        r#"{"actor":0,"cmd":"close"}
+{"error":"UnknownActor"}
+{"class":"Object","cmd":"actor"}
+{"ok":{"actor":0}}
+{"actor":0,"cmd":"close"}
+{"ok":{}}
+{"actor":0,"args":[],"cmd":"post","selector":"isNil","sender":1,"seq":1}
+{"error":"Closed"}
+{"actor":0,"cmd":"close"}
+{"error":"Closed"}"#,
+    ),
+    // A checkpoint makes room in a history that is full.
+    (
+        64,
+        2,
+        r#"{"cmd":"define","name":"A","slots":[],"super":"Object"}
+{"ok":{"version":1}}
+{"class":"Object","cmd":"actor"}
+{"ok":{"actor":0}}
+{"actor":0,"args":[],"cmd":"post","selector":"isNil","sender":1,"seq":1}
+{"error":"HistoryFull"}
+{"cmd":"checkpoint"}
+{"ok":{"posts":0,"steps":0}}
+{"actor":0,"args":[],"cmd":"post","selector":"isNil","sender":1,"seq":1}
+{"ok":{"turn":1}}
+{"actor":0,"args":[],"cmd":"post","selector":"isNil","sender":1,"seq":1}
+{"error":"Old","last":1}"#,
+    ),
+    // A mailbox of two messages in a history of three items, which an actor and two messages are. A full mailbox is
+    // told before a full history.
+    (
+        2,
+        3,
+        r#"{"class":"Object","cmd":"actor"}
+{"ok":{"actor":0}}
+{"actor":0,"args":[],"cmd":"post","selector":"isNil","sender":1,"seq":1}
+{"ok":{"turn":1}}
+{"actor":0,"args":[],"cmd":"post","selector":"isNil","sender":1,"seq":2}
+{"ok":{"turn":2}}
+{"actor":0,"args":[],"cmd":"post","selector":"isNil","sender":1,"seq":3}
+{"error":"Full"}
+{"actor":0,"cmd":"close"}
+{"error":"HistoryFull"}"#,
+    ),
+    // An edit that is refused is no item: a definition and an install are two.
+    (
+        64,
+        2,
+        r#"{"cmd":"define","name":"M","slots":[],"super":"Object"}
+{"ok":{"version":1}}
+{"class":"M","cmd":"method","source":"a ^x"}
+{"error":"BadSource","kind":"UnknownName","offset":3}
+{"class":"Object","cmd":"method","source":"isNil ^3"}
+{"error":"KernelMethod"}
+{"class":"M","cmd":"method","source":"a ^3 + 4 * 2"}
+{"ok":{"version":2}}
+{"class":"Object","cmd":"actor"}
+{"error":"HistoryFull"}"#,
+    ),
+    // A removal is an item, and one that is refused is none.
+    (
+        64,
+        3,
+        r#"{"cmd":"define","name":"M","slots":[],"super":"Object"}
+{"ok":{"version":1}}
+{"class":"M","cmd":"method","source":"a ^3 + 4 * 2"}
+{"ok":{"version":2}}
+{"class":"N","cmd":"remove","selector":"a"}
+{"error":"UnknownClass"}
+{"class":"Object","cmd":"remove","selector":"isNil"}
+{"error":"KernelMethod"}
+{"class":"Object","cmd":"remove","selector":"a"}
+{"error":"NoSuchMethod"}
+{"class":"M","cmd":"remove","selector":"isNil"}
+{"error":"NoSuchMethod"}
+{"class":"M","cmd":"remove","selector":"a"}
+{"ok":{"version":3}}
+{"class":"M","cmd":"remove","selector":"a"}
+{"error":"NoSuchMethod"}
+{"class":"Object","cmd":"actor"}
+{"error":"HistoryFull"}"#,
+    ),
+    // No lines.
+    (64, 1_000_000, ""),
+];
+
+fn push_line(text: &mut Vec<u8>, line: &str) -> Result<(), AllocError> {
     text.extend_from_slice(line.as_bytes())?;
     text.push(b'\n')?;
     Ok(())
 }
 
-/// What stands in turn in a dialogue.
-fn parted(alloc: Global, dialogue: &str) -> Result<Parts, AllocError> {
+/// Whether each line of a dialogue is answered by the next, however the bytes are cut.
+fn is_answered(alloc: Global, settings: ScriptSettings, dialogue: &str) -> Result<bool, Fail> {
     let mut script = Vec::new(alloc);
     let mut replies = Vec::new(alloc);
     let mut lines = 0u64;
@@ -40,225 +290,18 @@ fn parted(alloc: Global, dialogue: &str) -> Result<Parts, AllocError> {
             push_line(&mut replies, line)?;
         }
     }
-    Ok(Parts {
-        script,
-        replies,
-        lines,
-    })
-}
-
-/// Whether each line of a dialogue is answered by the next, however the bytes are cut.
-fn is_answered(alloc: Global, settings: ScriptSettings, dialogue: &str) -> Result<bool, Fail> {
-    let parts = parted(alloc, dialogue)?;
-    says(
-        alloc,
-        settings,
-        &parts.script,
-        &parts.replies,
-        Ok(parts.lines),
-    )
-}
-
-/// A number and what comes behind it.
-fn numbered(text: &str) -> Option<(u32, &str)> {
-    let (number, rest) = text.split_once(' ')?;
-    match number.parse() {
-        Ok(number) => Some((number, rest)),
-        Err(_) => None,
-    }
-}
-
-/// What the first line of a script says: the steps of a quantum, the messages of a mailbox, the items of the history, and what the
-/// script shows.
-pub(crate) fn settings_of(line: &str) -> Option<ScriptSettings> {
-    let (quantum, rest) = numbered(line)?;
-    let (capacity, rest) = numbered(rest)?;
-    let (history, _shown) = numbered(rest)?;
-    Some(ScriptSettings {
-        quantum,
-        capacity,
-        history,
-    })
-}
-
-/// Whether a script with its first line goes as it has to.
-fn is_well(alloc: Global, script: &str) -> Result<bool, Fail> {
-    let Some((line, dialogue)) = script.split_once('\n') else {
-        return Ok(false);
-    };
-    match settings_of(line) {
-        Some(settings) => is_answered(alloc, settings, dialogue),
-        None => Ok(false),
-    }
-}
-
-/// The first script of a text that does not go as it has to. There is an empty line between two scripts.
-fn first_wrong(alloc: Global, text: &str) -> Result<Option<&str>, Fail> {
-    for script in text.split("\n\n") {
-        if !is_well(alloc, script)? {
-            return Ok(Some(script));
-        }
-    }
-    Ok(None)
+    says(alloc, settings, &script, &replies, Ok(lines))
 }
 
 #[test]
 fn worked_scripts(rt: HostRuntime) -> Result<(), Fail> {
-    for text in [
-        acts::text(),
-        checkpoints::text(),
-        dialogues::text(),
-        lookups::text(),
-        mailboxes::text(),
-        reparenting::text(),
-        statistics::text(),
-    ] {
-        let wrong = first_wrong(rt.alloc(), text)?;
-        assert!(rt; wrong.is_none(), "{wrong:?}");
-    }
-    assert!(rt; is_answered(rt.alloc(), ScriptSettings::DEFAULT, "")?);
-    Ok(())
-}
-
-#[test]
-fn numbers_by_default(rt: HostRuntime) -> Result<(), Fail> {
-    let wanted = Settings {
-        capacity: 64,
-        history: 1_000_000,
-    };
-    assert!(rt; Settings::DEFAULT == wanted);
-    let wanted = ScriptSettings {
-        quantum: 256,
-        capacity: 64,
-        history: 1_000_000,
-    };
-    assert!(rt; ScriptSettings::DEFAULT == wanted);
-    Ok(())
-}
-
-/// The name of a class of a chain. The first is Object.
-fn class_name(alloc: Global, number: u32) -> Result<String, AllocError> {
-    match number {
-        0 => String::from_str(alloc, "Object"),
-        _ => format!(in alloc; "C{number}"),
-    }
-}
-
-/// The definition of a class below the one before it.
-fn definition(alloc: Global, number: u32) -> Result<String, AllocError> {
-    let class = class_name(alloc, number)?;
-    let parent = class_name(alloc, number.saturating_sub(1))?;
-    format!(in alloc;
-        "{{\"cmd\":\"define\",\"name\":\"{class}\",\"slots\":[],\"super\":\"{parent}\"}}\n"
-    )
-}
-
-/// A chain of 64 classes, Object and C63 among them, is accepted, and one of 65 is too deep.
-#[test]
-fn deepest_chain(rt: HostRuntime) -> Result<(), Fail> {
-    let mut dialogue = String::new(rt.alloc());
-    for number in 1..65 {
-        dialogue.push_str(&definition(rt.alloc(), number)?)?;
-        let reply = if number < 64 {
-            format!(in rt.alloc(); "{{\"ok\":{{\"version\":{number}}}}}\n")?
-        } else {
-            format!(in rt.alloc(); "{{\"error\":\"TooDeep\"}}\n")?
+    for (capacity, history, dialogue) in scripts() {
+        let settings = ScriptSettings {
+            quantum: 256,
+            capacity: *capacity,
+            history: *history,
         };
-        dialogue.push_str(&reply)?;
+        assert!(rt; is_answered(rt.alloc(), settings, dialogue)?, "{dialogue}");
     }
-    assert!(rt; is_answered(rt.alloc(), ScriptSettings::DEFAULT, &dialogue)?);
-    Ok(())
-}
-
-/// The post of a message of this number, and the reply to it where it is the turn of this number.
-fn numbered_post(alloc: Global, number: u32) -> Result<String, AllocError> {
-    format!(in alloc;
-        "{{\"actor\":0,\"args\":[],\"cmd\":\"post\",\"selector\":\"a\",\"sender\":1,\"seq\":{number}}}\n{{\"ok\":{{\"turn\":{number}}}}}\n"
-    )
-}
-
-/// An actor of a class with one method.
-const ONE_METHOD: &str = r#"{"cmd":"define","name":"M","slots":[],"super":"Object"}
-{"ok":{"version":1}}
-{"class":"M","cmd":"method","source":"a ^1"}
-{"ok":{"version":2}}
-{"class":"M","cmd":"actor"}
-{"ok":{"actor":0}}
-"#;
-
-/// After 64 turns, the first outcome is still there.
-const AFTER_64_TURNS: &str = r#"{"cmd":"run"}
-{"ok":{"quanta":64,"steps":192}}
-{"actor":0,"cmd":"outcome","turn":1}
-{"ok":{"answer":1}}
-"#;
-
-/// After one turn more it is not, and the second one is.
-const AFTER_65_TURNS: &str = r#"{"cmd":"run"}
-{"ok":{"quanta":1,"steps":3}}
-{"actor":0,"cmd":"outcome","turn":1}
-{"error":"Expired"}
-{"actor":0,"cmd":"outcome","turn":2}
-{"ok":{"answer":1}}
-{"actor":0,"cmd":"outcome","turn":65}
-{"ok":{"answer":1}}
-{"actor":0,"cmd":"outcome","turn":66}
-{"error":"Pending"}
-"#;
-
-/// The newest 64 outcomes of an actor are kept.
-#[test]
-fn kept_outcomes(rt: HostRuntime) -> Result<(), Fail> {
-    let mut dialogue = String::from_str(rt.alloc(), ONE_METHOD)?;
-    for number in 1..65 {
-        dialogue.push_str(&numbered_post(rt.alloc(), number)?)?;
-    }
-    dialogue.push_str(AFTER_64_TURNS)?;
-    dialogue.push_str(&numbered_post(rt.alloc(), 65)?)?;
-    dialogue.push_str(AFTER_65_TURNS)?;
-    assert!(rt; is_answered(rt.alloc(), ScriptSettings::DEFAULT, &dialogue)?);
-    Ok(())
-}
-
-/// The definition of a class, and as many edits as a run may have: installs of one method over and over.
-fn all_edits(alloc: Global) -> Result<String, AllocError> {
-    let mut dialogue = String::from_str(alloc, ONE_CLASS)?;
-    for version in 2..2049 {
-        dialogue.push_str(&format!(in alloc;
-            "{{\"class\":\"M\",\"cmd\":\"method\",\"source\":\"a ^3 isNil\"}}\n{{\"ok\":{{\"version\":{version}}}}}\n"
-        )?)?;
-    }
-    dialogue.push_str(AFTER_ALL_EDITS)?;
-    Ok(dialogue)
-}
-
-const ONE_CLASS: &str = r#"{"cmd":"define","name":"M","slots":[],"super":"Object"}
-{"ok":{"version":1}}
-"#;
-
-/// One edit more is refused. The second turn finds what the first one did.
-const AFTER_ALL_EDITS: &str = r#"{"class":"M","cmd":"method","source":"b ^1"}
-{"error":"TooMany","what":"edits"}
-{"class":"M","cmd":"actor"}
-{"ok":{"actor":0}}
-{"actor":0,"args":[],"cmd":"post","selector":"a","sender":1,"seq":1}
-{"ok":{"turn":1}}
-{"cmd":"run"}
-{"ok":{"quanta":1,"steps":4}}
-{"actor":0,"args":[],"cmd":"post","selector":"a","sender":1,"seq":2}
-{"ok":{"turn":2}}
-{"cmd":"run"}
-{"ok":{"quanta":1,"steps":4}}
-{"actor":0,"cmd":"outcome","turn":2}
-{"ok":{"answer":false}}
-{"class":"M","cmd":"stats","selector":"a"}
-{"ok":{"sites":[{"global":0,"selector":"isNil","sends":2,"site":1,"state":"mono","super":false,"walk":1}]}}
-"#;
-
-/// Caches serve at 2,048 edits as at one, and commits and statistics find memory.
-#[test]
-fn sends_after_all_edits(rt: HostRuntime) -> Result<(), Fail> {
-    let dialogue = all_edits(rt.alloc())?;
-    assert!(rt; is_answered(rt.alloc(), ScriptSettings::DEFAULT, &dialogue)?);
     Ok(())
 }

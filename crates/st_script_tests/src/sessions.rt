@@ -24,7 +24,7 @@ impl Handler for Counting {
 }
 
 /// What is written in a session, how many commands the handler saw, and how the session ends.
-pub(crate) fn counted(
+fn counted(
     alloc: Global,
     text: &[u8],
 ) -> Result<(MemoryOutput, u64, Result<u64, Refusal>), AllocError> {

@@ -9,14 +9,14 @@ ghost use Rattle.st_server.specs.CommandReplies.{Serves};
 ghost use Rattle.st_server.specs.Runners.{AreNew, GuardView, RunnerView};
 ghost use Rattle.st_server.specs.Scripts.{script_rules, with_settings};
 
-use crate::devices::says_in_pieces;
+use crate::devices::{end_of, says_in_pieces};
 use st_classes::refusals::Refusal;
 use st_image::settings::Settings;
 use st_server::images::Image;
 use st_server::scripts::script_on;
 use st_server::settings::ScriptSettings;
 use st_wire::streams::{MemoryInput, MemoryOutput};
-use std::alloc::{AllocError, Global};
+use std::alloc::Global;
 use std::test::*;
 
 /// A script over bytes in memory. Its contract says what that of every script says there: settings out of their ranges
@@ -43,41 +43,7 @@ fn in_memory(
     (image, output, result)
 }
 
-/// What a session wrote and how it ended, without its image. It may be of any type here, since the proof of a function that lets an image
-/// go pays for all its parts.
-fn written<T: Drop>(
-    done: (T, MemoryOutput, Result<u64, Refusal>),
-) -> (MemoryOutput, Result<u64, Refusal>) {
-    let (_image, output, end) = done;
-    (output, end)
-}
-
-/// What a new image answers to a text, and how the session ends.
-pub(crate) fn answered(
-    alloc: Global,
-    text: Vec<u8>,
-    settings: ScriptSettings,
-) -> Result<(MemoryOutput, Result<u64, Refusal>), Refusal> {
-    match Image::new(alloc, Settings::DEFAULT) {
-        Ok(image) => Ok(written(in_memory(alloc, text, settings, image))),
-        Err(refusal) => Err(refusal),
-    }
-}
-
-/// Whether a script in memory is answered by these replies, and ends so.
-fn says_whole(
-    alloc: Global,
-    settings: ScriptSettings,
-    script: &[u8],
-    replies: &[u8],
-    end: Result<u64, Refusal>,
-) -> Result<bool, Fail> {
-    let text = Vec::from_slice(alloc, script)?;
-    let (output, ended) = answered(alloc, text, settings)?;
-    Ok(ended == end && output.as_slice() == replies)
-}
-
-/// Whether a script is answered by these replies and ends so, in memory and however its bytes are cut.
+/// Whether a script of a new image is answered by these replies and ends so, in memory and however its bytes are cut.
 pub(crate) fn says(
     alloc: Global,
     settings: ScriptSettings,
@@ -85,8 +51,12 @@ pub(crate) fn says(
     replies: &[u8],
     end: Result<u64, Refusal>,
 ) -> Result<bool, Fail> {
+    let text = Vec::from_slice(alloc, script)?;
+    let image = Image::new(alloc, Settings::DEFAULT)?;
+    let (image, output, ended) = in_memory(alloc, text, settings, image);
     Ok(
-        says_whole(alloc, settings, script, replies, end)?
+        end_of((image, ended)) == end
+            && output.as_slice() == replies
             && says_in_pieces(alloc, settings, script, replies, end)?,
     )
 }
@@ -143,26 +113,6 @@ fn answers_each_line(rt: HostRuntime) -> Result<(), Fail> {
         let said = says(rt.alloc(), settings, script, replies.as_bytes(), *end)?;
         assert!(rt; said, "{replies}");
     }
-    Ok(())
-}
-
-/// A run in a line of 8,192 bytes, and one in a line of a byte more.
-fn two_long_lines(alloc: Global) -> Result<Vec<u8>, AllocError> {
-    let mut text = Vec::from_slice(alloc, b"{\"cmd\":\"run\"}")?;
-    text.resize(8192, b' ')?;
-    text.extend_from_slice(b"\n{\"cmd\":\"run\"}")?;
-    text.resize(2 * 8192 + 2, b' ')?;
-    text.extend_from_slice(b"\n{\"cmd\":\"run\"}\n")?;
-    Ok(text)
-}
-
-#[test]
-fn long_lines(rt: HostRuntime) -> Result<(), Fail> {
-    let text = two_long_lines(rt.alloc())?;
-    let replies = b"{\"ok\":{\"quanta\":0,\"steps\":0}}\n{\"error\":\"TooLong\"}\n";
-    let end = Err(Refusal::TooLong);
-    let said = says(rt.alloc(), ScriptSettings::DEFAULT, &text, replies, end)?;
-    assert!(rt; said);
     Ok(())
 }
 

@@ -1,4 +1,4 @@
-//! Arithmetic by hand, and turns by the plain step alone.
+//! Turns by the plain step alone.
 ghost use Rattle.std.specs.Prelude.{◌≡◌, length, true, Some, IfOk, IfSome};
 ghost use Rattle.std.specs.Bool.{OnTrue};
 ghost use Rattle.st_classes.specs.Classes.{slots};
@@ -8,15 +8,15 @@ ghost use Rattle.st_image.specs.Images.{world};
 
 use crate::calls::{FIRST, define, install, new_image, number_of};
 use st_classes::faults::Fault;
-use st_classes::kernel::{KERNEL_CLASSES, Kernel, OBJECT};
+use st_classes::kernel::{KERNEL_CLASSES, OBJECT};
 use st_classes::names::Names;
 use st_classes::refusals::Refusal;
 use st_classes::seq::Seq;
 use st_classes::values::{ClassId, Selector, Value};
 use st_classes::version::Version;
+use st_image::settings::Settings;
 use st_server::images::Image;
 use st_turn::body::{Body, Outcome, Phase, Stop};
-use st_turn::kernel_methods::kernel_answer;
 use st_turn::plain::step_plain;
 use std::alloc::{AllocError, Global};
 use std::test::Fail;
@@ -76,14 +76,6 @@ fn run_plainly(alloc: Global, body: &mut Body, version: &Version) -> Result<(u32
     Ok((1000, Stop::More))
 }
 
-/// How a turn ended, if it has.
-fn outcome_of(body: &Body) -> Option<Outcome> {
-    match &body.phase {
-        Phase::Done(outcome) => Some(*outcome),
-        _ => None,
-    }
-}
-
 /// A turn by plain steps: how many there were, what stopped them, and how it ended.
 type PlainTurn = (u32, Stop, Option<Outcome>);
 
@@ -98,7 +90,11 @@ fn plain_turn(
         return Ok(None);
     };
     let (steps, stop) = run_plainly(alloc, &mut body, image.version())?;
-    Ok(Some((steps, stop, outcome_of(&body))))
+    let outcome = match &body.phase {
+        Phase::Done(outcome) => Some(*outcome),
+        _ => None,
+    };
+    Ok(Some((steps, stop, outcome)))
 }
 
 /// The turn of a new actor to which a message of this name is sent.
@@ -116,7 +112,7 @@ fn named_turn(
 
 /// Classes A, B under A and C under B, with methods.
 fn three_classes(alloc: Global) -> Result<Box<Image>, Refusal> {
-    let mut image = new_image(alloc)?;
+    let mut image = new_image(alloc, Settings::DEFAULT)?;
     define(alloc, &mut image, b"A", OBJECT)?;
     define(alloc, &mut image, b"B", A)?;
     define(alloc, &mut image, b"C", B)?;
@@ -160,27 +156,9 @@ const TURNS: &[(ClassId, &str, PlainTurn)] = &[
     (A, "make", (2, Stop::Outer, None)),
 ];
 
-/// Methods of the kernel, numbers that are asked, those that they are asked of, and the answers.
-const ARITHMETIC: &[(Kernel, i64, i64, Result<Value, Fault>)] = &[
-    (Kernel::Quotient, -7, 2, Ok(Value::Int(-4))),
-    (Kernel::Remainder, -7, 2, Ok(Value::Int(1))),
-    (Kernel::Quotient, 7, -2, Ok(Value::Int(-4))),
-    (Kernel::Remainder, 7, -2, Ok(Value::Int(-1))),
-    (Kernel::Quotient, -7, -2, Ok(Value::Int(3))),
-    (Kernel::Remainder, -7, -2, Ok(Value::Int(-1))),
-    (Kernel::Quotient, i64::MIN, -1, Err(Fault::Overflow)),
-    (Kernel::Remainder, i64::MIN, -1, Ok(Value::Int(0))),
-    (Kernel::Quotient, 1, 0, Err(Fault::ZeroDivide)),
-    (Kernel::Add, i64::MAX, 1, Err(Fault::Overflow)),
-];
-
-// The tables stand behind functions without contracts, so that the proofs of tests carry nothing of them.
+/// The table stands behind a function without a contract, so that the proof of a test carries nothing of it.
 fn turns() -> &'static [(ClassId, &'static str, PlainTurn)] {
     TURNS
-}
-
-fn arithmetic() -> &'static [(Kernel, i64, i64, Result<Value, Fault>)] {
-    ARITHMETIC
 }
 
 #[test]
@@ -189,26 +167,6 @@ fn plain_steps(rt: HostRuntime) -> Result<(), Fail> {
     for (class, selector, wanted) in turns() {
         let turn = named_turn(rt.alloc(), &image, *class, selector)?;
         assert!(rt; turn == Some(*wanted), "{selector}");
-    }
-    Ok(())
-}
-
-/// What a method of the kernel answers to a number, asked of a number.
-fn kernel_number(
-    alloc: Global,
-    kernel: Kernel,
-    x: i64,
-    y: i64,
-) -> Result<Result<Value, Fault>, AllocError> {
-    let body = Body::fresh(alloc, OBJECT, 0)?;
-    Ok(kernel_answer(kernel, &body.objects, Value::Int(x), &[Value::Int(y)]))
-}
-
-#[test]
-fn divides_towards_negative_infinity(rt: HostRuntime) -> Result<(), Fail> {
-    for (kernel, x, y, wanted) in arithmetic() {
-        let answer = kernel_number(rt.alloc(), *kernel, *x, *y)?;
-        assert!(rt; answer == *wanted, "{x} and {y}");
     }
     Ok(())
 }

@@ -1,5 +1,6 @@
 //! Tests of what no script on the built program shows: claims, steps by themselves, devices that fail, the numbers of an image, and worked
-//! scripts with another history than the program's. Scripts, lines and sources are in tests/ at the top of the repository.
+//! scripts with another history than the program's; and of a server of a new image. Scripts, lines and sources are in tests/ at the top of
+//! the repository.
 #![tactic(auto)]
 
 #[cfg(test)]
@@ -12,6 +13,8 @@ mod devices;
 mod images;
 #[cfg(test)]
 mod scripts;
+#[cfg(test)]
+mod serving;
 #[cfg(test)]
 mod sessions;
 #[cfg(test)]

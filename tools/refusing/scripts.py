@@ -41,13 +41,18 @@ class Again:
 
 
 def command_of(line):
-    return json.loads(line).get("cmd")
+    """The name of a line's command, or None where the line is none."""
+    try:
+        found = json.loads(line)
+    except ValueError:
+        return None
+    return found.get("cmd") if isinstance(found, dict) else None
 
 
 def ended_run(reply):
     """The quanta and steps of a `run` that was not refused."""
     ok = json.loads(reply).get("ok")
-    return (ok["quanta"], ok["steps"]) if isinstance(ok, dict) and "steps" in ok else None
+    return (ok["quanta"], ok["steps"]) if isinstance(ok, dict) and "quanta" in ok else None
 
 
 def by_steps(replies):

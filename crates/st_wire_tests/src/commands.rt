@@ -1,14 +1,16 @@
-//! Lines of a first run, and lines that are refused.
+//! Lines that are commands, as both readers read them: `read_command`, and the reader of many lines, by which the program reads. Lines
+//! that are no commands are tried on the built program, which asks `read_command` for what it says of them.
 use st_classes::refusals::Refusal;
 use st_classes::seq::Seq;
 use st_classes::values::ActorId;
 use st_wire::commands::{Argument, Command, read_command};
-use std::alloc::Global;
+use st_wire::line_readers::LineReader;
+use std::alloc::{AllocError, Global};
 use std::test::*;
 
 /// What a command is to be. Of lists it says how long they are.
 #[derive(Drop)]
-pub(crate) enum Wanted {
+enum Wanted {
     Define(&'static str, &'static str, usize),
     Method(&'static str, &'static str),
     Remove(&'static str, &'static str),
@@ -22,7 +24,7 @@ pub(crate) enum Wanted {
     Checkpoint,
 }
 
-/// Lines, and the commands that they are.
+/// Lines, and the commands that they are: one of each kind, at the ends of their ranges, and such as are written in unusual ways.
 const COMMANDS: &[(&str, Wanted)] = &[
     (
         r#"{"cmd":"define","name":"M","slots":["a","b"],"super":"Object"}"#,
@@ -62,62 +64,47 @@ const COMMANDS: &[(&str, Wanted)] = &[
         Wanted::Stats("M", "at:put:"),
     ),
     (r#"{"cmd":"checkpoint"}"#, Wanted::Checkpoint),
+    (
+        r#"{"actor":0,"cmd":"outcome","turn":18446744073709551615}"#,
+        Wanted::Outcome(0, u64::MAX),
+    ),
+    // The keys in another order, and with escapes; white space.
+    (
+        r#"{"seq":7,"sender":2,"selector":"b:","cmd":"post","args":[1],"actor":9}"#,
+        Wanted::Post(9, 1, "b:", 2, 7),
+    ),
+    (r#"{"\u0063md":"r\u0075n"}"#, Wanted::Run(1_000)),
+    (
+        "\t{ \"quanta\" :\r\n 7 , \"cmd\" : \"run\" } ",
+        Wanted::Run(7),
+    ),
+    (
+        r#"{"actor":0,"args":[],"cmd":"post","selector":"a\u0074\u003a\ud83d\ude00","sender":0,"seq":0}"#,
+        Wanted::Post(0, 0, "at:\u{1f600}", 0, 0),
+    ),
+    // The last value of a key counts.
+    (r#"{"cmd":"stats","cmd":"run"}"#, Wanted::Run(1_000)),
+    (r#"{"actor":"x","actor":2,"cmd":"close"}"#, Wanted::Close(2)),
+    (r#"{"actor":3,"actor":2,"cmd":"close"}"#, Wanted::Close(2)),
+    (
+        r#"{"actor":0,"args":[{"ref":[],"ref":1}],"cmd":"post","selector":"a","sender":0,"seq":0}"#,
+        Wanted::Post(0, 1, "a", 0, 0),
+    ),
 ];
 
 const ARGUMENTS: &str =
     r#"{"actor":1,"args":[-9223372036854775808,9223372036854775807,true,null,{"ref":2},{"sym":"at:put:"},{"class":"\u0043"}],"cmd":"post","selector":"m","sender":65535,"seq":18446744073709551615}"#;
 
-/// Lines that are no commands.
-const NO_COMMANDS: &[&str] = &[
-    "",
-    "[]",
-    "{}",
-    "{\"cmd\":\"run\"",
-    r#"{"cmd":"runs"}"#,
-    r#"{"cmd":5}"#,
-    r#"{"cmd":"define","name":"M","super":"Object"}"#,
-    r#"{"cmd":"define","name":"M","slots":[],"super":"Object","extra":1}"#,
-    r#"{"cmd":"define","name":"M","slots":[1],"super":"Object"}"#,
-    r#"{"cmd":"define","name":"M","slots":[],"parent":"Object"}"#,
-    r#"{"class":"M","cmd":"reparent"}"#,
-    r#"{"class":"M","cmd":"reparent","parent":"N"}"#,
-    r#"{"class":"M","cmd":"reparent","super":0}"#,
-    r#"{"class":"M","cmd":"reparent","slots":[],"super":"N"}"#,
-    r#"{"cmd":"run","quanta":0}"#,
-    r#"{"cmd":"run","quanta":1000001}"#,
-    r#"{"cmd":"run","quanta":1.0}"#,
-    r#"{"cmd":"run","quantum":1}"#,
-    r#"{"cmd":"checkpoint","quanta":1}"#,
-    r#"{"actor":4294967296,"cmd":"close"}"#,
-    r#"{"actor":-0,"cmd":"close"}"#,
-    r#"{"actor":0,"args":[],"cmd":"post","selector":"a","sender":65536,"seq":1}"#,
-    r#"{"actor":0,"args":[],"cmd":"post","selector":"a","sender":1,"seq":18446744073709551616}"#,
-    r#"{"actor":0,"args":[{"local":1}],"cmd":"post","selector":"a","sender":1,"seq":1}"#,
-    r#"{"actor":0,"args":[{"ref":1,"sym":"a"}],"cmd":"post","selector":"a","sender":1,"seq":1}"#,
-    r#"{"actor":0,"args":["a"],"cmd":"post","selector":"a","sender":1,"seq":1}"#,
-    r#"{"actor":0,"args":[-0],"cmd":"post","selector":"a","sender":1,"seq":1}"#,
-    r#"{"actor":0,"args":[1.0],"cmd":"post","selector":"a","sender":1,"seq":1}"#,
-    r#"{"actor":0,"args":[9223372036854775808],"cmd":"post","selector":"a","sender":1,"seq":1}"#,
-];
-
-// The tables stand behind functions without contracts, so that the proofs of tests carry nothing of them.
-pub(crate) fn commands() -> &'static [(&'static str, Wanted)] {
+// The table stands behind a function without a contract, so that the proofs of tests carry nothing of it.
+fn commands() -> &'static [(&'static str, Wanted)] {
     COMMANDS
-}
-
-pub(crate) fn no_commands() -> &'static [&'static str] {
-    NO_COMMANDS
-}
-
-pub(crate) fn read(alloc: Global, line: &str) -> Result<Command, Refusal> {
-    read_command(alloc, line.as_bytes())
 }
 
 fn is(text: &Seq<u8>, wanted: &str) -> bool {
     text.as_slice() == wanted.as_bytes()
 }
 
-pub(crate) fn is_wanted(command: &Command, wanted: &Wanted) -> bool {
+fn is_wanted(command: &Command, wanted: &Wanted) -> bool {
     match (command, wanted) {
         (
             Command::Define {
@@ -166,14 +153,6 @@ pub(crate) fn is_wanted(command: &Command, wanted: &Wanted) -> bool {
     }
 }
 
-#[test]
-fn reads_commands(rt: HostRuntime) -> Result<(), Fail> {
-    for (line, wanted) in commands() {
-        assert!(rt; is_wanted(&read(rt.alloc(), line)?, wanted), "{line}");
-    }
-    Ok(())
-}
-
 fn are_expected(args: &[Argument]) -> bool {
     match args {
         [
@@ -189,24 +168,41 @@ fn are_expected(args: &[Argument]) -> bool {
     }
 }
 
+/// A reader on the heap, so that no proof that lets it go pays for its parts.
+fn new_reader(alloc: Global) -> Result<Box<LineReader>, AllocError> {
+    Ok(Box::new(alloc, LineReader::new(alloc))?)
+}
+
+/// What both readers read of a line.
+fn both(alloc: Global, reader: &mut LineReader, line: &str) -> Result<(Command, Command), Refusal> {
+    let line = line.as_bytes();
+    Ok((read_command(alloc, line)?, reader.read(alloc, line)?))
+}
+
 #[test]
-fn reads_arguments(rt: HostRuntime) -> Result<(), Fail> {
-    assert!(rt;
-        matches!(&read(rt.alloc(), ARGUMENTS)?, Command::Post { args, .. }
-        if are_expected(args.as_slice()))
-    );
+fn both_readers_read_commands(rt: HostRuntime) -> Result<(), Fail> {
+    let mut reader = new_reader(rt.alloc())?;
+    for (line, wanted) in commands() {
+        let (one, other) = both(rt.alloc(), &mut reader, line)?;
+        assert!(rt;
+            is_wanted(&one, wanted) && is_wanted(&other, wanted),
+            "{line}"
+        );
+    }
     Ok(())
 }
 
-fn is_refused(alloc: Global, line: &[u8]) -> bool {
-    matches!(read_command(alloc, line), Err(Refusal::BadCommand))
+fn has_arguments(command: &Command) -> bool {
+    match command {
+        Command::Post { args, .. } => are_expected(args.as_slice()),
+        _ => false,
+    }
 }
 
 #[test]
-fn refuses_what_is_no_command(rt: HostRuntime) -> Result<(), Fail> {
-    for line in no_commands() {
-        assert!(rt; is_refused(rt.alloc(), line.as_bytes()), "{line}");
-    }
-    assert!(rt; is_refused(rt.alloc(), b"{\"class\":\"\xff\",\"cmd\":\"actor\"}"));
+fn both_readers_read_arguments(rt: HostRuntime) -> Result<(), Fail> {
+    let mut reader = new_reader(rt.alloc())?;
+    let (one, other) = both(rt.alloc(), &mut reader, ARGUMENTS)?;
+    assert!(rt; has_arguments(&one) && has_arguments(&other));
     Ok(())
 }

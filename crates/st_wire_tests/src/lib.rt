@@ -1,16 +1,11 @@
 //! Tests of the public calls of commands, replies and streams. They stand in a crate of their own, below images, so that no
-//! library is proved twice for them, and that they are proved while the upper libraries still are.
+//! library is proved twice for them, and that they are proved while the upper libraries still are. What the built program shows of
+//! lines and replies stands in `tests/lines.txt`, `tests/out-of-memory` and `tools/bad-input`.
 #![tactic(auto)]
 
 #[cfg(test)]
 mod commands;
 #[cfg(test)]
-mod line_readers;
-#[cfg(test)]
-mod refused;
-#[cfg(test)]
 mod replies;
-#[cfg(test)]
-mod reply_names;
 #[cfg(test)]
 mod streams;

@@ -103,7 +103,7 @@ def why_no_test(edit):
 
 
 def why_no_trial(edit):
-    """Why the trial that an edit names cannot be run, or None. A word that is a name must be that of a function of the tool."""
+    """Why the trial that an edit names cannot be run, or None. A word that is a name must be that of a function of the tool, or of its data."""
     trial = trial_of(edit)
     if not trial:
         return None
@@ -117,8 +117,10 @@ def why_no_trial(edit):
     folder = f"{TOP}/{tool.replace('-', '_')}_parts"
     parts = [f"{folder}/{name}" for name in os.listdir(folder) if name.endswith(".py")] if os.path.isdir(folder) else []
     texts = [read(path) for path in (f"{TOP}/{tool}", *parts)]
+    data = f"{TOP}/tests/{tool.removeprefix('tools/')}"
     for word in words:
-        if word.isidentifier() and not any(f"\ndef {word}(" in text for text in texts):
+        is_there = os.path.isfile(f"{data}/{word}.txt") or any(f"\ndef {word}(" in text for text in texts)
+        if word.isidentifier() and not is_there:
             return f"there is no trial {word} in {tool}"
     return None
 

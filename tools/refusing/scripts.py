@@ -95,13 +95,23 @@ def asked_again(program, lines, usual, place, failing):
     return Again(got == usual[:place] + [NO_MEMORY] + usual[place:])
 
 
+def not_as_written(script, usual):
+    """What is wrong with the replies of a run with ample memory, where a file beside the script has them."""
+    path = os.path.splitext(script)[0] + ".replies"
+    if not os.path.exists(path):
+        return []
+    with open(path) as file:
+        wanted = [told(it) for it in file.read().splitlines()]
+    place = first_difference(usual, wanted)
+    return [] if usual == wanted else [f"with ample memory: reply {place + 1} is not the one of {path}"]
+
 
 def check(program, shim, script):
     """Whether no run was wrong, and in how many a `run` had taken some steps and not all."""
     with open(script) as file:
         lines = file.read().splitlines()
     status, usual, _ = run(program, lines)
-    short, parts, wrong = 0, 0, []
+    short, parts, wrong = 0, 0, not_as_written(script, usual)
     for failing in Failing.each(shim):
         got_status, got, said = run(program, lines, failing)
         if (got_status, got) == (status, usual):

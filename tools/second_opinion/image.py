@@ -1,5 +1,7 @@
 """The image: what each command of a script answers."""
 
+from collections import Counter
+
 from .classes import Classes, Refused
 from .language import BadSource, MOST_ACTORS, MOST_COUNTED, MOST_RESULTS, arguments_of, is_selector
 from .machine import Actor
@@ -16,7 +18,8 @@ class Image:
     """`numbers` has the last number of each client that has sent a message; `ready` has the numbers of the actors that are in a
     turn or have a message pending; `patience` is the number of steps
     that a run may take, where there is one. `posts` and `steps` are all that were ever counted; `stands` has the numbers of the
-    actors that had begun a turn before the last checkpoint: the last one of these is turn 0."""
+    actors that had begun a turn before the last checkpoint: the last one of these is turn 0. `sent` has methods with the sends of their
+    call sites since then, by the places in their code."""
 
     def __init__(self, quantum=256, capacity=64, patience=None):
         self.quantum = quantum
@@ -28,6 +31,7 @@ class Image:
         self.ready = set()
         self.stands = set()
         self.posts = self.steps = 0
+        self.sent = {}
         self.last = -1
         self.installed = None
 
@@ -184,18 +188,21 @@ class Image:
 
     def passes(self, actor):
         """Whether the steps of the actor's next quantum are more than can be counted. The actor stays as it is."""
-        before, steps = actor.body(), self.steps
+        before, steps, sent = actor.body(), self.steps, self.sent
+        self.sent = {}
         for _ in range(self.quantum):
             if actor.in_turn() and not actor.at_outer_step():
                 actor.step()
                 steps += 1
         steps += actor.at_outer_step()
         actor.message, actor.objects, actor.frames, actor.results = before
+        self.sent = sent
         return steps > MOST_COUNTED
 
     def checkpoint(self, command):
         """Turns are numbered from here on: 0 is the one that an actor is in, or else the last that it ended."""
         self.stands = {actor.number for actor in self.actors if actor.in_turn() or actor.results}
+        self.sent = {}
         for actor in self.actors:
             actor.forget()
         return {"ok": {"posts": self.posts, "steps": self.steps}}
@@ -209,6 +216,24 @@ class Image:
         twin.actors = [actor.copy(twin) for actor in self.actors]
         twin.numbers = dict(self.numbers)
         return twin
+
+    def count(self, method, place):
+        """Counts a send."""
+        _, sends = self.sent.setdefault(id(method), (method, Counter()))
+        sends[place] += 1
+
+    def stats(self, command):
+        """The sends of the call sites of a class's own method. How they were found is not known here."""
+        if command["class"] not in self.classes.numbers:
+            return {"error": "UnknownClass"}
+        if not is_selector(command["selector"]):
+            return {"error": "BadName"}
+        method = self.classes.all[self.classes.numbers[command["class"]]].methods.get(command["selector"])
+        if method is None:
+            return {"error": "NoSuchMethod"}
+        _, sends = self.sent.get(id(method), (None, Counter()))
+        sites = [(place, name, selector) for place, (name, selector, _) in enumerate(method.code) if name in ("Send", "SuperSend")]
+        return {"ok": {"sites": [{"selector": it, "sends": sends[place], "super": name == "SuperSend"} for place, name, it in sites]}}
 
     def outcome(self, command):
         if command["actor"] >= len(self.actors):

@@ -4,8 +4,8 @@
     tools/second-opinion PROGRAM --sharp
 
 PROGRAM is `crates/actorimage/out/actorimage`. Compared are the replies to each command of scripts: which sources are refused,
-with which kind and at which byte; which methods are removed, and which classes moved; which messages mailboxes take; and how turns end, in how many
-quanta and steps. Some scripts are picked by hand; the replies that are said in these are asked of the second reader first,
+with which kind and at which byte; which methods are removed, and which classes moved; which messages mailboxes take; how turns end, in how many
+quanta and steps; and how often each call site sent. How sends are found is not compared, but they have to be found in all three ways. Some scripts are picked by hand; the replies that are said in these are asked of the second reader first,
 and where it gives others, the status is 3. Where it and the program differ, the status is 1, and the shortest source and
 script that show it are printed; with --briefly only that they do. With --minutes it ends with the first script that is compared after
 so many minutes. --sharp puts wrong rules into the second reader, one at a
@@ -17,8 +17,9 @@ import os
 import sys
 import threading
 import time
+from collections import Counter
 
-from .compare import Difference, differences, program_replies
+from .compare import WAYS, Difference, differences, found, program_replies
 from .scripts import all_scripts
 from .sharp import try_wrong_rules
 
@@ -45,6 +46,7 @@ def arguments():
 def compare(program, seed, sources, briefly, minutes=None):
     """The status: 0 where there is no difference."""
     read = turns = scripts = 0
+    ways = Counter()
     ends = None if minutes is None else time.monotonic() + 60 * minutes
     for script in all_scripts(seed, sources):
         if script.wrong and not briefly:
@@ -54,6 +56,7 @@ def compare(program, seed, sources, briefly, minutes=None):
         scripts += 1
         read += script.sources
         turns += script.turns
+        ways.update(found(got))
         if differences(script.replies, got):
             if not briefly:
                 print(Difference(program, script, got).report())
@@ -61,7 +64,11 @@ def compare(program, seed, sources, briefly, minutes=None):
             return 1
         if ends is not None and time.monotonic() > ends:
             break
-    print(f"tools/second-opinion: {scripts:,} scripts, {read:,} sources and {turns:,} turns, no difference")
+    told = ", ".join(f"{ways[way]:,} by {way}" for way in WAYS)
+    print(f"tools/second-opinion: {scripts:,} scripts, {read:,} sources and {turns:,} turns, no difference; sends of sites: {told}")
+    if ends is None and sources >= SOURCES and not all(ways[way] for way in WAYS):
+        print("tools/second-opinion: too little was compared: sends are to be found in all ways")
+        return 1
     return 0
 
 

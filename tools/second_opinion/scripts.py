@@ -199,22 +199,59 @@ def random_script(rng, sources, size):
 
 
 class CutTurns:
-    """A script in which turns of several actors are cut by quanta, with edits between them."""
+    """A script in which turns of several actors are cut by quanta, with edits between them. What is drawn apart, further definitions and,
+    where they are asked for, questions for sends, changes nothing of the rest; `further` are the lines of this, and those of a run that is
+    asked for quantum by quantum."""
 
     SELECTORS = "foo bar m m1 who + = foo: class".split()
 
-    def __init__(self, rng, sources):
+    def __init__(self, rng, sources, asks_sends=False):
         self.rng = rng
         self.sources = sources
+        self.aside = [self.define, self.ask_sends] if asks_sends else [self.define]
         quantum = rng.choice([1, 2, 3, 5, 8, 16, 33, 256])
         self.script = Script(quantum, rng.choice([64, 64, 1, 2, 5]))
         self.runs = [1, 1, 2, 3, 5, 10, 30] if quantum < 100 else [1, 2, 5]
         self.selectors = list(self.SELECTORS)
+        self.apart = random.Random()
+        self.apart.setstate(rng.getstate())
+        self.defined = list("ABCDE") + ["Object"]
+        self.further = 0
 
     def grow(self, size):
-        while len(self.script.lines) < size and self.script.has_room():
+        while len(self.script.lines) - self.further < size and self.script.has_room():
             self.command(self.rng.random())
+            if self.apart.random() < 0.1:
+                self.further += 1
+                self.apart.choice(self.aside)()
         return self.script
+
+    def define(self):
+        """A class that nobody names."""
+        name = f"K{len(self.defined)}"
+        self.script.add({"cmd": "define", "name": name, "slots": [], "super": self.apart.choice(self.defined)})
+        self.defined.append(name)
+
+    def ask_sends(self):
+        """Mostly of a method that is there."""
+        class_name = self.apart.choice(CLASSES_TO_EDIT)
+        own = list(self.script.image.classes.all[self.script.image.classes.numbers[class_name]].methods)
+        self.script.add({"class": class_name, "cmd": "stats", "selector": self.apart.choice(own * 4 + ["foo", "+", "a:b"])})
+
+    def with_sends(self):
+        """The script, at whose end all methods are asked for their sends."""
+        for one in self.script.image.classes.all:
+            for selector in one.methods:
+                self.script.add({"class": one.name, "cmd": "stats", "selector": selector})
+        return self.script
+
+    def run(self):
+        """Few quanta are asked for one by one."""
+        quanta = self.rng.choice(self.runs)
+        times = quanta if quanta < 5 else 1
+        for _ in range(times):
+            self.script.add({"cmd": "run", "quanta": quanta // times})
+        self.further += times - 1
 
     def command(self, kind):
         if kind < 0.3:
@@ -226,7 +263,7 @@ class CutTurns:
         elif kind < 0.6:
             self.post()
         elif kind < 0.8:
-            self.script.add({"cmd": "run", "quanta": self.rng.choice(self.runs)})
+            self.run()
         elif kind < 0.985:
             self.ask()
         elif kind < 0.99:
@@ -260,6 +297,12 @@ class CutTurns:
         self.script.add({"actor": number, "cmd": "outcome", "turn": turn})
 
 
+def cut_turns(rng, sources):
+    turns = CutTurns(rng, sources, asks_sends=True)
+    turns.grow(900)
+    return turns.with_sends()
+
+
 def all_scripts(seed, sources):
     """The scripts picked by hand, the known sources, the short ones, and `sources` random ones. Three in ten scripts of these
     cut turns."""
@@ -270,6 +313,6 @@ def all_scripts(seed, sources):
     kinds = Sources(rng)
     left = sources
     while left > 0:
-        script = random_script(rng, kinds, min(left, 600)) if rng.random() < 0.7 else CutTurns(rng, kinds).grow(900)
+        script = random_script(rng, kinds, min(left, 600)) if rng.random() < 0.7 else cut_turns(rng, kinds)
         left -= script.sources
         yield script

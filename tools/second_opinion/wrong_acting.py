@@ -40,11 +40,11 @@ SUPER = [
     WrongRule(
         "super in a method that was removed finds nothing",
         "machine",
-        '        start = self.class_of(receiver) if name == "Send" else ' + ABOVE + "\n",
+        "            receiver, start = frame.receiver, " + ABOVE + "\n",
         (
-            '        start = self.class_of(receiver) if name == "Send" else ' + ABOVE + "\n"
-            '        if name == "SuperSend" and frame.method not in self.classes.all[frame.holder].methods.values():\n'
-            "            start = None\n"
+            "            receiver, start = frame.receiver, " + ABOVE + "\n"
+            "            if frame.method not in self.classes.all[frame.holder].methods.values():\n"
+            "                start = None\n"
         ),
     ),
 ]

@@ -169,4 +169,35 @@ TURNS = [
     ),
 ]
 
-WRONG_RUNNING = CODE + MACHINE + TURNS
+SENDS = [
+    WrongRule(
+        "a send that ends the turn is not counted",
+        "machine",
+        "            self.image.count(frame.method, frame.next - 1)\n            self.send(frame, name, operand, count)\n",
+        (
+            "            place = frame.next - 1\n"
+            "            self.send(frame, name, operand, count)\n"
+            "            self.image.count(frame.method, place)\n"
+        ),
+    ),
+    WrongRule(
+        "a send to super is not counted",
+        "machine",
+        "            self.image.count(frame.method, frame.next - 1)\n",
+        '            if name == "Send":\n                self.image.count(frame.method, frame.next - 1)\n',
+    ),
+    WrongRule(
+        "sends are counted at the method's first site",
+        "machine",
+        "self.image.count(frame.method, frame.next - 1)",
+        'self.image.count(frame.method, [it.name in ("Send", "SuperSend") for it in frame.method.code].index(True))',
+    ),
+    WrongRule(
+        "a method has the sends of the first one of its selector",
+        "image",
+        "sends = self.sent.get(id(method), (None, Counter()))",
+        "sends = next((it for it in self.sent.values() if it[0].selector == method.selector), (None, Counter()))",
+    ),
+]
+
+WRONG_RUNNING = CODE + MACHINE + TURNS + SENDS

@@ -24,6 +24,7 @@ def scripts():
 def good(program):
     """Each good file is counted right and saved as it is to be: as it was, but for one that was written by hand. Its turns go on."""
     files = good_files()
+    same("files that are counted", COUNTS.keys() - files.keys(), set())
     for name, path in files.items():
         said = try_file(program, name, read(path))
         same(f"{name}: is it good", said.place, None)
@@ -63,6 +64,7 @@ def changed(program):
     """Each change of a good file is refused by the place that tests/inspect/changes.txt says."""
     texts = {name: read(path) for name, path in good_files().items()}
     changes = changes_in(read(os.path.join(FILES, "changes.txt")).decode())
+    same("is there a change", bool(changes), True)
     for change in changes:
         data = json.dumps(change.changed(texts[change.file])).encode()
         said = Said(data)

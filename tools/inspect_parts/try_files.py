@@ -38,6 +38,7 @@ def changed():
     """Each change of a good file is refused where tests/inspect/changes.txt says, in one line."""
     texts = {name: read(path) for name, path in good_files().items()}
     changes = changes_in(read(os.path.join(FILES, "changes.txt")).decode())
+    same(bool(changes), True)
     for change in changes:
         file = change.changed(texts[change.file])
         same((change.line, refusal(file)), (change.line, change.wanted))

@@ -1,5 +1,6 @@
 """Sessions on an image file, and checks of one, of which one allocation fails."""
 
+import json
 import os
 import shutil
 import subprocess
@@ -18,7 +19,8 @@ FIRST = [
     '{"class":"A","cmd":"actor"}',
     '{"actor":0,"args":[],"cmd":"post","selector":"go","sender":1,"seq":1}',
 ]
-# The first has two new names, which the file tells in their order.
+# The first has two new names, which the file tells behind those of FIRST, in their order.
+NAMES = ["go", "tag", "at:put:", "foo"]
 LINES = [
     '{"actor":0,"args":[1,{"sym":"foo"}],"cmd":"post","selector":"at:put:","sender":1,"seq":2}',
     '{"cmd":"run"}',
@@ -94,6 +96,8 @@ def check_sessions(program, shim, every, file, lines, about):
         why = what_is_wrong(program, old, ended, wanted)
         if why:
             wrong.append(f"allocation {failing.at}: {why}")
+    if not refused:
+        wrong.append("no session was refused: nothing was tried")
     return told(f"sessions on {about}: {failing.at} allocations, {refused} sessions refused, {kept} left the file as it was", wrong)
 
 
@@ -121,6 +125,8 @@ def check_checks(program, shim, every, file, wanted):
         starved += ended[0] != status or ended[1] != line
         if ended != (status, line, "") and not is_starved(line, *ended):
             wrong.append(f"allocation {failing.at}: it ended with {ended}")
+    if not starved:
+        wrong.append("no check found no memory: nothing was tried")
     if ended != (status, line, ""):
         wrong.append(f"no allocation failed, and it ended with {ended}")
     return told(f"checks that tell {line.strip()}: {failing.at} allocations, {starved} checks found no memory", wrong)
@@ -135,6 +141,8 @@ def parts(program, shim, every, folder):
         yield False
         return
     yield check_sessions(program, shim, every, good, LINES, "an image file")
+    names = json.loads(Session(program, good, LINES).data)["names"]
+    yield told(f"the names {names}", [] if names == NAMES else [f"they are to be {NAMES}"])
     files = good_files()
     for name in SAVED:
         yield check_sessions(program, shim, every, files[name], [], os.path.basename(files[name]))

@@ -17,13 +17,19 @@ def run(program, lines, failing=None, options=()):
     return ended.returncode, [told(it) for it in ended.stdout.decode().splitlines()], ended.stderr.decode()
 
 
+# What a reply to `stats` tells of a site.
+KEYS = ["global", "selector", "sends", "site", "state", "super", "walk"]
+
+
 def told(reply):
-    """A reply; one to `stats` without how its sends were found and what state that left, since a lookup that finds no memory for what it
-    is to keep is not refused and finds it anew."""
+    """A reply; one to `stats`, where it is written as it must be, without how its sends were found and what state that left, since a lookup
+    that finds no memory for what it is to keep is not refused and finds it anew."""
     ok = json.loads(reply).get("ok") if reply.startswith("{") and reply.endswith("}") else None
-    if isinstance(ok, dict) and "sites" in ok:
-        return json.dumps({"ok": {"sent": [[it["selector"], it["super"], it["sends"]] for it in ok["sites"]]}})
-    return reply
+    if not isinstance(ok, dict) or "sites" not in ok:
+        return reply
+    if json.dumps({"ok": ok}, separators=(",", ":")) != reply or any(list(it) != KEYS for it in ok["sites"]):
+        return reply
+    return json.dumps({"ok": {"sent": [[it["selector"], it["super"], it["sends"]] for it in ok["sites"]]}})
 
 
 def first_difference(got, usual):
@@ -112,6 +118,8 @@ def check(program, shim, script):
         lines = file.read().splitlines()
     status, usual, _ = run(program, lines)
     short, parts, wrong = 0, 0, not_as_written(script, usual)
+    if status != 0 or len(usual) != len(lines) or NO_MEMORY in usual:
+        wrong.append(f"with ample memory: {len(usual)} replies to {len(lines)} lines, and status {status}")
     for failing in Failing.each(shim):
         got_status, got, said = run(program, lines, failing)
         if (got_status, got) == (status, usual):
@@ -128,6 +136,8 @@ def check(program, shim, script):
             parts += again.is_part
             if not again.is_fine:
                 wrong.append(f"allocation {failing.at}: line {place + 1}, asked again, is not answered as usual")
+    if not short:
+        wrong.append("no run found no memory: nothing was tried")
     name = os.path.basename(script)
     print(f"{name}: {failing.at - 1} allocations, {short} runs found no memory, {parts} of them in the middle of a 'run'; {len(wrong)} were wrong")
     for it in wrong[:10]:

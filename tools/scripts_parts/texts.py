@@ -43,6 +43,6 @@ def scripts(name):
         text = file.read().removesuffix("\n")
     number = 1
     for part in text.split("\n\n"):
-        if not part.startswith("#"):
+        if not all(line.startswith("#") for line in part.split("\n")):
             yield parted(name, number, part)
         number += part.count("\n") + 2

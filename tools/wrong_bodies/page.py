@@ -31,7 +31,10 @@ def results():
 
 def row(edit, is_tried, crate, name, known):
     by, at = known.get((name, title_of(edit)), ("", ""))
-    cells = [title_of(edit), function_of(edit, crate), "yes" if is_tried else "", by_of(edit) or by, at]
+    named = by_of(edit)
+    if named and named != by:
+        at = ""
+    cells = [title_of(edit), function_of(edit, crate), "yes" if is_tried else "", named or by, at]
     return "| " + " | ".join(cells).replace("|  |", "| |").replace("|  |", "| |") + " |\n"
 
 

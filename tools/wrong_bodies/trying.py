@@ -125,7 +125,8 @@ def by_a_trial(edit, top, crate, unedited):
         return False, "BAD EDIT: no program is built", said.rstrip("\n").split("\n")
     ended = run_trial(trial, program)
     lines = ended.stdout.rstrip("\n").split("\n")
-    return ended.returncode != 0, by_of(edit) if ended.returncode else "NOT REFUSED BY ITS TRIAL", lines
+    is_well = ended.returncode != 0 and any(word in ended.stdout for word in trial[1:] or trial)
+    return is_well, by_of(edit) if is_well else "NOT REFUSED BY ITS TRIAL", lines
 
 
 def try_edits(crate, edits, unedited):

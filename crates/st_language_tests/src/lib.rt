@@ -7,6 +7,8 @@ mod compiling;
 #[cfg(test)]
 mod lookups;
 #[cfg(test)]
+mod refused;
+#[cfg(test)]
 mod sites;
 #[cfg(test)]
 mod tables;

@@ -11,7 +11,7 @@ use st_classes::code::Code;
 use st_classes::counted_rows::CountedRows;
 use st_classes::edits::Edit;
 use st_classes::instructions::Instruction;
-use st_classes::kernel::OBJECT;
+use st_classes::kernel::{OBJECT, Target};
 use st_classes::keys::{Key, SiteId};
 use st_classes::methods::{Method, MethodParts};
 use st_classes::refusals::Refusal;
@@ -33,9 +33,9 @@ const B: ClassId = ClassId(9);
 
 const C: ClassId = ClassId(10);
 
-const WHO: Selector = Selector(22);
+pub(crate) const WHO: Selector = Selector(22);
 
-const MISSING: Selector = Selector(23);
+pub(crate) const MISSING: Selector = Selector(23);
 
 /// A method that sends a message without arguments to itself.
 fn asking(
@@ -98,7 +98,7 @@ fn install(
 }
 
 /// Classes A, B under A and C under B, each with a method `who` that sends `missing`.
-fn three_classes(alloc: Global) -> Result<Box<Version>, Refusal> {
+pub(crate) fn three_classes(alloc: Global) -> Result<Box<Version>, Refusal> {
     let mut version = kernel_version(alloc)?;
     for (name, parent) in [("A", OBJECT), ("B", A), ("C", B)] {
         version = define(alloc, &version, name.as_bytes(), parent, &[])?;
@@ -150,7 +150,21 @@ fn has_site(version: &Version, site: Option<SiteId>, key: Key) -> bool
     }
 }
 
-/// How a lookup goes and how many rows it reads, where it may be asked.
+/// What the plain walk finds, where it may be asked.
+fn walked(version: &Version, key: Key) -> Option<Target> {
+    if !version.is_class(key.class) {
+        return None;
+    }
+    match key.holder {
+        None => Some(version.find(key.class, key.selector)),
+        Some(holder) if version.is_class(holder) => {
+            Some(version.find_super(holder, key.class, key.selector))
+        }
+        Some(_) => None,
+    }
+}
+
+/// How a lookup goes and how many rows it reads, where it may be asked and finds what the plain walk finds.
 fn look<G: Guard>(
     caches: &mut Caches<G>,
     version: &Version,
@@ -166,8 +180,9 @@ fn look<G: Guard>(
         return None;
     }
     let mut rows = CountedRows::new(version);
-    let (_target, how) = caches.lookup(site, key, &mut rows);
-    Some((how, rows.reads()))
+    let (target, how) = caches.lookup(site, key, &mut rows);
+    let reads = rows.reads();
+    (walked(version, key) == Some(target)).then_some((how, reads))
 }
 
 /// A send to an instance of C, or a super send in a method of a holder.
@@ -369,7 +384,11 @@ fn reparent(
 
 /// An edit of each kind: a definition, an install, a removal, another superclass, and an install of a method for the last name that a
 /// table can have.
-fn next_edit(alloc: Global, version: &Version, kind: u32) -> Result<Box<Version>, Refusal> {
+pub(crate) fn next_edit(
+    alloc: Global,
+    version: &Version,
+    kind: u32,
+) -> Result<Box<Version>, Refusal> {
     match kind {
         0 => define(alloc, version, b"D", C, &[]),
         1 => install(alloc, version, B, MISSING, WHO),
@@ -379,15 +398,23 @@ fn next_edit(alloc: Global, version: &Version, kind: u32) -> Result<Box<Version>
     }
 }
 
-/// Whether caches go on from one version to the next by an edit of each kind.
+/// Whether six lookups are all asked, and find what walks find.
+fn all_find<G: Guard>(caches: &mut Caches<G>, alloc: Global, version: &Version) -> bool {
+    looks(caches, alloc, version).iter().all(Option::is_some)
+}
+
+/// Whether caches go on from one version to the next by an edit of each kind, and find there and, moved back, in the first one what
+/// walks find.
 fn follow_each_kind<G: Guard>(alloc: Global, caches: &mut Caches<G>) -> Result<bool, Refusal> {
+    let first = three_classes(alloc)?;
     let mut version = three_classes(alloc)?;
     let mut follow = ask(caches, alloc, &version, None, key(None, WHO)) == Some(How::Walk);
     for kind in 0..5 {
         version = next_edit(alloc, &version, kind)?;
         follow = moved(caches, alloc, &version) == Moved::Followed && follow;
+        follow = all_find(caches, alloc, &version) && follow;
     }
-    Ok(follow)
+    Ok(follow && all_find(caches, alloc, &first) && all_find(caches, alloc, &version))
 }
 
 fn global_guard_follows(alloc: Global) -> Result<bool, Refusal> {
@@ -406,5 +433,21 @@ fn switch_guard_follows(alloc: Global) -> Result<bool, Refusal> {
 fn caches_follow_each_kind_of_edit(rt: HostRuntime) -> Result<(), Fail> {
     assert!(rt; global_guard_follows(rt.alloc())?);
     assert!(rt; switch_guard_follows(rt.alloc())?);
+    Ok(())
+}
+
+/// Whether a class that is not there is told before all else: under it `x` is no class's name either.
+fn refuses_unknown_classes(alloc: Global) -> Result<bool, Refusal> {
+    let version = three_classes(alloc)?;
+    let nowhere = ClassId(11);
+    Ok(
+        define(alloc, &version, b"x", nowhere, &[]).err() == Some(Refusal::UnknownClass)
+            && install(alloc, &version, nowhere, WHO, MISSING).err() == Some(Refusal::UnknownClass),
+    )
+}
+
+#[test]
+fn unknown_classes_are_told_first(rt: HostRuntime) -> Result<(), Fail> {
+    assert!(rt; refuses_unknown_classes(rt.alloc())?);
     Ok(())
 }

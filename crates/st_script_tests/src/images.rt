@@ -44,7 +44,7 @@ fn has_no_actor(image: &Image) -> bool {
         && image.last_sent(FIRST).is_none()
 }
 
-/// A class that no line can name, an actor that is not there, and one that has nothing to do.
+/// A class that no line can name, an actor that is not there, and one that has nothing to do, also behind a turn.
 #[test]
 fn what_is_not_there(rt: HostRuntime) -> Result<(), Fail> {
     let alloc = rt.alloc();
@@ -54,6 +54,10 @@ fn what_is_not_there(rt: HostRuntime) -> Result<(), Fail> {
     assert!(rt; remove(alloc, &mut image, class, Selector(3)) == Err(Refusal::UnknownClass));
     assert!(rt; has_no_actor(&image));
     create(alloc, &mut image, OBJECT)?;
+    assert!(rt; advance(alloc, &mut image, 10) == Err(Refusal::NothingToDo));
+    // `isNil`, whose turn is one step
+    post(alloc, &mut image, Selector(3))?;
+    assert!(rt; advance(alloc, &mut image, 10) == Ok(1));
     assert!(rt; advance(alloc, &mut image, 10) == Err(Refusal::NothingToDo));
     Ok(())
 }

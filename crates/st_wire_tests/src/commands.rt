@@ -1,5 +1,6 @@
 //! Lines that are commands, as both readers read them: `read_command`, and the reader of many lines, by which the program reads. Lines
-//! that are no commands are tried on the built program, which asks `read_command` for what it says of them.
+//! that are texts and no commands are tried on the built program, whose reader asks `read_command` for what it says of them; a session
+//! ends before a line that is no text, so these are here.
 use st_classes::refusals::Refusal;
 use st_classes::seq::Seq;
 use st_classes::values::ActorId;
@@ -10,7 +11,7 @@ use std::test::*;
 
 /// What a command is to be. Of lists it says how long they are.
 #[derive(Drop)]
-enum Wanted {
+pub(crate) enum Wanted {
     Define(&'static str, &'static str, usize),
     Method(&'static str, &'static str),
     Remove(&'static str, &'static str),
@@ -104,7 +105,7 @@ fn is(text: &Seq<u8>, wanted: &str) -> bool {
     text.as_slice() == wanted.as_bytes()
 }
 
-fn is_wanted(command: &Command, wanted: &Wanted) -> bool {
+pub(crate) fn is_wanted(command: &Command, wanted: &Wanted) -> bool {
     match (command, wanted) {
         (
             Command::Define {
@@ -169,12 +170,16 @@ fn are_expected(args: &[Argument]) -> bool {
 }
 
 /// A reader on the heap, so that no proof that lets it go pays for its parts.
-fn new_reader(alloc: Global) -> Result<Box<LineReader>, AllocError> {
+pub(crate) fn new_reader(alloc: Global) -> Result<Box<LineReader>, AllocError> {
     Ok(Box::new(alloc, LineReader::new(alloc))?)
 }
 
 /// What both readers read of a line.
-fn both(alloc: Global, reader: &mut LineReader, line: &str) -> Result<(Command, Command), Refusal> {
+pub(crate) fn both(
+    alloc: Global,
+    reader: &mut LineReader,
+    line: &str,
+) -> Result<(Command, Command), Refusal> {
     let line = line.as_bytes();
     Ok((read_command(alloc, line)?, reader.read(alloc, line)?))
 }
@@ -204,5 +209,43 @@ fn both_readers_read_arguments(rt: HostRuntime) -> Result<(), Fail> {
     let mut reader = new_reader(rt.alloc())?;
     let (one, other) = both(rt.alloc(), &mut reader, ARGUMENTS)?;
     assert!(rt; has_arguments(&one) && has_arguments(&other));
+    Ok(())
+}
+
+fn is_no_command(answer: &Result<Command, Refusal>) -> bool {
+    matches!(answer, Err(Refusal::BadCommand))
+}
+
+/// A line with a byte at a place that is in no text.
+fn spoilt(alloc: Global, line: &[u8], place: usize) -> Result<Vec<u8>, AllocError> {
+    let mut line = Vec::from_slice(alloc, line)?;
+    if let Some(byte) = line.get_mut(place) {
+        *byte = 255;
+    }
+    Ok(line)
+}
+
+/// Whether both readers refuse a line that is spoilt at any place.
+fn are_spoilt(alloc: Global, reader: &mut LineReader, line: &str) -> Result<bool, AllocError> {
+    for place in 0..line.len() {
+        let spoilt = spoilt(alloc, line.as_bytes(), place)?;
+        if !is_no_command(&read_command(alloc, &spoilt))
+            || !is_no_command(&reader.read(alloc, &spoilt))
+        {
+            return Ok(false);
+        }
+    }
+    Ok(true)
+}
+
+/// A reader reads on behind lines that are no text.
+#[test]
+fn both_readers_refuse_what_is_no_text(rt: HostRuntime) -> Result<(), Fail> {
+    let mut reader = new_reader(rt.alloc())?;
+    for (line, wanted) in commands() {
+        assert!(rt; are_spoilt(rt.alloc(), &mut reader, line)?, "{line}");
+        let (_, other) = both(rt.alloc(), &mut reader, line)?;
+        assert!(rt; is_wanted(&other, wanted), "{line}");
+    }
     Ok(())
 }

@@ -6,6 +6,8 @@
 #[cfg(test)]
 mod commands;
 #[cfg(test)]
+mod long_lines;
+#[cfg(test)]
 mod replies;
 #[cfg(test)]
 mod streams;

@@ -48,6 +48,29 @@ fn talk(alloc: Global, rounds: &mut Rounds) -> Result<(), AllocError> {
     rounds.quantum(1, BUSY, 8)
 }
 
+/// A worker takes a step of the busy actor, and has the claim while the class table changes.
+fn edit_under(rounds: &mut Rounds, edit: Event) -> Result<(), AllocError> {
+    rounds.add(Event::Checkout {
+        worker: 0,
+        actor: BUSY,
+    })?;
+    rounds.add(Event::Local(0))?;
+    rounds.add(edit)?;
+    rounds.add(Event::Commit(0))
+}
+
+/// Claims over edits. The first has dispatched `go`, and survives a definition; the second has used no selector, and survives a reparent;
+/// the third has sent `tag`, and is stale after another one; the fourth takes that step anew, and survives an install for `bump`.
+fn survive(alloc: Global, rounds: &mut Rounds) -> Result<(), AllocError> {
+    rounds.post(alloc, BUSY, GO, &[])?;
+    edit_under(rounds, define(alloc, "D", A)?)?;
+    for parent in [A, B] {
+        edit_under(rounds, Event::Reparent { class: C, parent })?;
+    }
+    edit_under(rounds, install(alloc, B, 10)?)?;
+    rounds.quantum(0, BUSY, 8)
+}
+
 /// A worker takes a step of an actor and gives its claim back.
 fn give_back(rounds: &mut Rounds, actor: ActorId) -> Result<(), AllocError> {
     rounds.add(Event::Checkout { worker: 1, actor })?;
@@ -80,6 +103,7 @@ fn all_events(alloc: Global) -> Result<Vec<Event>, AllocError> {
     let mut rounds = Rounds::begin(alloc)?;
     edit(alloc, &mut rounds)?;
     talk(alloc, &mut rounds)?;
+    survive(alloc, &mut rounds)?;
     go_on(alloc, &mut rounds)?;
     Ok(rounds.events)
 }

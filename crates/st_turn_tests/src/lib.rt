@@ -3,13 +3,7 @@
 #![tactic(auto)]
 
 #[cfg(test)]
-mod alike;
-#[cfg(test)]
-mod dice;
-#[cfg(test)]
-mod edits;
-#[cfg(test)]
-mod events;
+mod agree;
 #[cfg(test)]
 mod images;
 #[cfg(test)]
@@ -17,16 +11,8 @@ mod moves;
 #[cfg(test)]
 mod plain;
 #[cfg(test)]
-mod programs;
-#[cfg(test)]
 mod refused;
 #[cfg(test)]
-mod rows;
-#[cfg(test)]
-mod sends;
-#[cfg(test)]
 mod sums;
-#[cfg(test)]
-mod trials;
 #[cfg(test)]
 mod workers;

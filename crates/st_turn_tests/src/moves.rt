@@ -2,19 +2,15 @@
 ghost use Rattle.std.specs.Prelude.{◌≡◌, true, IfSome};
 ghost use Rattle.st_classes.specs.EditLists.{Begins};
 
-use crate::images::{
-    GO, Image, checkout, commit, define, image_of_classes, image_sent_go, install_line, post,
-    release, remove_line,
-};
-use crate::sends::{finish, told};
-use crate::trials::Trial;
-use crate::workers::Counts;
+use crate::agree::Pair;
+use crate::images::*;
+use crate::workers::{Counts, new_switching, new_worker};
 use st_classes::kernel::OBJECT;
 use st_classes::refusals::Refusal;
-use st_classes::values::ActorId;
-use st_guard::caches::Caches;
+use st_classes::values::Value;
+use st_guard::guard::Guard;
 use st_guard::switch_guard::SwitchGuard;
-use st_turn::body::Stop;
+use st_turn::body::{Outcome, Stop};
 use st_turn::claim::Claim;
 use st_turn::worker::Worker;
 use std::alloc::{AllocError, Global};
@@ -32,93 +28,86 @@ const OTHERS: &str = r"A go ^B new tag
 A tag ^1
 C tag ^3";
 
-/// The edits to which workers come, one after the other, and what is told of the turn of `go` there: how it ends, and how many
-/// of its sends their sites had, the lookup cache had, and walks found.
-const WAY: &[(&str, &str)] = &[
-    (MORE, "Answer(Int(2)) 0 0 2"),
+/// The edits to which workers come, one after the other; what the turn of `go` answers there; and how many of its two sends, of `new` and
+/// `tag`, their sites had, with a worker for which each edit ends what was found before, and with one that keeps what is for other
+/// selectors. Walks found the others.
+const WAY: &[(&str, i64, u64, u64)] = &[
+    (MORE, 2, 0, 0),
     // back
-    (FEW, "Answer(Int(1)) 0 0 2"),
-    // on: each edit ends what was found before
-    (MORE, "Answer(Int(2)) 0 0 2"),
+    (FEW, 1, 0, 0),
+    // on
+    (MORE, 2, 0, 1),
     // nothing is forgotten where the edits are the same
-    (MORE, "Answer(Int(2)) 2 0 0"),
+    (MORE, 2, 2, 2),
     // over, and back over
-    (OTHERS, "Answer(Int(1)) 0 0 2"),
-    (MORE, "Answer(Int(2)) 0 0 2"),
+    (OTHERS, 1, 0, 0),
+    (MORE, 2, 0, 0),
+    // back, on to the others, and over
+    (FEW, 1, 0, 0),
+    (OTHERS, 1, 0, 1),
+    (MORE, 2, 0, 0),
 ];
 
 /// The table stands behind a function without a contract, so that no proof carries anything of it.
-fn way() -> &'static [(&'static str, &'static str)] {
+fn way() -> &'static [(&'static str, i64, u64, u64)] {
     WAY
 }
 
-/// What the workers of a trial tell of the turn in another image, which has these methods.
-fn told_in(
+fn counts_of(by_site: u64, by_walk: u64) -> Counts {
+    Counts {
+        by_site,
+        by_global: 0,
+        by_walk,
+    }
+}
+
+/// Whether two workers, of which one takes rows of steps and the other single ones, do the same in the turn in an image with these
+/// methods, which answers so, and of whose sends the sites have so many.
+fn goes_on<G: Guard>(
     alloc: Global,
-    trial: &mut Trial,
+    pair: &mut Pair<G>,
     methods: &str,
-    quantum: u32,
-) -> Result<String, Refusal> {
-    let (image, _actor) = image_sent_go(alloc, methods)?;
-    trial.image = image;
-    trial.counts = Counts::none();
-    let difference = finish(alloc, trial, quantum)?;
-    Ok(told(alloc, trial, 1, difference)?)
+    first: u32,
+    answer: i64,
+    by_site: u64,
+) -> Result<bool, Refusal> {
+    let mut image = image_sent_go(alloc, methods)?;
+    pair.counts = counts_of(0, 0);
+    let is_same = pair.finish(alloc, &mut image, first)?;
+    let ended = outcome(&image, 1)?;
+    Ok(
+        is_same
+            && ended == Outcome::Answer(Value::Int(answer))
+            && pair.counts == counts_of(by_site, 2u64.wrapping_sub(by_site)),
+    )
+}
+
+/// The first place of the way at which workers do otherwise. They have quanta of these many steps, and then of one more each time.
+fn first_wrong(alloc: Global, first: u32) -> Result<Option<usize>, Refusal> {
+    let mut plain = Pair {
+        runner: new_worker(alloc)?,
+        stepper: new_worker(alloc)?,
+        counts: counts_of(0, 0),
+    };
+    let mut keeping = Pair {
+        runner: new_switching(alloc)?,
+        stepper: new_switching(alloc)?,
+        counts: counts_of(0, 0),
+    };
+    for (place, (methods, answer, ended, kept)) in way().iter().enumerate() {
+        if !goes_on(alloc, &mut plain, methods, first, *answer, *ended)?
+            || !goes_on(alloc, &mut keeping, methods, first, *answer, *kept)?
+        {
+            return Ok(Some(place));
+        }
+    }
+    Ok(None)
 }
 
 #[test]
 fn workers_take_any_claim(rt: HostRuntime) -> Result<(), Fail> {
-    for quantum in [1, 2, 100] {
-        let image = image_of_classes(rt.alloc())?;
-        let mut trial = Trial::new(rt.alloc(), image)?;
-        for (place, (methods, wanted)) in way().iter().enumerate() {
-            let told = told_in(rt.alloc(), &mut trial, methods, quantum)?;
-            assert!(rt; told.as_str() == *wanted, "by {quantum}, {place}: {told}");
-        }
-    }
-    Ok(())
-}
-
-/// A worker that keeps, over an edit, what was found for other selectors than that of the edit.
-fn new_switching(alloc: Global) -> Result<Box<Worker<SwitchGuard>>, AllocError> {
-    let worker = Worker::new(Caches::new(alloc, SwitchGuard::new(alloc))?);
-    Ok(Box::new(alloc, worker)?)
-}
-
-/// How it finds the sends of the turn of `go` in an image with these methods.
-fn counts_in(
-    alloc: Global,
-    worker: &mut Worker<SwitchGuard>,
-    methods: &str,
-) -> Result<Counts, Refusal> {
-    let (mut image, actor) = image_sent_go(alloc, methods)?;
-    let mut claim = checkout(alloc, &mut image, actor)?;
-    let _stop = worker.run(alloc, &mut claim, 100)?;
-    let mut counts = Counts::none();
-    counts.add(claim.sends().sums());
-    release(&mut image, claim);
-    Ok(counts)
-}
-
-#[test]
-fn what_later_edits_leave_is_kept(rt: HostRuntime) -> Result<(), Fail> {
-    let mut worker = new_switching(rt.alloc())?;
-    // of `new` and `tag`
-    for (methods, by_site, by_walk) in [
-        (FEW, 0, 2),
-        (MORE, 1, 1),
-        (MORE, 2, 0),
-        (FEW, 0, 2),
-        (OTHERS, 1, 1),
-        (MORE, 0, 2),
-    ] {
-        let counts = counts_in(rt.alloc(), &mut worker, methods)?;
-        let wanted = Counts {
-            by_site,
-            by_global: 0,
-            by_walk,
-        };
-        assert_eq!(rt; counts, wanted);
+    for first in [0, 100] {
+        assert_eq!(rt; first_wrong(rt.alloc(), first)?, None, "from {first}");
     }
     Ok(())
 }
@@ -133,50 +122,40 @@ fn keeps_first(worker: &Worker<SwitchGuard>, claim: &Claim) -> bool
     }
 }
 
-/// Takes the steps of a claim by a caller who knows that its edits go on from the worker's: in a row.
-fn run_on(
+/// Takes the steps of a claim by a caller who knows that its edits go on from the worker's, in a row or one by one. The answer is whether
+/// the turn ends.
+fn take_on(
     alloc: Global,
     worker: &mut Worker<SwitchGuard>,
     claim: &mut Claim,
-) -> Result<bool, AllocError> {
-    if !keeps_first(worker, claim) {
-        return Ok(false);
-    }
-    Ok(worker.run_unchecked(alloc, claim, 100)? == Stop::Ended)
-}
-
-/// The same one by one.
-fn step_on(
-    alloc: Global,
-    worker: &mut Worker<SwitchGuard>,
-    claim: &mut Claim,
+    in_row: bool,
 ) -> Result<bool, AllocError> {
     for _ in 0..100 {
         if !keeps_first(worker, claim) {
             return Ok(false);
         }
-        match worker.step_unchecked(alloc, claim)? {
-            Stop::More => {}
-            stop => return Ok(stop == Stop::Ended),
+        let stop = if in_row {
+            worker.run_unchecked(alloc, claim, 100)?
+        } else {
+            worker.step_unchecked(alloc, claim)?
+        };
+        if stop != Stop::More {
+            return Ok(stop == Stop::Ended);
         }
     }
     Ok(false)
 }
 
-/// How the sends of the next turn are found.
+/// How the sends of the next turn are found, if it ends.
 fn next_counts(
     alloc: Global,
     image: &mut Image,
     worker: &mut Worker<SwitchGuard>,
     in_row: bool,
 ) -> Result<Counts, Refusal> {
-    let mut claim = checkout(alloc, image, ActorId(0))?;
-    let ended = if in_row {
-        run_on(alloc, worker, &mut claim)
-    } else {
-        step_on(alloc, worker, &mut claim)
-    };
-    let mut counts = Counts::none();
+    let mut claim = checkout(alloc, image, FIRST)?;
+    let ended = take_on(alloc, worker, &mut claim, in_row);
+    let mut counts = counts_of(0, 0);
     if ended == Ok(true) {
         counts.add(claim.sends().sums());
     }
@@ -185,25 +164,24 @@ fn next_counts(
 }
 
 /// An edit of each kind, for what no turn sends.
-fn edit(alloc: Global, image: &mut Image, kind: u64) -> Result<u32, Refusal> {
+fn other_edit(alloc: Global, image: &mut Image, kind: u64) -> Result<u32, Refusal> {
     match kind {
-        0 => define(alloc, image, b"K", OBJECT),
-        1 => install_line(alloc, image, "A other ^0"),
-        _ => remove_line(alloc, image, "A other"),
+        0 => define(alloc, image, "K", OBJECT, ""),
+        1 => edit(alloc, image, "A other ^0"),
+        _ => edit(alloc, image, "- A other"),
     }
 }
 
 /// Whether a worker finds at their sites, after an edit of each kind, what it found before.
 fn keeps_over_edits(alloc: Global, in_row: bool) -> Result<bool, Refusal> {
-    let (mut image, actor) = image_sent_go(alloc, MORE)?;
+    let mut image = image_sent_go(alloc, MORE)?;
     let mut worker = new_switching(alloc)?;
-    let first = next_counts(alloc, &mut image, &mut worker, in_row)?;
-    let mut keeps = first.by_walk == 2;
+    let mut keeps = next_counts(alloc, &mut image, &mut worker, in_row)? == counts_of(0, 2);
     for kind in 0..3 {
-        edit(alloc, &mut image, kind)?;
-        post(alloc, &mut image, kind + 2, actor, GO)?;
+        other_edit(alloc, &mut image, kind)?;
+        post_go(alloc, &mut image, kind + 2)?;
         let counts = next_counts(alloc, &mut image, &mut worker, in_row)?;
-        keeps = keeps && counts.by_site == 2;
+        keeps = keeps && counts == counts_of(2, 0);
     }
     Ok(keeps)
 }

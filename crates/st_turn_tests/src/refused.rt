@@ -1,12 +1,9 @@
 //! Steps for which memory is refused: the claim stands after its last whole step, and goes on from there. Memory is refused where this
 //! runs with an allocation that fails, as `tools/refused-growth` has it for each in turn.
-mod calls;
-
-use crate::images::{Image, checkout, commit, image_sent_go, release};
+use crate::images::{FIRST, checkout, commit, image_sent_go, release};
 use crate::plain::plain_steps;
-use crate::workers::{Worker, new_worker, run, step};
+use crate::workers::{new_worker, take};
 use st_classes::refusals::Refusal;
-use st_classes::values::ActorId;
 use st_turn::body::Stop;
 use st_turn::claim::Claim;
 use std::alloc::{AllocError, Global};
@@ -30,79 +27,47 @@ const MOST: u32 = 1000;
 fn is_whole(alloc: Global, claim: &Claim, fresh: &Claim) -> bool {
     for _ in 0..2 {
         if let Ok(plain) = plain_steps(alloc, fresh, claim.steps()) {
-            return plain.taken == claim.steps() && claim.after().is_same(&plain.body);
+            return plain.lead_to(claim);
         }
     }
     false
 }
 
-/// Takes all steps that are left, in a row or one by one.
-fn take(
-    alloc: Global,
-    worker: &mut Worker,
-    claim: &mut Claim,
-    in_row: bool,
-) -> Result<Stop, AllocError> {
-    if in_row {
-        run(alloc, worker, claim, MOST)
-    } else {
-        step(alloc, worker, claim, MOST)
-    }
-}
-
 /// Whether a claim's steps are taken to the end, and are whole where no memory was left and in the end.
 fn ends_whole(
     alloc: Global,
-    worker: &mut Worker,
     claim: &mut Claim,
     fresh: &Claim,
     in_row: bool,
-) -> bool {
-    let first = take(alloc, worker, claim, in_row);
-    if !is_whole(alloc, claim, fresh) {
-        return false;
-    }
+) -> Result<bool, AllocError> {
+    let mut worker = new_worker(alloc)?;
+    let first = take(alloc, &mut worker, claim, MOST, in_row);
+    let stood_whole = is_whole(alloc, claim, fresh);
     let stop = match first {
-        Err(AllocError) => take(alloc, worker, claim, in_row),
+        Err(AllocError) => take(alloc, &mut worker, claim, MOST, in_row),
         stop => stop,
     };
-    stop == Ok(Stop::Ended) && is_whole(alloc, claim, fresh)
+    Ok(stood_whole && stop == Ok(Stop::Ended) && is_whole(alloc, claim, fresh))
 }
 
 /// How many steps of the turn are committed, which are those of plain steps.
-fn committed(
-    alloc: Global,
-    image: &mut Image,
-    actor: ActorId,
-    in_row: bool,
-) -> Result<u32, Refusal> {
-    let fresh = checkout(alloc, image, actor)?;
-    let mut claim = checkout(alloc, image, actor)?;
-    let mut worker = new_worker(alloc)?;
-    let is_whole = ends_whole(alloc, &mut worker, &mut claim, &fresh, in_row);
-    release(image, fresh);
-    if !is_whole {
-        release(image, claim);
-        return Err(Refusal::Changed);
+fn committed(alloc: Global, in_row: bool) -> Result<u32, Refusal> {
+    let mut image = image_sent_go(alloc, METHODS)?;
+    let fresh = checkout(alloc, &mut image, FIRST)?;
+    let mut claim = checkout(alloc, &mut image, FIRST)?;
+    let ended = ends_whole(alloc, &mut claim, &fresh, in_row);
+    release(&mut image, fresh);
+    if ended? {
+        return commit(alloc, &mut image, claim);
     }
-    commit(alloc, image, claim)
-}
-
-fn steps_of_go(alloc: Global, in_row: bool) -> Result<u32, Refusal> {
-    let (mut image, actor) = image_sent_go(alloc, METHODS)?;
-    committed(alloc, &mut image, actor, in_row)
+    Err(Refusal::Changed)
 }
 
 #[test]
-fn steps_in_a_row_are_whole(rt: HostRuntime) -> Result<(), Fail> {
-    let steps = steps_of_go(rt.alloc(), true)?;
-    assert!(rt; steps > 50, "{steps}");
-    Ok(())
-}
-
-#[test]
-fn single_steps_are_whole(rt: HostRuntime) -> Result<(), Fail> {
-    let steps = steps_of_go(rt.alloc(), false)?;
-    assert!(rt; steps > 50, "{steps}");
+fn steps_are_whole(rt: HostRuntime) -> Result<(), Fail> {
+    for in_row in [true, false] {
+        let steps = committed(rt.alloc(), in_row)?;
+        assert!(rt; steps > 50, "in a row: {in_row}: {steps}");
+    }
     Ok(())
 }

@@ -23,8 +23,20 @@ pub(crate) fn new_image(alloc: Global, settings: Settings) -> Result<Box<Image>,
     Ok(boxed(alloc, Image::new(alloc, settings)?)?)
 }
 
-pub(crate) fn set(image: &mut Image, settings: Settings) -> Result<(), Refusal> {
-    image.set(settings)
+/// Lets an image go. It may be a value of any type here too.
+fn without<T: Drop>(_image: T, answer: Result<(), Refusal>) -> Result<(), Refusal> {
+    answer
+}
+
+/// What a new image answers where its numbers are set to these.
+pub(crate) fn set(alloc: Global, settings: Settings) -> Result<(), Refusal> {
+    match Image::new(alloc, Settings::DEFAULT) {
+        Ok(mut image) => {
+            let answer = image.set(settings);
+            without(image, answer)
+        }
+        Err(refusal) => Err(refusal),
+    }
 }
 
 /// A class without instance variables of its own.

@@ -15,8 +15,7 @@ fn refuses_settings(rt: HostRuntime) -> Result<(), Fail> {
         history: 1,
     };
     assert!(rt; matches!(new_image(rt.alloc(), none), Err(Refusal::BadArguments)));
-    let mut image = new_image(rt.alloc(), Settings::DEFAULT)?;
-    assert!(rt; set(&mut image, none) == Err(Refusal::BadArguments));
+    assert!(rt; set(rt.alloc(), none) == Err(Refusal::BadArguments));
     Ok(())
 }
 

@@ -1,4 +1,4 @@
-"""The program without proofs: `rt try` builds it from the sources of a copy and runs it as a server, out of whose process it is copied."""
+"""The program without proofs: `rt try` builds it from the sources of a copy and runs it as a server, whose file is copied meanwhile."""
 
 import os
 import shutil
@@ -19,10 +19,12 @@ def listens(path):
 
 
 def server_at(path):
-    """The number of the process that listens at a socket."""
+    """The words with which the process was begun that listens at a socket."""
     with socket.socket(socket.AF_UNIX) as client:
         client.connect(path)
-        return struct.unpack("3i", client.getsockopt(socket.SOL_SOCKET, socket.SO_PEERCRED, 12))[0]
+        process = struct.unpack("3i", client.getsockopt(socket.SOL_SOCKET, socket.SO_PEERCRED, 12))[0]
+    with open(f"/proc/{process}/cmdline", encoding="utf-8") as file:
+        return file.read().split("\0")[:-1]
 
 
 def end(started):
@@ -39,8 +41,9 @@ def build(top, path):
     """Builds the program from the sources of the repository in a folder. The answer is what was said where that fails, or None."""
     with tempfile.TemporaryDirectory(prefix="wrong-bodies-") as room, open(f"{room}/said", "w+", errors="replace") as said:
         at = f"{room}/socket"
+        words = ["serve", "--socket", at, "--workers", "1"]
         how = {"stdin": subprocess.DEVNULL, "stdout": said, "stderr": subprocess.STDOUT, "env": {**os.environ, "TMPDIR": room}}
-        started = subprocess.Popen(["rt", "try", "--", "serve", "--socket", at, "--workers", "1"], cwd=f"{top}/crates/actorimage", **how)
+        started = subprocess.Popen(["rt", "try", "--", *words], cwd=f"{top}/crates/actorimage", **how)
         try:
             ends = time.monotonic() + LONGEST
             while not listens(at):
@@ -48,7 +51,8 @@ def build(top, path):
                     said.seek(0)
                     return said.read()
                 time.sleep(0.2)
-            shutil.copyfile(f"/proc/{server_at(at)}/exe", path)
+            # A loader may be begun with the program's path and the words behind it.
+            shutil.copyfile(server_at(at)[-len(words) - 1], path)
             os.chmod(path, 0o755)
             return None
         finally:

@@ -89,14 +89,15 @@ class Unedited:
 
     def __init__(self, room):
         self.program = f"{room}/unedited"
+        self.is_tried, self.said = False, None
         self.failed = {}
 
     def why_not(self, trial, top):
         """Why the program does not pass a trial, or None. The copy in a folder is without edits."""
-        if not os.path.exists(self.program):
-            said = build(top, self.program)
-            if said is not None:
-                return said
+        if not self.is_tried:
+            self.is_tried, self.said = True, build(top, self.program)
+        if self.said is not None:
+            return self.said
         if trial not in self.failed:
             ended = run_trial(trial, self.program)
             self.failed[trial] = ended.stdout if ended.returncode else None
@@ -114,7 +115,7 @@ def by_a_trial(edit, top, crate, unedited):
     trial = trial_of(edit)
     why = unedited.why_not(trial, top)
     if why is not None:
-        return False, "NOT TRIED: its trial fails on the sources as they are", why.rstrip("\n").split("\n")
+        return False, "NOT TRIED: the sources as they are do not pass its trial", why.rstrip("\n").split("\n")
     program = f"{top}/edited"
     back = apply(edit, f"{top}/crates/{crate}")
     try:

@@ -26,6 +26,9 @@ LINES = [
     '{"cmd":"run"}',
     '{"actor":0,"cmd":"outcome","turn":2}',
 ]
+# Another session, of one edit with three new names.
+EDIT = ['{"class":"A","cmd":"method","source":"spare: x ^#other -> x"}']
+NAMES_OF_EDIT = ["go", "tag", "spare:", "other", "->"]
 # Good files that are loaded and saved by a session without lines. Together they have edits, values and phases of all kinds.
 SAVED = ("loop", "message-waits", "moved", "varied")
 # A good file that is checked, and a text that is no file's, with what is told of each.
@@ -140,9 +143,10 @@ def parts(program, shim, every, folder):
         print(f"an image file is not written: {said}")
         yield False
         return
-    yield check_sessions(program, shim, every, good, LINES, "an image file")
-    names = json.loads(Session(program, good, LINES).data)["names"]
-    yield told(f"the names {names}", [] if names == NAMES else [f"they are to be {NAMES}"])
+    for lines, wanted, about in ((LINES, NAMES, "an image file"), (EDIT, NAMES_OF_EDIT, "one that is edited")):
+        yield check_sessions(program, shim, every, good, lines, about)
+        names = json.loads(Session(program, good, lines).data)["names"]
+        yield told(f"the names {names}", [] if names == wanted else [f"they are to be {wanted}"])
     files = good_files()
     for name in SAVED:
         yield check_sessions(program, shim, every, files[name], [], os.path.basename(files[name]))

@@ -9,6 +9,12 @@ from .shim import Failing
 NO_MEMORY = '{"error":"NoMemory"}'
 
 
+def whole_replies(program, lines):
+    """The replies of a script as they are."""
+    text = "".join(line + "\n" for line in lines).encode()
+    return subprocess.run([program, "script"], input=text, capture_output=True, timeout=120).stdout.decode().splitlines()
+
+
 def run(program, lines, failing=None, options=()):
     """The status, the replies and standard error of a script."""
     text = "".join(line + "\n" for line in lines).encode()
@@ -101,15 +107,16 @@ def asked_again(program, lines, usual, place, failing):
     return Again(got == usual[:place] + [NO_MEMORY] + usual[place:])
 
 
-def not_as_written(script, usual):
+def not_as_written(program, script, lines):
     """What is wrong with the replies of a run with ample memory, where a file beside the script has them."""
     path = os.path.splitext(script)[0] + ".replies"
     if not os.path.exists(path):
         return []
     with open(path) as file:
-        wanted = [told(it) for it in file.read().splitlines()]
-    place = first_difference(usual, wanted)
-    return [] if usual == wanted else [f"with ample memory: reply {place + 1} is not the one of {path}"]
+        wanted = file.read().splitlines()
+    got = whole_replies(program, lines)
+    place = first_difference(got, wanted)
+    return [] if got == wanted else [f"with ample memory: reply {place + 1} is not the one of {path}"]
 
 
 def check(program, shim, script):
@@ -117,7 +124,7 @@ def check(program, shim, script):
     with open(script) as file:
         lines = file.read().splitlines()
     status, usual, _ = run(program, lines)
-    short, parts, wrong = 0, 0, not_as_written(script, usual)
+    short, parts, wrong = 0, 0, not_as_written(program, script, lines)
     if status != 0 or len(usual) != len(lines) or NO_MEMORY in usual:
         wrong.append(f"with ample memory: {len(usual)} replies to {len(lines)} lines, and status {status}")
     for failing in Failing.each(shim):

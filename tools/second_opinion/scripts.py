@@ -37,7 +37,7 @@ ARGUMENTS += [{"sym": "a"}, {"sym": "at:put:"}, {"ref": 0}, {"ref": 1}, {"ref": 
 REMOVED = KERNEL_SELECTORS["Object"] + KERNEL_SELECTORS["ActorRef"] + KERNEL_SELECTORS["Class"]
 REMOVED += ("foo", "bar", "neverSeen", "+", "a:b", "")
 
-CLASSES_TO_EDIT = "A A A A B B B C C D E Object Object SmallInteger Symbol True Class ActorRef".split()
+CLASSES_TO_EDIT = "A A A A B B B C C D E Object Object SmallInteger Symbol True UndefinedObject Class ActorRef".split()
 # What may stand under what: B under A and D, and C under B and E.
 CLASSES_TO_MOVE = "B B B C C C D E A Object True Nowhere".split()
 CLASSES_ABOVE = "A A D D B B E E C Object Symbol Nowhere".split()
@@ -238,11 +238,20 @@ class CutTurns:
         own = list(self.script.image.classes.all[self.script.image.classes.numbers[class_name]].methods)
         self.script.add({"class": class_name, "cmd": "stats", "selector": self.apart.choice(own * 4 + ["foo", "+", "a:b"])})
 
-    def with_sends(self):
-        """The script, at whose end all methods are asked for their sends."""
+    def sends_of(self, class_name):
+        """All methods of a class are asked for their sends."""
+        one = self.script.image.classes.all[self.script.image.classes.numbers[class_name]]
+        for selector in one.methods:
+            self.script.add({"class": class_name, "cmd": "stats", "selector": selector})
+        return len(one.methods)
+
+    def asked_in_the_end(self):
+        """The script, at whose end all methods are asked for their sends, and all turns for how they ended that may be told."""
         for one in self.script.image.classes.all:
-            for selector in one.methods:
-                self.script.add({"class": one.name, "cmd": "stats", "selector": selector})
+            self.sends_of(one.name)
+        for number, actor in enumerate(self.script.image.actors):
+            for turn in range(max(1, len(actor.results) - 66), len(actor.results) + 2):
+                self.script.add({"actor": number, "cmd": "outcome", "turn": turn})
         return self.script
 
     def run(self):
@@ -272,7 +281,10 @@ class CutTurns:
             self.script.add({"class": self.rng.choice(["A", "B", "C", "D", "E", "Object"]), "cmd": "actor"})
 
     def install(self):
+        """Where sends are asked for, often before a method is replaced: its own are told no more then."""
         class_name = self.rng.choice(CLASSES_TO_EDIT)
+        if len(self.aside) > 1 and self.apart.random() < 0.4:
+            self.further += self.sends_of(class_name)
         method = self.script.install(class_name, self.sources.next_to_run(class_name))
         if method:
             self.selectors.append(method.selector)
@@ -300,7 +312,7 @@ class CutTurns:
 def cut_turns(rng, sources):
     turns = CutTurns(rng, sources, asks_sends=True)
     turns.grow(900)
-    return turns.with_sends()
+    return turns.asked_in_the_end()
 
 
 def all_scripts(seed, sources):

@@ -73,6 +73,8 @@ class Program:
 
 def try_program(program, lines):
     """What is wrong with the first quantum with which something is."""
+    if not any(line.startswith("= ") for line in lines):
+        return "it has no turn"
     first = None
     for quantum in QUANTA:
         sites, why = Program(lines).play(program, quantum)

@@ -9,7 +9,7 @@ use st_classes::refusals::Refusal;
 use st_classes::values::{ActorId, Selector, Value};
 use st_guard::switch_guard::SwitchGuard;
 use st_mailbox::ring_box::RingBox;
-use st_system::events::Event;
+use st_system::events::{Answer, Event};
 use st_system::system::System;
 use std::alloc::{AllocError, Global};
 use std::test::*;
@@ -123,38 +123,64 @@ fn apply_again(alloc: Global, system: &mut Rings, event: &Event) -> Answered {
     }
 }
 
-/// What is wrong with an event of the first of two twins, which is asked again where it finds no memory. So is the other one.
-fn wrong_event(
+/// What the commits of all events answer: those of talks, of claims over edits, and of what goes on.
+const COMMITS: &[Answered] = &[
+    Ok(Answer::Steps(3)),
+    Ok(Answer::Steps(1)),
+    Ok(Answer::Steps(4)),
+    Ok(Answer::Steps(1)),
+    Ok(Answer::Steps(8)),
+    Ok(Answer::Steps(1)),
+    Ok(Answer::Steps(1)),
+    Err(Refusal::Stale { version: 15 }),
+    Ok(Answer::Steps(1)),
+    Ok(Answer::Steps(5)),
+    Ok(Answer::Steps(2)),
+    Ok(Answer::Steps(8)),
+];
+
+/// The table behind a function without a contract, so that no proof carries anything of it.
+fn commits() -> &'static [Answered] {
+    COMMITS
+}
+
+/// What an event of the first of two twins answers, which is asked again where it finds no memory; or what is wrong with it. The other one
+/// is asked again too.
+fn answer_of_both(
     alloc: Global,
     one: &mut Rings,
     other: &mut Rings,
     event: &Event,
-) -> Option<&'static str> {
+) -> Result<Answered, &'static str> {
     let mut answer = apply(alloc, one, event);
     if answer == Err(Refusal::NoMemory) {
-        let part = difference_again(alloc, one, other);
-        if part.is_some() {
-            return part;
+        if let Some(part) = difference_again(alloc, one, other) {
+            return Err(part);
         }
         answer = apply(alloc, one, event);
     }
     if apply_again(alloc, other, event) == answer {
-        None
+        Ok(answer)
     } else {
-        Some("answers")
+        Err("answers")
     }
 }
 
-/// The first event that is wrong, and with what; or in what the twins differ behind all.
+/// The first event that is wrong, and with what, a commit also where it answers something else; or in what the twins differ behind all.
 fn first_wrong(
     alloc: Global,
     one: &mut Rings,
     other: &mut Rings,
     events: &[Event],
 ) -> Option<(usize, &'static str)> {
+    let mut commits = commits().iter();
     for (place, event) in events.iter().enumerate() {
-        if let Some(part) = wrong_event(alloc, one, other, event) {
-            return Some((place, part));
+        let answer = match answer_of_both(alloc, one, other, event) {
+            Ok(answer) => answer,
+            Err(part) => return Some((place, part)),
+        };
+        if matches!(event, Event::Commit(_)) && commits.next() != Some(&answer) {
+            return Some((place, "commits"));
         }
     }
     let part = difference_again(alloc, one, other)?;

@@ -1,5 +1,6 @@
 //! Quanta that are taken in three ways and compared: as a row of steps, one step after the other, and by plain steps. How the turns of
-//! programs end, and how their sends are found, is counted in tests/sends.txt, and where rows end, in tests/rows.txt.
+//! programs end, and how their sends are found where caches keep what an edit leaves, is counted in tests/sends.txt, and where rows end, in
+//! tests/rows.txt.
 use crate::images::*;
 use crate::plain::plain_steps;
 use crate::workers::{Counts, new_worker, take};
@@ -7,6 +8,7 @@ use st_classes::refusals::Refusal;
 use st_classes::values::ActorId;
 use st_guard::global_guard::GlobalGuard;
 use st_guard::guard::Guard;
+use st_turn::body::Stop;
 use st_turn::claim::Claim;
 use st_turn::sums::SiteSum;
 use st_turn::worker::Worker;
@@ -42,7 +44,12 @@ impl<G: Guard> Pair<G> {
         limit: u32,
     ) -> Result<bool, AllocError> {
         let plain = plain_steps(alloc, row, limit)?;
-        let ended = take(alloc, &mut self.runner, row, limit, true)?;
+        // in two rows, where the first one ends by its limit
+        let first = limit / 3;
+        let mut ended = take(alloc, &mut self.runner, row, first, true)?;
+        if ended == Stop::More {
+            ended = take(alloc, &mut self.runner, row, limit - first, true)?;
+        }
         let stopped = take(alloc, &mut self.stepper, single, limit, false)?;
         self.counts.add(row.sends().sums());
         Ok(
@@ -89,18 +96,19 @@ impl<G: Guard> Pair<G> {
     }
 }
 
-/// Programs, whose lines are done in turn: edits of methods, and `=`, a turn of `go`.
+/// Programs, whose lines are done in turn: edits of methods; `=`, a turn of `go`, with how many of its sends their sites had, the lookup cache
+/// had, and walks found, where that is said; `~`, the first twelve steps of one; and `.`, the rest of it. Each edit ends what was found before.
 const PROGRAMS: &[&str] = &[
     r"A go ^0 - 9223372036854775807 - 1 // -1
-=",
+= 0 1 2",
     r"A go ^3 < nil
-=
+= 0 0 1
 A go ^7 \\ 0
-=
+= 0 0 1
 A go ^3 ifTrue: [1]
-=",
+= 0 0 0",
     r"A go | n i | n := 0. i := 0. [i < 3] whileTrue: [i < 1 ifTrue: [n := n + 1]. i > 1 ifTrue: [n := n + 2]. i <= 1 ifTrue: [n := n + 4]. i >= 1 ifTrue: [n := n + 8]. i = 1 ifTrue: [n := n + 16]. i == 1 ifTrue: [n := n + 32]. i := i + 1]. ^n
-=",
+= 19 7 7",
     r"SmallInteger tag ^1
 True tag ^2
 UndefinedObject tag ^4
@@ -113,31 +121,47 @@ A go | n i | n := 0. i := 0. [i < 2] whileTrue: [n := n + (self ask: i) + (self 
 =",
     r"A down: n n = 0 ifTrue: [^0]. ^(self down: n - 1) + 1
 A go ^self down: 127
-=",
+= 378 1 3",
     r"A who ^1
 B who ^super who + 10
 C who ^super who + 100
 A go | i n | i := 0. n := 0. [i < 3] whileTrue: [n := n + C new who. i := i + 1]. ^n
+= 19 3 6
+~
+B who ^super who + 20
+.
 =",
     r"A doesNotUnderstand: m ^m == #zork:with:
 A go s := 5. ^self zork: 1 with: s
-=",
+= 0 0 2",
     r"A tag ^1
 B tag ^2
 A go | b i | b := B new. i := 0. [i < 3] whileTrue: [i := i + b tag]. ^i
-=
+= 4 0 4
 - B tag
-=
+= 7 0 4
 - A tag
-=
+= 0 0 3
 B tag ^5
-=
+= 1 0 4
+= 5 0 0
+~
+A go ^0
+- B tag
+A tag ^1
+.
 =",
     r"A go | i | i := 0. [i = 3] whileFalse: [i := i + 1]. ^i
-=
+= 5 0 2
 SmallInteger = x ^self > 0
-=
+= 2 0 3
 - SmallInteger =
+= 5 0 2",
+    r"A go | i | i := 0. [i < 3] whileTrue: [self zork. i := i + 1]. ^i
+A doesNotUnderstand: m ^m
+~
+A doesNotUnderstand: m ^nil
+.
 =",
     r"A go ^A newActor; newActor; new
 =
@@ -154,25 +178,43 @@ fn new_pair(alloc: Global) -> Result<Pair<GlobalGuard>, AllocError> {
     Ok(Pair {
         runner: new_worker(alloc)?,
         stepper: new_worker(alloc)?,
-        counts: Counts {
-            by_site: 0,
-            by_global: 0,
-            by_walk: 0,
-        },
+        counts: Counts::none(),
     })
 }
 
-/// The first line of a program with whose turn the three ways differ.
+/// Takes the first twelve steps of a turn, or a turn, or what is left of one, and says whether the three ways are the same, and sends were
+/// found as it is said.
+fn is_taken(
+    alloc: Global,
+    pair: &mut Pair<GlobalGuard>,
+    image: &mut Image,
+    line: &str,
+    seq: u64,
+) -> Result<bool, Refusal> {
+    if line != "." {
+        post_go(alloc, image, seq)?;
+    }
+    if line == "~" {
+        return pair.take_quantum(alloc, image, FIRST, 12);
+    }
+    pair.counts = Counts::none();
+    let is_same = pair.finish(alloc, image, 0)?;
+    match line.strip_prefix("= ") {
+        Some(wanted) => Ok(is_same && pair.counts.are(alloc, wanted)?),
+        None => Ok(is_same),
+    }
+}
+
+/// The first line of a program with whose turn the three ways differ, or whose sends were found otherwise.
 fn first_wrong(alloc: Global, program: &str) -> Result<Option<usize>, Refusal> {
     let mut image = new_image_of_classes(alloc)?;
     let mut pair = new_pair(alloc)?;
     for (place, line) in program.lines().enumerate() {
-        if line != "=" {
+        if !line.starts_with(&['=', '~', '.']) {
             edit(alloc, &mut image, line)?;
             continue;
         }
-        post_go(alloc, &mut image, place as u64)?;
-        if !pair.finish(alloc, &mut image, 0)? {
+        if !is_taken(alloc, &mut pair, &mut image, line, place as u64)? {
             return Ok(Some(place));
         }
     }

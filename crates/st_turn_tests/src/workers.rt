@@ -50,6 +50,20 @@ pub(crate) struct Counts {
 }
 
 impl Counts {
+    pub(crate) fn none() -> Counts {
+        Counts {
+            by_site: 0,
+            by_global: 0,
+            by_walk: 0,
+        }
+    }
+
+    /// Whether these are the numbers that a text has.
+    pub(crate) fn are(&self, alloc: Global, wanted: &str) -> Result<bool, AllocError> {
+        let told = format!(in alloc; "{} {} {}", self.by_site, self.by_global, self.by_walk)?;
+        Ok(told.as_str() == wanted)
+    }
+
     pub(crate) fn add(&mut self, sums: &[SiteSum]) {
         for sum in sums {
             self.by_site = self.by_site.wrapping_add(sum.tally.by_site);

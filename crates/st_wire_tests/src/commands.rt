@@ -12,6 +12,10 @@ use std::test::*;
 /// What a command is to be. Of lists it says how long they are.
 #[derive(Drop)]
 pub(crate) enum Wanted {
+    /// A post with the arguments of the line that has one of each kind.
+    Arguments,
+    /// A post of a selector of so many letters `s`.
+    Letters(usize),
     Define(&'static str, &'static str, usize),
     Method(&'static str, &'static str),
     Remove(&'static str, &'static str),
@@ -49,6 +53,7 @@ const COMMANDS: &[(&str, Wanted)] = &[
         Wanted::Post(0, 0, "a", 1, 1),
     ),
     (ARGUMENTS, Wanted::Post(1, 7, "m", u16::MAX, u64::MAX)),
+    (ARGUMENTS, Wanted::Arguments),
     (
         r#"{"actor":4294967295,"cmd":"close"}"#,
         Wanted::Close(u32::MAX),
@@ -105,7 +110,7 @@ fn is(text: &Seq<u8>, wanted: &str) -> bool {
     text.as_slice() == wanted.as_bytes()
 }
 
-pub(crate) fn is_wanted(command: &Command, wanted: &Wanted) -> bool {
+fn is_wanted(command: &Command, wanted: &Wanted) -> bool {
     match (command, wanted) {
         (
             Command::Define {
@@ -150,6 +155,10 @@ pub(crate) fn is_wanted(command: &Command, wanted: &Wanted) -> bool {
             is(class, holder) && is(selector, name)
         },
         (Command::Checkpoint, Wanted::Checkpoint) => true,
+        (Command::Post { args, .. }, Wanted::Arguments) => are_expected(args.as_slice()),
+        (Command::Post { selector, .. }, Wanted::Letters(count)) => {
+            selector.len() == *count && selector.as_slice().iter().all(|byte| *byte == b's')
+        },
         _ => false,
     }
 }
@@ -174,46 +183,36 @@ pub(crate) fn new_reader(alloc: Global) -> Result<Box<LineReader>, AllocError> {
     Ok(Box::new(alloc, LineReader::new(alloc))?)
 }
 
-/// What both readers read of a line.
-pub(crate) fn both(
-    alloc: Global,
-    reader: &mut LineReader,
-    line: &str,
-) -> Result<(Command, Command), Refusal> {
-    let line = line.as_bytes();
-    Ok((read_command(alloc, line)?, reader.read(alloc, line)?))
-}
-
-#[test]
-fn both_readers_read_commands(rt: HostRuntime) -> Result<(), Fail> {
-    let mut reader = new_reader(rt.alloc())?;
-    for (line, wanted) in commands() {
-        let (one, other) = both(rt.alloc(), &mut reader, line)?;
-        assert!(rt;
-            is_wanted(&one, wanted) && is_wanted(&other, wanted),
-            "{line}"
-        );
-    }
-    Ok(())
-}
-
-fn has_arguments(command: &Command) -> bool {
-    match command {
-        Command::Post { args, .. } => are_expected(args.as_slice()),
+/// Whether an answer is the command that is wanted; or that a line is none, where none is.
+fn is_answer(answer: &Result<Command, Refusal>, wanted: Option<&Wanted>) -> bool {
+    match (answer, wanted) {
+        (Ok(command), Some(wanted)) => is_wanted(command, wanted),
+        (Err(Refusal::BadCommand), None) => true,
         _ => false,
     }
 }
 
-#[test]
-fn both_readers_read_arguments(rt: HostRuntime) -> Result<(), Fail> {
-    let mut reader = new_reader(rt.alloc())?;
-    let (one, other) = both(rt.alloc(), &mut reader, ARGUMENTS)?;
-    assert!(rt; has_arguments(&one) && has_arguments(&other));
-    Ok(())
+fn is_read_by_itself(alloc: Global, line: &[u8], wanted: Option<&Wanted>) -> bool {
+    is_answer(&read_command(alloc, line), wanted)
 }
 
-fn is_no_command(answer: &Result<Command, Refusal>) -> bool {
-    matches!(answer, Err(Refusal::BadCommand))
+fn is_read_by(
+    alloc: Global,
+    reader: &mut LineReader,
+    line: &[u8],
+    wanted: Option<&Wanted>,
+) -> bool {
+    is_answer(&reader.read(alloc, line), wanted)
+}
+
+/// Whether both readers read this of a line.
+pub(crate) fn both_read(
+    alloc: Global,
+    reader: &mut LineReader,
+    line: &[u8],
+    wanted: Option<&Wanted>,
+) -> bool {
+    is_read_by_itself(alloc, line, wanted) && is_read_by(alloc, reader, line, wanted)
 }
 
 /// A line with a byte at a place that is in no text.
@@ -226,12 +225,10 @@ fn spoilt(alloc: Global, line: &[u8], place: usize) -> Result<Vec<u8>, AllocErro
 }
 
 /// Whether both readers refuse a line that is spoilt at any place.
-fn are_spoilt(alloc: Global, reader: &mut LineReader, line: &str) -> Result<bool, AllocError> {
+fn refuse_spoilt(alloc: Global, reader: &mut LineReader, line: &[u8]) -> Result<bool, AllocError> {
     for place in 0..line.len() {
-        let spoilt = spoilt(alloc, line.as_bytes(), place)?;
-        if !is_no_command(&read_command(alloc, &spoilt))
-            || !is_no_command(&reader.read(alloc, &spoilt))
-        {
+        let spoilt = spoilt(alloc, line, place)?;
+        if !both_read(alloc, reader, &spoilt, None) {
             return Ok(false);
         }
     }
@@ -240,12 +237,14 @@ fn are_spoilt(alloc: Global, reader: &mut LineReader, line: &str) -> Result<bool
 
 /// A reader reads on behind lines that are no text.
 #[test]
-fn both_readers_refuse_what_is_no_text(rt: HostRuntime) -> Result<(), Fail> {
+fn both_readers_read_commands(rt: HostRuntime) -> Result<(), Fail> {
     let mut reader = new_reader(rt.alloc())?;
     for (line, wanted) in commands() {
-        assert!(rt; are_spoilt(rt.alloc(), &mut reader, line)?, "{line}");
-        let (_, other) = both(rt.alloc(), &mut reader, line)?;
-        assert!(rt; is_wanted(&other, wanted), "{line}");
+        let line = line.as_bytes();
+        let is_read = both_read(rt.alloc(), &mut reader, line, Some(wanted))
+            && refuse_spoilt(rt.alloc(), &mut reader, line)?
+            && both_read(rt.alloc(), &mut reader, line, Some(wanted));
+        assert!(rt; is_read, "{line:?}");
     }
     Ok(())
 }

@@ -1,8 +1,5 @@
 //! Lines of about 8,192 bytes that are commands, as both readers read them.
-use crate::commands::{Wanted, both, is_wanted, new_reader};
-use st_classes::refusals::Refusal;
-use st_wire::commands::Command;
-use st_wire::line_readers::LineReader;
+use crate::commands::{Wanted, both_read, new_reader};
 use std::alloc::{AllocError, Global};
 use std::test::*;
 
@@ -13,7 +10,7 @@ const FRONT: &str = r#"{"actor":0,"args":["#;
 
 const BACK: &str = r#"null],"cmd":"post","selector":"a","sender":0,"seq":0}"#;
 
-/// White space, arguments, and one key again and again.
+/// White space, arguments, one key again and again, and a long selector.
 const LONG: &[Long] = &[
     ("{", " ", 8_179, "\"cmd\":\"run\"}", Wanted::Run(1_000)),
     (
@@ -44,6 +41,13 @@ const LONG: &[Long] = &[
         r#""cmd":"close"}"#,
         Wanted::Close(1),
     ),
+    (
+        r#"{"actor":0,"args":[],"cmd":"post","selector":""#,
+        "s",
+        8_000,
+        r#"","sender":0,"seq":0}"#,
+        Wanted::Letters(8_000),
+    ),
 ];
 
 /// The table behind a function without a contract, so that the proof of a test carries none of it.
@@ -62,41 +66,13 @@ fn repeated(
     format!(in alloc; "{front}{parts}{back}")
 }
 
-/// Whether both readers read a long line as they must.
-fn is_read(alloc: Global, reader: &mut LineReader, long: &Long) -> Result<bool, Refusal> {
-    let (front, part, count, back, wanted) = long;
-    let line = repeated(alloc, front, part, *count, back)?;
-    let (one, other) = both(alloc, reader, &line)?;
-    Ok(is_wanted(&one, wanted) && is_wanted(&other, wanted))
-}
-
-fn has_selector(command: &Command, text: &str) -> bool {
-    match command {
-        Command::Post { selector, .. } => selector.as_slice() == text.as_bytes(),
-        _ => false,
-    }
-}
-
-/// Whether both readers read a selector of 8,000 letters.
-fn is_long_selector_read(alloc: Global, reader: &mut LineReader) -> Result<bool, Refusal> {
-    let text = "s".repeat(alloc, 8_000)?;
-    let line = repeated(
-        alloc,
-        r#"{"actor":0,"args":[],"cmd":"post","selector":""#,
-        "s",
-        8_000,
-        r#"","sender":0,"seq":0}"#,
-    )?;
-    let (one, other) = both(alloc, reader, &line)?;
-    Ok(has_selector(&one, &text) && has_selector(&other, &text))
-}
-
 #[test]
 fn both_readers_read_long_lines(rt: HostRuntime) -> Result<(), Fail> {
     let mut reader = new_reader(rt.alloc())?;
-    for (place, long) in long_lines().iter().enumerate() {
-        assert!(rt; is_read(rt.alloc(), &mut reader, long)?, "{place}");
+    for (front, part, count, back, wanted) in long_lines() {
+        let line = repeated(rt.alloc(), front, part, *count, back)?;
+        let is_read = both_read(rt.alloc(), &mut reader, line.as_bytes(), Some(wanted));
+        assert!(rt; is_read, "{front} {part}");
     }
-    assert!(rt; is_long_selector_read(rt.alloc(), &mut reader)?);
     Ok(())
 }

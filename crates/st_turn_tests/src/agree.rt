@@ -25,13 +25,12 @@ pub(crate) struct Pair<G: Guard> {
 
 /// Whether the same was sent, at each site, was found so, and left the site so.
 fn are_same(some: &[SiteSum], others: &[SiteSum]) -> bool {
-    some.iter()
-        .map(|s| s.site)
-        .eq(others.iter().map(|s| s.site))
-        && some
-            .iter()
-            .map(|s| s.tally)
-            .eq(others.iter().map(|s| s.tally))
+    for (one, other) in some.iter().zip(others) {
+        if one.site != other.site || one.tally != other.tally {
+            return false;
+        }
+    }
+    some.len() == others.len()
 }
 
 impl<G: Guard> Pair<G> {

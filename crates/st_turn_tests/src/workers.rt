@@ -42,7 +42,7 @@ pub(crate) fn take<G: Guard>(
 }
 
 /// How many sends their sites had, the lookup cache had, and walks found.
-#[derive(Clone, Copy, PartialEq, Eq, Debug)]
+#[derive(Clone, Copy, PartialEq)]
 pub(crate) struct Counts {
     pub by_site: u64,
     pub by_global: u64,

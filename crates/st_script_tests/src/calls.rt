@@ -98,21 +98,21 @@ pub(crate) fn checkpoint(alloc: Global, image: &mut Image) -> Result<(), Refusal
     }
 }
 
+fn new_worker(alloc: Global) -> Result<Box<Worker>, AllocError> {
+    boxed(alloc, Worker::new(Caches::new(alloc, Guard::new(alloc))?))
+}
+
 /// A claim of the first actor, of which a new worker has taken this many steps, or fewer if no step of the actor's own is next.
-pub(crate) fn claim_of(alloc: Global, image: &mut Image, most: u32) -> Result<Claim, Refusal> {
-    let mut claim = image.checkout(alloc, FIRST)?;
-    let Ok(caches) = Caches::new(alloc, Guard::new(alloc)) else {
-        return Err(Refusal::NoMemory);
-    };
-    match Worker::new(caches).run(alloc, &mut claim, most) {
-        Ok(_) => Ok(claim),
-        Err(_) => Err(Refusal::NoMemory),
-    }
+pub(crate) fn claim_of(alloc: Global, image: &mut Image, most: u32) -> Result<Box<Claim>, Refusal> {
+    let mut claim = boxed(alloc, image.checkout(alloc, FIRST)?)?;
+    let mut worker = new_worker(alloc)?;
+    let _stop = worker.run(alloc, &mut claim, most)?;
+    Ok(claim)
 }
 
 /// Commits a claim, or gives it back.
-pub(crate) fn commit(alloc: Global, image: &mut Image, claim: Claim) -> Result<u32, Refusal> {
-    match image.commit(alloc, claim) {
+pub(crate) fn commit(alloc: Global, image: &mut Image, claim: Box<Claim>) -> Result<u32, Refusal> {
+    match image.commit(alloc, Box::into_inner(claim)) {
         Ok(steps) => Ok(steps),
         Err((refusal, Some(claim))) => {
             image.release(claim);

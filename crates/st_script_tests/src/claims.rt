@@ -168,7 +168,7 @@ fn asked(alloc: Global) -> Result<Box<Image>, Refusal> {
 fn take(
     alloc: Global,
     image: &mut Image,
-    claims: &mut VecDeque<Claim>,
+    claims: &mut VecDeque<Box<Claim>>,
     most: u32,
 ) -> Result<bool, Refusal> {
     let claim = claim_of(alloc, image, most)?;
@@ -182,7 +182,7 @@ fn take(
 fn is_committed(
     alloc: Global,
     image: &mut Image,
-    claims: &mut VecDeque<Claim>,
+    claims: &mut VecDeque<Box<Claim>>,
     wanted: Result<u32, Refusal>,
 ) -> bool {
     match claims.pop_front() {
@@ -195,7 +195,7 @@ fn is_committed(
 fn happens(
     alloc: Global,
     image: &mut Box<Image>,
-    claims: &mut VecDeque<Claim>,
+    claims: &mut VecDeque<Box<Claim>>,
     event: &Event,
 ) -> Result<bool, Refusal> {
     match event {

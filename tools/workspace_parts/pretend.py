@@ -92,10 +92,11 @@ class Terminal:
 
 
 def own_terminal():
-    """The terminal's Ctrl-C reaches the workspace, and so does its end, also where the trials run under nohup."""
+    """The terminal's Ctrl-C reaches the workspace, and so does its end, also where the trials run under nohup or behind a shell."""
     import fcntl
     import termios
 
     os.setsid()
     fcntl.ioctl(0, termios.TIOCSCTTY, 0)
-    signal.signal(signal.SIGHUP, signal.SIG_DFL)
+    for number in (signal.SIGHUP, signal.SIGINT):
+        signal.signal(number, signal.SIG_DFL)

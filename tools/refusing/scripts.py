@@ -102,7 +102,7 @@ def run_again(program, lines, usual, got, place):
 def asked_again(program, lines, usual, place, failing):
     again = lines[: place + 1] + lines[place:]
     _, got, _ = run(program, again, failing)
-    if command_of(lines[place]) == "run" and len(got) == len(usual) + 1:
+    if command_of(lines[place]) == "run" and ended_run(usual[place]) and len(got) == len(usual) + 1:
         return run_again(program, lines, usual, got, place)
     return Again(got == usual[:place] + [NO_MEMORY] + usual[place:])
 

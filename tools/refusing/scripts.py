@@ -72,12 +72,12 @@ def by_steps(replies):
     return [ended_run(it)[1] if ended_run(it) else it for it in replies]
 
 
-def cut_run(program, lines, place, taken):
+def cut_run(program, lines, usual, place, taken):
     """With ample memory and quanta of one step, a `run` of the given number of steps and then the rest: the replies, or None where a
     quantum has more than one step."""
     first = json.dumps({"cmd": "run", "quanta": taken})
     every = json.dumps({"cmd": "run", "quanta": 1000000})
-    rest = [every if command_of(it) == "run" else it for it in lines]
+    rest = [every if command_of(it) == "run" and ended_run(reply) else it for it, reply in zip(lines, usual)]
     _, got, _ = run(program, rest[:place] + [first] + rest[place:], options=("--quantum", "1"))
     if any(ended_run(it) and ended_run(it)[0] != ended_run(it)[1] for it in got):
         return None
@@ -92,7 +92,7 @@ def run_again(program, lines, usual, got, place):
         return Again(False)
     taken = whole[1] - rest[1]
     if taken:
-        cut = cut_run(program, lines, place, taken)
+        cut = cut_run(program, lines, usual, place, taken)
         want = by_steps(usual[:place]) + [taken, rest[1]] + by_steps(usual[place + 1 :])
         if cut is not None and by_steps(cut) != want:
             return Again(False)

@@ -10,4 +10,6 @@ mod long_lines;
 #[cfg(test)]
 mod replies;
 #[cfg(test)]
+mod site_reports;
+#[cfg(test)]
 mod streams;

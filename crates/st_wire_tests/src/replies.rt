@@ -1,9 +1,8 @@
-//! How replies are written: each form of reply, each name in one, texts, and reports of sites.
+//! How replies are written: each form of reply but reports of sites, each name in one, and texts.
 use st_classes::faults::Fault;
 use st_classes::refusals::{ImagePlace, Limited, Refusal, SourceFault};
-use st_classes::seq::Seq;
 use st_classes::values::ActorId;
-use st_wire::replies::{Answered, Reply, SiteReport, SiteState, reply_text};
+use st_wire::replies::{Answered, Reply, reply_text};
 use st_wire::text::Text;
 use std::alloc::{AllocError, Global};
 use std::test::*;
@@ -321,86 +320,6 @@ const SYMBOLS: &[(&str, &str)] = &[
     ("\"\n\u{1f}", r#"{"ok":{"answer":{"sym":"\"\n\u001f"}}}"#),
 ];
 
-/// What is reported of a site, but for its selector and what the cache of a worker did.
-struct Site {
-    selector: &'static str,
-    sends: u64,
-    site: u64,
-    state: SiteState,
-    is_super: bool,
-    walk: u64,
-}
-
-/// Sites, and the line that reports them: none, two, and one in each state.
-const SITES: &[(&[Site], &str)] = &[
-    (&[], r#"{"ok":{"sites":[]}}"#),
-    (
-        &[
-            Site {
-                selector: "+",
-                sends: 2,
-                site: 1,
-                state: SiteState::Mono,
-                is_super: false,
-                walk: 1,
-            },
-            Site {
-                selector: "a",
-                sends: 0,
-                site: 0,
-                state: SiteState::Empty,
-                is_super: true,
-                walk: 1,
-            },
-        ],
-        r#"{"ok":{"sites":[{"global":0,"selector":"+","sends":2,"site":1,"state":"mono","super":false,"walk":1},{"global":0,"selector":"a","sends":0,"site":0,"state":"empty","super":true,"walk":1}]}}"#,
-    ),
-    (
-        &[Site {
-            selector: "a",
-            sends: 0,
-            site: 0,
-            state: SiteState::Empty,
-            is_super: false,
-            walk: 0,
-        }],
-        r#"{"ok":{"sites":[{"global":0,"selector":"a","sends":0,"site":0,"state":"empty","super":false,"walk":0}]}}"#,
-    ),
-    (
-        &[Site {
-            selector: "a",
-            sends: 0,
-            site: 0,
-            state: SiteState::Mono,
-            is_super: false,
-            walk: 0,
-        }],
-        r#"{"ok":{"sites":[{"global":0,"selector":"a","sends":0,"site":0,"state":"mono","super":false,"walk":0}]}}"#,
-    ),
-    (
-        &[Site {
-            selector: "a",
-            sends: 0,
-            site: 0,
-            state: SiteState::Poly,
-            is_super: false,
-            walk: 0,
-        }],
-        r#"{"ok":{"sites":[{"global":0,"selector":"a","sends":0,"site":0,"state":"poly","super":false,"walk":0}]}}"#,
-    ),
-    (
-        &[Site {
-            selector: "a",
-            sends: 0,
-            site: 0,
-            state: SiteState::Mega,
-            is_super: false,
-            walk: 0,
-        }],
-        r#"{"ok":{"sites":[{"global":0,"selector":"a","sends":0,"site":0,"state":"mega","super":false,"walk":0}]}}"#,
-    ),
-];
-
 // The tables stand behind functions without contracts, so that the proofs of tests carry nothing of them.
 fn replies() -> &'static [(Said, &'static str)] {
     REPLIES
@@ -410,12 +329,8 @@ fn symbols() -> &'static [(&'static str, &'static str)] {
     SYMBOLS
 }
 
-fn sites() -> &'static [(&'static [Site], &'static str)] {
-    SITES
-}
-
 /// Whether a reply is written as this line and a newline.
-fn is_line(alloc: Global, reply: &Reply, line: &str) -> Result<bool, AllocError> {
+pub(crate) fn is_line(alloc: Global, reply: &Reply, line: &str) -> Result<bool, AllocError> {
     let bytes = reply_text(alloc, reply)?;
     Ok(bytes.as_slice().strip_suffix(b"\n") == Some(line.as_bytes()))
 }
@@ -474,31 +389,5 @@ fn texts_are_written(rt: HostRuntime) -> Result<(), Fail> {
             r#"{"ok":{"answer":{"class":"Counter"}}}"#
         )?
     );
-    Ok(())
-}
-
-/// The reply that reports sites.
-fn reported(alloc: Global, sites: &[Site]) -> Result<Reply, AllocError> {
-    let mut reports = Vec::new(alloc);
-    for it in sites {
-        reports.push(SiteReport {
-            global: 0,
-            selector: Text::new(alloc, it.selector)?,
-            sends: it.sends,
-            site: it.site,
-            state: it.state,
-            is_super: it.is_super,
-            walk: it.walk,
-        })?;
-    }
-    Ok(Reply::Sites(Seq::from_vec(reports)))
-}
-
-#[test]
-fn sites_are_written(rt: HostRuntime) -> Result<(), Fail> {
-    for (reports, line) in sites() {
-        let reply = reported(rt.alloc(), reports)?;
-        assert!(rt; is_line(rt.alloc(), &reply, line)?, "{line}");
-    }
     Ok(())
 }

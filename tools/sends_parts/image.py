@@ -79,7 +79,8 @@ class Script:
     def play(self, program, quantum):
         """The replies, and what is wrong with the first wrong one, if one is."""
         text = "".join(json.dumps(command) + "\n" for command in self.commands)
-        ended = subprocess.run([program, "script", "--quantum", str(quantum)], input=text, capture_output=True, text=True)
+        words = [program, "script", "--quantum", str(quantum)]
+        ended = subprocess.run(words, input=text, capture_output=True, text=True, timeout=120)
         replies = ended.stdout.splitlines()
         if ended.returncode or len(replies) != len(self.commands):
             return None, f"it ends with status {ended.returncode} and {len(replies)} replies, and says {ended.stderr!r}"

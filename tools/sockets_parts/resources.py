@@ -150,6 +150,9 @@ def few_descriptors(program, Server, _post):
             clients = [all_of_them.enter_context(server.client()) for _ in range(16)]
             for number in range(8):
                 clients[0].make(f"M{number}", [])
+            # all descriptors are taken, and then it fails to accept the next of the clients
+            soon(lambda: len(os.listdir(f"/proc/{process.pid}/fd")) == 12, "the server does not accept as many as it can")
+            time.sleep(0.3)
             for client in clients:
                 client.leave()
             out, err = process.communicate(timeout=60)

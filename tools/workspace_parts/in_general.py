@@ -19,7 +19,7 @@ IN_GENERAL = {
     "Pending": "the turn has not ended, or its message was never posted; :run goes on",
     "ReadOnly": "only temporaries and instance variables are assigned to; name a temporary between bars",
     "SlotsDiffer": "a class keeps its variables, so it goes only under classes that give it the same ones; take one of those",
-    "TooMany": "there would be too many classes, variables, edits, names or actors; start anew with :restart",
+    "TooMany": "there would be too many classes, variables, edits, names or actors; do with those there are, or begin a new image",
     "UnknownActor": "no actor has this number; :actors lists those there are",
     "UnknownClass": "no class has this name; define it first, as in  Counter : Object",
     "UnknownName": "no variable or class has this name; name it between bars in the method, or in its class",

@@ -8,7 +8,7 @@ from .learning import contents
 from .wrong import Ended, Wrong
 
 OF_SERVER = (
-    "the server keeps this image; one that was started with --image FILE --sessions K saves it when tools/stop ends it, and "
+    "the server keeps this image; one that was started with --image FILE saves it when tools/stop ends it, and "
     ":sources FILE writes the classes and methods of this session"
 )
 NOT_SAVED = "{} could not be written, for the reason above; nothing is lost, since all that it has not was done once more"

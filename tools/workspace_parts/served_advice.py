@@ -1,7 +1,5 @@
 """What is said of a served image in place of what advice.py says of a script, and what `:help` says besides."""
 
-ANEW = "or have the server started anew"
-
 REFUSALS = {
     "ClassExists": "there is a class {class} already, perhaps of another session, and its variables stay; replace its methods, or "
     "take another name",
@@ -13,10 +11,11 @@ REFUSALS = {
     "Old": "another client posts under this number as well; type it again, or start with another --sender",
     "Pending": "turn {turn} of {actor} has not ended, or its message was not posted yet; ask again later",
     "UnknownActor": "there is no {actor}; :actors tells how many there are",
-    "actors": f"there are 65,536 actors, and no more can be made; let the old ones do more, {ANEW}",
-    "classes": f"there are 1,024 classes, and no more can be defined; do with those, {ANEW}",
-    "edits": f"the classes were edited as often as they may; do with those, {ANEW}",
-    "names": f"there are 8,192 selectors and symbols, and no more can be added; do with those, {ANEW}",
+    "actors": "there are 65,536 actors, and no more can be made; let the old ones do more",
+    "classes": "there are 1,024 classes, and no more can be defined; do with those there are",
+    "edits": "the classes were edited as often as they may, 2,048 times since the server's start or 4,096 times in all; the first is "
+    "given back if the server is saved and started again, the second by tools/fewer-edits on its file",
+    "names": "there are 8,192 selectors and symbols, and no more can be added; do with those there are",
 }
 
 # What a refusal means by itself.
@@ -29,7 +28,8 @@ IN_GENERAL = {
     "NoSuchMethod": "a class has no such method of its own, or no longer; look for a slip in its name",
     "Old": REFUSALS["Old"],
     "Pending": "the turn has not ended, or its message was not posted yet; ask again later",
-    "TooMany": f"there would be too many classes, variables, edits, names or actors; do with those there are, {ANEW}",
+    "TooMany": "there would be too many classes, variables, edits, names or actors; do with those there are, or let the server begin a "
+    "new image",
     "UnknownActor": "no actor has this number; :actors tells how many there are",
 }
 
@@ -42,7 +42,7 @@ ended (:turn 3 of actor 0), how many actors there are (:actors), and how often a
 It cannot see who else is connected, what classes, methods and names others typed, which messages wait, or when a turn ends that it
 does not ask for. Edits of others take effect here at the next send, and are not told. c := actor 0 names any actor by its number.
 Where the connection breaks, the next entry at a terminal connects again, asks for the last message of this sender that the image
-has, and goes on behind it. The server saves its image at its end, if it was started with --image FILE --sessions K.
+has, and goes on behind it. The server saves its image when tools/stop ends it, if it was started with --image FILE.
 """.splitlines()
 
 # Commands that one might look for, and why they are not there.

@@ -7,6 +7,7 @@ use Rattle.st_classes.specs.declared.edits.Edit.{Edit}
 use Rattle.st_classes.specs.declared.edits.Edit.TheVariants.{Define, Remove, Reparent}
 use Rattle.st_classes.specs.declared.refusals.Refusal.{Refusal}
 use Rattle.st_classes.specs.declared.refusals.Refusal.TheVariants.{NoMemory}
+use Rattle.st_classes.specs.Names.{interned, intern_rules}
 use Rattle.st_classes.specs.Refusals.{Rule, first_of}
 use Rattle.st_mailbox.specs.declared.messages.Message.{Message}
 use Rattle.st_image.specs.declared.items.Item.{Item}
@@ -59,3 +60,9 @@ Closes i a = Adds (close_rules i (slice_get (world i).actors a.0)) i (Closed a) 
 abbrev pub InstallsIn : ImageView → ClassId → List ℕ → Result ℕ Refusal → ImageView → Type 0
 InstallsIn i c text result j = AnswersInstall i c text j result
     × IfErr result (λ e. LeavesNames i c text e j × (world j ≡ world i))
+
+-- a text is interned, and the answer is its number; a refused call changes nothing
+abbrev pub Interns : ImageView → List ℕ → Result Selector Refusal → ImageView → Type 0
+Interns i text result j = AnswersExactly (first_of (intern_rules i.names text)) result
+    (λ s. (j ≡ record i { names = interned i.names text }) × (slice_get j.names s.0 ≡ Some text))
+    × OnErr result (j ≡ i)

@@ -170,3 +170,13 @@ RefusesCommit i c e back j = ⊥
 abbrev pub Commits : ImageView → ClaimView → Result ℕ (Refusal × Option ClaimView) → ImageView → Type 0
 Commits i c (Ok n) j = HasCommitted i c n j
 Commits i c (Err refused) j = RefusesCommit i c refused.0 refused.1 j
+
+-- a claim that was handed back is released
+abbrev pub ReleasesBack : ImageView → Option ClaimView → ImageView → Type 0
+ReleasesBack i None j = j ≡ i
+ReleasesBack i (Some c) j = IsReleased i c.actor j
+
+-- a claim is committed; or its commit is refused, and then it is released where it was handed back
+abbrev pub Settles : ImageView → ClaimView → Result ℕ Refusal → ImageView → Type 0
+Settles i c (Ok n) j = Commits i c (Ok n) j
+Settles i c (Err e) j = (back : Option ClaimView) × (k : ImageView) × Commits i c (Err (e, back)) k × ReleasesBack k back j

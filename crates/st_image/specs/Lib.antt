@@ -32,3 +32,4 @@ pub mod CompiledEdits
 pub mod Loading
 pub mod SenderNumbers
 pub mod Loaded
+pub mod KeptEdits

@@ -6,26 +6,18 @@ use Rattle.st_classes.specs.declared.values.Selector.{Selector}
 use Rattle.st_classes.specs.declared.values.MethodId.{MethodId}
 use Rattle.st_classes.specs.declared.instructions.Instruction.{Instruction}
 use Rattle.st_classes.specs.declared.instructions.Instruction.TheVariants.{Send, SuperSend}
-use Rattle.st_classes.specs.declared.kernel.Found.{Found}
-use Rattle.st_classes.specs.declared.kernel.Found.TheVariants.{User, Kernel}
 use Rattle.st_classes.specs.declared.methods.MethodParts.{MethodParts}
 use Rattle.st_classes.specs.declared.edits.Edit.{Edit}
 use Rattle.st_classes.specs.declared.refusals.Refusal.TheVariants.{UnknownClass, NoSuchMethod}
 use Rattle.st_classes.specs.Refusals.{Rule}
 use Rattle.st_classes.specs.Classes.{is_class}
 use Rattle.st_classes.specs.EditLists.{method_at}
-use Rattle.st_classes.specs.Walks.{own}
+use Rattle.st_classes.specs.Walks.{own, user_method}
 use Rattle.st_turn.specs.declared.tally.Tally.{Tally}
 use Rattle.st_image.specs.declared.tallies.SiteStats.{SiteStats}
 use Rattle.st_image.specs.Images.{ImageView, constants, world}
 use Rattle.st_turn.specs.Tallies.{sends_of}
 use Rattle.st_image.specs.Tallies.{CountsSends, tally_at}
-
--- the method, if it is a user's
-abbrev pub user_method : Option Found → Option MethodId
-user_method None = None
-user_method (Some (Kernel k)) = None
-user_method (Some (User m)) = Some m
 
 -- the user's method of a class for a selector
 abbrev pub installed_own : List Edit → ClassId → Selector → Option MethodId

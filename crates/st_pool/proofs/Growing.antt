@@ -23,11 +23,11 @@ use Rattle.st_image.specs.Worlds.{World}
 use Rattle.st_image.specs.Checkpoints.{MakesCheckpoint}
 use Rattle.st_image.specs.RanTargets.{edits_among}
 use Rattle.st_image.specs.Installs.{LeavesNames}
-use Rattle.st_image.specs.Commits.{ChecksOut, HasCheckedOut, RefusesCommit, idle_at, steps_of, with_out}
+use Rattle.st_image.specs.Commits.{ChecksOut, HasCheckedOut, RefusesCommit, ReleasesBack, Settles, idle_at, steps_of, with_out}
 use Rattle.st_image.specs.WorldInvariant.{IsLawful}
 use Rattle.st_pool.specs.Books.{Grows, counted}
 use Rattle.st_image.specs.Counts.{edits_of, posts_of, ran_of, weigh}
-use Rattle.st_pool.specs.Done.{ReleasesBack, Settles, committed}
+use Rattle.st_pool.specs.Done.{committed}
 use Rattle.st_image.specs.GoingOn.{GoesOnIn}
 use Rattle.st_image.proofs.GrowingEdits.{edits_longer as edits_go_on}
 use Rattle.st_image.proofs.Checkpointing.{world_is}

@@ -1,5 +1,5 @@
 -- What a caller has done, and how it stands in an image.
-use Rattle.std.specs.Prelude.{◌≡◌, ◌⊎◌, ℕ, ◌+◌, ◌-◌, ◌<◌, ◌≤◌, List, [], ◌∷◌, ◌++◌, Bool, true, false, not, Option, None, Some, Result, Ok, Err, MatchBool, MatchResult, length, slice_get}
+use Rattle.std.specs.Prelude.{◌≡◌, ◌⊎◌, ℕ, ◌+◌, ◌-◌, ◌<◌, ◌≤◌, List, [], ◌∷◌, ◌++◌, Bool, true, false, not, Some, Result, Ok, Err, MatchBool, MatchResult, length, slice_get}
 use Rattle.st_classes.specs.declared.values.ActorId.{ActorId}
 use Rattle.st_classes.specs.declared.refusals.Refusal.{Refusal}
 use Rattle.st_classes.specs.declared.refusals.Refusal.TheVariants.{HistoryFull, NoMemory}
@@ -9,7 +9,7 @@ use Rattle.st_image.specs.declared.items.Item.{Item}
 use Rattle.st_image.specs.declared.items.Item.TheVariants.{Posted}
 use Rattle.st_image.specs.Images.{ImageView}
 use Rattle.st_image.specs.Calls.{Posts}
-use Rattle.st_image.specs.Commits.{ChecksOut, Commits, IsReleased}
+use Rattle.st_image.specs.Commits.{ChecksOut, Settles}
 use Rattle.st_image.specs.Scheduling.{IsNextReady, is_free_at}
 use Rattle.st_image.specs.WorldInvariant.{IsLawful}
 use Rattle.st_pool.specs.declared.office.Work.{Work}
@@ -67,16 +67,6 @@ Takes i Stop j = j ≡ i
 Takes i (Wait moves) j =
     (j ≡ i) × (((a : ℕ) → is_free_at i a ≡ false) ⊎ ((a : ActorId) × (e : Refusal) × IsNextReady i a.0 × ChecksOut i a (Err e) j))
 Takes i (Turn c) j = (a : ActorId) × IsNextReady i a.0 × ChecksOut i a (Ok c) j
-
--- a claim that was handed back is released
-abbrev pub ReleasesBack : ImageView → Option ClaimView → ImageView → Type 0
-ReleasesBack i None j = j ≡ i
-ReleasesBack i (Some c) j = IsReleased i c.actor j
-
--- a claim is committed; or its commit is refused, and then it is released where it was handed back
-abbrev pub Settles : ImageView → ClaimView → Result ℕ Refusal → ImageView → Type 0
-Settles i c (Ok n) j = Commits i c (Ok n) j
-Settles i c (Err e) j = (back : Option ClaimView) × (k : ImageView) × Commits i c (Err (e, back)) k × ReleasesBack k back j
 
 -- A worker takes more work in the hold of its commit where its claim is spent: it was committed, and memory did not run out in its
 -- quantum; or it is Stale or Changed

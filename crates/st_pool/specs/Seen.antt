@@ -6,7 +6,7 @@ use Rattle.st_guard.specs.Moves.{CachesView}
 use Rattle.st_turn.specs.Claims.{ClaimView}
 use Rattle.st_image.specs.Images.{ImageView, world}
 use Rattle.st_image.specs.GoingOn.{FitsClaim, GoesOnIn}
-use Rattle.st_pool.specs.Going.{KeepsBeginning}
+use Rattle.st_image.specs.KeptEdits.{KeepsBeginning}
 
 -- each image goes on in all that come behind it
 abbrev pub Along : List ImageView → Type 0

@@ -3,7 +3,7 @@ ghost use Rattle.std.specs.Prelude.{◌≡◌, ◌+◌, IfOk, is_ok};
 ghost use Rattle.std.specs.Borrow.{Bor};
 ghost use Rattle.std.specs.Fn.{FnOnceReturnsAt};
 ghost use Rattle.st_classes.specs.Refusals.{first_of};
-ghost use Rattle.st_image.specs.Calls.{AnswersExactly, Closes, Creates, Defines, InstallsIn, Removes, Reparents};
+ghost use Rattle.st_image.specs.Calls.{AnswersExactly, Closes, Creates, Defines, InstallsIn, Interns, Removes, Reparents};
 ghost use Rattle.st_image.specs.Images.{ImageView, world};
 ghost use Rattle.st_image.specs.Outcomes.{image_outcome};
 ghost use Rattle.st_image.specs.PostRules.{from_client};
@@ -11,7 +11,6 @@ ghost use Rattle.st_image.specs.Stats.{installed_own, method_stats, stats_rules}
 ghost use Rattle.st_pool.specs.Books.{counted};
 ghost use Rattle.st_pool.specs.Checkpointed.{Checkpoints};
 ghost use Rattle.st_pool.specs.Done.{HasAtLeast, OfficeView, PostsOnce};
-ghost use Rattle.st_pool.specs.Going.{Interns};
 
 use crate::naming::Naming;
 use crate::receipts::Receipt;

@@ -1,16 +1,15 @@
 //! The image's calls: what they answer, that the image goes on (its edits only grow at their end, and a body that was not changed is
 //! the same), and how much more it has counted.
 ghost use Rattle.std.specs.Prelude.{◌≡◌, ◌⊎◌, None, Some, Ok, Err, IfOk, IfErr, IfSome, is_ok, true};
-ghost use Rattle.st_image.specs.Calls.{Closes, Creates, Defines, InstallsIn, Posts, Removes, Reparents};
+ghost use Rattle.st_image.specs.Calls.{Closes, Creates, Defines, InstallsIn, Interns, Posts, Removes, Reparents};
 ghost use Rattle.st_image.specs.Checkpoints.{MakesCheckpoint};
-ghost use Rattle.st_image.specs.Commits.{ChecksOut, Commits};
+ghost use Rattle.st_image.specs.Commits.{ChecksOut, Commits, Settles};
 ghost use Rattle.st_image.specs.Images.{world};
 ghost use Rattle.st_image.specs.PostRules.{from_client};
 ghost use Rattle.st_image.specs.WorldInvariant.{IsLawful};
-ghost use Rattle.st_pool.specs.Going.{Interns};
 ghost use Rattle.st_image.specs.GoingOn.{FitsClaim, GoesOnIn};
 ghost use Rattle.st_pool.specs.Books.{Grows, counted};
-ghost use Rattle.st_pool.specs.Done.{Settles, committed};
+ghost use Rattle.st_pool.specs.Done.{committed};
 
 use st_classes::refusals::Refusal;
 use st_classes::seq::Seq;

@@ -105,15 +105,14 @@ fn goes_on<T>(work: &Work<T>) -> bool {
 
 impl<K: Naming, M: Mailbox> Office<K, M> {
     ghost use Rattle.std.specs.Prelude.{◌≡◌, ◌+◌, ◌<◌, ◌≤◌, ◌^◌, length, OnOk, OnErr, IfOk, IfErr, is_ok};
-    ghost use Rattle.st_image.specs.Calls.{Closes, Creates, Defines, InstallsIn, Posts as PostsMessage, Removes, Reparents};
-    ghost use Rattle.st_image.specs.Commits.{ChecksOut};
+    ghost use Rattle.st_image.specs.Calls.{Closes, Creates, Defines, InstallsIn, Interns, Posts as PostsMessage, Removes, Reparents};
+    ghost use Rattle.st_image.specs.Commits.{ChecksOut, Settles};
     ghost use Rattle.st_image.specs.PostRules.{from_client};
     ghost use Rattle.st_image.specs.WorldInvariant.{IsLawful};
-    ghost use Rattle.st_pool.specs.Going.{Interns};
     ghost use Rattle.st_pool.specs.Books.{counted, no_books};
     ghost use Rattle.st_pool.specs.Checkpointed.{Checkpoints};
     ghost use Rattle.st_pool.specs.Counts.{amounts};
-    ghost use Rattle.st_pool.specs.Done.{HasAtLeast, Settles, Takes, TurnsOver, committed, nothing_done};
+    ghost use Rattle.st_pool.specs.Done.{HasAtLeast, Takes, TurnsOver, committed, nothing_done};
 
     /// The image with empty books.
     pub(crate) fn new(image: Image<M>, blanks: Blanks, opened: Opened) -> Office<K, M>

@@ -1,20 +1,18 @@
 -- The claim of a quantum: its checkout, and its commit or release.
-use Rattle.std.proofs.Common.{◌≡◌, ℕ, List, [], ◌∷◌, Option, Some, None, Result, Ok, Err, Bool, true, false, if◌then◌else◌, sym, ap, subst, ◌∙◌, slice_get, append-nil, ◌+◌}
+use Rattle.std.proofs.Common.{◌≡◌, ℕ, List, Option, Some, None, Result, Ok, Err, sym, ap, subst, ◌∙◌}
 use Rattle.std.specs.Option.{IfSome}
 use Rattle.st_classes.specs.declared.values.ActorId.{ActorId}
 use Rattle.st_classes.specs.declared.edits.Edit.{Edit}
 use Rattle.st_classes.specs.declared.refusals.Refusal.{Refusal}
-use Rattle.st_classes.specs.declared.refusals.Refusal.TheVariants.{Stale, Changed, HistoryFull, NoMemory}
 use Rattle.st_classes.specs.EditLists.{Begins}
 use Rattle.st_guard.specs.Moves.{CachesView}
 use Rattle.st_turn.specs.Claims.{ClaimView}
-use Rattle.st_image.specs.declared.items.Item.TheVariants.{Begun}
-use Rattle.st_image.specs.Images.{ImageView, appended, world}
+use Rattle.st_image.specs.Images.{ImageView, world}
 use Rattle.st_image.specs.WorldInvariant.{IsLawful}
-use Rattle.st_image.specs.Commits.{HasCheckedOut, RefusesCommit, idle_at, items_of, with_out}
+use Rattle.st_image.specs.Commits.{HasCheckedOut, ReleasesBack, Settles, items_of}
 use Rattle.st_image.proofs.CallsGoOn.{checkout_goes, out_goes, refuse_goes}
 use Rattle.st_image.proofs.GrowingEdits.{GoesOn, edits_grow, goes_both, goes_from}
-use Rattle.st_server.specs.Runners.{GuardView, KeepsFirst, ReleasesBack, Settles}
+use Rattle.st_server.specs.Runners.{GuardView, KeepsFirst}
 
 -- ---- what goes on
 

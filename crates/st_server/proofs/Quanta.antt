@@ -10,10 +10,10 @@ use Rattle.st_turn.specs.declared.body.Stop.TheVariants.{More, Ended, Outer, Lim
 use Rattle.st_turn.specs.Claims.{ClaimView}
 use Rattle.st_turn.specs.WorkerSteps.{Row, Runs as TakesSteps}
 use Rattle.st_image.specs.Images.{ImageView}
-use Rattle.st_image.specs.Commits.{ChecksOut, stands_before_act}
+use Rattle.st_image.specs.Commits.{ChecksOut, Settles, stands_before_act}
 use Rattle.st_wire.specs.declared.replies.Reply.{Reply}
 use Rattle.st_wire.specs.declared.replies.Reply.TheVariants as reply
-use Rattle.st_server.specs.Runners.{RunnerView, NextAdvances, NoneReady, Settles, Works, floor_of, quantum_answer}
+use Rattle.st_server.specs.Runners.{RunnerView, NextAdvances, NoneReady, Works, floor_of, quantum_answer}
 use Rattle.st_server.specs.CommandReplies.{Runs}
 
 one_or_none : (b : Bool) → (if b then 1 else 0) ≤ 1

@@ -35,8 +35,8 @@ use Rattle.st_image.specs.Worlds.{World, WorldActor, change, pending}
 use Rattle.st_image.specs.Replay.{next, next_message, with_begun}
 use Rattle.st_image.specs.Images.{ImageView, appended, constants, world}
 use Rattle.st_image.specs.WorldInvariant.{IsLawful}
-use Rattle.st_image.specs.Commits.{HasCheckedOut, body_at, checkout_rules, idle_at, steps_of, with_out}
-use Rattle.st_server.specs.Runners.{GuardView, Settles, Steps, floor_of, quantum_answer}
+use Rattle.st_image.specs.Commits.{HasCheckedOut, Settles, body_at, checkout_rules, idle_at, steps_of, with_out}
+use Rattle.st_server.specs.Runners.{GuardView, Steps, floor_of, quantum_answer}
 use Rattle.st_image.proofs.Lists.{off}
 use Rattle.st_image.proofs.Changing.{get-change}
 use Rattle.st_image.proofs.Replays.{lawful_push}

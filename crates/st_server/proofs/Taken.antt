@@ -10,9 +10,9 @@ use Rattle.st_turn.specs.Claims.{ClaimView}
 use Rattle.st_image.specs.declared.items.Item.{Item}
 use Rattle.st_image.specs.declared.items.Item.TheVariants.{Begun, Ran}
 use Rattle.st_image.specs.Images.{ImageView, appended, world}
-use Rattle.st_image.specs.Commits.{ChecksOut, HasCheckedOut, HasCommitted, idle_at, items_of, steps_of, with_out}
+use Rattle.st_image.specs.Commits.{ChecksOut, HasCheckedOut, HasCommitted, Settles, idle_at, items_of, steps_of, with_out}
 use Rattle.st_wire.specs.declared.replies.Reply.TheVariants as reply
-use Rattle.st_server.specs.Runners.{RunnerView, NextAdvances, NoneReady, Settles, Works}
+use Rattle.st_server.specs.Runners.{RunnerView, NextAdvances, NoneReady, Works}
 use Rattle.st_server.specs.CommandReplies.{Runs}
 use Rattle.st_server.specs.Totals.{quanta_in, RunsSayWhatTheyTook}
 use Rattle.st_server.proofs.Quanta.{answered, few_steps}

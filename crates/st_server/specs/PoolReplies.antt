@@ -1,6 +1,6 @@
 -- The replies of a session over a pool, and what the session has done then. Each hold of the lock finds its own image:
 -- others may hold the lock in between.
-use Rattle.std.specs.Prelude.{◌≡◌, ◌⊎◌, ℕ, ◌+◌, ◌++◌, List, [], ◌∷◌, Option, Result, Ok, Err, MatchOption, MatchResult}
+use Rattle.std.specs.Prelude.{◌≡◌, ◌⊎◌, ℕ, ◌+◌, List, [], ◌∷◌, Option, Result, Ok, Err, MatchOption, MatchResult}
 use Rattle.st_classes.specs.declared.values.ActorId.{ActorId}
 use Rattle.st_classes.specs.declared.values.ClassId.{ClassId}
 use Rattle.st_classes.specs.declared.values.Selector.{Selector}
@@ -9,7 +9,7 @@ use Rattle.st_classes.specs.declared.values.Value.TheVariants as value
 use Rattle.st_classes.specs.declared.refusals.Refusal.{Refusal}
 use Rattle.st_classes.specs.declared.refusals.Refusal.TheVariants.{NoMemory, UnknownClass, BadCommand}
 use Rattle.st_classes.specs.Classes.{class_named}
-use Rattle.st_image.specs.Calls.{Closes, Creates, Defines, InstallsIn, Removes, Reparents}
+use Rattle.st_image.specs.Calls.{Closes, Creates, Defines, InstallsIn, Interns, Removes, Reparents}
 use Rattle.st_image.specs.Images.{ImageView, world}
 use Rattle.st_image.specs.Outcomes.{image_outcome}
 use Rattle.st_image.specs.PostRules.{from_client}
@@ -17,7 +17,6 @@ use Rattle.st_image.specs.declared.counts.Counts.{Counts}
 use Rattle.st_pool.specs.Checkpointed.{Checkpoints}
 use Rattle.st_pool.specs.Counts.{Amounts}
 use Rattle.st_pool.specs.Done.{Done, HasAtLeast, OfficeView, PostsOnce}
-use Rattle.st_pool.specs.Going.{Interns}
 use Rattle.st_wire.specs.declared.commands.Argument.{Argument}
 use Rattle.st_wire.specs.declared.commands.Argument.TheVariants as argument
 use Rattle.st_wire.specs.declared.commands.Command.{Command}

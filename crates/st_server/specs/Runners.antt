@@ -1,13 +1,11 @@
 -- A runner: an image, and the caches of the worker that takes the steps of its actors. What one quantum does.
-use Rattle.std.specs.Prelude.{◌≡◌, ◌≤◌, ℕ, [], Bool, false, Option, None, Some, Result, Ok, Err, IfOk, MatchResult}
-use Rattle.std.specs.Option.{IfSome}
+use Rattle.std.specs.Prelude.{◌≡◌, ◌≤◌, ℕ, [], Bool, false, Some, Result, Ok, Err, IfOk, MatchResult}
 use Rattle.std.specs.declared.alloc.AllocError.{AllocError}
 use Rattle.st_classes.specs.declared.values.ActorId.{ActorId}
 use Rattle.st_classes.specs.declared.values.Selector.{Selector}
 use Rattle.st_classes.specs.declared.edits.Edit.{Edit}
 use Rattle.st_classes.specs.declared.refusals.Refusal.{Refusal}
 use Rattle.st_classes.specs.declared.refusals.Refusal.TheVariants.{NoMemory}
-use Rattle.st_classes.specs.EditLists.{Begins}
 use Rattle.st_guard.specs.SiteTables.{NoSites}
 use Rattle.st_guard.specs.Switching.{SwitchView, floor_in}
 use Rattle.st_guard.specs.Touching.{touches}
@@ -17,7 +15,8 @@ use Rattle.st_turn.specs.Claims.{ClaimView}
 use Rattle.st_turn.specs.WorkerSteps.{HasMoved, Runs as TakesSteps}
 use Rattle.st_image.specs.Images.{ImageView, world}
 use Rattle.st_image.specs.Scheduling.{IsNextReady, is_free_at}
-use Rattle.st_image.specs.Commits.{ChecksOut, Commits, IsReleased}
+use Rattle.st_image.specs.Commits.{ChecksOut, Settles}
+use Rattle.st_image.specs.KeptEdits.{KeepsBeginning}
 
 -- ---- the guard of the worker's caches: an edit raises the floors of the selectors that it touches
 
@@ -45,7 +44,7 @@ pub record RunnerView : Type 0 where
 
 -- the edits that the caches hold, if any, are a prefix of the image's
 abbrev pub KeepsFirst : ImageView → CachesView GuardView → Type 0
-KeepsFirst i v = IfSome v.kept (λ k. Begins k (world i).edits)
+KeepsFirst i v = KeepsBeginning (world i).edits v
 
 -- new caches: they are empty, and hold the empty list of edits, which is the kernel's
 pub record AreNew (v : CachesView GuardView) : Type 0 where
@@ -62,16 +61,6 @@ abbrev pub Steps : ℕ → CachesView GuardView → ClaimView → Result Stop Al
     → ClaimView → Type 0
 Steps quantum v c ran w d = (moved : CachesView GuardView) × HasMoved noted floor_of raises v moved c.edits
     × TakesSteps floor_of quantum moved c ran w d
-
--- a claim that was handed back is released
-abbrev pub ReleasesBack : ImageView → Option ClaimView → ImageView → Type 0
-ReleasesBack i None j = j ≡ i
-ReleasesBack i (Some c) j = IsReleased i c.actor j
-
--- a claim is committed, or the commit is refused and the claim is released if it was handed back
-abbrev pub Settles : ImageView → ClaimView → Result ℕ Refusal → ImageView → Type 0
-Settles i c (Ok n) j = Commits i c (Ok n) j
-Settles i c (Err e) j = (back : Option ClaimView) × (k : ImageView) × Commits i c (Err (e, back)) k × ReleasesBack k back j
 
 -- the answer of a quantum: that of its commit, but NoMemory if the commit succeeds after memory ran out in the steps
 abbrev pub quantum_answer : Result Stop AllocError → Result ℕ Refusal → Result ℕ Refusal

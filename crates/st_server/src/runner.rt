@@ -2,10 +2,10 @@
 ghost use Rattle.std.specs.Prelude.{◌≡◌, ◌≤◌, false, Ok, Err, IfOk, IfErr, IfSome, MatchOption, MatchResult};
 ghost use Rattle.st_classes.specs.EditLists.{Begins};
 ghost use Rattle.st_turn.specs.Idle.{is_idle};
-ghost use Rattle.st_image.specs.Commits.{KnowsBody};
+ghost use Rattle.st_image.specs.Commits.{KnowsBody, Settles};
 ghost use Rattle.st_image.specs.Images.{world};
 ghost use Rattle.st_server.specs.CommandReplies.{Asks};
-ghost use Rattle.st_server.specs.Runners.{AreNew, NextAdvances, NoneReady, Settles, TakesQuantum, Works, quantum_answer};
+ghost use Rattle.st_server.specs.Runners.{AreNew, NextAdvances, NoneReady, TakesQuantum, Works, quantum_answer};
 
 use crate::asking::ask;
 use crate::images::{Guard, Image, Worker};

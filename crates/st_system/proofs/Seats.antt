@@ -11,7 +11,8 @@ use Rattle.st_turn.specs.Claims.{BeganAs, ClaimView}
 use Rattle.st_image.specs.Images.{ImageView, world}
 use Rattle.st_image.proofs.KnownBodies.{knows_as, knows_later, last_as_before}
 use Rattle.st_image.specs.GoingOn.{FitsClaim, GoesOnIn}
-use Rattle.st_system.specs.Seats.{CanFollow, FitsSeat, HaveNothing, KeepsBeginning, SeatView, TakesSeat}
+use Rattle.st_image.specs.KeptEdits.{KeepsBeginning}
+use Rattle.st_system.specs.Seats.{CanFollow, FitsSeat, HaveNothing, SeatView, TakesSeat}
 
 pub begins_same : (es : List Edit) → Begins es es
 begins_same es = ([], sym (append-nil es))

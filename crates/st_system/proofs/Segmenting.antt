@@ -17,7 +17,7 @@ use Rattle.st_system.specs.declared.events.Answer.{Answer}
 use Rattle.st_system.specs.declared.events.Event.{Event}
 use Rattle.st_system.specs.declared.events.Event.TheVariants.{Intern, Define, Install, Remove, Reparent, Create, Post, Close, Checkpoint, Checkout, Local, Commit, Release, Forget}
 use Rattle.st_system.specs.Schedules.{BareClaim, Schedule, with_sends}
-use Rattle.st_system.specs.ImageEvents.{Interns}
+use Rattle.st_image.specs.Calls.{Interns}
 use Rattle.st_system.specs.ClaimEvents.{AtWorker, CommitsClaim, KeepsClaim, OfClaim, ReleasesClaim, StepsClaim, TakesClaim}
 use Rattle.st_system.specs.Acts.{Acts}
 use Rattle.st_system.specs.Segments.{Follow, HasSegments, IsSegment}

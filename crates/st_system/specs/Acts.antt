@@ -1,7 +1,7 @@
 -- What each event does to a schedule, and lists of events.
 use Rattle.std.specs.Prelude.{◌≡◌, ◌⊎◌, List, [], ◌∷◌, Result, slice_get}
 use Rattle.st_classes.specs.declared.refusals.Refusal.{Refusal}
-use Rattle.st_image.specs.Calls.{Closes, Creates, Defines, InstallsIn, Posts, Removes, Reparents}
+use Rattle.st_image.specs.Calls.{Closes, Creates, Defines, InstallsIn, Interns, Posts, Removes, Reparents}
 use Rattle.st_image.specs.Checkpoints.{MakesCheckpoint}
 use Rattle.st_image.specs.PostRules.{from_client}
 use Rattle.st_system.specs.declared.events.Answer.{Answer}
@@ -9,7 +9,7 @@ use Rattle.st_system.specs.declared.events.Answer.TheVariants.{Interned, Version
 use Rattle.st_system.specs.declared.events.Event.{Event}
 use Rattle.st_system.specs.declared.events.Event.TheVariants.{Intern, Define, Install, Remove, Reparent, Create, Post, Close, Checkout, Local, Commit, Release, Forget, Checkpoint}
 use Rattle.st_system.specs.Schedules.{Schedule}
-use Rattle.st_system.specs.ImageEvents.{FindsNoMemory, Interns, OfImage}
+use Rattle.st_system.specs.ImageEvents.{FindsNoMemory, OfImage}
 use Rattle.st_system.specs.ClaimEvents.{AtWorker, CommitsClaim, KeepsClaim, OfClaim, ReleasesClaim, StepsClaim, TakesClaim}
 
 -- what an event does to a schedule, and its answer

@@ -3,12 +3,12 @@ use Rattle.std.specs.Prelude.{◌≡◌, ◌⊎◌, ℕ, List, [], Option, None,
 use Rattle.std.specs.Option.{IfSome}
 use Rattle.st_classes.specs.declared.edits.Edit.{Edit}
 use Rattle.st_classes.specs.declared.values.Selector.{Selector}
-use Rattle.st_classes.specs.EditLists.{Begins}
 use Rattle.st_guard.specs.SiteTables.{NoSites}
 use Rattle.st_guard.specs.Moves.{CachesView, IsAt}
 use Rattle.st_turn.specs.Claims.{ClaimView}
 use Rattle.st_image.specs.Images.{ImageView, world}
 use Rattle.st_image.specs.GoingOn.{FitsClaim}
+use Rattle.st_image.specs.KeptEdits.{KeepsBeginning}
 
 -- a worker's caches, and its claim, or none
 pub record SeatView (G : Type 0) : Type 0 where
@@ -19,10 +19,6 @@ pub record SeatView (G : Type 0) : Type 0 where
 pub record SystemView (G : Type 0) : Type 0 where
   pub image : ImageView
   pub seats : List (SeatView G)
-
--- if the caches keep a list of edits, it is a prefix of this one
-abbrev pub KeepsBeginning : {G : Type 0} → List Edit → CachesView G → Type 0
-KeepsBeginning edits v = IfSome v.kept (λ k. Begins k edits)
 
 -- if there is a claim, the caches can follow it: the list that they keep is a prefix of its edits
 abbrev pub CanFollow : {G : Type 0} → CachesView G → Option ClaimView → Type 0

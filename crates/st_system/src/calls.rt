@@ -2,11 +2,10 @@
 //! the new edits, and a body changes only if its count of changes does.
 ghost use Rattle.std.specs.Prelude.{◌≡◌, ◌⊎◌, None, Some, Ok, Err, IfOk, IfErr};
 ghost use Rattle.st_classes.specs.declared.refusals.Refusal.TheVariants.{NoMemory};
-ghost use Rattle.st_image.specs.Calls.{Closes, Creates, Defines, InstallsIn, Posts, Removes, Reparents};
+ghost use Rattle.st_image.specs.Calls.{Closes, Creates, Defines, InstallsIn, Interns, Posts, Removes, Reparents};
 ghost use Rattle.st_image.specs.Checkpoints.{MakesCheckpoint};
 ghost use Rattle.st_image.specs.Commits.{ChecksOut, Commits, IsReleased};
 ghost use Rattle.st_image.specs.PostRules.{from_client};
-ghost use Rattle.st_system.specs.ImageEvents.{Interns};
 ghost use Rattle.st_image.specs.GoingOn.{FitsClaim, GoesOnIn};
 
 use crate::copies::{copy_texts, copy_values};

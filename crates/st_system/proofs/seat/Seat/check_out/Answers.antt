@@ -1,6 +1,7 @@
 use Rattle.std.proofs.Common.{sym, subst}
 use Rattle.st_image.specs.Images.{world}
-use Rattle.st_system.specs.Seats.{KeepsBeginning, SeatView}
+use Rattle.st_image.specs.KeptEdits.{KeepsBeginning}
+use Rattle.st_system.specs.Seats.{SeatView}
 use Rattle.st_system.proofs.Seats.{kept_later}
 use Rattle.st_system.proofs.seat.Seat.check_out.Goals as goal
 

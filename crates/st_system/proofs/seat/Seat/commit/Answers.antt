@@ -3,7 +3,8 @@ use Rattle.std.specs.Option.{IfSome}
 use Rattle.st_turn.specs.Claims.{ClaimView}
 use Rattle.st_image.specs.Images.{world}
 use Rattle.st_image.specs.GoingOn.{FitsClaim}
-use Rattle.st_system.specs.Seats.{KeepsBeginning, SeatView}
+use Rattle.st_image.specs.KeptEdits.{KeepsBeginning}
+use Rattle.st_system.specs.Seats.{SeatView}
 use Rattle.st_system.proofs.Seats.{kept_later}
 use Rattle.st_system.proofs.seat.Seat.commit.Goals as goal
 

@@ -1,7 +1,8 @@
 use Rattle.std.proofs.lemmas.Result.{err_from_is_err_and}
 use Rattle.std.proofs.Common.{ap, refl, subst, Ok, Err}
 use Rattle.st_system.specs.declared.events.Answer.TheVariants.{Interned}
-use Rattle.st_system.specs.ImageEvents.{Interns, OfImage}
+use Rattle.st_image.specs.Calls.{Interns}
+use Rattle.st_system.specs.ImageEvents.{OfImage}
 use Rattle.st_system.specs.Schedules.{schedule}
 use Rattle.st_system.specs.Seats.{SystemView}
 use Rattle.st_system.proofs.Seats.{all_later}

@@ -23,3 +23,6 @@ kept_ran start i j b c n k g e = kept_on start i j b c 0 0 n k g (omega (arith, 
 
 pub kept_same : (start : Amounts) (i j : ImageView) (b : BooksView) → Kept start i b → Grows 0 0 0 i j → Kept start j b
 kept_same start i j b k g = kept_on start i j b b 0 0 0 k g (omega arith) (omega arith) (omega arith)
+
+pub kept_emptied : (start : Amounts) (i j : ImageView) (b c : BooksView) (n : ℕ) → Kept start i b → Grows 0 0 0 i j → c ≡ record b { emptied = n } → Kept start j c
+kept_emptied start i j b c n k g e = kept_on start i j b c 0 0 0 k g (omega (arith, ap (λ (x : BooksView). x.posts) e)) (omega (arith, ap (λ (x : BooksView). x.edits) e)) (omega (arith, ap (λ (x : BooksView). x.steps) e))

@@ -3,17 +3,18 @@ use Rattle.std.specs.Prelude.{◌≡◌, ℕ, ◌+◌, Bool, if◌then◌else◌
 use Rattle.st_image.specs.Images.{ImageView}
 use Rattle.st_pool.specs.Counts.{Amounts, amounts}
 
--- the sums of all shares, and how many shares were given out
+-- the sums of all shares, how many shares were given out, and how many items of histories checkpoints have emptied
 pub record BooksView : Type 0 where
   pub posts : ℕ
   pub edits : ℕ
   pub steps : ℕ
   pub callers : ℕ
   pub workers : ℕ
+  pub emptied : ℕ
 
 -- new books
 abbrev pub no_books : BooksView
-no_books = record { posts = 0; edits = 0; steps = 0; callers = 0; workers = 0 }
+no_books = record { posts = 0; edits = 0; steps = 0; callers = 0; workers = 0; emptied = 0 }
 
 -- what was done counts once
 abbrev pub counted : Bool → ℕ

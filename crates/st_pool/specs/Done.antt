@@ -18,20 +18,19 @@ use Rattle.st_pool.specs.declared.receipts.Receipt.{Receipt}
 use Rattle.st_pool.specs.Books.{BooksView}
 use Rattle.st_pool.specs.Counts.{Amounts, amounts}
 
--- the edits that were accepted, and a receipt for each post that was
+-- the edits that were accepted, a receipt for each post that was, and how many items of histories its checkpoints have emptied
 pub record Done : Type 0 where
   pub edits : ℕ
   pub receipts : List Receipt
+  pub emptied : ℕ
 
 abbrev pub nothing_done : Done
-nothing_done = record { edits = 0; receipts = [] }
+nothing_done = record { edits = 0; receipts = []; emptied = 0 }
 
--- what lies under the lock: the image and the books, and how many items of histories checkpoints have emptied since they were
--- opened
+-- what lies under the lock
 pub record OfficeView : Type 0 where
   pub image : ImageView
   pub books : BooksView
-  pub emptied : ℕ
 
 -- a lawful image that has counted at least as many posts and edits since it had these amounts
 pub record HasAtLeast (start : Amounts) (done : Done) (i : ImageView) : Type 0 where
@@ -57,7 +56,7 @@ receipt place actor message = record { place = place; actor = actor; message = m
 abbrev pub PostsOnce : Amounts → Done → ActorId → Message → Result ℕ Refusal → Done → Type 0
 PostsOnce start d a m result e = ((result ≡ Err NoMemory) × (e ≡ d))
     ⊎ ((o : OfficeView) × (j : ImageView) × HasAtLeast start d o.image × Posts o.image a m result j × MatchResult result
-    (λ turn. e ≡ record d { receipts = d.receipts ++ receipt (o.emptied + length o.image.history) a m ∷ [] })
+    (λ turn. e ≡ record d { receipts = d.receipts ++ receipt (o.books.emptied + length o.image.history) a m ∷ [] })
     (λ f. e ≡ d))
 
 -- what a worker finds. Where it is to end, nothing has changed; nor where it is to wait, and then no actor is ready, or the next one

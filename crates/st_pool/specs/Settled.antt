@@ -25,12 +25,15 @@ gone emptied d = count_by (λ (r : Receipt). nat_lt r.place emptied) d.receipts
 abbrev pub AreFew : ℕ → ImageView → ℕ → List Done → Type 0
 AreFew emptied i posts callers = sum_by (gone emptied) callers ≤ posts - weigh posts_of i.history
 
+-- how many items of histories the checkpoints of callers have emptied
+abbrev pub emptied_by : List Done → ℕ
+emptied_by callers = sum_by (λ (d : Done). d.emptied) callers
+
 -- Of this many posts that were counted, those in the history stand there: each message of each receipt stands at its place, but for
--- those whose items checkpoints have emptied, and these are few. Where no checkpoint was made, all stand.
+-- those whose items the checkpoints of these callers have emptied, and these are few. Where none of them made a checkpoint, all stand.
 pub record HaveStood (i : ImageView) (posts : ℕ) (callers : List Done) : Type 0 where
-  pub emptied : ℕ
-  pub stand : AllStand emptied i callers
-  pub few : AreFew emptied i posts callers
+  pub stand : AllStand (emptied_by callers) i callers
+  pub few : AreFew (emptied_by callers) i posts callers
 
 -- the totals are the sums of the shares
 pub record AreSums (t : Totals) (callers : List Done) (workers : List ℕ) : Type 0 where

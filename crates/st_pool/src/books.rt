@@ -1,10 +1,11 @@
-//! The books of a pool: accepted posts, accepted edits and committed steps. Three ledgers of the library, as one.
+//! The books of a pool: accepted posts, accepted edits, committed steps, and the items of histories that checkpoints have emptied. Four
+//! ledgers of the library, as one.
 ghost use Rattle.std.specs.Prelude.{◌≡◌, ℕ, ◌+◌, ◌<◌, ◌≤◌, ◌^◌, count_by, length, vec_len, nat_lt};
 ghost use Rattle.std.specs.List.{sum_by};
 ghost use Rattle.st_pool.specs.Done.{Done};
-ghost use Rattle.st_pool.specs.Settled.{gone as gone_of};
+ghost use Rattle.st_pool.specs.Settled.{emptied_by, gone as gone_of};
 
-use crate::naming::{Edits, Naming, Posts, Steps};
+use crate::naming::{Edits, Emptied, Naming, Posts, Steps};
 use crate::receipts::Receipt;
 use crate::shares::{CallerShare, WorkerShare};
 use crate::totals::Totals;
@@ -16,12 +17,13 @@ use std::sync::ledger::{Blank, Book, Share};
 /// The number of parts of a ledger: one for each share that may be given out, and one that stays.
 pub const PARTS: u64 = 1 << 32;
 
-/// Three new ledgers of 2^32 parts each, to which no type belongs yet.
+/// Four new ledgers of 2^32 parts each, to which no type belongs yet.
 pub struct Blanks {
     pub posts: Blank,
     pub edits: Blank,
     pub steps: Blank,
-    pub ghost parts: { (posts.parts ≡ 4294967296) × (edits.parts ≡ 4294967296) × (steps.parts ≡ 4294967296) },
+    pub emptied: Blank,
+    pub ghost parts: { (posts.parts ≡ 4294967296) × (edits.parts ≡ 4294967296) × (steps.parts ≡ 4294967296) × (emptied.parts ≡ 4294967296) },
 }
 
 impl Blanks {
@@ -31,6 +33,7 @@ impl Blanks {
             posts: Blank::new(PARTS),
             edits: Blank::new(PARTS),
             steps: Blank::new(PARTS),
+            emptied: Blank::new(PARTS),
         }
     }
 }
@@ -41,23 +44,29 @@ pub struct Books<K: Naming> {
     posts: Book<Posts<K>>,
     edits: Book<Edits<K>>,
     steps: Book<Steps<K>>,
+    cleared: Book<Emptied<K>>,
     posts_left: Share<Posts<K>>,
     edits_left: Share<Edits<K>>,
     steps_left: Share<Steps<K>>,
+    cleared_left: Share<Emptied<K>>,
     callers: u64,
     workers: u64,
+    /// How many items of histories checkpoints have emptied, at most 2^63 - 1.
+    emptied: u64,
 }
 
 impl<K: Naming> Model for Books<K> {
-    ghost use Rattle.std.specs.Prelude.{◌≡◌, ◌+◌, ◌<◌};
+    ghost use Rattle.std.specs.Prelude.{◌≡◌, ◌+◌, ◌<◌, ◌≤◌};
+    ghost use Rattle.st_image.specs.Counts.{most_counted};
     ghost use Rattle.st_pool.specs.Books.{BooksView};
 
     ghost Value = { BooksView };
 
-    ghost view = { λ b. record { posts = b.posts.total; edits = b.edits.total; steps = b.steps.total; callers = b.callers; workers = b.workers } };
+    ghost view = { λ b. record { posts = b.posts.total; edits = b.edits.total; steps = b.steps.total; callers = b.callers; workers = b.workers; emptied = b.emptied } };
 
     ghost invariant = { λ b. (b.posts_left.parts + b.callers ≡ 4294967296) × (b.edits_left.parts + b.callers ≡ 4294967296) × (b.steps_left.parts + b.workers ≡ 4294967296)
-        × (b.posts_left.amount ≡ 0) × (b.edits_left.amount ≡ 0) × (b.steps_left.amount ≡ 0) × (b.callers < 4294967296) × (b.workers < 4294967296) };
+        × (b.posts_left.amount ≡ 0) × (b.edits_left.amount ≡ 0) × (b.steps_left.amount ≡ 0) × (b.callers < 4294967296) × (b.workers < 4294967296)
+        × (b.cleared_left.parts + b.callers ≡ 4294967296) × (b.cleared_left.amount ≡ 0) × (b.cleared.total ≡ b.emptied) × (b.emptied ≤ most_counted) };
 }
 
 /// How many receipts have their items among the first `emptied` items, which checkpoints have emptied.
@@ -78,6 +87,7 @@ fn gather_callers<K: Naming>(
     edits: &mut Book<Edits<K>>,
     posts_left: &mut Share<Posts<K>>,
     edits_left: &mut Share<Edits<K>>,
+    cleared_left: &mut Share<Emptied<K>>,
     emptied: u64,
     mut callers: Vec<CallerShare<K>>,
 ) -> (u64, u64, u64)
@@ -88,7 +98,9 @@ fn gather_callers<K: Naming>(
     ensures posts { (result.0 ≡ sum_by (λ (d : Done). length d.receipts) callers.items) × (posts_left.new.amount ≡ result.0) }
     ensures edits { (result.1 ≡ sum_by (λ (d : Done). d.edits) callers.items) × (edits_left.new.amount ≡ result.1) }
     ensures gone { result.2 ≡ sum_by (gone_of emptied) callers.items }
-    ensures parts { (posts_left.new.parts ≡ posts_left.old.parts + vec_len callers) × (edits_left.new.parts ≡ edits_left.old.parts + vec_len callers) }
+    ensures cleared { cleared_left.new.amount ≡ cleared_left.old.amount + emptied_by callers.items }
+    ensures parts { (posts_left.new.parts ≡ posts_left.old.parts + vec_len callers) × (edits_left.new.parts ≡ edits_left.old.parts + vec_len callers)
+        × (cleared_left.new.parts ≡ cleared_left.old.parts + vec_len callers) }
 {
     let mut posted_sum: u64 = 0;
     let mut edited_sum: u64 = 0;
@@ -97,11 +109,14 @@ fn gather_callers<K: Naming>(
         let CallerShare {
             edits: made,
             receipts,
+            emptied: _,
             posted,
             edited,
+            cleared,
         } = share;
         posts_left.merge(posted);
         edits_left.merge(edited);
+        cleared_left.merge(cleared);
         posts.audit(posts_left);
         edits.audit(edits_left);
         posted_sum += receipts.len() as u64;
@@ -139,32 +154,39 @@ impl<K: Naming> Books<K> {
     ghost use Rattle.st_pool.specs.Books.{counted, no_books};
     ghost use Rattle.st_pool.specs.Done.{committed, nothing_done};
     ghost use Rattle.std.specs.List.{sum_by};
-    ghost use Rattle.st_pool.specs.Settled.{AreSums, gone as gone_of};
+    ghost use Rattle.st_image.specs.Counts.{most_counted};
+    ghost use Rattle.st_pool.specs.Settled.{AreSums, emptied_by, gone as gone_of};
 
     /// Empty books.
     pub(crate) fn open(blanks: Blanks) -> Books<K>
         requires posts { blanks.posts.name ≡ K.posts }
         requires edits { blanks.edits.name ≡ K.edits }
         requires steps { blanks.steps.name ≡ K.steps }
+        requires emptied { blanks.emptied.name ≡ K.emptied }
         ensures { result ≡ no_books }
     {
         let Blanks {
             posts,
             edits,
             steps,
+            emptied,
         } = blanks;
         let (posts, posts_left) = posts.open::<Posts<K>>();
         let (edits, edits_left) = edits.open::<Edits<K>>();
         let (steps, steps_left) = steps.open::<Steps<K>>();
+        let (cleared, cleared_left) = emptied.open::<Emptied<K>>();
         Books {
             posts,
             edits,
             steps,
+            cleared,
             posts_left,
             edits_left,
             steps_left,
+            cleared_left,
             callers: 0,
             workers: 0,
+            emptied: 0,
         }
     }
 
@@ -186,6 +208,15 @@ impl<K: Naming> Books<K> {
         self.workers
     }
 
+    /// How many items of histories checkpoints have emptied.
+    pub(crate) fn emptied(&self) -> u64
+        ensures value { result ≡ self.now.emptied }
+        ensures few { result ≤ most_counted }
+    {
+        let _callers = self.callers;
+        self.emptied
+    }
+
     /// A share for one caller more.
     pub(crate) fn give(&mut self, alloc: Global) -> CallerShare<K>
         requires { self.old.callers + 1 < 4294967296 }
@@ -194,12 +225,15 @@ impl<K: Naming> Books<K> {
     {
         let posted = self.posts_left.split_off(1, 0);
         let edited = self.edits_left.split_off(1, 0);
+        let cleared = self.cleared_left.split_off(1, 0);
         self.callers += 1;
         CallerShare {
             edits: 0,
             receipts: Vec::new(alloc),
+            emptied: 0,
             posted,
             edited,
+            cleared,
         }
     }
 
@@ -251,6 +285,23 @@ impl<K: Naming> Books<K> {
         }
     }
 
+    /// Books the items that a caller's checkpoint has emptied.
+    pub(crate) fn empty(&mut self, mine: &mut CallerShare<K>, count: u64)
+        requires { self.old.emptied + count ≤ most_counted }
+        ensures books { self.new ≡ record self.old { emptied = self.old.emptied + count } }
+        ensures share { mine.new ≡ record mine.old { emptied = mine.old.emptied + count } }
+    {
+        let CallerShare {
+            emptied,
+            cleared,
+            ..
+        } = mine;
+        self.cleared.audit(cleared);
+        self.cleared.add(cleared, count);
+        self.emptied += count;
+        *emptied += count;
+    }
+
     /// Books the steps of a commit.
     pub(crate) fn run(&mut self, mine: &mut WorkerShare<K>, answer: &Result<u32, Refusal>)
         requires { self.old.steps < 2 ^ 63 }
@@ -287,10 +338,9 @@ impl<K: Naming> Books<K> {
         self.steps.audit(&mut mine.ran);
     }
 
-    /// The totals of all shares, none of which is missing, and how many receipts have their items among the first `emptied` items.
+    /// The totals of all shares, none of which is missing, and how many receipts have their items among those that were emptied.
     pub(crate) fn close(
         self,
-        emptied: u64,
         callers: Vec<CallerShare<K>>,
         workers: Vec<WorkerShare<K>>,
     ) -> (Totals, u64)
@@ -301,15 +351,19 @@ impl<K: Naming> Books<K> {
         ensures posts { result.0.posts ≡ self.posts }
         ensures edits { result.0.edits ≡ self.edits }
         ensures steps { result.0.steps ≡ self.steps }
-        ensures gone { result.1 ≡ sum_by (gone_of emptied) callers.items }
+        ensures gone { result.1 ≡ sum_by (gone_of self.emptied) callers.items }
+        ensures emptied { self.emptied ≡ emptied_by callers.items }
     {
         let Books {
             mut posts,
             mut edits,
             mut steps,
+            mut cleared,
             mut posts_left,
             mut edits_left,
             mut steps_left,
+            mut cleared_left,
+            emptied,
             ..
         } = self;
         let (posts_sum, edits_sum, gone_sum) = gather_callers(
@@ -317,6 +371,7 @@ impl<K: Naming> Books<K> {
             &mut edits,
             &mut posts_left,
             &mut edits_left,
+            &mut cleared_left,
             emptied,
             callers,
         );
@@ -324,6 +379,7 @@ impl<K: Naming> Books<K> {
         posts.audit(&mut posts_left);
         edits.audit(&mut edits_left);
         steps.audit(&mut steps_left);
+        cleared.audit(&mut cleared_left);
         let totals = Totals {
             posts: posts_sum,
             edits: edits_sum,

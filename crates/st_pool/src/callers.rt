@@ -9,7 +9,7 @@ ghost use Rattle.st_image.specs.Outcomes.{image_outcome};
 ghost use Rattle.st_image.specs.PostRules.{from_client};
 ghost use Rattle.st_image.specs.Stats.{installed_own, method_stats, stats_rules};
 ghost use Rattle.st_pool.specs.Books.{counted};
-ghost use Rattle.st_pool.specs.Checkpointed.{Checkpoints};
+ghost use Rattle.st_pool.specs.Checkpointed.{Checkpoints, with_checkpoint};
 ghost use Rattle.st_pool.specs.Done.{HasAtLeast, OfficeView, PostsOnce};
 
 use crate::naming::Naming;
@@ -30,8 +30,8 @@ use std::alloc::{AllocError, Global};
 use std::marker::Model;
 use std::sync::Wait;
 
-/// Who posts and edits, by one hold of the lock a call. Contracts see what it has done: how many of its edits were accepted, and a
-/// receipt for each of its posts that was.
+/// Who posts and edits, by one hold of the lock a call. Contracts see what it has done: how many of its edits were accepted, a receipt
+/// for each of its posts that was, and how many items of histories its checkpoints have emptied.
 ///
 /// Each call answers as the image's call of its name does, in an image that has at least what this caller has done. A call that is
 /// refused leaves the caller as it was.
@@ -249,13 +249,12 @@ impl<'a, K: Naming, M: Mailbox> Caller<'a, K, M> {
     /// It is refused by `HistoryFull` if more than 2^63 - 1 items would have been emptied since the image was shared, and by `NoMemory`
     /// if memory ran out. A refused checkpoint changes nothing. Workers that waited for room in the history go on.
     pub fn checkpoint<R: Wait>(&mut self, rt: &R, alloc: Global) -> Result<Counts, Refusal>
-        ensures same { self.new ≡ self.old }
-        ensures answers { (o : OfficeView) × (p : OfficeView) × HasAtLeast K.start self.old o.image × Checkpoints o result p }
+        ensures { (o : OfficeView) × (p : OfficeView) × HasAtLeast K.start self.old o.image × Checkpoints o result p × (self.new ≡ with_checkpoint o result self.old) }
     {
         let Caller { shared, share } = self;
         let mut office = shared.enter(rt);
         office.audit(share);
-        let answer = office.checkpoint(alloc);
+        let answer = office.checkpoint(alloc, share);
         drop(office);
         shared.wake();
         answer

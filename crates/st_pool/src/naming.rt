@@ -2,7 +2,7 @@
 use std::marker::{Brand, PhantomData};
 use std::sync::ledger::Ledger;
 
-/// What names a pool in proofs: its three ledgers, the amounts from which they count, and the book of the images that were seen. A
+/// What names a pool in proofs: its four ledgers, the amounts from which they count, and the book of the images that were seen. A
 /// call of a generic function picks them, so a program passes `Brand`.
 pub trait Naming {
     ghost use Rattle.std.specs.Prelude.{ℕ};
@@ -15,6 +15,8 @@ pub trait Naming {
 
     ghost steps: { ℕ };
 
+    ghost emptied: { ℕ };
+
     ghost start: { Amounts };
 
     ghost book: { Book };
@@ -26,6 +28,8 @@ impl Naming for Brand {
     ghost edits = { 0 };
 
     ghost steps = { 0 };
+
+    ghost emptied = { 0 };
 
     ghost start = { record { posts = 0; edits = 0; steps = 0 } };
 
@@ -61,6 +65,17 @@ pub struct Steps<K: Naming> {
 
 impl<K: Naming> Ledger for Steps<K> {
     ghost name = { K.steps };
+
+    ghost parts = { 4294967296 };
+}
+
+/// The ledger of the items of histories that checkpoints have emptied.
+pub struct Emptied<K: Naming> {
+    of: PhantomData<K>,
+}
+
+impl<K: Naming> Ledger for Emptied<K> {
+    ghost name = { K.emptied };
 
     ghost parts = { 4294967296 };
 }

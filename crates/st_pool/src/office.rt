@@ -45,23 +45,19 @@ pub struct Office<K: Naming, M: Mailbox> {
     front: Option<Front<K>>,
     /// The workers that wait, and what they wait for.
     pub(crate) waiting: Waiting,
-    /// How many items of histories checkpoints have emptied, at most 2^63 - 1.
-    pub(crate) emptied: u64,
 }
 
 impl<K: Naming, M: Mailbox> Model for Office<K, M> {
-    ghost use Rattle.std.specs.Prelude.{◌≤◌};
     ghost use Rattle.std.specs.Option.{IfSome};
-    ghost use Rattle.st_image.specs.Counts.{most_counted};
     ghost use Rattle.st_pool.specs.Books.{Kept};
     ghost use Rattle.st_pool.specs.Done.{OfficeView};
     ghost use Rattle.st_pool.specs.Seen.{MayFollow};
 
     ghost Value = { OfficeView };
 
-    ghost view = { λ o. record { image = o.image; books = o.books; emptied = o.emptied } };
+    ghost view = { λ o. record { image = o.image; books = o.books } };
 
-    ghost invariant = { λ o. Kept K.start o.image o.books × IfSome o.front (λ l. MayFollow l o.image) × (o.emptied ≤ most_counted) };
+    ghost invariant = { λ o. Kept K.start o.image o.books × IfSome o.front (λ l. MayFollow l o.image) };
 }
 
 /// Adds an image as the last of those that were seen, if they are known.
@@ -99,7 +95,7 @@ fn takes_more(answer: &Result<u32, Refusal>, is_starved: bool) -> bool
 }
 
 /// Whether a worker goes on with a claim.
-fn goes_on<T>(work: &Work<T>) -> bool {
+pub(crate) fn goes_on<T>(work: &Work<T>) -> bool {
     matches!(work, Work::Turn(_))
 }
 
@@ -110,7 +106,7 @@ impl<K: Naming, M: Mailbox> Office<K, M> {
     ghost use Rattle.st_image.specs.PostRules.{from_client};
     ghost use Rattle.st_image.specs.WorldInvariant.{IsLawful};
     ghost use Rattle.st_pool.specs.Books.{counted, no_books};
-    ghost use Rattle.st_pool.specs.Checkpointed.{Checkpoints};
+    ghost use Rattle.st_pool.specs.Checkpointed.{Checkpoints, with_checkpoint};
     ghost use Rattle.st_pool.specs.Counts.{amounts};
     ghost use Rattle.st_pool.specs.Done.{HasAtLeast, Takes, TurnsOver, committed, nothing_done};
 
@@ -119,9 +115,10 @@ impl<K: Naming, M: Mailbox> Office<K, M> {
         requires posts { blanks.posts.name ≡ K.posts }
         requires edits { blanks.edits.name ≡ K.edits }
         requires steps { blanks.steps.name ≡ K.steps }
+        requires emptied { blanks.emptied.name ≡ K.emptied }
         requires book { opened.seen.book ≡ K.book }
         requires start { K.start ≡ amounts image }
-        ensures { result ≡ record { image = image; books = no_books; emptied = 0 } }
+        ensures { result ≡ record { image = image; books = no_books } }
     {
         let books = Books::open(blanks);
         let (head, front) = opened.named::<K>();
@@ -131,7 +128,6 @@ impl<K: Naming, M: Mailbox> Office<K, M> {
             head,
             front: Some(front),
             waiting: Waiting::none(),
-            emptied: 0,
         }
     }
 
@@ -187,8 +183,7 @@ impl<K: Naming, M: Mailbox> Office<K, M> {
         requires some { (0 < posted.old.parts) × (0 < edited.old.parts) }
         ensures posts { PostsMessage self.old.image actor (from_client sender seq selector args) result.0 self.new.image }
         ensures books { self.new.books ≡ record self.old.books { posts = self.old.books.posts + counted (is_ok result.0) } }
-        ensures emptied { self.new.emptied ≡ self.old.emptied }
-        ensures place { result.1 ≡ self.old.emptied + length self.old.image.history }
+        ensures place { result.1 ≡ self.old.books.emptied + length self.old.image.history }
         ensures amount { posted.new.amount ≡ posted.old.amount + counted (is_ok result.0) }
         ensures parts { posted.new.parts ≡ posted.old.parts }
         ensures same { (edited.new.amount ≡ edited.old.amount) × (edited.new.parts ≡ edited.old.parts) }
@@ -197,9 +192,9 @@ impl<K: Naming, M: Mailbox> Office<K, M> {
         ensures has_edits { K.start.edits + edited.old.amount ≤ (amounts self.old.image).edits }
     {
         self.image.known();
-        self.waiting.note_move();
-        let place = self.emptied + self.image.history().len() as u64;
+        let place = self.books.emptied() + self.image.history().len() as u64;
         let answer = calls::post(alloc, &mut self.image, sender, seq, actor, selector, args);
+        self.waiting.note_post(answer.is_ok());
         self.books.post(posted, edited, &answer);
         (answer, place)
     }
@@ -208,7 +203,6 @@ impl<K: Naming, M: Mailbox> Office<K, M> {
     pub(crate) fn intern(&mut self, alloc: Global, text: &[u8]) -> Result<Selector, Refusal>
         ensures interns { Interns self.old.image text.now result self.new.image }
         ensures books { self.new.books ≡ self.old.books }
-        ensures emptied { self.new.emptied ≡ self.old.emptied }
     {
         calls::intern(alloc, &mut self.image, text)
     }
@@ -224,7 +218,6 @@ impl<K: Naming, M: Mailbox> Office<K, M> {
     ) -> Result<u32, Refusal>
         ensures defines { Defines self.old.image name.now parent slots result self.new.image }
         ensures books { self.new.books ≡ record self.old.books { edits = self.old.books.edits + counted (is_ok result) } }
-        ensures emptied { self.new.emptied ≡ self.old.emptied }
         ensures share { mine.new ≡ record mine.old { edits = mine.old.edits + counted (is_ok result) } }
         ensures within { K.start.edits + mine.old.edits ≤ (amounts self.old.image).edits }
     {
@@ -246,7 +239,6 @@ impl<K: Naming, M: Mailbox> Office<K, M> {
     ) -> Result<u32, Refusal>
         ensures installs { InstallsIn self.old.image class source.now result self.new.image }
         ensures books { self.new.books ≡ record self.old.books { edits = self.old.books.edits + counted (is_ok result) } }
-        ensures emptied { self.new.emptied ≡ self.old.emptied }
         ensures share { mine.new ≡ record mine.old { edits = mine.old.edits + counted (is_ok result) } }
         ensures within { K.start.edits + mine.old.edits ≤ (amounts self.old.image).edits }
     {
@@ -268,7 +260,6 @@ impl<K: Naming, M: Mailbox> Office<K, M> {
     ) -> Result<u32, Refusal>
         ensures removes { Removes self.old.image class selector result self.new.image }
         ensures books { self.new.books ≡ record self.old.books { edits = self.old.books.edits + counted (is_ok result) } }
-        ensures emptied { self.new.emptied ≡ self.old.emptied }
         ensures share { mine.new ≡ record mine.old { edits = mine.old.edits + counted (is_ok result) } }
         ensures within { K.start.edits + mine.old.edits ≤ (amounts self.old.image).edits }
     {
@@ -290,7 +281,6 @@ impl<K: Naming, M: Mailbox> Office<K, M> {
     ) -> Result<u32, Refusal>
         ensures reparents { Reparents self.old.image class parent result self.new.image }
         ensures books { self.new.books ≡ record self.old.books { edits = self.old.books.edits + counted (is_ok result) } }
-        ensures emptied { self.new.emptied ≡ self.old.emptied }
         ensures share { mine.new ≡ record mine.old { edits = mine.old.edits + counted (is_ok result) } }
         ensures within { K.start.edits + mine.old.edits ≤ (amounts self.old.image).edits }
     {
@@ -306,7 +296,6 @@ impl<K: Naming, M: Mailbox> Office<K, M> {
     pub(crate) fn create(&mut self, alloc: Global, class: ClassId) -> Result<ActorId, Refusal>
         ensures creates { Creates self.old.image class result self.new.image }
         ensures books { self.new.books ≡ self.old.books }
-        ensures emptied { self.new.emptied ≡ self.old.emptied }
     {
         self.waiting.note_move();
         calls::create(alloc, &mut self.image, class)
@@ -316,7 +305,6 @@ impl<K: Naming, M: Mailbox> Office<K, M> {
     pub(crate) fn close(&mut self, actor: ActorId) -> Result<(), Refusal>
         ensures closes { Closes self.old.image actor result self.new.image }
         ensures books { self.new.books ≡ self.old.books }
-        ensures emptied { self.new.emptied ≡ self.old.emptied }
     {
         self.waiting.note_move();
         calls::close(&mut self.image, actor)
@@ -326,16 +314,21 @@ impl<K: Naming, M: Mailbox> Office<K, M> {
     ///
     /// It is refused by `HistoryFull` if more than 2^63 - 1 items would be emptied, and otherwise only if memory runs out. A refused
     /// checkpoint changes nothing.
-    pub(crate) fn checkpoint(&mut self, alloc: Global) -> Result<Counts, Refusal>
-        ensures { Checkpoints self.old result self.new }
+    pub(crate) fn checkpoint(
+        &mut self,
+        alloc: Global,
+        mine: &mut CallerShare<K>,
+    ) -> Result<Counts, Refusal>
+        ensures checkpoints { Checkpoints self.old result self.new }
+        ensures share { mine.new ≡ with_checkpoint self.old result mine.old }
     {
         self.image.known();
-        let emptied = self.emptied + self.image.history().len() as u64;
-        if MOST_COUNTED < emptied {
+        let count = self.image.history().len() as u64;
+        if MOST_COUNTED < self.books.emptied() + count {
             return Err(Refusal::HistoryFull);
         }
         calls::checkpoint(alloc, &mut self.image)?;
-        self.emptied = emptied;
+        self.books.empty(mine, count);
         self.waiting.note_move();
         Ok(self.image.counted())
     }
@@ -367,7 +360,6 @@ impl<K: Naming, M: Mailbox> Office<K, M> {
     ) -> Result<Held<K>, Refusal>
         ensures takes { ChecksOut self.old.image actor result self.new.image }
         ensures books { self.new.books ≡ self.old.books }
-        ensures emptied { self.new.emptied ≡ self.old.emptied }
     {
         match calls::check_out(alloc, &mut self.image, actor, leavings) {
             Ok(claim) => {
@@ -392,7 +384,6 @@ impl<K: Naming, M: Mailbox> Office<K, M> {
         ensures takes { Takes self.old.image result self.new.image }
         ensures share { mine.new ≡ mine.old }
         ensures books { self.new.books ≡ self.old.books }
-        ensures emptied { self.new.emptied ≡ self.old.emptied }
         ensures within { K.start.steps + mine.old ≤ (amounts self.old.image).steps }
     {
         self.books.audit_worker(mine);
@@ -419,7 +410,6 @@ impl<K: Naming, M: Mailbox> Office<K, M> {
     ) -> Result<u32, Refusal>
         ensures settles { Settles self.old.image held result self.new.image }
         ensures books { self.new.books ≡ record self.old.books { steps = self.old.books.steps + committed result } }
-        ensures emptied { self.new.emptied ≡ self.old.emptied }
         ensures share { mine.new ≡ mine.old + committed result }
         ensures within { K.start.steps + mine.old ≤ (amounts self.old.image).steps }
     {
@@ -445,7 +435,6 @@ impl<K: Naming, M: Mailbox> Office<K, M> {
     ) -> (Result<u32, Refusal>, Work<Held<K>>)
         ensures turns { TurnsOver self.old.image held is_starved result.0 result.1 self.new.image }
         ensures books { self.new.books ≡ record self.old.books { steps = self.old.books.steps + committed result.0 } }
-        ensures emptied { self.new.emptied ≡ self.old.emptied }
         ensures share { mine.new ≡ mine.old + committed result.0 }
         ensures within { K.start.steps + mine.old ≤ (amounts self.old.image).steps }
     {

@@ -9,7 +9,7 @@ use crate::crowding::is_short;
 use crate::hand::Hand;
 use crate::held::Held;
 use crate::naming::Naming;
-use crate::office::{Office, Work};
+use crate::office::{Office, Work, goes_on};
 use crate::shares::WorkerShare;
 use crate::workers::Gate;
 use st_classes::refusals::Refusal;
@@ -158,7 +158,7 @@ impl Turned {
         if answer.is_ok() {
             self.committed = self.committed.saturating_add(1);
         }
-        self.goes_on = self.goes_on || matches!(work, Work::Turn(_));
+        self.goes_on = self.goes_on || goes_on(&work);
         self.next = work;
     }
 }
@@ -220,7 +220,8 @@ impl<K: Naming> Seats<K> {
     }
 
     /// Commits all claims, and looks for the next ones, all in one hold. `rests` says that the worker is to take none. Otherwise one
-    /// seat at least goes on if an actor is ready behind the last commit, and all do if `are_several` says so and no worker is idle.
+    /// seat at least goes on if an actor is ready behind the last commit, unless memory or the history ran out, and all do if
+    /// `are_several` says so and no worker is idle.
     pub(crate) fn turn_over<M: Mailbox>(
         &mut self,
         alloc: Global,

@@ -112,7 +112,7 @@ fn all_callers_stand<K: Naming>(
 impl<K: Naming, M: Mailbox> Office<K, M> {
     ghost use Rattle.std.specs.Prelude.{◌≡◌, ◌⊎◌, OnOk, IfOk, IfErr};
     ghost use Rattle.st_classes.specs.declared.refusals.Refusal.TheVariants as refusals;
-    ghost use Rattle.st_pool.specs.Settled.{AreAll, AllStand, AreCounts, AreFew, AreSums};
+    ghost use Rattle.st_pool.specs.Settled.{AreAll, AllStand, AreCounts, AreFew, AreSums, emptied_by};
 
     /// The image, and what all threads have done together. It is refused by `BadArguments` exactly if not all shares that were given
     /// out are here, and then by `Changed` exactly if the message of a receipt is not in the history at its place, or the items of more
@@ -122,9 +122,10 @@ impl<K: Naming, M: Mailbox> Office<K, M> {
         ensures sums { IfOk result (λ r. AreSums r.1 shares.callers.items shares.workers.items) }
         ensures counts { IfOk result (λ r. AreCounts K.start r.0 r.1) }
         ensures all { OnOk result (AreAll self.books shares.callers.items shares.workers.items) }
-        ensures stand { IfOk result (λ r. AllStand self.emptied r.0 shares.callers.items × AreFew self.emptied r.0 r.1.posts shares.callers.items) }
+        ensures emptied { OnOk result (self.books.emptied ≡ emptied_by shares.callers.items) }
+        ensures stand { IfOk result (λ r. AllStand self.books.emptied r.0 shares.callers.items × AreFew self.books.emptied r.0 r.1.posts shares.callers.items) }
         ensures named { IfErr result (λ e. (e ≡ refusals.BadArguments) ⊎ (e ≡ refusals.Changed)) }
-        ensures refused { IfErr result (λ e. ((e ≡ refusals.BadArguments) × ¬ (AreAll self.books shares.callers.items shares.workers.items)) ⊎ ((e ≡ refusals.Changed) × AreAll self.books shares.callers.items shares.workers.items × ¬ (AllStand self.emptied self.image shares.callers.items × AreFew self.emptied self.image self.books.posts shares.callers.items))) }
+        ensures refused { IfErr result (λ e. ((e ≡ refusals.BadArguments) × ¬ (AreAll self.books shares.callers.items shares.workers.items)) ⊎ ((e ≡ refusals.Changed) × AreAll self.books shares.callers.items shares.workers.items × ¬ (AllStand self.books.emptied self.image shares.callers.items × AreFew self.books.emptied self.image self.books.posts shares.callers.items))) }
     {
         let Shares { callers, workers } = shares;
         if callers.len() as u64 != self.books.callers()
@@ -133,19 +134,14 @@ impl<K: Naming, M: Mailbox> Office<K, M> {
             drop((self, callers, workers));
             return Err(Refusal::BadArguments);
         }
-        if !all_callers_stand(self.emptied, self.image.history(), &callers) {
+        if !all_callers_stand(self.books.emptied(), self.image.history(), &callers) {
             drop((self, callers, workers));
             return Err(Refusal::Changed);
         }
         self.image.known();
         self.image.version().known();
-        let Office {
-            books,
-            image,
-            emptied,
-            ..
-        } = self;
-        let (totals, gone) = books.close(emptied, callers, workers);
+        let Office { books, image, .. } = self;
+        let (totals, gone) = books.close(callers, workers);
         if totals.posts.saturating_sub(posts_in(image.history())) < gone {
             drop(image);
             return Err(Refusal::Changed);
@@ -156,7 +152,7 @@ impl<K: Naming, M: Mailbox> Office<K, M> {
 
 /// The image, and what all threads have done together, once they have handed back their shares: the sums of the shares, which are
 /// what the image has counted since the pool was made. The message of each receipt is in the history at its place, posted to its actor,
-/// unless a checkpoint has emptied its item; and of the emptied items no more belong to receipts than are posts.
+/// unless a checkpoint of these callers has emptied its item; and of the emptied items no more belong to receipts than are posts.
 ///
 /// It is refused by `BadArguments` if not all shares that were given out are here, and then by `Changed` if the message of a receipt is
 /// not there. The image and the shares are spent either way.

@@ -53,6 +53,7 @@ impl<K: Naming, M: Mailbox> Shared<K, M> {
         requires posts { blanks.posts.name ≡ K.posts }
         requires edits { blanks.edits.name ≡ K.edits }
         requires steps { blanks.steps.name ≡ K.steps }
+        requires emptied { blanks.emptied.name ≡ K.emptied }
         requires book { opened.seen.book ≡ K.book }
         requires start { K.start ≡ amounts image }
     {

@@ -1,16 +1,19 @@
 //! What a caller and a worker have done.
-use crate::naming::{Edits, Naming, Posts, Steps};
+use crate::naming::{Edits, Emptied, Naming, Posts, Steps};
 use crate::receipts::Receipt;
 use std::marker::Model;
 use std::sync::ledger::Share;
 
-/// What a caller has done: the edits and the posts that were accepted, with a receipt for each post.
+/// What a caller has done: the edits and the posts that were accepted, with a receipt for each post, and the items of histories that
+/// its checkpoints have emptied.
 #[derive(Drop)]
 pub struct CallerShare<K: Naming> {
     pub(crate) edits: u64,
     pub(crate) receipts: Vec<Receipt>,
+    pub(crate) emptied: u64,
     pub(crate) posted: Share<Posts<K>>,
     pub(crate) edited: Share<Edits<K>>,
+    pub(crate) cleared: Share<Emptied<K>>,
 }
 
 impl<K: Naming> Model for CallerShare<K> {
@@ -19,9 +22,10 @@ impl<K: Naming> Model for CallerShare<K> {
 
     ghost Value = { Done };
 
-    ghost view = { λ s. record { edits = s.edits; receipts = s.receipts.items } };
+    ghost view = { λ s. record { edits = s.edits; receipts = s.receipts.items; emptied = s.emptied } };
 
-    ghost invariant = { λ s. (s.posted.parts ≡ 1) × (s.edited.parts ≡ 1) × (s.posted.amount ≡ vec_len s.receipts) × (s.edited.amount ≡ s.edits) };
+    ghost invariant = { λ s. (s.posted.parts ≡ 1) × (s.edited.parts ≡ 1) × (s.cleared.parts ≡ 1)
+        × (s.posted.amount ≡ vec_len s.receipts) × (s.edited.amount ≡ s.edits) × (s.cleared.amount ≡ s.emptied) };
 }
 
 impl<K: Naming> CallerShare<K> {
@@ -39,6 +43,13 @@ impl<K: Naming> CallerShare<K> {
         ensures { result ≡ self.now.edits }
     {
         self.edits
+    }
+
+    /// How many items of histories were emptied.
+    pub fn emptied(&self) -> u64
+        ensures { result ≡ self.now.emptied }
+    {
+        self.emptied
     }
 }
 

@@ -41,6 +41,12 @@ impl Waiting {
         self.moves = self.moves.wrapping_add(1);
     }
 
+    /// A post was answered. That is a move if it was accepted.
+    #[inline]
+    pub(crate) fn note_post(&mut self, is_accepted: bool) {
+        self.moves = self.moves.wrapping_add(is_accepted as u64);
+    }
+
     /// A quantum was committed. That is a move if it had steps.
     #[inline]
     pub(crate) fn note_commit(&mut self, has_steps: bool) {

@@ -141,19 +141,37 @@ fn turn_over<K: Naming, M: Mailbox, R: Wait>(
     }
 }
 
+/// What a worker has for itself: its hand, its seats, and whether it is in the way of others.
+#[derive(Drop)]
+struct Bench<K: Naming, G: Guard> {
+    hand: Hand<K, G>,
+    seats: Seats<K>,
+    crowding: Crowding,
+}
+
+/// The number of a worker, and the steps of a quantum.
+#[derive(Clone, Copy)]
+struct Orders {
+    number: u32,
+    quantum: u32,
+}
+
 /// Lets the worker's claims take their quanta, and answers what the worker does next.
 fn take_quanta<G: Guard, K: Naming, M: Mailbox, T: Gate, R: Wait>(
     rt: &R,
     alloc: Global,
     shared: &Shared<K, M>,
     share: &mut WorkerShare<K>,
-    hand: &mut Hand<K, G>,
-    seats: &mut Seats<K>,
-    quantum: u32,
-    number: u32,
+    bench: &mut Bench<K, G>,
+    orders: Orders,
     gate: &mut T,
-    crowding: &mut Crowding,
 ) -> Work<()> {
+    let Bench {
+        hand,
+        seats,
+        crowding,
+    } = bench;
+    let Orders { number, quantum } = orders;
     let ran = seats.run(alloc, hand, quantum, number, gate);
     let work = turn_over(rt, alloc, shared, share, seats, ran, crowding);
     for _ in 0..ran.count {
@@ -163,43 +181,29 @@ fn take_quanta<G: Guard, K: Naming, M: Mailbox, T: Gate, R: Wait>(
 }
 
 /// Takes quanta until the workers are to end.
-fn take_turns<G: Guard, K: Naming, M: Mailbox, T: Gate, R: Wait>(
+fn take_quanta_until_stop<G: Guard, K: Naming, M: Mailbox, T: Gate, R: Wait>(
     rt: &R,
     alloc: Global,
     shared: &Shared<K, M>,
     share: &mut WorkerShare<K>,
-    hand: &mut Hand<K, G>,
-    number: u32,
+    bench: &mut Bench<K, G>,
+    orders: Orders,
     gate: &mut T,
-    quantum: u32,
 ) {
-    let mut crowding = Crowding::none();
-    let mut seats = Seats::new(alloc);
-    let mut work = next_work(rt, alloc, shared, share, &mut seats);
+    let mut work = next_work(rt, alloc, shared, share, &mut bench.seats);
     for _ in rt.forever() {
         work = match work {
             Work::Stop => return,
             Work::Wait(seen) => {
-                pause(rt, shared, &mut crowding, seen);
-                next_work(rt, alloc, shared, share, &mut seats)
+                pause(rt, shared, &mut bench.crowding, seen);
+                next_work(rt, alloc, shared, share, &mut bench.seats)
             }
             Work::Turn(()) => {
                 // Nobody else can take the actors of the claims meanwhile.
-                if crowding.lets_others_run() {
+                if bench.crowding.lets_others_run() {
                     yield_now();
                 }
-                take_quanta(
-                    rt,
-                    alloc,
-                    shared,
-                    share,
-                    hand,
-                    &mut seats,
-                    quantum,
-                    number,
-                    gate,
-                    &mut crowding,
-                )
+                take_quanta(rt, alloc, shared, share, bench, orders, gate)
             }
         };
     }
@@ -238,10 +242,13 @@ pub fn worker_loop<G: Guard, K: Naming, M: Mailbox, T: Gate, R: Wait>(
             return Err(refusal);
         }
     };
-    let mut hand = Hand::new(worker);
-    take_turns(
-        rt, alloc, shared, &mut share, &mut hand, number, gate, quantum,
-    );
-    drop(hand);
+    let mut bench = Bench {
+        hand: Hand::new(worker),
+        seats: Seats::new(alloc),
+        crowding: Crowding::none(),
+    };
+    let orders = Orders { number, quantum };
+    take_quanta_until_stop(rt, alloc, shared, &mut share, &mut bench, orders, gate);
+    drop(bench);
     Ok(share)
 }

@@ -237,6 +237,7 @@ fn played<K: Naming + Send + Sync, R: Threads + Wait + Clock + Sync>(
     requires posts { blanks.posts.name ≡ K.posts }
     requires edits { blanks.edits.name ≡ K.edits }
     requires steps { blanks.steps.name ≡ K.steps }
+    requires emptied { blanks.emptied.name ≡ K.emptied }
     requires book { opened.seen.book ≡ K.book }
     requires start { K.start ≡ amounts image.value }
 {

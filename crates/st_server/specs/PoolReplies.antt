@@ -14,7 +14,7 @@ use Rattle.st_image.specs.Images.{ImageView, world}
 use Rattle.st_image.specs.Outcomes.{image_outcome}
 use Rattle.st_image.specs.PostRules.{from_client}
 use Rattle.st_image.specs.declared.counts.Counts.{Counts}
-use Rattle.st_pool.specs.Checkpointed.{Checkpoints}
+use Rattle.st_pool.specs.Checkpointed.{Checkpoints, with_checkpoint}
 use Rattle.st_pool.specs.Counts.{Amounts}
 use Rattle.st_pool.specs.Done.{Done, HasAtLeast, OfficeView, PostsOnce}
 use Rattle.st_wire.specs.declared.commands.Argument.{Argument}
@@ -129,4 +129,4 @@ Attends start d command.Checkpoint r e = (result : Result Counts Refusal)
     × HasAtLeast start d o.image
     × Checkpoints o result p
     × (r ≡ reply_by counted_reply result)
-    × (e ≡ d)
+    × (e ≡ with_checkpoint o result d)

@@ -8,7 +8,7 @@ ghost use Rattle.st_classes.specs.declared.refusals.Refusal.TheVariants.{NoMemor
 ghost use Rattle.st_image.specs.declared.counts.Counts.{Counts as CountsOf};
 ghost use Rattle.st_image.specs.Calls.{Closes, Creates, Defines, InstallsIn};
 ghost use Rattle.st_image.specs.Outcomes.{image_outcome};
-ghost use Rattle.st_pool.specs.Checkpointed.{Checkpoints};
+ghost use Rattle.st_pool.specs.Checkpointed.{Checkpoints, with_checkpoint};
 ghost use Rattle.st_pool.specs.Done.{HasAtLeast, OfficeView};
 ghost use Rattle.st_wire.specs.declared.commands.Command.TheVariants as commands;
 ghost use Rattle.st_wire.specs.declared.replies.Reply.TheVariants as replies;
@@ -305,8 +305,7 @@ fn checkpoint<K: Naming, R: Wait>(
     caller: &mut Caller<'_, K, Mailbox>,
 ) -> Reply
     ensures replies { (answer : Result CountsOf RefusalOf) × (o : OfficeView) × (p : OfficeView) × HasAtLeast K.start caller.old o.image × Checkpoints o answer p
-        × (result ≡ reply_by counted_reply answer) }
-    ensures same { caller.new ≡ caller.old }
+        × (result ≡ reply_by counted_reply answer) × (caller.new ≡ with_checkpoint o answer caller.old) }
 {
     match caller.checkpoint(rt, alloc) {
         Ok(Counts { posts, steps }) => Reply::Counted { posts, steps },

@@ -314,6 +314,7 @@ fn serve<K: Naming + Send + Sync, R: Threads + Wait + Sync>(
     requires posts { blanks.posts.name ≡ K.posts }
     requires edits { blanks.edits.name ≡ K.edits }
     requires steps { blanks.steps.name ≡ K.steps }
+    requires emptied { blanks.emptied.name ≡ K.emptied }
     requires book { opened.seen.book ≡ K.book }
     requires start { K.start ≡ amounts image }
     ensures counts { IfOk result (λ r. AreCounts (amounts image) r.image r.totals) }

@@ -1,7 +1,7 @@
 use Rattle.std.proofs.Common.{◌≡◌, ◌+◌, ◌≤◌, length, vec_len}
 use Rattle.std.specs.List.{sum_by}
 use Rattle.st_pool.specs.Done.{Done}
-use Rattle.st_pool.specs.Settled.{gone}
+use Rattle.st_pool.specs.Settled.{emptied_by, gone}
 use Rattle.st_pool.proofs.books.gather_callers.Given as goal
 
 -- what was taken in and what is left is all
@@ -13,8 +13,9 @@ invariant-loop-share g l =
       edited : l.edited_sum + sum_by (λ (d : Done). d.edits) l.callers.items ≡ sum_by (λ (d : Done). d.edits) l.fn.callers.items;
       gone : l.gone_sum + sum_by (gone l.emptied) l.callers.items ≡ sum_by (gone l.emptied) l.fn.callers.items;
       few : l.gone_sum ≤ l.posted_sum;
+      cleared : l.cleared_left.amount + emptied_by l.callers.items ≡ l.fn.cleared_left.amount + emptied_by l.fn.callers.items;
       amounts : (l.posts_left.amount ≡ l.posted_sum) × (l.edits_left.amount ≡ l.edited_sum);
-      parts : (l.posts_left.parts + vec_len l.callers ≡ l.fn.posts_left.parts + vec_len l.fn.callers) × (l.edits_left.parts + vec_len l.callers ≡ l.fn.edits_left.parts + vec_len l.fn.callers);
+      parts : (l.posts_left.parts + vec_len l.callers ≡ l.fn.posts_left.parts + vec_len l.fn.callers) × (l.edits_left.parts + vec_len l.callers ≡ l.fn.edits_left.parts + vec_len l.fn.callers) × (l.cleared_left.parts + vec_len l.callers ≡ l.fn.cleared_left.parts + vec_len l.fn.callers);
     }
 
 abbrev pub decreases-loop-share : goal.decreases-loop-share

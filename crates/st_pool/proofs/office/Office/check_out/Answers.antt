@@ -9,5 +9,4 @@ pub invariant_of-self : goal.invariant_of-self
 invariant_of-self g c = (
   kept_same g.K.Naming.start c.self.inside.image c.check_out.new.image c.self.inside.books c.self.invariant.0 c.in-Ok.ensures.grows,
   front_ended c.note.new.front c.check_out.new.image c.note.ensures,
-  c.self.invariant.2,
 )

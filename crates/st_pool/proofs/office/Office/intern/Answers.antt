@@ -6,5 +6,4 @@ pub invariant_of-self : goal.invariant_of-self
 invariant_of-self g c = (
   kept_same g.K.Naming.start c.self.inside.image c.intern.new.image c.self.inside.books c.self.invariant.0 c.intern.ensures.grows,
   front_later c.self.inside.front c.self.inside.image c.intern.new.image c.intern.ensures.later c.self.invariant.1,
-  c.self.invariant.2,
 )

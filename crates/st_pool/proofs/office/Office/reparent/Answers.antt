@@ -11,7 +11,6 @@ pub invariant_of-self : goal.invariant_of-self
 invariant_of-self g c = (
   kept_edited g.K.Naming.start c.self.inside.image c.reparent-answer.new.image c.self.inside.books c.edit.new.self (counted (is_ok c.reparent-answer.result)) c.self.invariant.0 c.reparent-answer.ensures.grows c.edit.ensures.books,
   front_later c.self.inside.front c.self.inside.image c.reparent-answer.new.image c.reparent-answer.ensures.later c.self.invariant.1,
-  c.self.invariant.2,
 )
 
 pub returns-clause-reparents : goal.returns-clause-reparents

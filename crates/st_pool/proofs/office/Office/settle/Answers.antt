@@ -12,10 +12,10 @@ returns-then-not-all_callers_stand-clause-refused g c =
       refl,
       (search rules, search rules),
       λ h.
-          let all : AllStand c.self.inside.emptied c.self.inside.image c.args.shares.callers.items =
-          subst (λ (o : OfficeView). AllStand o.emptied o.image c.args.shares.callers.items) (sym c.self.view_is) h.0 in
-          let here : All (λ (d : Done). All (StandsIn c.self.inside.emptied c.history.result.now) d.receipts) c.args.shares.callers.items =
-          subst (λ (hs : List Item). All (λ (d : Done). All (StandsIn c.self.inside.emptied hs) d.receipts) c.args.shares.callers.items) (sym c.history.ensures) all in
+          let all : AllStand c.self.inside.books.emptied c.self.inside.image c.args.shares.callers.items =
+          subst (λ (o : OfficeView). AllStand o.books.emptied o.image c.args.shares.callers.items) (sym c.self.view_is) h.0 in
+          let here : All (λ (d : Done). All (StandsIn c.self.inside.books.emptied c.history.result.now) d.receipts) c.args.shares.callers.items =
+          subst (λ (hs : List Item). All (λ (d : Done). All (StandsIn c.self.inside.books.emptied hs) d.receipts) c.args.shares.callers.items) (sym c.history.ensures) all in
           search (rules, c.if-not-all_callers_stand.true, c.all_callers_stand.ensures.1 here),
     )
 
@@ -25,8 +25,8 @@ returns-then-saturating_sub-gone-clause-refused g c =
       refl,
       (search rules, search rules),
       λ h.
-          let few : sum_by (gone c.self.inside.emptied) c.args.shares.callers.items ≤ c.self.inside.books.posts - weigh posts_of c.self.inside.image.history =
-          subst (λ (o : OfficeView). sum_by (gone o.emptied) c.args.shares.callers.items ≤ o.books.posts - weigh posts_of o.image.history) (sym c.self.view_is) h.1 in
+          let few : sum_by (gone c.self.inside.books.emptied) c.args.shares.callers.items ≤ c.self.inside.books.posts - weigh posts_of c.self.inside.image.history =
+          subst (λ (o : OfficeView). sum_by (gone o.books.emptied) c.args.shares.callers.items ≤ o.books.posts - weigh posts_of o.image.history) (sym c.self.view_is) h.1 in
           let posts : c.posts_in.result ≡ weigh posts_of c.self.inside.image.history = c.posts_in.ensures ∙ ap (weigh posts_of) c.history-2.ensures in
           let left : c.saturating_sub.result ≡ c.self.inside.books.posts - weigh posts_of c.self.inside.image.history =
           c.saturating_sub.ensures ∙ ap (λ (n : ℕ). c.close-gone.result.0.posts - n) posts ∙ ap (λ (n : ℕ). n - weigh posts_of c.self.inside.image.history) c.close-gone.ensures.posts in
@@ -36,12 +36,12 @@ returns-then-saturating_sub-gone-clause-refused g c =
 pub returns-clause-stand : goal.returns-clause-stand
 returns-clause-stand g c =
     let said : IsTrue c.all_callers_stand.result = search (rules, c.if-not-all_callers_stand.false) in
-    let here : All (λ (d : Done). All (StandsIn c.self.inside.emptied c.self.inside.image.history) d.receipts) c.args.shares.callers.items =
-    subst (λ (hs : List Item). All (λ (d : Done). All (StandsIn c.self.inside.emptied hs) d.receipts) c.args.shares.callers.items) c.history.ensures (c.all_callers_stand.ensures.0 said) in
+    let here : All (λ (d : Done). All (StandsIn c.self.inside.books.emptied c.self.inside.image.history) d.receipts) c.args.shares.callers.items =
+    subst (λ (hs : List Item). All (λ (d : Done). All (StandsIn c.self.inside.books.emptied hs) d.receipts) c.args.shares.callers.items) c.history.ensures (c.all_callers_stand.ensures.0 said) in
     let posts : c.posts_in.result ≡ weigh posts_of c.self.inside.image.history = c.posts_in.ensures ∙ ap (weigh posts_of) c.history-2.ensures in
     let left : c.saturating_sub.result ≡ c.close-gone.result.0.posts - weigh posts_of c.self.inside.image.history = c.saturating_sub.ensures ∙ ap (λ (n : ℕ). c.close-gone.result.0.posts - n) posts in
-    let are : sum_by (gone c.args.self.emptied) c.args.shares.callers.items ≡ c.close-gone.result.1 =
-    ap (λ (o : OfficeView). sum_by (gone o.emptied) c.args.shares.callers.items) (sym c.self.view_is) ∙ sym c.close-gone.ensures.gone in (
-      subst (λ (o : OfficeView). All (λ (d : Done). All (StandsIn o.emptied c.self.inside.image.history) d.receipts) c.args.shares.callers.items) c.self.view_is here,
+    let are : sum_by (gone c.args.self.books.emptied) c.args.shares.callers.items ≡ c.close-gone.result.1 =
+    ap (λ (o : OfficeView). sum_by (gone o.books.emptied) c.args.shares.callers.items) (sym c.self.view_is) ∙ sym c.close-gone.ensures.gone in (
+      subst (λ (o : OfficeView). All (λ (d : Done). All (StandsIn o.books.emptied c.self.inside.image.history) d.receipts) c.args.shares.callers.items) c.self.view_is here,
       omega (arith, are, left, c.if-saturating_sub-gone.false),
     )

@@ -72,3 +72,4 @@ pub mod Rebasing
 pub mod Renewal
 pub mod RenewedEach
 pub mod Checkpointing
+pub mod FirstTurns

@@ -50,7 +50,11 @@ fn first_turn_in(part: &ActorPart) -> u8
 pub(crate) fn first_turns_in(alloc: Global, actors: &[ActorPart]) -> Result<Vec<u8>, AllocError>
     ensures { IfOk result (λ v. v.items ≡ map (λ (p : PartOf). first_turn_of (Some (actor_of p))) actors.now) }
 {
-    actors.iter().map(|part| first_turn_in(part)).collect(alloc)
+    let mut firsts = Vec::new(alloc);
+    for part in actors {
+        firsts.push(first_turn_in(part))?;
+    }
+    Ok(firsts)
 }
 
 impl Base {

@@ -16,7 +16,9 @@ returns-then-not-all_callers_stand-clause-refused g c =
           subst (λ (o : OfficeView). AllStand o.books.emptied o.image c.args.shares.callers.items) (sym c.self.view_is) h.0 in
           let here : All (λ (d : Done). All (StandsIn c.self.inside.books.emptied c.history.result.now) d.receipts) c.args.shares.callers.items =
           subst (λ (hs : List Item). All (λ (d : Done). All (StandsIn c.self.inside.books.emptied hs) d.receipts) c.args.shares.callers.items) (sym c.history.ensures) all in
-          search (rules, c.if-not-all_callers_stand.true, c.all_callers_stand.ensures.1 here),
+          let there : All (λ (d : Done). All (StandsIn c.emptied.result c.history.result.now) d.receipts) c.args.shares.callers.items =
+          subst (λ (n : ℕ). All (λ (d : Done). All (StandsIn n c.history.result.now) d.receipts) c.args.shares.callers.items) (sym c.emptied.ensures.value) here in
+          search (rules, c.if-not-all_callers_stand.true, c.all_callers_stand.ensures.1 there),
     )
 
 pub returns-then-saturating_sub-gone-clause-refused : goal.returns-then-saturating_sub-gone-clause-refused
@@ -36,8 +38,10 @@ returns-then-saturating_sub-gone-clause-refused g c =
 pub returns-clause-stand : goal.returns-clause-stand
 returns-clause-stand g c =
     let said : IsTrue c.all_callers_stand.result = search (rules, c.if-not-all_callers_stand.false) in
+    let seen : All (λ (d : Done). All (StandsIn c.self.inside.books.emptied c.history.result.now) d.receipts) c.args.shares.callers.items =
+    subst (λ (n : ℕ). All (λ (d : Done). All (StandsIn n c.history.result.now) d.receipts) c.args.shares.callers.items) c.emptied.ensures.value (c.all_callers_stand.ensures.0 said) in
     let here : All (λ (d : Done). All (StandsIn c.self.inside.books.emptied c.self.inside.image.history) d.receipts) c.args.shares.callers.items =
-    subst (λ (hs : List Item). All (λ (d : Done). All (StandsIn c.self.inside.books.emptied hs) d.receipts) c.args.shares.callers.items) c.history.ensures (c.all_callers_stand.ensures.0 said) in
+    subst (λ (hs : List Item). All (λ (d : Done). All (StandsIn c.self.inside.books.emptied hs) d.receipts) c.args.shares.callers.items) c.history.ensures seen in
     let posts : c.posts_in.result ≡ weigh posts_of c.self.inside.image.history = c.posts_in.ensures ∙ ap (weigh posts_of) c.history-2.ensures in
     let left : c.saturating_sub.result ≡ c.close-gone.result.0.posts - weigh posts_of c.self.inside.image.history = c.saturating_sub.ensures ∙ ap (λ (n : ℕ). c.close-gone.result.0.posts - n) posts in
     let are : sum_by (gone c.args.self.books.emptied) c.args.shares.callers.items ≡ c.close-gone.result.1 =

@@ -145,7 +145,7 @@ fn serve_bound<R: Threads + Wait + Files + Sync>(
     let result = serve_image(
         rt,
         alloc,
-        &listener,
+        listener,
         faults,
         options.workers,
         options.sessions,

@@ -91,11 +91,8 @@ fn is_awaited<R: Clock>(rt: &R, mut stream: &UnixStream) -> bool {
 }
 
 /// Whether a client is answered as it must be.
-fn is_served<R: Net + Clock>(rt: &R, listener: &UnixListener) -> bool {
-    let Ok(address) = listener.local_addr() else {
-        return false;
-    };
-    let Ok(stream) = UnixStream::connect_addr(rt, &address) else {
+fn is_served<R: Net + Clock>(rt: &R, address: &SocketAddr) -> bool {
+    let Ok(stream) = UnixStream::connect_addr(rt, address) else {
         return false;
     };
     for (line, reply) in script() {
@@ -112,12 +109,13 @@ fn told<R: Threads + Wait + Files + Net + Clock + Sync>(
     alloc: Global,
 ) -> Option<(Totals, usize)> {
     let listener = listen(rt).ok()?;
+    let address = listener.local_addr().ok()?;
     let faults: Faults<Refusal> = Faults::new(alloc).ok()?;
-    let (listener, faults) = (&listener, &faults);
+    let (address, faults) = (&address, &faults);
     let (totals, is_well) = thread::join(
         rt,
         || serve_on(rt, alloc, listener, faults, 2, Some(1)),
-        || is_served(rt, listener),
+        || is_served(rt, address),
     );
     if is_well {
         Some((totals.ok()?, faults.count()))

@@ -1,9 +1,9 @@
 //! Sessions over a pool. Each has its own caller.
-ghost use Rattle.std.specs.Prelude.{◌≡◌, ℕ, List};
+ghost use Rattle.std.specs.Prelude.{◌≡◌, ◌^◌, ℕ, List};
 ghost use Rattle.std.specs.Io.KnownBytes.{Appends};
 ghost use Rattle.st_wire.specs.Streams.{input_view};
-ghost use Rattle.st_session.specs.Sessions.{Replies};
-ghost use Rattle.st_session.specs.DeviceSessions.{DeviceSession};
+ghost use Rattle.st_session.specs.Sessions.{Replies, end_of, failures_after};
+ghost use Rattle.st_session.specs.DeviceSessions.{DeviceSession, FlushesAsOftenAsReads};
 ghost use Rattle.st_server.specs.PoolReplies.{Attends};
 
 use crate::images::Mailbox;
@@ -44,7 +44,7 @@ impl<'a, R: Wait, K: Naming> Handler for PoolHandler<'a, R, K> {
 }
 
 /// Answers the lines of an input for a caller. The caller ends with the session, however that ends. The answer is the caller's
-/// share, and how many lines there were or why the session ended.
+/// share, and how many lines there were or why the session ended: `WriteFault` only if a write or a flush failed.
 pub fn attend<R: Wait, K: Naming, I: Input, O: Output>(
     rt: &R,
     alloc: Global,
@@ -52,10 +52,12 @@ pub fn attend<R: Wait, K: Naming, I: Input, O: Output>(
     input: &mut I,
     output: &mut O,
 ) -> (CallerShare<K>, Result<u64, Refusal>)
-    ensures { let before = input_view I.remaining I.failures I.reads input.old in
+    ensures session { let before = input_view I.remaining I.failures I.reads input.old in
         let after = input_view I.remaining I.failures I.reads input.new in
         (written : List ℕ) × Appends (O.contents output.old) (O.contents output.new) written
         × DeviceSession (Replies (Attends K.start)) caller.entry before after written result.0 result.1 }
+    ensures flushes { FlushesAsOftenAsReads (2 ^ 32) (I.reads input.old) (I.reads input.new) (O.flushes output.old) (O.flushes output.new) result.1 }
+    ensures failures { O.failures output.new ≡ failures_after (end_of result.1) (O.failures output.old) }
 {
     let mut handler = PoolHandler { rt, caller };
     let result = session(&mut handler, alloc, input, output);

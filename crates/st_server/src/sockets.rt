@@ -12,7 +12,6 @@ ghost use Rattle.st_server.specs.Serving.{AreInRange, AreSumsOver};
 use crate::attending::attend;
 use crate::images::{Image, Mailbox, Worker};
 use crate::polling::Polled;
-use crate::quantum::Quantum;
 use crate::runner::new_worker;
 use boxcar::Vec as Faults;
 use st_classes::refusals::Refusal;
@@ -45,7 +44,8 @@ const MOST_SESSIONS: u64 = 64;
 /// Written to a client that comes while the most sessions are open.
 const TOO_MANY: &[u8] = b"{\"error\":\"TooMany\",\"what\":\"sessions\"}\n";
 
-/// Written to a client when there is no memory for its share. A client whose session gets no thread is disconnected without a line.
+/// Written to a client when there is no memory for its share or its output. A client whose session gets no thread is disconnected
+/// without a line.
 const NO_MEMORY: &[u8] = b"{\"error\":\"NoMemory\"}\n";
 
 /// The result of serving: the image, the totals of what all have done, and the fault that ended accepting, if accepting failed.
@@ -54,6 +54,14 @@ pub struct Served {
     pub image: Image,
     pub totals: Totals,
     pub fault: Option<Refusal>,
+}
+
+/// Where sessions come from, how many are accepted, if they are counted, and where refusals go.
+#[derive(Drop)]
+struct Door<'a> {
+    listener: UnixListener,
+    sessions: Option<u32>,
+    faults: &'a Faults<Refusal>,
 }
 
 /// What the sessions share: the image, the shares of ended sessions, the number of open ones, and where refusals go.
@@ -96,6 +104,7 @@ fn converse<K: Naming, R: Wait>(
     // If the stream stays in the mode in which reads block, the session goes on without looks.
     let _ = stream.set_nonblocking(true);
     let Ok(buffered) = BufWriter::new(alloc, Polled::new(stream)) else {
+        turn_away(stream, NO_MEMORY);
         return (caller.end(), Err(Refusal::NoMemory));
     };
     let mut input = Reader::new(Polled::new(stream));
@@ -128,8 +137,9 @@ fn host<K: Naming, R: Wait>(rt: &R, alloc: Global, room: &Room<'_, K>, stream: U
             let _ = faults.push(rt, refusal);
         }
     }
-    drop(stream);
+    // First the place is given back: whoever has read the end of this session finds it.
     room.active.fetch_sub(1, Ordering::SeqCst);
+    drop(stream);
 }
 
 /// Makes room for the shares of as many sessions as can be open.
@@ -144,48 +154,63 @@ fn is_passing(kind: ErrorKind) -> bool
     kind == ErrorKind::Interrupted || kind == ErrorKind::ConnectionAborted
 }
 
-/// Accepts sessions, each in its own thread, until their number is reached or accepting fails, and waits for their ends. The answer
-/// is whether the number was reached.
+/// Accepts sessions, each in its own thread of a scope, until their number is reached or accepting fails. The answer is whether the
+/// number was reached.
+fn accept<'s, E, K: Naming + Send + Sync, R: Threads + Wait + Sync>(
+    scope: &Scope<'s, E>,
+    rt: &'s R,
+    alloc: Global,
+    listener: &UnixListener,
+    room: &'s Room<'_, K>,
+    sessions: Option<u32>,
+) -> bool {
+    let mut left = sessions;
+    for stream in listener.incoming() {
+        let stream = match stream {
+            Ok(stream) => stream,
+            Err(error) => {
+                if is_passing(error.kind()) {
+                    continue;
+                }
+                return false;
+            }
+        };
+        if room.active.load(Ordering::SeqCst) >= MOST_SESSIONS {
+            turn_away(&stream, TOO_MANY);
+            continue;
+        }
+        if !make_room(rt, room) {
+            turn_away(&stream, NO_MEMORY);
+            continue;
+        }
+        room.active.fetch_add(1, Ordering::SeqCst);
+        if let Err(refused) = scope.spawn(move || host(rt, alloc, room, stream)) {
+            room.active.fetch_sub(1, Ordering::SeqCst);
+            drop(refused);
+            continue;
+        }
+        match left {
+            Some(count) if count <= 1 => return true,
+            Some(count) => left = Some(count - 1),
+            None => {}
+        }
+    }
+    false
+}
+
+/// Accepts sessions until their number is reached or accepting fails, and waits for their ends. The answer is whether the number was
+/// reached.
 fn accept_all<K: Naming + Send + Sync, R: Threads + Wait + Sync>(
     rt: &R,
     alloc: Global,
-    listener: &UnixListener,
+    door: Door<'_>,
     room: &Room<'_, K>,
-    sessions: Option<u32>,
 ) -> bool {
     thread::scope(thread::scope_env(), rt, |scope| -> bool {
-        let mut left = sessions;
-        for stream in listener.incoming() {
-            let stream = match stream {
-                Ok(stream) => stream,
-                Err(error) => {
-                    if is_passing(error.kind()) {
-                        continue;
-                    }
-                    return false;
-                }
-            };
-            if room.active.load(Ordering::SeqCst) >= MOST_SESSIONS {
-                turn_away(&stream, TOO_MANY);
-                continue;
-            }
-            if !make_room(rt, room) {
-                turn_away(&stream, NO_MEMORY);
-                continue;
-            }
-            room.active.fetch_add(1, Ordering::SeqCst);
-            if let Err(refused) = scope.spawn(move || host(rt, alloc, room, stream)) {
-                drop(refused);
-                room.active.fetch_sub(1, Ordering::SeqCst);
-                continue;
-            }
-            match left {
-                Some(count) if count <= 1 => return true,
-                Some(count) => left = Some(count - 1),
-                None => {}
-            }
-        }
-        false
+        let is_reached = accept(scope, rt, alloc, &door.listener, room, door.sessions);
+        // The open sessions go on, and whoever connects from here on is refused by the system.
+        drop(door);
+        is_reached
     })
 }
 
@@ -211,16 +236,14 @@ fn start<'s, E, K: Naming + Send + Sync, R: Threads + Wait + Sync>(
     alloc: Global,
     shared: &'s Shared<K, Mailbox>,
     mut workers: Vec<Worker>,
-    quantum: Quantum,
 ) -> Vec<Ended<K>> {
     let Ok(mut handles) = Vec::with_capacity(alloc, workers.len()) else {
         return Vec::new(alloc);
     };
     let mut number: u32 = 0;
     while let Some(worker) = workers.pop() {
-        let steps = quantum.steps();
         let started = scope.spawn(move || {
-            worker_loop(rt, alloc, shared, number, worker, &mut OpenGate, steps)
+            worker_loop(rt, alloc, shared, number, worker, &mut OpenGate, QUANTUM)
         });
         let Ok(handle) = started else {
             return handles;
@@ -256,18 +279,16 @@ fn ended<K: Naming, R: Threads>(
 fn run_workers<K: Naming + Send + Sync, R: Threads + Wait + Sync>(
     rt: &R,
     alloc: Global,
-    listener: &UnixListener,
+    door: Door<'_>,
     room: &Room<'_, K>,
     workers: Vec<Worker>,
-    quantum: Quantum,
-    sessions: Option<u32>,
 ) -> (Vec<Ended<K>>, bool) {
     let shared = room.shared;
     let count = workers.len();
     thread::scope(thread::scope_env(), rt, |scope| -> (Vec<Ended<K>>, bool) {
-        let handles = start(scope, rt, alloc, shared, workers, quantum);
+        let handles = start(scope, rt, alloc, shared, workers);
         let is_started = handles.len() == count;
-        let are_accepted = is_started && accept_all(rt, alloc, listener, room, sessions);
+        let are_accepted = is_started && accept_all(rt, alloc, door, room);
         shared.stop(rt);
         (handles, are_accepted)
     })
@@ -277,20 +298,16 @@ fn run_workers<K: Naming + Send + Sync, R: Threads + Wait + Sync>(
 fn work<K: Naming + Send + Sync, R: Threads + Wait + Sync>(
     rt: &R,
     alloc: Global,
-    listener: &UnixListener,
+    door: Door<'_>,
     room: &Room<'_, K>,
     workers: Vec<Worker>,
-    quantum: Quantum,
-    sessions: Option<u32>,
 ) -> Result<(Vec<WorkerShare<K>>, bool), Refusal>
     ensures all { IfOk result (λ r. vec_len r.0 ≡ vec_len workers) }
     ensures refused { IfErr result (λ e. (e ≡ refusals.NoMemory) ⊎ (e ≡ refusals.BadArguments)) }
 {
     let count = workers.len();
     let shares = Vec::with_capacity(alloc, count)?;
-    let (handles, are_accepted) = run_workers(
-        rt, alloc, listener, room, workers, quantum, sessions,
-    );
+    let (handles, are_accepted) = run_workers(rt, alloc, door, room, workers);
     if handles.len() != count {
         return Err(Refusal::NoMemory);
     }
@@ -305,11 +322,8 @@ fn serve<K: Naming + Send + Sync, R: Threads + Wait + Sync>(
     image: Image,
     blanks: Blanks,
     opened: Opened,
-    listener: &UnixListener,
-    faults: &Faults<Refusal>,
+    door: Door<'_>,
     workers: Vec<Worker>,
-    quantum: Quantum,
-    sessions: Option<u32>,
 ) -> Result<Served, Refusal>
     requires posts { blanks.posts.name ≡ K.posts }
     requires edits { blanks.edits.name ≡ K.edits }
@@ -318,7 +332,7 @@ fn serve<K: Naming + Send + Sync, R: Threads + Wait + Sync>(
     requires book { opened.seen.book ≡ K.book }
     requires start { K.start ≡ amounts image }
     ensures counts { IfOk result (λ r. AreCounts (amounts image) r.image r.totals) }
-    ensures sums { IfOk result (λ r. AreSumsOver (vec_len workers) r.totals) }
+    ensures sums { IfOk result (λ r. AreSumsOver (vec_len workers) r.image r.totals) }
     ensures fault { IfOk result (λ r. IfSome r.fault (λ e. e ≡ refusals.ReadFault)) }
     ensures refused { IfErr result (λ e. (e ≡ refusals.BadArguments) ⊎ (e ≡ refusals.NoMemory) ⊎ (e ≡ refusals.Changed)) }
 {
@@ -329,9 +343,9 @@ fn serve<K: Naming + Send + Sync, R: Threads + Wait + Sync>(
         shared: &shared,
         shares: &shares,
         active: &active,
-        faults: sessions.is_some().then_some(faults),
+        faults: door.sessions.is_some().then_some(door.faults),
     };
-    let (workers, are_accepted) = work(rt, alloc, listener, &room, workers, quantum, sessions)?;
+    let (workers, are_accepted) = work(rt, alloc, door, &room, workers)?;
     let callers = shares.into_inner();
     let (image, totals) = settle_image(shared, Shares { callers, workers })?;
     let fault = (!are_accepted).then_some(Refusal::ReadFault);
@@ -364,12 +378,15 @@ fn is_served(workers: u32, sessions: Option<u32>) -> bool
 /// If accepting fails, no more sessions are accepted. When the open ones have ended, the call ends in the same way, and the fault
 /// is `ReadFault`.
 ///
+/// The listener is let go as soon as no more sessions are accepted, so clients that come while the open ones go on are refused by
+/// the system.
+///
 /// Refusals: `BadArguments` if a number is out of its range, or a share is missing at the end; `NoMemory` if there is no memory at
 /// the start, or no thread for a worker; `Changed` if the history lacks something that the callers have done.
 pub fn serve_image<R: Threads + Wait + Sync>(
     rt: &R,
     alloc: Global,
-    listener: &UnixListener,
+    listener: UnixListener,
     faults: &Faults<Refusal>,
     workers: u32,
     sessions: Option<u32>,
@@ -377,7 +394,7 @@ pub fn serve_image<R: Threads + Wait + Sync>(
 ) -> Result<Served, Refusal>
     ensures range { ¬ (AreInRange workers sessions) → result ≡ Err refusals.BadArguments }
     ensures counts { IfOk result (λ r. AreCounts (amounts image) r.image r.totals) }
-    ensures sums { IfOk result (λ r. AreSumsOver workers r.totals) }
+    ensures sums { IfOk result (λ r. AreSumsOver workers r.image r.totals) }
     ensures fault { IfOk result (λ r. IfSome r.fault (λ e. e ≡ refusals.ReadFault)) }
     ensures refused { IfErr result (λ e. (e ≡ refusals.BadArguments) ⊎ (e ≡ refusals.NoMemory) ⊎ (e ≡ refusals.Changed)) }
 {
@@ -385,13 +402,14 @@ pub fn serve_image<R: Threads + Wait + Sync>(
         drop(image);
         return Err(Refusal::BadArguments);
     }
-    let Some(quantum) = Quantum::new(QUANTUM) else {
-        drop(image);
-        return Err(Refusal::BadArguments);
-    };
     let Ok(workers) = new_workers(alloc, workers) else {
         drop(image);
         return Err(Refusal::NoMemory);
+    };
+    let door = Door {
+        listener,
+        sessions,
+        faults,
     };
     serve::<Brand, R>(
         rt,
@@ -399,11 +417,8 @@ pub fn serve_image<R: Threads + Wait + Sync>(
         image,
         Blanks::new(),
         Opened::new(),
-        listener,
-        faults,
+        door,
         workers,
-        quantum,
-        sessions,
     )
 }
 
@@ -412,13 +427,13 @@ pub fn serve_image<R: Threads + Wait + Sync>(
 pub fn serve_on<R: Threads + Wait + Sync>(
     rt: &R,
     alloc: Global,
-    listener: &UnixListener,
+    listener: UnixListener,
     faults: &Faults<Refusal>,
     workers: u32,
     sessions: Option<u32>,
 ) -> Result<Totals, Refusal>
     ensures range { ¬ (AreInRange workers sessions) → (result ≡ Err refusals.BadArguments) ⊎ (result ≡ Err refusals.NoMemory) }
-    ensures counts { IfOk result (λ t. (i : ImageView) × IsLawful i × AreCounts no_amounts i t) }
+    ensures counts { IfOk result (λ t. (i : ImageView) × IsLawful i × AreCounts no_amounts i t × AreSumsOver workers i t) }
     ensures refused { IfErr result (λ e. (e ≡ refusals.BadArguments) ⊎ (e ≡ refusals.NoMemory) ⊎ (e ≡ refusals.ReadFault) ⊎ (e ≡ refusals.Changed)) }
 {
     let image = Image::new(alloc, Settings::DEFAULT)?;

@@ -72,4 +72,3 @@ pub mod Rebasing
 pub mod Renewal
 pub mod RenewedEach
 pub mod Checkpointing
-pub mod FirstTurns

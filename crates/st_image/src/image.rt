@@ -170,7 +170,7 @@ impl<M: Mailbox> Image<M> {
         }
         let first = KernelParts::of(alloc)?;
         Ok(Image {
-            base: Base::empty(alloc, first.table),
+            base: Base::new(first.table, Vec::new(alloc), Vec::new(alloc)),
             names: first.names,
             token: first.token,
             actors: Actors::new(alloc),

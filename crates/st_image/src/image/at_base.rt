@@ -1,7 +1,7 @@
 //! The image at a base.
 use crate::actor_part::ActorPart;
 use crate::actors::Actors;
-use crate::base::{Base, first_turns_in};
+use crate::base::Base;
 use crate::changes::Changes;
 use crate::clients::Clients;
 use crate::counts::Counts;
@@ -84,9 +84,8 @@ impl<M: Mailbox> Image<M> {
         names.known();
         version.known();
         let made = Made::of(alloc, version, parts.as_slice(), clients.as_slice())?;
-        let first_turns = first_turns_in(alloc, parts.as_slice())?;
         Ok(Image {
-            base: Base::new(made.table, first_turns, &parts, &clients),
+            base: Base::new(made.table, parts, clients),
             names,
             token: made.token,
             actors: made.actors,

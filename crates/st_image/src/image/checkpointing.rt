@@ -1,5 +1,5 @@
 //! Image::checkpoint: the present world becomes the image's base.
-use crate::base::{Base, first_turns_in};
+use crate::base::Base;
 use crate::changes::Changes;
 use crate::counts::Counts;
 use crate::earlier::Earlier;
@@ -42,12 +42,11 @@ impl<M: Mailbox> Image<M> {
         self.can_be_base();
         let parts = self.parts(alloc)?;
         let clients = self.clients(alloc)?;
-        let first_turns = first_turns_in(alloc, parts.as_slice())?;
         let table = self.token.again()?;
         let results = self.actors.last_results(alloc)?;
         let earlier = self.counted_so_far(alloc)?;
         self.actors.begin_anew(results);
-        self.base = Base::new(table, first_turns, &parts, &clients);
+        self.base = Base::new(table, parts, clients);
         self.history = Vec::new(alloc);
         self.edits_made = 0;
         self.tallies = Tallies::new(alloc);

@@ -3,4 +3,4 @@ use Rattle.st_pool_tests.proofs.plays.totals_without.Given as goal
 
 -- the ledgers are the blanks', the book is that of what was opened, and all begin at what the image has counted
 abbrev pub ghosts-played : goal.ghosts-played
-ghosts-played g a = record { posts = a.blanks.posts.name; edits = a.blanks.edits.name; steps = a.blanks.steps.name; start = amounts a.image.value; book = a.opened.seen.book }
+ghosts-played g a = record { posts = a.blanks.posts.name; edits = a.blanks.edits.name; steps = a.blanks.steps.name; emptied = a.blanks.emptied.name; start = amounts a.image.value; book = a.opened.seen.book }

@@ -130,16 +130,25 @@ def what_comes_behind_a_bad_line_is_drained(program, Server, _post):
         assert server.ended()[1] == ["BadCommand"]
 
 
+def is_refused(server, clients):
+    """Whether nobody can connect any more. Whoever can is one more of the clients."""
+    try:
+        clients.enter_context(server.client())
+    except ConnectionRefusedError:
+        return True
+    return False
+
+
 def limited():
     """The process may have 12 descriptors."""
     resource.setrlimit(resource.RLIMIT_NOFILE, (12, 12))
 
 
 def few_descriptors(program, Server, _post):
-    """Where accepting fails the image is saved once the sessions have ended, and the server is refused."""
+    """Where accepting fails nobody can connect any more, the image is saved once the sessions have ended, and the server is refused."""
     with tempfile.TemporaryDirectory() as folder:
         image = os.path.join(folder, "image")
-        with Server(program, 1000, 2) as server, contextlib.ExitStack() as all_of_them:
+        with Server(program, 1000, 2) as server, contextlib.ExitStack() as all_of_them, contextlib.ExitStack() as clients:
             # the server that was begun here makes the folder; another one is tried in its place
             path = server.path + "2"
             words = [program, "serve", "--workers", "2", "--sessions", "1000", "--image", image, "--socket", path]
@@ -147,14 +156,13 @@ def few_descriptors(program, Server, _post):
             all_of_them.callback(process.kill)
             soon(lambda: os.path.exists(path) and os.stat(path).st_mode & 0o777 == 0o600, "no socket is made")
             server.path = path
-            clients = [all_of_them.enter_context(server.client()) for _ in range(16)]
+            first = clients.enter_context(server.client())
             for number in range(8):
-                clients[0].make(f"M{number}", [])
-            # all descriptors are taken, and then it fails to accept the next of the clients
-            soon(lambda: len(os.listdir(f"/proc/{process.pid}/fd")) == 12, "the server does not accept as many as it can")
-            time.sleep(0.3)
-            for client in clients:
-                client.leave()
+                first.make(f"M{number}", [])
+            # all descriptors are taken in the end, and then it fails to accept the next of the clients
+            soon(lambda: is_refused(server, clients), "the server accepts more than it can")
+            assert first.ask(cmd="run") == {"error": "BadCommand"}
+            clients.close()
             out, err = process.communicate(timeout=60)
             assert (process.returncode, err) == (1, "actorimage: ReadFault\n"), (process.returncode, out, err)
             assert json.loads(out)["ok"] == {"posts": 0, "steps": 0}, out

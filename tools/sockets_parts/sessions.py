@@ -8,6 +8,8 @@ import subprocess
 import tempfile
 import time
 
+from sockets_parts.resources import is_refused, soon
+
 CLOSE = b'{"actor":0,"cmd":"close"}'
 NO_ACTOR = b'{"error":"UnknownActor"}\n'
 TOO_MANY = b'{"error":"TooMany","what":"sessions"}\n'
@@ -132,9 +134,23 @@ def sessions_that_end_badly_leave_their_places(program, Server, _post):
     assert found == (0, 0, 0, ["BadCommand"] * 70), found
 
 
+def clients_behind_the_last_are_refused(program, Server, _post):
+    """Once the last session has begun nobody can connect, at once and not at the end; that session goes on."""
+
+    def play(server):
+        with server.client() as client, contextlib.ExitStack() as others:
+            assert asked(client, CLOSE) == NO_ACTOR
+            soon(lambda: is_refused(server, others), "clients behind the last one can connect")
+            assert asked(client, CLOSE) == NO_ACTOR
+
+    found = told(program, Server, 1, 1, play)
+    assert found == (0, 0, 0, []), found
+
+
 TRIALS = (
     a_post_is_answered,
     a_long_line_ends_its_session,
     one_of_65_sessions_is_turned_away,
     sessions_that_end_badly_leave_their_places,
+    clients_behind_the_last_are_refused,
 )

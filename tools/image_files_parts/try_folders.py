@@ -5,9 +5,9 @@ import shutil
 
 from inspect_parts.try_common import good_files, read
 
-from .program import Ended, Program, refusal, same
+from .program import Ended, Program, same
 from .try_paths import DEFINE, NOBODY, leads_to
-from .try_served import words
+from .try_served import not_begun
 
 UNWRITTEN = (1, b"actorimage: WriteFault\n")
 
@@ -30,12 +30,13 @@ def cannot_write(program, about, path, **more):
     """A script is not saved, and a server does not begin."""
     ended = program.script(path, DEFINE, **more)
     same(f"{about}: a script", (ended.status, ended.err), UNWRITTEN)
-    same(f"{about}: a server", program.run(*words(program, path), **more), refusal("WriteFault"))
+    not_begun(program, about, path, "WriteFault", **more)
 
 
 def unwritten(program):
-    """No such folder, and no file in place of the new one: the file and what is there stay, and no socket is made."""
+    """No such folder, no name, and no file in place of the new one: the file and what is there stay, and no socket is made."""
     cannot_write(program, "no such folder", program.at("none", "file"))
+    cannot_write(program, "no name", "", cwd=program.folder)
     same("files in the folder", os.listdir(program.folder), [])
     path, data = program.put("file", read(good_files()["message-waits"])), read(good_files()["message-waits"])
     beside = path + ".new"
@@ -53,7 +54,7 @@ def unwritten(program):
         os.remove(beside)
     same("the files", (read(path), read(program.at("other"))), (data, b"of another"))
     same("files in the folder", sorted(os.listdir(program.folder)), ["file", "other"])
-    return "5 paths"
+    return "6 paths"
 
 
 def forbidden(program):

@@ -11,7 +11,7 @@ import time
 from inspect_parts.try_common import read
 
 from .program import SECONDS, Ended, refusal, same
-from .try_served import ask, begun, connected, serve, words
+from .try_served import ask, begun, connected, not_begun, serve
 
 FIRST, SECOND = (b'{"cmd":"define","name":"%s","slots":[],"super":"Object"}' % name for name in (b"First", b"Second"))
 ENDED = Ended(0, b'{"ok":{"posts":0,"steps":0}}\n', b"")
@@ -59,9 +59,9 @@ def second_server(program):
     path, one, two = texts(program)
 
     def talk(number, end, lines):
-        same("a second server", program.run(*words(program, path, name="another")), refusal("WriteFault"))
+        not_begun(program, "beside another", path, "WriteFault", "another")
         os.symlink("file", program.at("link"))
-        same("a second server, by a link", program.run(*words(program, program.at("link"), name="another")), refusal("WriteFault"))
+        not_begun(program, "beside another, by a link", program.at("link"), "WriteFault", "another")
         os.remove(program.at("link"))
         same("the file meanwhile", (read(path), read(path + ".new")), (one, b""))
         alone(program, "file", "file.new", "socket")
@@ -112,7 +112,7 @@ def of_another(program):
     """What another process holds is not written, neither at the start of a server nor at an end."""
     path, one, two = texts(program)
     with locked(path + ".new"):
-        same("a server", program.run(*words(program, path)), refusal("WriteFault"))
+        not_begun(program, "a file that another process holds", path, "WriteFault")
         same("a script", program.script(path, SECOND), Ended(1, b'{"ok":{"version":2}}\n', b"actorimage: WriteFault\n"))
         alone(program, "file", "file.new")
     same("the file", read(path), one)

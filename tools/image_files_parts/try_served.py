@@ -14,12 +14,19 @@ from .loaded import Loaded
 from .program import SECONDS, Ended, refusal, same
 
 POST = {"actor": 0, "args": [], "cmd": "post", "selector": "a", "sender": 1, "seq": 2}
+# The seconds in which a server ends that does not begin to serve.
+SOON = 20
 # How sessions end: the second one is refused, which is not the end of the server.
 SESSIONS = (b"", b"\xff\n")
 
 
 def words(program, file, sessions=1, name="socket"):
     return "serve", "--workers", "2", "--image", file, "--sessions", str(sessions), "--socket", program.at(name)
+
+
+def not_begun(program, about, file, name, socket_name="socket", **more):
+    """A server ends by a refusal of this name, and nobody is served."""
+    same(f"{about}: a server", program.run(*words(program, file, name=socket_name), timeout=SOON, **more), refusal(name))
 
 
 @contextlib.contextmanager
@@ -117,14 +124,14 @@ def not_served(program):
     for path in bad_files():
         data = read(path)
         file = program.put("file", data)
-        same(f"{path}: server", program.run(*words(program, file)), refusal("BadImage"))
+        not_begun(program, path, file, "BadImage")
         same(f"{path}: the file", read(file), data)
     os.mkdir(program.at("folder"))
-    same("a folder as the file: server", program.run(*words(program, program.at("folder"))), refusal("ReadFault"))
+    not_begun(program, "a folder as the file", program.at("folder"), "ReadFault")
     same("files in the folder", sorted(os.listdir(program.folder)), ["file", "folder"])
     data = read(good_files()["message-waits"])
     file = program.put("file", data)
-    same("a folder at the socket's path: server", program.run(*words(program, file, name="folder")), refusal("ReadFault"))
+    not_begun(program, "a folder at the socket's path", file, "ReadFault", "folder")
     same("a folder at the socket's path: the file", read(file), data)
     same("files in the folder", sorted(os.listdir(program.folder)), ["file", "folder"])
     return f"{len(bad_files()) + 2} files"

@@ -105,9 +105,12 @@ fn held<R: Files<File = File>>(rt: &R, path: &str, place: &str) -> Result<File, 
 }
 
 /// Takes hold of the new file beside the image's file at a path, which need not be there. If the path is a link, it is the one beside
-/// the file to which it leads. `WriteFault` says that it cannot be written or that another process holds it. Neither file is changed,
-/// but that the new one is made if it is not there.
+/// the file to which it leads. `WriteFault` says that it cannot be written, that another process holds it, or that the path is empty.
+/// Neither file is changed, but that the new one is made if it is not there.
 pub fn hold<R: Files<File = File>>(rt: &R, alloc: Global, path: &str) -> Result<NewFile, Refusal> {
+    if path.is_empty() {
+        return Err(Refusal::WriteFault);
+    }
     let place = place_of(rt, alloc, path)?;
     let path = beside(alloc, place.as_str())?;
     let file = held(rt, path.as_str(), place.as_str())?;

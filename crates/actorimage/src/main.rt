@@ -157,9 +157,9 @@ fn serve_bound<R: Threads + Wait + Files + Sync>(
     result
 }
 
-/// Serves a new image or the image of a file over a socket, whose file is made for the owner alone. The refusals of sessions are
-/// added to `faults`.
-fn serve_first<R: Threads + Wait + Net + Files + AllocGlobal + Sync>(
+/// Loads the image of a file, or makes a new one, and serves it over a socket, whose file is made for the owner alone. The refusals of
+/// sessions are added to `faults`.
+fn serve_loaded<R: Threads + Wait + Net + Files + AllocGlobal + Sync>(
     rt: &R,
     options: ServeOptions<'_>,
     faults: &Faults<Refusal>,
@@ -235,7 +235,7 @@ fn end_serving<R: Files<File = File> + Print + Eprint + AllocGlobal>(
     }
 }
 
-/// Serves an image as `serve_first` does, and saves it. The new file beside the image's file is held from before the file is loaded:
+/// Serves an image as `serve_loaded` does, and saves it. The new file beside the image's file is held from before the file is loaded:
 /// if that is refused, nothing is served.
 fn serve_with<R: Threads + Wait + Net + Files<File = File> + Print + Eprint + AllocGlobal + Sync>(
     rt: &R,
@@ -243,7 +243,7 @@ fn serve_with<R: Threads + Wait + Net + Files<File = File> + Print + Eprint + Al
     faults: &Faults<Refusal>,
 ) -> Result<(), Refusal> {
     let held = hold_at(rt, rt.alloc(), options.image)?;
-    let ended = serve_first(rt, options, faults);
+    let ended = serve_loaded(rt, options, faults);
     end_serving(rt, held.as_ref(), faults, ended)
 }
 

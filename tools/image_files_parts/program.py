@@ -43,9 +43,7 @@ class Program:
         """The end of a run, to which the bytes of standard input are given."""
         if "stdin" not in more:
             more["input"] = given
-        if "stdout" not in more:
-            more["stdout"] = subprocess.PIPE
-        ended = subprocess.run([self.path, *words], stderr=subprocess.PIPE, timeout=SECONDS, **more)
+        ended = subprocess.run([self.path, *words], stderr=subprocess.PIPE, **{"stdout": subprocess.PIPE, "timeout": SECONDS, **more})
         return Ended(ended.returncode, ended.stdout, ended.stderr)
 
     def check(self, file):

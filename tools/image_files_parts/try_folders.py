@@ -6,9 +6,9 @@ import shutil
 from inspect_parts.try_common import good_files, read
 
 from .program import Ended, Program, same
-from .try_paths import DEFINE
+from .try_paths import DEFINE, NOBODY, leads_to
+from .try_served import not_begun
 
-NOBODY = 65534
 UNWRITTEN = (1, b"actorimage: WriteFault\n")
 
 
@@ -27,29 +27,53 @@ def by_nobody(program):
 
 
 def cannot_write(program, about, path, **more):
+    """A script is not saved, and a server does not begin."""
     ended = program.script(path, DEFINE, **more)
-    same(about, (ended.status, ended.err), UNWRITTEN)
+    same(f"{about}: a script", (ended.status, ended.err), UNWRITTEN)
+    not_begun(program, about, path, "WriteFault", **more)
 
 
 def unwritten(program):
-    """No such folder, one that may not be written, and a folder in place of the new file: the file stays."""
+    """No such folder, no name, and no file in place of the new one: the file and what is there stay, and no socket is made."""
     cannot_write(program, "no such folder", program.at("none", "file"))
+    cannot_write(program, "no name", "", cwd=program.folder)
     same("files in the folder", os.listdir(program.folder), [])
-    path, data = program.at("folder", "file"), read(good_files()["message-waits"])
-    os.mkdir(program.at("folder"))
-    program.put("folder/file", data)
-    os.mkdir(path + ".new")
+    path, data = program.put("file", read(good_files()["message-waits"])), read(good_files()["message-waits"])
+    beside = path + ".new"
+    os.mkdir(beside)
     cannot_write(program, "a folder in place of the new file", path)
-    os.rmdir(path + ".new")
-    tried, somebody = 2, by_nobody(program)
-    if somebody is not None:
-        os.chmod(program.at("folder"), 0o555)
-        cannot_write(somebody[0], "a folder that may not be written", path, **somebody[1])
-        os.chmod(program.at("folder"), 0o755)
-        tried += 1
-    same("the file", read(path), data)
-    same("files in the folder", os.listdir(program.at("folder")), ["file"])
-    return f"{tried} folders"
+    os.rmdir(beside)
+    os.mkfifo(beside)
+    cannot_write(program, "a pipe in place of the new file", path)
+    os.remove(beside)
+    program.put("other", b"of another")
+    for way in ("other", "nowhere"):
+        os.symlink(way, beside)
+        cannot_write(program, f"a link to {way} in place of the new file", path)
+        same(f"the link to {way}", leads_to(beside), way)
+        os.remove(beside)
+    same("the files", (read(path), read(program.at("other"))), (data, b"of another"))
+    same("files in the folder", sorted(os.listdir(program.folder)), ["file", "other"])
+    return "6 paths"
+
+
+def forbidden(program):
+    """A folder that may not be written, and a new file that may not be: the files stay."""
+    tried = by_nobody(program)
+    if tried is None:
+        return "no folder, since no other user can run the program"
+    by_other, somebody = tried
+    os.mkdir(program.at("folder"))
+    path, data = program.put("folder/file", read(good_files()["message-waits"])), read(good_files()["message-waits"])
+    os.chmod(program.at("folder"), 0o555)
+    cannot_write(by_other, "a folder that may not be written", path, **somebody)
+    os.chmod(program.at("folder"), 0o777)
+    os.chmod(program.put("folder/file.new", b"of another"), 0o444)
+    cannot_write(by_other, "a new file that may not be written", path, **somebody)
+    same("the files", (read(path), read(path + ".new")), (data, b"of another"))
+    same("files in the folder", sorted(os.listdir(program.at("folder"))), ["file", "file.new"])
+    same("no socket", os.path.exists(program.at("socket")), False)
+    return "2 folders"
 
 
 def left_over(program):
@@ -62,4 +86,4 @@ def left_over(program):
     return "1 file"
 
 
-TRIALS = (unwritten, left_over)
+TRIALS = (unwritten, forbidden, left_over)

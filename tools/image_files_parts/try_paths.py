@@ -7,6 +7,7 @@ from inspect_parts.try_common import good_files, read
 
 from .program import Ended, refusal, same
 
+NOBODY = 65534
 DEFINE = b'{"cmd":"define","name":"Further","slots":[],"super":"Object"}'
 ANSWERED = b'{"ok":{"version":3}}\n'
 WELL = Ended(0, ANSWERED, b"")
@@ -101,6 +102,23 @@ def rights(program):
     return f"{len(all_rights)} files"
 
 
+def owners(program):
+    """A file has the owner and the group that it had, if the program may say so."""
+    if os.geteuid() != 0:
+        return "no files, since only root gives them away"
+    all_owners = ((NOBODY, 0), (0, NOBODY), (NOBODY, NOBODY))
+    for owner in all_owners:
+        path = program.put("file", before())
+        os.chown(path, *owner)
+        os.chmod(path, 0o640)
+        same(f"owner {owner}: session", program.script(path, DEFINE), WELL)
+        found = os.stat(path)
+        same(f"owner {owner}", (found.st_uid, found.st_gid, stat.S_IMODE(found.st_mode)), (*owner, 0o640))
+        os.remove(path)
+    alone(program)
+    return f"{len(all_owners)} files"
+
+
 def settings_of_a_session(program):
     """Mailboxes keep their room, and new ones have that of the session; the quantum is the session's."""
     path = program.put("file", before())
@@ -117,4 +135,4 @@ def settings_of_a_session(program):
     return "2 sessions"
 
 
-TRIALS = (refused_sessions, not_there, links, rights, settings_of_a_session)
+TRIALS = (refused_sessions, not_there, links, rights, owners, settings_of_a_session)

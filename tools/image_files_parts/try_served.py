@@ -1,5 +1,6 @@
 """Trials on the image file of a server."""
 
+import contextlib
 import json
 import os
 import socket
@@ -13,29 +14,41 @@ from .loaded import Loaded
 from .program import SECONDS, Ended, refusal, same
 
 POST = {"actor": 0, "args": [], "cmd": "post", "selector": "a", "sender": 1, "seq": 2}
+# The seconds in which a server ends that does not begin to serve.
+SOON = 20
 # How sessions end: the second one is refused, which is not the end of the server.
 SESSIONS = (b"", b"\xff\n")
 
 
-def words(program, file, sessions=1):
-    return "serve", "--workers", "2", "--image", file, "--sessions", str(sessions), "--socket", program.at("socket")
+def words(program, file, sessions=1, name="socket"):
+    return "serve", "--workers", "2", "--image", file, "--sessions", str(sessions), "--socket", program.at(name)
+
+
+def not_begun(program, about, file, name, socket_name="socket", **more):
+    """A server ends by a refusal of this name, and nobody is served."""
+    same(f"{about}: a server", program.run(*words(program, file, name=socket_name), timeout=SOON, **more), refusal(name))
+
+
+@contextlib.contextmanager
+def begun(program, file, sessions=1, name="socket"):
+    """A server, which is killed where it is left, unless it has ended by then."""
+    command = [program.path, *words(program, file, sessions, name)]
+    with subprocess.Popen(command, stdout=subprocess.PIPE, stderr=subprocess.PIPE) as server:
+        try:
+            yield server
+        finally:
+            server.kill()
 
 
 def serve(program, file, talk, sessions=1):
     """The end of a server for so many sessions, each of which is talked over its socket."""
-    path = program.at("socket")
-    command = [program.path, *words(program, file, sessions)]
-    server = subprocess.Popen(command, stdout=subprocess.PIPE, stderr=subprocess.PIPE)
-    try:
+    with begun(program, file, sessions) as server:
         for number in range(sessions):
-            with connected(server, path) as end, end.makefile("rb") as lines:
+            with connected(server, program.at("socket")) as end, end.makefile("rb") as lines:
                 talk(number, end, lines)
                 end.shutdown(socket.SHUT_WR)
                 lines.read()
         out, err = server.communicate(timeout=SECONDS)
-    finally:
-        server.kill()
-        server.wait()
     return Ended(server.returncode, out, err)
 
 
@@ -107,15 +120,21 @@ def new_one(program):
 
 
 def not_served(program):
-    """A malformed file and a folder end the server before it makes its socket, and stay."""
+    """A malformed file, a folder and a path at which no socket can be made end the server, and stay."""
     for path in bad_files():
         data = read(path)
         file = program.put("file", data)
-        same(f"{path}: server", program.run(*words(program, file)), refusal("BadImage"))
+        not_begun(program, path, file, "BadImage")
         same(f"{path}: the file", read(file), data)
-    same("a folder as the file: server", program.run(*words(program, program.folder)), refusal("ReadFault"))
-    same("files in the folder", os.listdir(program.folder), ["file"])
-    return f"{len(bad_files()) + 1} files"
+    os.mkdir(program.at("folder"))
+    not_begun(program, "a folder as the file", program.at("folder"), "ReadFault")
+    same("files in the folder", sorted(os.listdir(program.folder)), ["file", "folder"])
+    data = read(good_files()["message-waits"])
+    file = program.put("file", data)
+    not_begun(program, "a folder at the socket's path", file, "ReadFault", "folder")
+    same("a folder at the socket's path: the file", read(file), data)
+    same("files in the folder", sorted(os.listdir(program.folder)), ["file", "folder"])
+    return f"{len(bad_files()) + 2} files"
 
 
 TRIALS = (served, new_one, not_served)

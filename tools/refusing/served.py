@@ -1,4 +1,4 @@
-"""Servers of one session of which one allocation fails."""
+"""Servers of one session, which keep their image in a file, of which one allocation fails."""
 
 import contextlib
 import json
@@ -131,11 +131,18 @@ def what_is_wrong(process, posts, is_whole, why):
     return None if fine else f"it ended with status {process.returncode} and said {said!r}"
 
 
+def left_wrong(process, folder):
+    """What is wrong with the files that a server leaves, or None: it has saved its image if all was well, and no part of it else."""
+    names = os.listdir(folder)
+    fine = names == ["image"] if process.returncode == 0 else names in ([], ["image"])
+    return None if fine else f"it ended with status {process.returncode}, and the folder holds {names}"
+
+
 def serve(program, failing):
     """What is wrong with a server, or None, and whether its session came to its end."""
     with tempfile.TemporaryDirectory() as folder:
         path = os.path.join(folder, "socket")
-        words = [program, "serve", "--socket", path, "--workers", "1", "--sessions", "1"]
+        words = [program, "serve", "--socket", path, "--workers", "1", "--sessions", "1", "--image", os.path.join(folder, "image")]
         process = subprocess.Popen(words, stdout=subprocess.PIPE, stderr=subprocess.PIPE, text=True, env=failing.env)
         posts, is_whole, why = converse(path) if await_socket(process, path) else (0, False, None)
         if why is None and not is_whole and process.poll() is None:
@@ -143,7 +150,7 @@ def serve(program, failing):
             with contextlib.suppress(OSError):
                 later, _, why = converse(path)
                 posts += later
-        return what_is_wrong(process, posts, is_whole, why), is_whole
+        return what_is_wrong(process, posts, is_whole, why) or left_wrong(process, folder), is_whole
 
 
 def check(program, shim, every):

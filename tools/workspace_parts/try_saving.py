@@ -132,7 +132,7 @@ def of_server(program):
     """The image of a server is the server's to save; a workspace goes on with it, and a server with that of a workspace."""
     with tempfile.TemporaryDirectory() as folder:
         told = served(program, folder, [":save two.image", *BUMPED])
-        same(told[0].startswith("the server keeps this image; one that was started with --image FILE --sessions K saves it"), True)
+        same(told[0].startswith("the server keeps this image; one that was started with --image FILE saves it"), True)
         found = typed(program, folder, ["c := actor 0", "c bump", ":turn 0 of c"])[0]
         same(found, [f"{NAME}: {ONE}", "actor 0", "2", "turn 0 of actor 0 answers 1"])
         told = served(program, folder, ["c := actor 0", ":turn 0 of c", "c bump", ":actors"])

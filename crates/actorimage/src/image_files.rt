@@ -6,14 +6,14 @@ ghost use Rattle.st_wire.specs.Streams.{input_view};
 ghost use Rattle.st_file.specs.Files.{LoadsFile};
 ghost use Rattle.actorimage.specs.Runs as spec;
 
+use crate::new_files::hold;
 use crate::runs::found_as;
 use st_classes::refusals::Refusal;
 use st_file::files::load;
-use st_file::saving::save;
 use st_server::images::Image;
-use st_wire::streams::{Input, Reader, Writer};
+use st_wire::streams::{Input, Reader};
 use std::alloc::Global;
-use std::fs::{self, File, Files, OpenFile};
+use std::fs::{File, Files};
 use std::io::{self, ErrorKind, Read};
 
 /// Stands for a file that cannot be opened: each read fails.
@@ -57,60 +57,14 @@ pub fn load_file<R: Files>(
     found_in(alloc, &mut Reader::new(file))
 }
 
-/// Creates a file, writes an image to it and waits until it is on the disk. An existing file is overwritten.
-fn write_file<R: Files>(rt: &R, alloc: Global, path: &str, image: &Image) -> Result<(), Refusal> {
-    let Ok(mut file) = File::create(rt, path) else {
-        return Err(Refusal::WriteFault);
-    };
-    save(alloc, image, &mut Writer::new(&mut file))?;
-    match file.sync_all() {
-        Ok(()) => Ok(()),
-        Err(_) => Err(Refusal::WriteFault),
-    }
-}
-
-/// The path of the new text of a file, before it replaces the old one.
-fn beside(alloc: Global, path: &str) -> Result<String, Refusal> {
-    let mut beside = String::new(alloc);
-    if beside.push_str(path).is_err() || beside.push_str(".new").is_err() {
-        return Err(Refusal::NoMemory);
-    }
-    Ok(beside)
-}
-
-/// Writes an image to a new file beside an old one, gives it the old one's permissions if that works, and moves it into the old
-/// one's place.
-fn replace_file<R: Files>(rt: &R, alloc: Global, path: &str, image: &Image) -> Result<(), Refusal> {
-    let new = beside(alloc, path)?;
-    if let Err(refusal) = write_file(rt, alloc, new.as_str(), image) {
-        let _ = fs::remove_file(rt, new.as_str());
-        return Err(refusal);
-    }
-    if let Ok(old) = fs::metadata(rt, path) {
-        let _ = fs::set_permissions(rt, new.as_str(), old.permissions());
-    }
-    match fs::rename(rt, new.as_str(), path) {
-        Ok(()) => Ok(()),
-        Err(_) => {
-            let _ = fs::remove_file(rt, new.as_str());
-            Err(Refusal::WriteFault)
-        }
-    }
-}
-
-/// Saves an image to a file. The text is written to a new file beside it, which is then moved into its place. So the file holds the
-/// old image or the new one, whenever the program is killed. If the path is a link, the file that it leads to is replaced.
-/// `WriteFault` says that the text was not written whole or not moved. After a refusal the file is as it was.
-pub fn save_file<R: Files>(
+/// Saves an image to the file at a path, by a new file beside it that is held for that. `WriteFault` says that the new file cannot be
+/// written, or that another process holds it. After a refusal the file is as it was.
+pub fn save_file<R: Files<File = File>>(
     rt: &R,
     alloc: Global,
     path: &str,
     image: &Image,
 ) -> Result<(), Refusal> {
-    if let Ok(target) = rt.canonicalize(alloc, path) {
-        if let Some(target) = target.to_str() {
-            return replace_file(rt, alloc, target, image);
-        }
-    }
-    replace_file(rt, alloc, path, image)
+    let new = hold(rt, alloc, path)?;
+    new.save(rt, alloc, image)
 }

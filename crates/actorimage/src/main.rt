@@ -4,11 +4,13 @@
 ghost use Rattle.std.specs.Prelude.{◌≡◌, [], IfOk};
 
 mod image_files;
+mod new_files;
 mod options;
 mod runs;
 mod socket_files;
 
 use crate::image_files::{Unreadable, load_file, save_file};
+use crate::new_files::{NewFile, hold};
 use crate::options::{Request, ScriptOptions, ServeOptions, invalid_utf8_error, parsed_request};
 use crate::runs::{begin_with, saved_at};
 use crate::socket_files::{SocketFile, bind};
@@ -63,7 +65,7 @@ fn run_script<R: Input + Print + AllocGlobal>(
 }
 
 /// Saves an image to the file at a path, if one is given.
-fn save_at<R: Files>(
+fn save_at<R: Files<File = File>>(
     rt: &R,
     alloc: Global,
     path: Option<&str>,
@@ -78,7 +80,7 @@ fn save_at<R: Files>(
 }
 
 /// Runs a script on a new image or on the image of a file. That file then gets the image, unless the session is refused.
-fn script<R: Input + Print + Files + AllocGlobal>(
+fn script<R: Input + Print + Files<File = File> + AllocGlobal>(
     rt: &R,
     options: ScriptOptions<'_>,
 ) -> Result<(), Refusal> {
@@ -155,21 +157,76 @@ fn serve_bound<R: Threads + Wait + Files + Sync>(
     result
 }
 
-/// Saves the image of a server whose sessions have ended, if a path is given, and reports the end. Both are done even if accepting
-/// failed; the answer is then that refusal. Neither is done if serving was refused.
-fn end_serving<R: Files + Print + Eprint + AllocGlobal>(
+/// Loads the image of a file, or makes a new one, and serves it over a socket, whose file is made for the owner alone. The refusals of
+/// sessions are added to `faults`.
+fn serve_loaded<R: Threads + Wait + Net + Files + AllocGlobal + Sync>(
     rt: &R,
+    options: ServeOptions<'_>,
+    faults: &Faults<Refusal>,
+) -> Result<Served, Refusal> {
+    let image = first_image(rt, options.image)?;
+    match bind(rt, options.socket) {
+        Ok(bound) => serve_bound(rt, rt.alloc(), options, bound, faults, image),
+        Err(refusal) => {
+            drop(image);
+            Err(refusal)
+        }
+    }
+}
+
+/// Takes hold of the new file beside the file at a path, if one is given.
+fn hold_at<R: Files<File = File>>(
+    rt: &R,
+    alloc: Global,
     path: Option<&str>,
+) -> Result<Option<NewFile>, Refusal> {
+    match path {
+        Some(path) => {
+            let new = hold(rt, alloc, path)?;
+            Ok(Some(new))
+        }
+        None => Ok(None),
+    }
+}
+
+/// Saves an image by a new file that is held, if one is.
+fn save_held<R: Files<File = File>>(
+    rt: &R,
+    alloc: Global,
+    held: Option<&NewFile>,
+    image: Image,
+) -> Result<(), Refusal> {
+    let saved = match held {
+        Some(new) => new.save(rt, alloc, &image),
+        None => Ok(()),
+    };
+    drop(image);
+    saved
+}
+
+/// Saves the image of a server whose sessions have ended, if a new file is held for it, and reports the end. Both are done even if
+/// accepting failed; the answer is then that refusal. Neither is done if serving was refused: then the new file is removed.
+fn end_serving<R: Files<File = File> + Print + Eprint + AllocGlobal>(
+    rt: &R,
+    held: Option<&NewFile>,
     faults: &Faults<Refusal>,
     ended: Result<Served, Refusal>,
 ) -> Result<(), Refusal> {
-    let path = saved_at(path, &ended);
+    let kept = saved_at(held, &ended);
     let Served {
         image,
         totals,
         fault,
-    } = ended?;
-    let saved = save_at(rt, rt.alloc(), path, image);
+    } = match ended {
+        Ok(served) => served,
+        Err(refusal) => {
+            if let Some(new) = held {
+                new.remove(rt);
+            }
+            return Err(refusal);
+        }
+    };
+    let saved = save_held(rt, rt.alloc(), kept, image);
     tell_end(rt, faults, totals)?;
     saved?;
     match fault {
@@ -178,26 +235,20 @@ fn end_serving<R: Files + Print + Eprint + AllocGlobal>(
     }
 }
 
-/// Serves a new image or the image of a file over a socket, whose file is made for the owner alone. The refusals of sessions are
-/// added to `faults`.
-fn serve_with<R: Threads + Wait + Net + Files + Print + Eprint + AllocGlobal + Sync>(
+/// Serves an image as `serve_loaded` does, and saves it. The new file beside the image's file is held from before the file is loaded:
+/// if that is refused, nothing is served.
+fn serve_with<R: Threads + Wait + Net + Files<File = File> + Print + Eprint + AllocGlobal + Sync>(
     rt: &R,
     options: ServeOptions<'_>,
     faults: &Faults<Refusal>,
 ) -> Result<(), Refusal> {
-    let image = first_image(rt, options.image)?;
-    let ended = match bind(rt, options.socket) {
-        Ok(bound) => serve_bound(rt, rt.alloc(), options, bound, faults, image),
-        Err(refusal) => {
-            drop(image);
-            Err(refusal)
-        }
-    };
-    end_serving(rt, options.image, faults, ended)
+    let held = hold_at(rt, rt.alloc(), options.image)?;
+    let ended = serve_loaded(rt, options, faults);
+    end_serving(rt, held.as_ref(), faults, ended)
 }
 
 /// Serves a new image or the image of a file. That file gets the image when all sessions have ended.
-fn serve<R: Threads + Wait + Net + Files + Print + Eprint + AllocGlobal + Sync>(
+fn serve<R: Threads + Wait + Net + Files<File = File> + Print + Eprint + AllocGlobal + Sync>(
     rt: &R,
     options: ServeOptions<'_>,
 ) -> Result<(), Refusal> {

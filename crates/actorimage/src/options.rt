@@ -76,16 +76,14 @@ fn number_option<'a>(
     option(alloc, name, value, help).value_parser(value_parser!(u32).range(1..=most))
 }
 
-/// What the option for an image's file does, of scripts and servers.
-const IMAGE_HELP: &str =
-    "Keeps the image in a file: begins with it where it is there, and saves to it at the end";
-
 fn script_command<'a>(alloc: Global) -> Result<Command<'a>, AllocError> {
+    let image =
+        "Keeps the image in a file: begins with it where it is there, and saves to it when the input has ended";
     let quantum = "Steps of a quantum, 1 to 1024 [default: 256]";
     let capacity = "Messages that a new actor's mailbox holds, 1 to 1024 [default: 64]";
     Command::new(alloc, "script")
         .about("Runs the commands on standard input and writes a reply to each")
-        .arg(option(alloc, "image", "FILE", IMAGE_HELP))?
+        .arg(option(alloc, "image", "FILE", image))?
         .arg(number_option(alloc, "quantum", "N", quantum, 1024))?
         .arg(number_option(alloc, "capacity", "N", capacity, 1024))
 }
@@ -93,13 +91,16 @@ fn script_command<'a>(alloc: Global) -> Result<Command<'a>, AllocError> {
 fn serve_command<'a>(alloc: Global) -> Result<Command<'a>, AllocError> {
     let socket = "Where the Unix socket is made; nothing may be there";
     let workers = "Threads that run actors, 1 to 16";
-    let sessions = "Ends after so many sessions, 1 to 1000000, and tells what they did together";
+    let sessions =
+        "Ends after so many sessions, 1 to 1000000: waits for their ends, saves, and tells what they did together";
+    let image =
+        "Keeps the image in a file: begins with it where it is there, and saves to it at the end, which --sessions or tools/stop brings";
     Command::new(alloc, "serve")
         .about("Serves one image to sessions over a Unix socket")
         .arg(option(alloc, "socket", "PATH", socket).required(true))?
         .arg(number_option(alloc, "workers", "N", workers, 16).required(true))?
         .arg(number_option(alloc, "sessions", "K", sessions, 1_000_000))?
-        .arg(option(alloc, "image", "FILE", IMAGE_HELP))
+        .arg(option(alloc, "image", "FILE", image))
 }
 
 fn check_command<'a>(alloc: Global) -> Result<Command<'a>, AllocError> {

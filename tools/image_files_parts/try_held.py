@@ -6,6 +6,8 @@ import json
 import os
 import resource
 import stat
+import subprocess
+import sys
 import time
 
 from inspect_parts.try_common import read
@@ -16,6 +18,7 @@ from .try_served import ask, begun, connected, not_begun, serve
 FIRST, SECOND = (b'{"cmd":"define","name":"%s","slots":[],"super":"Object"}' % name for name in (b"First", b"Second"))
 ENDED = Ended(0, b'{"ok":{"posts":0,"steps":0}}\n', b"")
 UNSAVED = ENDED._replace(status=1, err=b"actorimage: WriteFault\n")
+TOOLS = os.path.dirname(os.path.dirname(os.path.realpath(__file__)))
 # So many bytes a file may have where a save is to be broken off, and how many servers begin at once.
 FEW, TOGETHER = 20, 4
 
@@ -108,6 +111,25 @@ def script_beside(program):
     return "1 script"
 
 
+def change_beside(program):
+    """A tool that changes image files leaves one that a server has as it is, and the server saves."""
+    path, one, two = texts(program)
+    words = [sys.executable, os.path.join(TOOLS, "add-variable"), path, "First", "x"]
+
+    def talk(number, end, lines):
+        ended = subprocess.run(words, capture_output=True, timeout=SECONDS)
+        wanted = (1, b"", f"tools/add-variable: {path}: a server or another program has it\n".encode())
+        same("a tool", (ended.returncode, ended.stdout, ended.stderr), wanted)
+        same("the file meanwhile", (read(path), read(path + ".new")), (one, b""))
+        edit(end, lines)
+
+    same("the server", serve(program, path, talk), ENDED)
+    same("what is saved", read(path), two)
+    same("the tool afterwards", subprocess.run(words, capture_output=True, timeout=SECONDS).returncode, 0)
+    alone(program, "file")
+    return "1 tool"
+
+
 def of_another(program):
     """What another process holds is not written, neither at the start of a server nor at an end."""
     path, one, two = texts(program)
@@ -195,4 +217,4 @@ def broken_off(program):
     return "3 scripts"
 
 
-TRIALS = (second_server, at_once, script_beside, of_another, taken_away, killed_server, broken_off)
+TRIALS = (second_server, at_once, script_beside, change_beside, of_another, taken_away, killed_server, broken_off)

@@ -2,9 +2,9 @@
 
 import json
 import os
-import shutil
 import sys
 
+from .held import new_file
 from .reading import read_image
 from .refused import BadImage
 
@@ -29,10 +29,5 @@ def changed(program, name, change):
 
 def write(name, text):
     """Writes beside the file and moves that into its place."""
-    path = os.path.realpath(name)
-    with open(path + ".new", "w", encoding="ascii") as file:
-        file.write(text + "\n")
-        file.flush()
-        os.fsync(file.fileno())
-    shutil.copymode(path, path + ".new")
-    os.replace(path + ".new", path)
+    with new_file(os.path.realpath(name)) as file:
+        file.write(text.encode("ascii") + b"\n")

@@ -6,13 +6,11 @@ import shutil
 import tempfile
 
 from inspect_parts.deep import deeply
+from inspect_parts.held import new_file
 from inspect_parts.reading import read_image
 from inspect_parts.refused import BadImage
 
 from .wrong import Wrong
-
-# Where a file is written, before it is moved into place.
-BESIDE = ".new"
 
 
 def read(name):
@@ -53,10 +51,7 @@ def copy(path, name):
     """What is at `name` stays until the copy is whole."""
     place = os.path.realpath(name)
     try:
-        with open(path, "rb") as file, open(place + BESIDE, "wb") as beside:
+        with open(path, "rb") as file, new_file(place) as beside:
             shutil.copyfileobj(file, beside)
-            beside.flush()
-            os.fsync(beside.fileno())
-        os.replace(place + BESIDE, place)
     except OSError as error:
         raise Wrong(f"{name} cannot be written ({error.strerror}), and what was there stays; the image goes on") from None

@@ -10,6 +10,16 @@ from .terminal import readline
 from .try_common import COUNTER, SPIN, WORKSPACE, same, shell_program
 
 
+# With so many objects a quantum takes long enough for a sign of life on a fast machine too.
+LADEN = [
+    "Link : Object | next |",
+    "Link >> next: link  next := link",
+    "Laden : Spin | links |",
+    "Laden >> load  | i link | i := 0. [i < 1000] whileTrue: [link := Link new. link next: links. links := link. i := i + 1]. ^i",
+    "s := Laden actor",
+]
+
+
 class Typing:
     """A terminal with a home of its own."""
 
@@ -132,16 +142,18 @@ def long_run(program):
     """A long run shows that it runs, and is broken off; an edit in the middle of the turn ends it."""
     with Typing(program, "--quantum", "1024") as terminal:
         typed(terminal, SPIN)
+        typed(terminal, LADEN)
+        same(terminal.ask("s load"), "1000\n")
         terminal.type("s spin. s spin\n")
         terminal.see("quanta so far; Ctrl-C breaks off")
         terminal.interrupt()
         told = terminal.see("> ")
-        where = "turn 1 of actor 0 was broken off after [0-9,]+ quanta; :run or :step goes on where it was\n"
+        where = "turn 2 of actor 1 was broken off after [0-9,]+ quanta; :run or :step goes on where it was\n"
         if not re.search(where + "not sent: s spin\n", told):
             raise AssertionError(f"it says {told!r}")
         same(terminal.ask(":step 2"), "2 quanta, 2,048 steps\n")
         terminal.ask("Spin >> goOn  ^false")
-        if not terminal.ask(":run").endswith("turn 1 of actor 0 answers 7\n"):
+        if not terminal.ask(":run").endswith("turn 2 of actor 1 answers 7\n"):
             raise AssertionError("the turn does not end after the edit")
         same(terminal.ask("s spin"), "7\n")
 

@@ -96,5 +96,6 @@ def nothing_listens(path):
     if os.path.exists(path) and not stat.S_ISSOCK(os.stat(path).st_mode):
         return f"{path} is no socket, and stays; take the path at which a server listens, or another one for a new server"
     if os.path.lexists(path):
-        return f"nothing listens at {path}; wait if a server is about to end there, else remove what is there, and start a server with  {start}"
+        removing = "wait if a server is about to end there, else remove what is there"
+        return f"nothing listens at {path}; {removing}, and start a server with  {start}"
     return f"nothing listens at {path}; start a server with  {start}"

@@ -159,7 +159,8 @@ def no_server(program):
         with socket.socket(socket.AF_UNIX) as left:
             left.bind(path)
         found = typed(folder, []).stderr.decode()
-        same(found, "tools/workspace: " + NOTHING.replace("start a", "wait if a server is about to end there, else remove what is there, and start a") + "\n")
+        removing = "wait if a server is about to end there, else remove what is there, and start a"
+        same(found, "tools/workspace: " + NOTHING.replace("start a", removing) + "\n")
     ended = piped(program, [], "--sender", "1")
     same((ended.stderr, ended.returncode), (b"tools/workspace: --sender is for a server; give it beside --socket PATH\n", 1))
 

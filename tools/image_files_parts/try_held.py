@@ -57,22 +57,31 @@ def locked(path):
         same("what another process holds", read(path), b"of another")
 
 
-def second_server(program):
-    """A second server on a file that one has does not begin, and changes nothing; the first one saves."""
-    path, one, two = texts(program)
+def beside_server(program, path, one, two, act):
+    """A server on a file, beside which something is done that changes neither the file nor the new one; the server then saves an edit."""
 
     def talk(number, end, lines):
-        not_begun(program, "beside another", path, "WriteFault", "another")
-        os.symlink("file", program.at("link"))
-        not_begun(program, "beside another, by a link", program.at("link"), "WriteFault", "another")
-        os.remove(program.at("link"))
+        act()
         same("the file meanwhile", (read(path), read(path + ".new")), (one, b""))
         alone(program, "file", "file.new", "socket")
         edit(end, lines)
 
-    same("the first server", serve(program, path, talk), ENDED)
+    same("the server", serve(program, path, talk), ENDED)
     same("what is saved", read(path), two)
     alone(program, "file")
+
+
+def second_server(program):
+    """A second server on a file that one has does not begin, and changes nothing; the first one saves."""
+    path, one, two = texts(program)
+
+    def begin_two():
+        not_begun(program, "beside another", path, "WriteFault", "another")
+        os.symlink("file", program.at("link"))
+        not_begun(program, "beside another, by a link", program.at("link"), "WriteFault", "another")
+        os.remove(program.at("link"))
+
+    beside_server(program, path, one, two, begin_two)
     return "2 servers"
 
 
@@ -99,15 +108,11 @@ def script_beside(program):
     """A script beside a server gets its replies and is not saved; the server is."""
     path, one, two = texts(program)
 
-    def talk(number, end, lines):
+    def run_script():
         wanted = Ended(1, b'{"ok":{"version":2}}\n', b"actorimage: WriteFault\n")
         same("a script", program.script(path, SECOND.replace(b"Second", b"Third")), wanted)
-        same("the file meanwhile", (read(path), read(path + ".new")), (one, b""))
-        edit(end, lines)
 
-    same("the server", serve(program, path, talk), ENDED)
-    same("what is saved", read(path), two)
-    alone(program, "file")
+    beside_server(program, path, one, two, run_script)
     return "1 script"
 
 
@@ -116,15 +121,12 @@ def change_beside(program):
     path, one, two = texts(program)
     words = [sys.executable, os.path.join(TOOLS, "add-variable"), path, "First", "x"]
 
-    def talk(number, end, lines):
+    def run_tool():
         ended = subprocess.run(words, capture_output=True, timeout=SECONDS)
         wanted = (1, b"", f"tools/add-variable: {path}: a server or another program has it\n".encode())
         same("a tool", (ended.returncode, ended.stdout, ended.stderr), wanted)
-        same("the file meanwhile", (read(path), read(path + ".new")), (one, b""))
-        edit(end, lines)
 
-    same("the server", serve(program, path, talk), ENDED)
-    same("what is saved", read(path), two)
+    beside_server(program, path, one, two, run_tool)
     same("the tool afterwards", subprocess.run(words, capture_output=True, timeout=SECONDS).returncode, 0)
     alone(program, "file")
     return "1 tool"

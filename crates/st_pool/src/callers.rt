@@ -86,7 +86,7 @@ impl<'a, K: Naming, M: Mailbox> Caller<'a, K, M> {
     /// copy of the arguments are made before the lock is taken.
     ///
     /// It is refused, with the first that applies, by `UnknownActor`, `BadArguments`, `Old`, `Closed`, `Full` and `HistoryFull`, and
-    /// by `NoMemory` if memory ran out. If it is accepted, one worker that waits is woken.
+    /// by `NoMemory` if memory ran out. If it is accepted, one worker that sleeps is woken, and one that rests.
     pub fn post<R: Wait>(
         &mut self,
         rt: &R,

@@ -220,8 +220,8 @@ impl<K: Naming> Seats<K> {
     }
 
     /// Commits all claims, and looks for the next ones, all in one hold. `rests` says that the worker is to take none. Otherwise one
-    /// seat at least goes on if an actor is ready behind the last commit, unless memory or the history ran out, and all do if
-    /// `are_several` says so and no worker is idle.
+    /// seat at least goes on if an actor is ready behind the last commit, unless memory or the history ran out or the workers are to end,
+    /// and all do if `are_several` says so and no worker is idle.
     pub(crate) fn turn_over<M: Mailbox>(
         &mut self,
         alloc: Global,

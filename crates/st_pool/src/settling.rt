@@ -155,7 +155,7 @@ impl<K: Naming, M: Mailbox> Office<K, M> {
 /// unless a checkpoint of these callers has emptied its item; and of the emptied items no more belong to receipts than are posts.
 ///
 /// It is refused by `BadArguments` if not all shares that were given out are here, and then by `Changed` if the message of a receipt is
-/// not there. The image and the shares are spent either way.
+/// not there, or more receipts have emptied items than posts were emptied. The image and the shares are spent either way.
 pub fn settle_image<K: Naming, M: Mailbox>(
     shared: Shared<K, M>,
     shares: Shares<K>,

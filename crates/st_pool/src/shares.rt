@@ -44,13 +44,6 @@ impl<K: Naming> CallerShare<K> {
     {
         self.edits
     }
-
-    /// How many items of histories were emptied.
-    pub fn emptied(&self) -> u64
-        ensures { result ≡ self.now.emptied }
-    {
-        self.emptied
-    }
 }
 
 /// What a worker has done. Contracts see the steps that it committed.

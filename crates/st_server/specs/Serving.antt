@@ -10,7 +10,8 @@ use Rattle.st_pool.specs.declared.totals.Totals.{Totals}
 abbrev pub AreInRange : ℕ → Option ℕ → Type 0
 AreInRange workers sessions = (1 ≤ workers) × (workers ≤ 16) × IfSome sessions (λ n. (1 ≤ n) × (n ≤ 1000000))
 
--- the totals are the sums of what callers and this many workers have done, and these callers' receipts stand in the image
+-- The totals are the sums of what some callers and this many workers have done, and these callers' receipts stand in the image. It does
+-- not say that they are the callers of the sessions, and any totals have such callers.
 abbrev pub AreSumsOver : ℕ → ImageView → Totals → Type 0
 AreSumsOver workers i t = (callers : List Done) × (steps : List ℕ) × (length steps ≡ workers)
     × AreSums t callers steps

@@ -35,6 +35,9 @@ begins_then es fs gs (more, h) (rest, k) = (more ++ rest, k ∙ ap (λ (l : List
 pub goes_same : (i : ImageView) → GoesOnIn i i
 goes_same i = record { edits = ([], sym (append-nil (world i).edits)); bodies = last_as_before i i refl refl refl }
 
+pub goes_by : (i j : ImageView) → i ≡ j → GoesOnIn i j
+goes_by i j e = subst (GoesOnIn i) e (goes_same i)
+
 pub goes_then : (i j k : ImageView) → GoesOnIn i j → GoesOnIn j k → GoesOnIn i k
 goes_then i j k p q = record {
   edits = begins_then (world i).edits (world j).edits (world k).edits p.edits q.edits;

@@ -1,8 +1,8 @@
 -- That the books keep up with what an image counts.
 use Rattle.std.proofs.Common.{◌≡◌, ℕ, ◌+◌, ap, arith}
 use Rattle.st_image.specs.Images.{ImageView}
-use Rattle.st_pool.specs.Counts.{Amounts}
-use Rattle.st_pool.specs.Books.{BooksView, Grows, Kept}
+use Rattle.st_calls.specs.Growth.{Amounts, Grows}
+use Rattle.st_pool.specs.Books.{BooksView, Kept}
 
 -- books that take what a call adds keep up
 pub kept_on : (start : Amounts) (i j : ImageView) (b c : BooksView) (posts edits steps : ℕ) → Kept start i b → Grows posts edits steps i j → c.posts ≡ b.posts + posts → c.edits ≡ b.edits + edits → c.steps ≡ b.steps + steps → Kept start j c

@@ -8,15 +8,15 @@ use Rattle.st_turn.specs.Claims.{ClaimView}
 use Rattle.st_image.specs.declared.items.Item.{Item}
 use Rattle.st_image.specs.declared.items.Item.TheVariants.{Posted}
 use Rattle.st_image.specs.Images.{ImageView}
-use Rattle.st_image.specs.Calls.{Posts}
 use Rattle.st_image.specs.Commits.{ChecksOut, Settles}
+use Rattle.st_image.specs.GoingOn.{GoesOnIn}
 use Rattle.st_image.specs.Scheduling.{IsNextReady, is_free_at}
 use Rattle.st_image.specs.WorldInvariant.{IsLawful}
 use Rattle.st_pool.specs.declared.office.Work.{Work}
 use Rattle.st_pool.specs.declared.office.Work.TheVariants.{Stop, Wait, Turn}
 use Rattle.st_pool.specs.declared.receipts.Receipt.{Receipt}
 use Rattle.st_pool.specs.Books.{BooksView}
-use Rattle.st_pool.specs.Counts.{Amounts, amounts}
+use Rattle.st_calls.specs.Growth.{Amounts, amounts}
 
 -- the edits that were accepted, a receipt for each post that was, and how many items of histories its checkpoints have emptied
 pub record Done : Type 0 where
@@ -38,6 +38,13 @@ pub record HasAtLeast (start : Amounts) (done : Done) (i : ImageView) : Type 0 w
   pub posts : start.posts + length done.receipts ≤ (amounts i).posts
   pub edits : start.edits + done.edits ≤ (amounts i).edits
 
+-- What a hold of a caller finds: an image that has at least what it has done, and that goes on from the one that was shared; and of
+-- the items that were emptied at least those that its own checkpoints have emptied
+pub record Finds (start : Amounts) (first : ImageView) (d : Done) (o : OfficeView) : Type 0 where
+  pub least : HasAtLeast start d o.image
+  pub later : GoesOnIn first o.image
+  pub emptied : d.emptied ≤ o.books.emptied
+
 -- The place of a receipt counts the items that checkpoints have emptied: its item is among them, or its message stands in the
 -- history at its place behind them.
 abbrev pub StandsIn : ℕ → List Item → Receipt → Type 0
@@ -50,14 +57,6 @@ Stands emptied i r = StandsIn emptied i.history r
 
 abbrev pub receipt : ℕ → ActorId → Message → Receipt
 receipt place actor message = record { place = place; actor = actor; message = message }
-
--- a message is posted in one hold, and where it is accepted its receipt goes last: its place is where the history ended in that hold,
--- behind all that was emptied. Memory may run out before
-abbrev pub PostsOnce : Amounts → Done → ActorId → Message → Result ℕ Refusal → Done → Type 0
-PostsOnce start d a m result e = ((result ≡ Err NoMemory) × (e ≡ d))
-    ⊎ ((o : OfficeView) × (j : ImageView) × HasAtLeast start d o.image × Posts o.image a m result j × MatchResult result
-    (λ turn. e ≡ record d { receipts = d.receipts ++ receipt (o.books.emptied + length o.image.history) a m ∷ [] })
-    (λ f. e ≡ d))
 
 -- what a worker finds. Where it is to end, nothing has changed; nor where it is to wait, and then no actor is ready, or the next one
 -- cannot be checked out; else it has a claim of the next ready actor
@@ -81,8 +80,3 @@ pub record TurnsOver (i : ImageView) (c : ClaimView) (starved : Bool) (result : 
   pub between : ImageView
   pub settles : Settles i c result between
   pub next : MatchBool (takes_more starved result) (Takes between work j) ((moves : ℕ) × (work ≡ Wait moves) × (j ≡ between))
-
--- the steps that were committed
-abbrev pub committed : Result ℕ Refusal → ℕ
-committed (Ok n) = n
-committed (Err e) = 0

@@ -3,7 +3,7 @@ use Rattle.std.specs.Prelude.{◌≡◌, ℕ, ◌+◌, ◌-◌, ◌≤◌, List,
 use Rattle.std.specs.List.{sum_by}
 use Rattle.st_image.specs.Counts.{posts_of, weigh}
 use Rattle.st_image.specs.Images.{ImageView}
-use Rattle.st_pool.specs.Counts.{Amounts, amounts}
+use Rattle.st_calls.specs.Growth.{Amounts, amounts}
 use Rattle.st_pool.specs.Books.{BooksView}
 use Rattle.st_pool.specs.Done.{Done, Stands}
 use Rattle.st_pool.specs.declared.receipts.Receipt.{Receipt}

@@ -9,6 +9,7 @@ use crate::naming::{Edits, Emptied, Naming, Posts, Steps};
 use crate::receipts::Receipt;
 use crate::shares::{CallerShare, WorkerShare};
 use crate::totals::Totals;
+use st_calls::calls::Answer;
 use st_classes::refusals::Refusal;
 use std::alloc::Global;
 use std::marker::Model;
@@ -151,8 +152,9 @@ fn gather_workers<K: Naming>(
 
 impl<K: Naming> Books<K> {
     ghost use Rattle.std.specs.Prelude.{◌≡◌, ◌+◌, ◌<◌, ◌≤◌, ◌^◌, length, vec_len, is_ok};
-    ghost use Rattle.st_pool.specs.Books.{counted, no_books};
-    ghost use Rattle.st_pool.specs.Done.{committed, nothing_done};
+    ghost use Rattle.st_calls.specs.Growth.{committed, counted, edits_by};
+    ghost use Rattle.st_pool.specs.Books.{no_books};
+    ghost use Rattle.st_pool.specs.Done.{nothing_done};
     ghost use Rattle.std.specs.List.{sum_by};
     ghost use Rattle.st_image.specs.Counts.{most_counted};
     ghost use Rattle.st_pool.specs.Settled.{AreSums, emptied_by, gone as gone_of};
@@ -253,11 +255,11 @@ impl<K: Naming> Books<K> {
         &mut self,
         posted: &mut Share<Posts<K>>,
         edited: &mut Share<Edits<K>>,
-        answer: &Result<u64, Refusal>,
+        is_accepted: bool,
     )
         requires some { (0 < posted.old.parts) × (0 < edited.old.parts) }
-        ensures books { self.new ≡ record self.old { posts = self.old.posts + counted (is_ok answer.now) } }
-        ensures amount { posted.new.amount ≡ posted.old.amount + counted (is_ok answer.now) }
+        ensures books { self.new ≡ record self.old { posts = self.old.posts + counted is_accepted } }
+        ensures amount { posted.new.amount ≡ posted.old.amount + counted is_accepted }
         ensures parts { posted.new.parts ≡ posted.old.parts }
         ensures same { (edited.new.amount ≡ edited.old.amount) × (edited.new.parts ≡ edited.old.parts) }
         ensures posts { posted.old.amount ≤ self.old.posts }
@@ -265,21 +267,21 @@ impl<K: Naming> Books<K> {
     {
         self.posts.audit(posted);
         self.edits.audit(edited);
-        if answer.is_ok() {
+        if is_accepted {
             self.posts.add(posted, 1);
         }
     }
 
-    /// Books an edit if it was accepted.
-    pub(crate) fn edit(&mut self, mine: &mut CallerShare<K>, answer: &Result<u32, Refusal>)
+    /// Books an edit if the answer tells of one.
+    pub(crate) fn edit(&mut self, mine: &mut CallerShare<K>, answer: &Result<Answer, Refusal>)
         requires { self.old.edits < 2 ^ 63 }
-        ensures books { self.new ≡ record self.old { edits = self.old.edits + counted (is_ok answer.now) } }
-        ensures share { mine.new ≡ record mine.old { edits = mine.old.edits + counted (is_ok answer.now) } }
+        ensures books { self.new ≡ record self.old { edits = self.old.edits + edits_by answer.now } }
+        ensures share { mine.new ≡ record mine.old { edits = mine.old.edits + edits_by answer.now } }
         ensures within { mine.old.edits ≤ self.old.edits }
     {
         let CallerShare { edits, edited, .. } = mine;
         self.edits.audit(edited);
-        if answer.is_ok() {
+        if let Ok(Answer::Version(_)) = answer {
             self.edits.add(edited, 1);
             *edits += 1;
         }
@@ -323,10 +325,17 @@ impl<K: Naming> Books<K> {
         ensures share { mine.new ≡ mine.old }
         ensures posts { length mine.old.receipts ≤ self.old.posts }
         ensures edits { mine.old.edits ≤ self.old.edits }
+        ensures emptied { mine.old.emptied ≤ self.old.emptied }
     {
-        let CallerShare { posted, edited, .. } = mine;
+        let CallerShare {
+            posted,
+            edited,
+            cleared,
+            ..
+        } = mine;
         self.posts.audit(posted);
         self.edits.audit(edited);
+        self.cleared.audit(cleared);
     }
 
     /// The books have at least what a worker has done.

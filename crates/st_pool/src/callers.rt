@@ -1,32 +1,32 @@
 //! Callers: who posts and edits, by one hold of the lock a call.
-ghost use Rattle.std.specs.Prelude.{◌≡◌, ◌+◌, IfOk, is_ok};
+ghost use Rattle.std.specs.Prelude.{◌≡◌, ◌+◌, is_ok};
 ghost use Rattle.std.specs.Borrow.{Bor};
 ghost use Rattle.std.specs.Fn.{FnOnceReturnsAt};
 ghost use Rattle.st_classes.specs.Refusals.{first_of};
-ghost use Rattle.st_image.specs.Calls.{AnswersExactly, Closes, Creates, Defines, InstallsIn, Interns, Removes, Reparents};
+ghost use Rattle.st_image.specs.Calls.{AnswersExactly, Creates, Defines};
+ghost use Rattle.st_image.specs.GoingOn.{GoesOnIn};
 ghost use Rattle.st_image.specs.Images.{ImageView, world};
 ghost use Rattle.st_image.specs.Outcomes.{image_outcome};
 ghost use Rattle.st_image.specs.PostRules.{from_client};
 ghost use Rattle.st_image.specs.Stats.{installed_own, method_stats, stats_rules};
-ghost use Rattle.st_pool.specs.Books.{counted};
-ghost use Rattle.st_pool.specs.Checkpointed.{Checkpoints, with_checkpoint};
-ghost use Rattle.st_pool.specs.Done.{HasAtLeast, OfficeView, PostsOnce};
+ghost use Rattle.st_calls.specs.Growth.{counted};
+ghost use Rattle.st_pool.specs.Calling.{CallsOnce, PostsOnce, created_in, position_in, version_in};
+ghost use Rattle.st_pool.specs.Done.{Finds, HasAtLeast, OfficeView};
 
+use crate::holds::{Calling, Job};
 use crate::naming::Naming;
-use crate::receipts::Receipt;
 use crate::shared::Shared;
 use crate::shares::CallerShare;
+use st_calls::calls::{Answer, Call};
 use st_classes::refusals::Refusal;
 use st_classes::seq::Seq;
 use st_classes::values::{ActorId, ClassId, Selector, Values};
-use st_image::counts::Counts;
 use st_image::image::Image;
 use st_image::tallies::SiteStats;
 use st_mailbox::mailboxes::Mailbox;
-use st_mailbox::messages::{Message, Sender};
 use st_mailbox::ring_box::RingBox;
 use st_turn::body::Outcome;
-use std::alloc::{AllocError, Global};
+use std::alloc::Global;
 use std::marker::Model;
 use std::sync::Wait;
 
@@ -49,11 +49,37 @@ impl<'a, K: Naming, M: Mailbox> Model for Caller<'a, K, M> {
     ghost view = { λ s. s.share };
 }
 
-/// A copy of arguments.
-fn copied(alloc: Global, args: &Values) -> Result<Values, AllocError>
-    ensures { IfOk result (λ v. v ≡ args.now) }
+/// The version that a call answered.
+fn version(answer: Result<Answer, Refusal>) -> Result<u32, Refusal>
+    ensures { result ≡ version_in answer }
 {
-    Ok(Seq::from_vec(args.as_slice().to_vec(alloc)?))
+    match answer {
+        Ok(Answer::Version(edits)) => Ok(edits),
+        Ok(_) => Err(Refusal::BadCommand),
+        Err(refusal) => Err(refusal),
+    }
+}
+
+/// The number of a turn that a call answered.
+fn position(answer: Result<Answer, Refusal>) -> Result<u64, Refusal>
+    ensures { result ≡ position_in answer }
+{
+    match answer {
+        Ok(Answer::Position(turn)) => Ok(turn),
+        Ok(_) => Err(Refusal::BadCommand),
+        Err(refusal) => Err(refusal),
+    }
+}
+
+/// The actor that a call answered.
+fn created(answer: Result<Answer, Refusal>) -> Result<ActorId, Refusal>
+    ensures { result ≡ created_in answer }
+{
+    match answer {
+        Ok(Answer::Created(actor)) => Ok(actor),
+        Ok(_) => Err(Refusal::BadCommand),
+        Err(refusal) => Err(refusal),
+    }
 }
 
 impl<'a, K: Naming, M: Mailbox> Caller<'a, K, M> {
@@ -64,26 +90,34 @@ impl<'a, K: Naming, M: Mailbox> Caller<'a, K, M> {
         Caller { shared, share }
     }
 
-    /// Interns a text: the answer is its number. It is refused by `BadName` if the text is no selector, and by `TooMany` names if it
-    /// is new and there are 8,192.
-    pub fn intern<R: Wait>(
-        &mut self,
-        rt: &R,
-        alloc: Global,
-        text: &[u8],
-    ) -> Result<Selector, Refusal>
-        ensures same { self.new ≡ self.old }
-        ensures answers { (i : ImageView) × (j : ImageView) × HasAtLeast K.start self.old i × Interns i text.now result j }
+    /// Does something in one hold of the lock. The image is lawful then and has at least what this caller has done.
+    pub fn hold<R: Wait, J: Job<K, M>>(&mut self, rt: &R, alloc: Global, job: J) -> J::Out
+        ensures { (o : OfficeView) × (p : OfficeView) × Finds K.start K.first self.old o × J.done job o self.old result p self.new }
     {
         let Caller { shared, share } = self;
         let mut office = shared.enter(rt);
         office.audit(share);
-        office.intern(alloc, text)
+        let out = job.run(alloc, &mut office, share);
+        drop(office);
+        out
+    }
+
+    /// Something has moved: workers that sleep or rest are woken.
+    pub fn wake(&self) {
+        self.shared.wake();
+    }
+
+    /// Makes a call of the image, in one hold. Workers that sleep or rest are woken.
+    pub fn call<R: Wait>(&mut self, rt: &R, alloc: Global, call: Call) -> Result<Answer, Refusal>
+        ensures { CallsOnce K.start K.first self.old call result self.new }
+    {
+        let answer = self.hold(rt, alloc, Calling { call });
+        self.shared.wake();
+        answer
     }
 
     /// Posts a message of a client, and answers the number of its turn: its place, from 1, among what waited in the actor's mailbox at
-    /// the last checkpoint and what it accepted since. If it is accepted, its receipt is added last. The room for the receipt and its
-    /// copy of the arguments are made before the lock is taken.
+    /// the last checkpoint and what it accepted since. If it is accepted, its receipt is added last.
     ///
     /// It is refused, with the first that applies, by `UnknownActor`, `BadArguments`, `Old`, `Closed`, `Full` and `HistoryFull`, and
     /// by `NoMemory` if memory ran out. If it is accepted, one worker that sleeps is woken, and one that rests.
@@ -97,36 +131,20 @@ impl<'a, K: Naming, M: Mailbox> Caller<'a, K, M> {
         selector: Selector,
         args: Values,
     ) -> Result<u64, Refusal>
-        ensures { PostsOnce K.start self.old actor (from_client sender seq selector args) result self.new }
+        ensures { PostsOnce K.start K.first self.old actor (from_client sender seq selector args) result self.new }
     {
-        let Caller { shared, share } = self;
-        let CallerShare {
-            receipts,
-            posted,
-            edited,
-            ..
-        } = share;
-        let copy = copied(alloc, &args)?;
-        receipts.reserve(1)?;
-        let (answer, place) = shared
-            .enter(rt)
-            .post(alloc, posted, edited, sender, seq, actor, selector, args);
-        let turn = match answer {
-            Ok(turn) => turn,
-            Err(refusal) => return Err(refusal),
-        };
-        shared.wake();
-        receipts.push_reserved(Receipt {
-            place,
-            actor,
-            message: Message {
-                sender: Sender::Client(sender),
+        let answer = self.call(
+            rt,
+            alloc,
+            Call::Post {
+                sender,
                 seq,
+                actor,
                 selector,
-                args: copy,
+                args,
             },
-        });
-        Ok(turn)
+        );
+        position(answer)
     }
 
     /// Defines a class, and answers the version: the number of edits in the class table.
@@ -134,80 +152,23 @@ impl<'a, K: Naming, M: Mailbox> Caller<'a, K, M> {
         &mut self,
         rt: &R,
         alloc: Global,
-        name: &[u8],
+        name: Seq<u8>,
         parent: ClassId,
         slots: Seq<Seq<u8>>,
     ) -> Result<u32, Refusal>
         ensures edits { self.new ≡ record self.old { edits = self.old.edits + counted (is_ok result) } }
-        ensures answers { (i : ImageView) × (j : ImageView) × HasAtLeast K.start self.old i × Defines i name.now parent slots result j }
+        ensures answers { (i : ImageView) × (j : ImageView) × HasAtLeast K.start self.old i × Defines i name parent slots result j }
     {
-        let Caller { shared, share } = self;
-        let mut office = shared.enter(rt);
-        office.audit(share);
-        let answer = office.define(alloc, share, name, parent, slots);
-        drop(office);
-        shared.wake();
-        answer
-    }
-
-    /// Compiles a method and installs it, and answers the version. A refused source may leave names (`InstallsIn`).
-    pub fn install<R: Wait>(
-        &mut self,
-        rt: &R,
-        alloc: Global,
-        class: ClassId,
-        source: &[u8],
-    ) -> Result<u32, Refusal>
-        ensures edits { self.new ≡ record self.old { edits = self.old.edits + counted (is_ok result) } }
-        ensures answers { (i : ImageView) × (j : ImageView) × HasAtLeast K.start self.old i × InstallsIn i class source.now result j }
-    {
-        let Caller { shared, share } = self;
-        let mut office = shared.enter(rt);
-        office.audit(share);
-        let answer = office.install(alloc, share, class, source);
-        drop(office);
-        shared.wake();
-        answer
-    }
-
-    /// Removes a method, and answers the version.
-    pub fn remove<R: Wait>(
-        &mut self,
-        rt: &R,
-        alloc: Global,
-        class: ClassId,
-        selector: Selector,
-    ) -> Result<u32, Refusal>
-        ensures edits { self.new ≡ record self.old { edits = self.old.edits + counted (is_ok result) } }
-        ensures answers { (i : ImageView) × (j : ImageView) × HasAtLeast K.start self.old i × Removes i class selector result j }
-    {
-        let Caller { shared, share } = self;
-        let mut office = shared.enter(rt);
-        office.audit(share);
-        let answer = office.remove(alloc, share, class, selector);
-        drop(office);
-        shared.wake();
-        answer
-    }
-
-    /// Puts a class under another superclass, and answers the version.
-    pub fn reparent<R: Wait>(
-        &mut self,
-        rt: &R,
-        alloc: Global,
-        class: ClassId,
-        parent: ClassId,
-    ) -> Result<u32, Refusal>
-        ensures edits { self.new ≡ record self.old { edits = self.old.edits + counted (is_ok result) } }
-        ensures answers { (i : ImageView) × (j : ImageView) × HasAtLeast K.start self.old i × Reparents i class parent result j }
-    {
-        let Caller { shared, share } = self;
-        let mut office = shared.enter(rt);
-        office.audit(share);
-        let answer = office.reparent(alloc, share, class, parent);
-        drop(office);
-        shared.wake();
-        answer
+        let answer = self.call(
+            rt,
+            alloc,
+            Call::Define {
+                name,
+                parent,
+                slots,
+            },
+        );
+        version(answer)
     }
 
     /// Makes an actor of a class, and answers its number, from 0.
@@ -220,44 +181,8 @@ impl<'a, K: Naming, M: Mailbox> Caller<'a, K, M> {
         ensures same { self.new ≡ self.old }
         ensures answers { (i : ImageView) × (j : ImageView) × HasAtLeast K.start self.old i × Creates i class result j }
     {
-        let Caller { shared, share } = self;
-        let mut office = shared.enter(rt);
-        office.audit(share);
-        let answer = office.create(alloc, class);
-        drop(office);
-        shared.wake();
-        answer
-    }
-
-    /// Closes a mailbox. The messages that wait in it are still run.
-    pub fn close<R: Wait>(&mut self, rt: &R, actor: ActorId) -> Result<(), Refusal>
-        ensures same { self.new ≡ self.old }
-        ensures answers { (i : ImageView) × (j : ImageView) × HasAtLeast K.start self.old i × Closes i actor result j }
-    {
-        let Caller { shared, share } = self;
-        let mut office = shared.enter(rt);
-        office.audit(share);
-        let answer = office.close(actor);
-        drop(office);
-        shared.wake();
-        answer
-    }
-
-    /// The present world becomes the base of the image: its history is emptied, and how turns ended and the statistics are forgotten.
-    /// The answer is how many posts and steps the image has counted, which a checkpoint does not change.
-    ///
-    /// It is refused by `HistoryFull` if more than 2^63 - 1 items would have been emptied since the image was shared, and by `NoMemory`
-    /// if memory ran out. A refused checkpoint changes nothing. Workers that waited for room in the history go on.
-    pub fn checkpoint<R: Wait>(&mut self, rt: &R, alloc: Global) -> Result<Counts, Refusal>
-        ensures { (o : OfficeView) × (p : OfficeView) × HasAtLeast K.start self.old o.image × Checkpoints o result p × (self.new ≡ with_checkpoint o result self.old) }
-    {
-        let Caller { shared, share } = self;
-        let mut office = shared.enter(rt);
-        office.audit(share);
-        let answer = office.checkpoint(alloc, share);
-        drop(office);
-        shared.wake();
-        answer
+        let answer = self.call(rt, alloc, Call::Create(class));
+        created(answer)
     }
 
     /// How a turn of an actor ended. It is refused by `Pending` if the turn has not ended, and by `Expired` if its outcome is no
@@ -310,7 +235,7 @@ impl<'a, K: Naming> Caller<'a, K, RingBox> {
     pub fn look<R: Wait, T, F: FnOnce(&Image<RingBox>) -> T>(&mut self, rt: &R, f: F) -> T
         requires { (i : Bor ImageView) → HasAtLeast K.start self.old i.now → F.pre f i }
         ensures same { self.new ≡ self.old }
-        ensures looks { (i : ImageView) × HasAtLeast K.start self.old i × FnOnceReturnsAt F.FnOnce f i result }
+        ensures looks { (i : ImageView) × HasAtLeast K.start self.old i × GoesOnIn K.first i × FnOnceReturnsAt F.FnOnce f i result }
     {
         let Caller { shared, share } = self;
         let mut office = shared.enter(rt);

@@ -8,13 +8,13 @@
 
 pub mod books;
 pub mod callers;
-pub(crate) mod calls;
 pub(crate) mod crowding;
 pub mod front;
 pub mod hand;
 pub mod held;
 pub mod naming;
-pub(crate) mod office;
+pub mod holds;
+pub mod office;
 pub mod receipts;
 mod seats;
 pub mod settling;

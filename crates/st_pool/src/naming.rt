@@ -7,7 +7,8 @@ use std::sync::ledger::Ledger;
 pub trait Naming {
     ghost use Rattle.std.specs.Prelude.{ℕ};
     ghost use Rattle.logbook.specs.Pages.{Book};
-    ghost use Rattle.st_pool.specs.Counts.{Amounts};
+    ghost use Rattle.st_calls.specs.Growth.{Amounts};
+    ghost use Rattle.st_image.specs.Images.{ImageView};
 
     ghost posts: { ℕ };
 
@@ -19,10 +20,14 @@ pub trait Naming {
 
     ghost start: { Amounts };
 
+    ghost first: { ImageView };
+
     ghost book: { Book };
 }
 
 impl Naming for Brand {
+    ghost use Rattle.st_image.specs.Images.{new_image};
+
     ghost posts = { 0 };
 
     ghost edits = { 0 };
@@ -32,6 +37,8 @@ impl Naming for Brand {
     ghost emptied = { 0 };
 
     ghost start = { record { posts = 0; edits = 0; steps = 0 } };
+
+    ghost first = { new_image (record { capacity = 1; history = 1 }) };
 
     ghost book = { record { number = 0; log_name = 0; cells_name = 0 } };
 }

@@ -1,5 +1,5 @@
 //! What lies under the lock: an image beside its books. Each call of a caller, and each hold of a worker, is one method here.
-ghost use Rattle.std.specs.Prelude.{◌≡◌};
+ghost use Rattle.std.specs.Prelude.{◌≡◌, IfOk};
 ghost use Rattle.std.specs.Option.{IfSome};
 ghost use Rattle.st_classes.specs.declared.refusals.Refusal.TheVariants as refusals;
 ghost use Rattle.st_classes.specs.declared.refusals.Limited.TheVariants as limits;
@@ -7,22 +7,26 @@ ghost use Rattle.st_pool.specs.Done.{takes_more as takes_more_of};
 ghost use Rattle.st_pool.specs.Seen.{Ends, MayFollow};
 
 use crate::books::{Blanks, Books, PARTS};
-use crate::calls;
 use crate::front::{Front, Head, Opened, again, precedes};
 use crate::held::Held;
-use crate::naming::{Edits, Naming, Posts};
+use crate::naming::Naming;
+use crate::receipts::Receipt;
 use crate::shares::{CallerShare, WorkerShare};
 use crate::waiting::Waiting;
+use st_calls::applying::apply;
+use st_calls::calls::{Answer, Call};
+use st_calls::claims;
+use st_calls::holders::Holder;
 use st_classes::refusals::{Limited, Refusal};
 use st_classes::seq::Seq;
-use st_classes::values::{ActorId, ClassId, Selector, Values};
-use st_image::counts::{Counts, MOST_COUNTED};
+use st_classes::values::{ActorId, Selector, Values};
+use st_image::counts::MOST_COUNTED;
 use st_image::image::Image;
 use st_image::leavings::Leavings;
 use st_mailbox::mailboxes::Mailbox;
-use std::alloc::Global;
+use st_mailbox::messages::{Message, Sender};
+use std::alloc::{AllocError, Global};
 use std::marker::Model;
-use std::sync::ledger::Share;
 
 /// What a worker finds under the lock.
 #[derive(Drop)]
@@ -57,7 +61,9 @@ impl<K: Naming, M: Mailbox> Model for Office<K, M> {
 
     ghost view = { λ o. record { image = o.image; books = o.books } };
 
-    ghost invariant = { λ o. Kept K.start o.image o.books × IfSome o.front (λ l. MayFollow l o.image) };
+    ghost use Rattle.st_image.specs.GoingOn.{GoesOnIn};
+
+    ghost invariant = { λ o. Kept K.start o.image o.books × IfSome o.front (λ l. MayFollow l o.image) × GoesOnIn K.first o.image };
 }
 
 /// Adds an image as the last of those that were seen, if they are known.
@@ -72,6 +78,13 @@ fn note<K: Naming, M: Mailbox>(head: &Head<K>, front: &mut Option<Front<K>>, ima
     if !is_noted {
         *front = None;
     }
+}
+
+/// A copy of arguments.
+fn copied(alloc: Global, args: &Values) -> Result<Values, AllocError>
+    ensures { IfOk result (λ v. v ≡ args.now) }
+{
+    Ok(Seq::from_vec(args.as_slice().to_vec(alloc)?))
 }
 
 /// Whether steps were committed.
@@ -100,17 +113,18 @@ pub(crate) fn goes_on<T>(work: &Work<T>) -> bool {
 }
 
 impl<K: Naming, M: Mailbox> Office<K, M> {
-    ghost use Rattle.std.specs.Prelude.{◌≡◌, ◌+◌, ◌<◌, ◌≤◌, ◌^◌, length, OnOk, OnErr, IfOk, IfErr, is_ok};
-    ghost use Rattle.st_image.specs.Calls.{Closes, Creates, Defines, InstallsIn, Interns, Posts as PostsMessage, Removes, Reparents};
+    ghost use Rattle.std.specs.Prelude.{◌≡◌, ◌+◌, ◌≤◌, true, OnOk, OnErr, IfOk, IfErr};
     ghost use Rattle.st_image.specs.Commits.{ChecksOut, Settles};
-    ghost use Rattle.st_image.specs.PostRules.{from_client};
+    ghost use Rattle.st_image.specs.GoingOn.{GoesOnIn};
     ghost use Rattle.st_image.specs.WorldInvariant.{IsLawful};
-    ghost use Rattle.st_pool.specs.Books.{counted, no_books};
-    ghost use Rattle.st_pool.specs.Checkpointed.{Checkpoints, with_checkpoint};
-    ghost use Rattle.st_pool.specs.Counts.{amounts};
-    ghost use Rattle.st_pool.specs.Done.{HasAtLeast, Takes, TurnsOver, committed, nothing_done};
+    ghost use Rattle.st_calls.specs.declared.calls.Call.TheVariants as calls;
+    ghost use Rattle.st_pool.specs.Books.{no_books};
+    ghost use Rattle.st_pool.specs.Calling.{PoolCalls, is_plain};
+    ghost use Rattle.st_calls.specs.Growth.{amounts, committed};
+    ghost use Rattle.st_pool.specs.Done.{HasAtLeast, Takes, TurnsOver, nothing_done};
 
     /// The image with empty books.
+    #[tactic(auto, using(crate::proofs::Fronts::goes_by))]
     pub(crate) fn new(image: Image<M>, blanks: Blanks, opened: Opened) -> Office<K, M>
         requires posts { blanks.posts.name ≡ K.posts }
         requires edits { blanks.edits.name ≡ K.edits }
@@ -118,6 +132,7 @@ impl<K: Naming, M: Mailbox> Office<K, M> {
         requires emptied { blanks.emptied.name ≡ K.emptied }
         requires book { opened.seen.book ≡ K.book }
         requires start { K.start ≡ amounts image }
+        requires first { K.first ≡ image }
         ensures { result ≡ record { image = image; books = no_books } }
     {
         let books = Books::open(blanks);
@@ -168,169 +183,126 @@ impl<K: Naming, M: Mailbox> Office<K, M> {
         Ok(self.books.employ())
     }
 
-    /// Posts a message for the holder of a share, and answers its turn and the place of its item.
-    pub(crate) fn post(
+    /// Posts a message, and adds its receipt if it is accepted.
+    #[tactic(auto, using(crate::proofs::Fronts::goes_by))]
+    fn post(
         &mut self,
         alloc: Global,
-        posted: &mut Share<Posts<K>>,
-        edited: &mut Share<Edits<K>>,
+        mine: &mut CallerShare<K>,
         sender: u16,
         seq: u64,
         actor: ActorId,
         selector: Selector,
         args: Values,
-    ) -> (Result<u64, Refusal>, u64)
-        requires some { (0 < posted.old.parts) × (0 < edited.old.parts) }
-        ensures posts { PostsMessage self.old.image actor (from_client sender seq selector args) result.0 self.new.image }
-        ensures books { self.new.books ≡ record self.old.books { posts = self.old.books.posts + counted (is_ok result.0) } }
-        ensures place { result.1 ≡ self.old.books.emptied + length self.old.image.history }
-        ensures amount { posted.new.amount ≡ posted.old.amount + counted (is_ok result.0) }
-        ensures parts { posted.new.parts ≡ posted.old.parts }
-        ensures same { (edited.new.amount ≡ edited.old.amount) × (edited.new.parts ≡ edited.old.parts) }
-        ensures lawful { IsLawful self.old.image }
-        ensures has_posts { K.start.posts + posted.old.amount ≤ (amounts self.old.image).posts }
-        ensures has_edits { K.start.edits + edited.old.amount ≤ (amounts self.old.image).edits }
+    ) -> Result<Answer, Refusal>
+        ensures calls { PoolCalls self.old mine.old (calls.Post sender seq actor selector args) result self.new mine.new }
+        ensures later { GoesOnIn self.old.image self.new.image }
     {
-        self.image.known();
+        let CallerShare {
+            receipts,
+            posted,
+            edited,
+            ..
+        } = mine;
+        let copy = copied(alloc, &args)?;
+        receipts.reserve(1)?;
         let place = self.books.emptied() + self.image.history().len() as u64;
-        let answer = calls::post(alloc, &mut self.image, sender, seq, actor, selector, args);
-        self.waiting.note_post(answer.is_ok());
-        self.books.post(posted, edited, &answer);
-        (answer, place)
-    }
-
-    /// Interns a text. It wakes no worker, so it is not counted as a move.
-    pub(crate) fn intern(&mut self, alloc: Global, text: &[u8]) -> Result<Selector, Refusal>
-        ensures interns { Interns self.old.image text.now result self.new.image }
-        ensures books { self.new.books ≡ self.old.books }
-    {
-        calls::intern(alloc, &mut self.image, text)
-    }
-
-    /// Defines a class for a caller.
-    pub(crate) fn define(
-        &mut self,
-        alloc: Global,
-        mine: &mut CallerShare<K>,
-        name: &[u8],
-        parent: ClassId,
-        slots: Seq<Seq<u8>>,
-    ) -> Result<u32, Refusal>
-        ensures defines { Defines self.old.image name.now parent slots result self.new.image }
-        ensures books { self.new.books ≡ record self.old.books { edits = self.old.books.edits + counted (is_ok result) } }
-        ensures share { mine.new ≡ record mine.old { edits = mine.old.edits + counted (is_ok result) } }
-        ensures within { K.start.edits + mine.old.edits ≤ (amounts self.old.image).edits }
-    {
-        self.waiting.note_move();
-        self.image.known();
-        self.image.version().known();
-        let answer = calls::define(alloc, &mut self.image, name, parent, slots);
-        self.books.edit(mine, &answer);
+        let answer = apply(
+            alloc,
+            &mut self.image,
+            Call::Post {
+                sender,
+                seq,
+                actor,
+                selector,
+                args,
+            },
+        );
+        let is_accepted = answer.is_ok();
+        self.waiting.note_post(is_accepted);
+        self.books.post(posted, edited, is_accepted);
+        if is_accepted {
+            receipts.push_reserved(Receipt {
+                place,
+                actor,
+                message: Message {
+                    sender: Sender::Client(sender),
+                    seq,
+                    selector,
+                    args: copy,
+                },
+            });
+        }
         answer
     }
 
-    /// Installs a method for a caller.
-    pub(crate) fn install(
+    /// The present world becomes the base of the image, and its history is emptied.
+    #[tactic(auto, using(crate::proofs::Fronts::goes_by))]
+    fn checkpoint(
         &mut self,
         alloc: Global,
         mine: &mut CallerShare<K>,
-        class: ClassId,
-        source: &[u8],
-    ) -> Result<u32, Refusal>
-        ensures installs { InstallsIn self.old.image class source.now result self.new.image }
-        ensures books { self.new.books ≡ record self.old.books { edits = self.old.books.edits + counted (is_ok result) } }
-        ensures share { mine.new ≡ record mine.old { edits = mine.old.edits + counted (is_ok result) } }
-        ensures within { K.start.edits + mine.old.edits ≤ (amounts self.old.image).edits }
-    {
-        self.waiting.note_move();
-        self.image.known();
-        self.image.version().known();
-        let answer = calls::install(alloc, &mut self.image, class, source);
-        self.books.edit(mine, &answer);
-        answer
-    }
-
-    /// Removes a method for a caller.
-    pub(crate) fn remove(
-        &mut self,
-        alloc: Global,
-        mine: &mut CallerShare<K>,
-        class: ClassId,
-        selector: Selector,
-    ) -> Result<u32, Refusal>
-        ensures removes { Removes self.old.image class selector result self.new.image }
-        ensures books { self.new.books ≡ record self.old.books { edits = self.old.books.edits + counted (is_ok result) } }
-        ensures share { mine.new ≡ record mine.old { edits = mine.old.edits + counted (is_ok result) } }
-        ensures within { K.start.edits + mine.old.edits ≤ (amounts self.old.image).edits }
-    {
-        self.waiting.note_move();
-        self.image.known();
-        self.image.version().known();
-        let answer = calls::remove(alloc, &mut self.image, class, selector);
-        self.books.edit(mine, &answer);
-        answer
-    }
-
-    /// Puts a class under another superclass for a caller.
-    pub(crate) fn reparent(
-        &mut self,
-        alloc: Global,
-        mine: &mut CallerShare<K>,
-        class: ClassId,
-        parent: ClassId,
-    ) -> Result<u32, Refusal>
-        ensures reparents { Reparents self.old.image class parent result self.new.image }
-        ensures books { self.new.books ≡ record self.old.books { edits = self.old.books.edits + counted (is_ok result) } }
-        ensures share { mine.new ≡ record mine.old { edits = mine.old.edits + counted (is_ok result) } }
-        ensures within { K.start.edits + mine.old.edits ≤ (amounts self.old.image).edits }
-    {
-        self.waiting.note_move();
-        self.image.known();
-        self.image.version().known();
-        let answer = calls::reparent(alloc, &mut self.image, class, parent);
-        self.books.edit(mine, &answer);
-        answer
-    }
-
-    /// Makes an actor.
-    pub(crate) fn create(&mut self, alloc: Global, class: ClassId) -> Result<ActorId, Refusal>
-        ensures creates { Creates self.old.image class result self.new.image }
-        ensures books { self.new.books ≡ self.old.books }
-    {
-        self.waiting.note_move();
-        calls::create(alloc, &mut self.image, class)
-    }
-
-    /// Closes a mailbox.
-    pub(crate) fn close(&mut self, actor: ActorId) -> Result<(), Refusal>
-        ensures closes { Closes self.old.image actor result self.new.image }
-        ensures books { self.new.books ≡ self.old.books }
-    {
-        self.waiting.note_move();
-        calls::close(&mut self.image, actor)
-    }
-
-    /// The present world becomes the base of the image, and its history is emptied. The answer is what it has counted.
-    ///
-    /// It is refused by `HistoryFull` if more than 2^63 - 1 items would be emptied, and otherwise only if memory runs out. A refused
-    /// checkpoint changes nothing.
-    pub(crate) fn checkpoint(
-        &mut self,
-        alloc: Global,
-        mine: &mut CallerShare<K>,
-    ) -> Result<Counts, Refusal>
-        ensures checkpoints { Checkpoints self.old result self.new }
-        ensures share { mine.new ≡ with_checkpoint self.old result mine.old }
+    ) -> Result<Answer, Refusal>
+        ensures calls { PoolCalls self.old mine.old calls.Checkpoint result self.new mine.new }
+        ensures later { GoesOnIn self.old.image self.new.image }
     {
         self.image.known();
         let count = self.image.history().len() as u64;
         if MOST_COUNTED < self.books.emptied() + count {
             return Err(Refusal::HistoryFull);
         }
-        calls::checkpoint(alloc, &mut self.image)?;
-        self.books.empty(mine, count);
-        self.waiting.note_move();
-        Ok(self.image.counted())
+        match apply(alloc, &mut self.image, Call::Checkpoint) {
+            Ok(answer) => {
+                self.books.empty(mine, count);
+                self.waiting.note_move();
+                Ok(answer)
+            }
+            Err(refusal) => Err(refusal),
+        }
+    }
+
+    /// Makes a call that is neither a post nor a checkpoint. All but the interning of a text are counted as moves.
+    #[tactic(auto, using(crate::proofs::Fronts::goes_by))]
+    fn call(
+        &mut self,
+        alloc: Global,
+        mine: &mut CallerShare<K>,
+        call: Call,
+    ) -> Result<Answer, Refusal>
+        requires plain { is_plain call ≡ true }
+        ensures calls { PoolCalls self.old mine.old call result self.new mine.new }
+        ensures later { GoesOnIn self.old.image self.new.image }
+    {
+        let is_move = !matches!(call, Call::Intern(_));
+        self.waiting.note_post(is_move);
+        self.image.known();
+        self.image.version().known();
+        let answer = apply(alloc, &mut self.image, call);
+        self.books.edit(mine, &answer);
+        answer
+    }
+
+    /// Makes a call of the image for a caller.
+    pub fn apply(
+        &mut self,
+        alloc: Global,
+        mine: &mut CallerShare<K>,
+        call: Call,
+    ) -> Result<Answer, Refusal>
+        ensures calls { PoolCalls self.old mine.old call result self.new mine.new }
+        ensures later { GoesOnIn self.old.image self.new.image }
+    {
+        match call {
+            Call::Post {
+                sender,
+                seq,
+                actor,
+                selector,
+                args,
+            } => self.post(alloc, mine, sender, seq, actor, selector, args),
+            Call::Checkpoint => self.checkpoint(alloc, mine),
+            call => self.call(alloc, mine, call),
+        }
     }
 
     /// The image has at least what a caller has done.
@@ -338,6 +310,8 @@ impl<K: Naming, M: Mailbox> Office<K, M> {
         ensures same { self.new ≡ self.old }
         ensures share { mine.new ≡ mine.old }
         ensures least { HasAtLeast K.start mine.old self.old.image }
+        ensures first { GoesOnIn K.first self.old.image }
+        ensures emptied { mine.old.emptied ≤ self.old.books.emptied }
     {
         self.image.known();
         self.books.audit(mine);
@@ -361,7 +335,7 @@ impl<K: Naming, M: Mailbox> Office<K, M> {
         ensures takes { ChecksOut self.old.image actor result self.new.image }
         ensures books { self.new.books ≡ self.old.books }
     {
-        match calls::check_out(alloc, &mut self.image, actor, leavings) {
+        match claims::check_out(alloc, &mut self.image, actor, leavings) {
             Ok(claim) => {
                 note(&self.head, &mut self.front, &self.image);
                 Ok(Held {
@@ -416,7 +390,7 @@ impl<K: Naming, M: Mailbox> Office<K, M> {
         self.image.known();
         let is_known = precedes(&held.seen, &self.front);
         let Held { claim, seen: _ } = held;
-        let answer = calls::settle(alloc, &mut self.image, claim, is_known, leavings);
+        let answer = claims::settle(alloc, &mut self.image, claim, is_known, leavings);
         self.books.run(mine, &answer);
         self.waiting.note_commit(has_steps(&answer));
         answer
@@ -472,5 +446,28 @@ impl<K: Naming, M: Mailbox> Office<K, M> {
     /// Whether an actor is ready while a worker may be asleep.
     pub(crate) fn wants_help(&self) -> bool {
         self.waiting.has_sleepers() && self.image.next_ready().is_some()
+    }
+}
+
+impl<K: Naming, M: Mailbox> Holder<M> for Office<K, M> {
+    ghost use Rattle.st_pool.specs.Calling.{PoolCalls};
+
+    type Mine = CallerShare<K>;
+
+    ghost image_of = { λ o. o.image };
+
+    ghost calls = { PoolCalls };
+
+    fn image(&self) -> &Image<M> {
+        Office::image(self)
+    }
+
+    fn apply(
+        &mut self,
+        alloc: Global,
+        mine: &mut CallerShare<K>,
+        call: Call,
+    ) -> Result<Answer, Refusal> {
+        Office::apply(self, alloc, mine, call)
     }
 }

@@ -4,6 +4,7 @@
 //! more in its own hold. So each hold commits and checks out several: fewer holds have to be waited for, and what is read in them was
 //! less often written last by another processor. If a quantum is short, or while another worker sleeps or rests, the worker goes back
 //! to one.
+ghost use Rattle.st_pool.specs.Holds.{IsHold};
 
 use crate::crowding::is_short;
 use crate::hand::Hand;
@@ -58,7 +59,9 @@ impl<K: Naming> Seat<K> {
         alloc: Global,
         office: &mut Office<K, M>,
         share: &mut WorkerShare<K>,
-    ) -> Work<()> {
+    ) -> Work<()>
+        ensures { IsHold office.old office.new }
+    {
         let work = office.work(alloc, share, &mut self.leavings);
         self.put(work)
     }
@@ -95,7 +98,9 @@ impl<K: Naming> Seat<K> {
         office: &mut Office<K, M>,
         share: &mut WorkerShare<K>,
         goes_on: bool,
-    ) -> Option<(Result<u32, Refusal>, Work<()>)> {
+    ) -> Option<(Result<u32, Refusal>, Work<()>)>
+        ensures { IsHold office.old office.new }
+    {
         let held = self.held.take()?;
         let (answer, work) = office.turn_over(
             alloc,
@@ -192,7 +197,9 @@ impl<K: Naming> Seats<K> {
         alloc: Global,
         office: &mut Office<K, M>,
         share: &mut WorkerShare<K>,
-    ) -> Work<()> {
+    ) -> Work<()>
+        ensures { IsHold office.old office.new }
+    {
         self.first.find(alloc, office, share)
     }
 
@@ -222,6 +229,7 @@ impl<K: Naming> Seats<K> {
     /// Commits all claims, and looks for the next ones, all in one hold. `rests` says that the worker is to take none. Otherwise one
     /// seat at least goes on if an actor is ready behind the last commit, unless memory or the history ran out or the workers are to end,
     /// and all do if `are_several` says so and no worker is idle.
+    #[tactic(auto, using(crate::proofs::Holding::hold_then))]
     pub(crate) fn turn_over<M: Mailbox>(
         &mut self,
         alloc: Global,
@@ -229,7 +237,9 @@ impl<K: Naming> Seats<K> {
         share: &mut WorkerShare<K>,
         rests: bool,
         are_several: bool,
-    ) -> Turned {
+    ) -> Turned
+        ensures { IsHold office.old office.new }
+    {
         let mut turned = Turned {
             committed: 0,
             goes_on: false,
@@ -246,12 +256,15 @@ impl<K: Naming> Seats<K> {
     }
 
     /// Takes one claim more, if there is a seat for it and an actor is ready.
+    #[tactic(auto, using(crate::proofs::Holding::hold_then, crate::proofs::Holding::hold_none))]
     pub(crate) fn take_more<M: Mailbox>(
         &mut self,
         alloc: Global,
         office: &mut Office<K, M>,
         share: &mut WorkerShare<K>,
-    ) {
+    )
+        ensures { IsHold office.old office.new }
+    {
         if self.first.held.is_none() {
             let _ = self.first.find(alloc, office, share);
             return;

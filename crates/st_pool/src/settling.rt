@@ -4,6 +4,7 @@ ghost use Rattle.std.specs.List.{sum_by};
 ghost use Rattle.st_classes.specs.declared.refusals.Refusal.TheVariants as refusals;
 ghost use Rattle.st_image.specs.declared.items.Item.TheVariants.{Posted as PostedItem};
 ghost use Rattle.st_image.specs.Counts.{posts_of, weigh};
+ghost use Rattle.st_image.specs.GoingOn.{GoesOnIn};
 ghost use Rattle.st_image.specs.Images.{ImageView};
 ghost use Rattle.st_image.specs.WorldInvariant.{IsLawful};
 ghost use Rattle.st_pool.specs.Done.{Done, StandsIn};
@@ -119,6 +120,7 @@ impl<K: Naming, M: Mailbox> Office<K, M> {
     /// receipts are among the emptied ones than posts were emptied.
     pub(crate) fn settle(self, shares: Shares<K>) -> Result<(Image<M>, Totals), Refusal>
         ensures image { IfOk result (λ r. r.0 ≡ self.image) }
+        ensures later { IfOk result (λ r. GoesOnIn K.first r.0) }
         ensures sums { IfOk result (λ r. AreSums r.1 shares.callers.items shares.workers.items) }
         ensures counts { IfOk result (λ r. AreCounts K.start r.0 r.1) }
         ensures all { OnOk result (AreAll self.books shares.callers.items shares.workers.items) }
@@ -162,6 +164,7 @@ pub fn settle_image<K: Naming, M: Mailbox>(
 ) -> Result<(Image<M>, Totals), Refusal>
     ensures sums { IfOk result (λ r. AreSums r.1 shares.callers.items shares.workers.items) }
     ensures history { IfOk result (λ r. AreCounts K.start r.0 r.1 × HaveStood r.0 r.1.posts shares.callers.items) }
+    ensures later { IfOk result (λ r. GoesOnIn K.first r.0) }
     ensures refused { IfErr result (λ e. (e ≡ refusals.BadArguments) ⊎ (e ≡ refusals.Changed)) }
 {
     let Shared { office, .. } = shared;

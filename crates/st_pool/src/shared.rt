@@ -2,7 +2,7 @@
 ghost use Rattle.std.specs.Prelude.{◌≡◌, IfErr, IfOk};
 ghost use Rattle.st_classes.specs.declared.refusals.Refusal.TheVariants as refusals;
 ghost use Rattle.st_classes.specs.declared.refusals.Limited.TheVariants as limits;
-ghost use Rattle.st_pool.specs.Counts.{amounts};
+ghost use Rattle.st_calls.specs.Growth.{amounts};
 ghost use Rattle.st_pool.specs.Done.{nothing_done};
 
 use crate::books::Blanks;
@@ -56,6 +56,7 @@ impl<K: Naming, M: Mailbox> Shared<K, M> {
         requires emptied { blanks.emptied.name ≡ K.emptied }
         requires book { opened.seen.book ≡ K.book }
         requires start { K.start ≡ amounts image }
+        requires first { K.first ≡ image }
     {
         Shared {
             office: Mutex::new(Office::new(image, blanks, opened)),

@@ -1,6 +1,6 @@
 //! Playing a scene: callers act, workers run, and all shares are settled.
 ghost use Rattle.std.specs.Prelude.{◌≡◌};
-ghost use Rattle.st_pool.specs.Counts.{amounts};
+ghost use Rattle.st_calls.specs.Growth.{amounts};
 
 use crate::by_callers::{closing, not_understood, numbers};
 use crate::calls::{Calls, FIRST};

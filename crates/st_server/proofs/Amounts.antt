@@ -2,7 +2,7 @@
 use Rattle.std.proofs.Common.{◌≡◌, refl}
 use Rattle.st_image.specs.declared.settings.Settings.{Settings}
 use Rattle.st_image.specs.Images.{new_image, world_of}
-use Rattle.st_pool.specs.Counts.{amounts, no_amounts}
+use Rattle.st_calls.specs.Growth.{amounts, no_amounts}
 
 pub new_amounts : (s : Settings) → amounts (new_image s) ≡ no_amounts
 unfolding world_of

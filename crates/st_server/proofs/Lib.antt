@@ -6,6 +6,6 @@ pub mod SomeSteps
 pub mod Quanta
 pub mod Taken
 pub mod Arguments
-mod PoolArguments
 pub mod Scripting
 pub mod Amounts
+pub mod GoingThen

@@ -2,6 +2,8 @@ pub mod ArgumentValues
 pub mod Checks
 pub mod SiteReports
 pub mod Runners
+pub mod CallOf
+pub mod Posting
 pub mod CommandReplies
 pub mod PoolReplies
 pub mod Totals

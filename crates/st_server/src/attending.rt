@@ -7,10 +7,12 @@ ghost use Rattle.st_session.specs.DeviceSessions.{DeviceSession, FlushesAsOftenA
 ghost use Rattle.st_server.specs.PoolReplies.{Attends};
 
 use crate::images::Mailbox;
-use crate::pool_asking::ask;
+use crate::asking::ask;
 use st_classes::refusals::Refusal;
 use st_pool::callers::Caller;
+use st_pool::holds::Job;
 use st_pool::naming::Naming;
+use st_pool::office::Office;
 use st_pool::shares::CallerShare;
 use st_session::handlers::Handler;
 use st_session::sessions::session;
@@ -20,6 +22,30 @@ use st_wire::streams::{Input, Output};
 use std::alloc::Global;
 use std::marker::Model;
 use std::sync::Wait;
+
+/// A command, which is answered in one hold of the lock.
+#[derive(Drop)]
+struct Asking {
+    command: Command,
+}
+
+impl<K: Naming> Job<K, Mailbox> for Asking {
+    ghost use Rattle.st_pool.specs.Calling.{PoolCalls};
+    ghost use Rattle.st_server.specs.CommandReplies.{Asks};
+
+    type Out = Reply;
+
+    ghost done = { λ a o d r p e. Asks (λ x. x.image) PoolCalls o d a.command r p e };
+
+    fn run(
+        self,
+        alloc: Global,
+        office: &mut Office<K, Mailbox>,
+        mine: &mut CallerShare<K>,
+    ) -> Reply {
+        ask(alloc, office, mine, self.command)
+    }
+}
 
 /// A caller that answers commands. Contracts see what it has done.
 struct PoolHandler<'a, R: Wait, K: Naming> {
@@ -36,10 +62,12 @@ impl<'a, R: Wait, K: Naming> Model for PoolHandler<'a, R, K> {
 }
 
 impl<'a, R: Wait, K: Naming> Handler for PoolHandler<'a, R, K> {
-    ghost answers = { Attends K.start };
+    ghost answers = { Attends K.start K.first };
 
     fn reply(&mut self, alloc: Global, command: Command) -> Reply {
-        ask(self.rt, alloc, &mut self.caller, command)
+        let reply = self.caller.hold(self.rt, alloc, Asking { command });
+        self.caller.wake();
+        reply
     }
 }
 
@@ -55,7 +83,7 @@ pub fn attend<R: Wait, K: Naming, I: Input, O: Output>(
     ensures session { let before = input_view I.remaining I.failures I.reads input.old in
         let after = input_view I.remaining I.failures I.reads input.new in
         (written : List ℕ) × Appends (O.contents output.old) (O.contents output.new) written
-        × DeviceSession (Replies (Attends K.start)) caller.entry before after written result.0 result.1 }
+        × DeviceSession (Replies (Attends K.start K.first)) caller.entry before after written result.0 result.1 }
     ensures flushes { FlushesAsOftenAsReads (2 ^ 32) (I.reads input.old) (I.reads input.new) (O.flushes output.old) (O.flushes output.new) result.1 }
     ensures failures { O.failures output.new ≡ failures_after (end_of result.1) (O.failures output.old) }
 {

@@ -5,12 +5,12 @@
 #![tactic(auto)]
 
 mod asking;
+mod calls_of;
 pub mod attending;
 pub mod checking;
 pub mod images;
 mod polling;
-mod pool_asking;
-mod postings;
+mod posting;
 mod quantum;
 mod resolving;
 pub mod runner;

@@ -1,59 +1,18 @@
 //! From the texts of a command to values, and back.
-ghost use Rattle.std.specs.Prelude.{◌≡◌, ◌⊎◌, [], Err, IfOk, OnErr, slice_get, true, unwrap_or};
+ghost use Rattle.std.specs.Prelude.{◌≡◌, [], IfOk, OnErr, slice_get, true, unwrap_or};
 ghost use Rattle.std.specs.Str.{IsAscii};
-ghost use Rattle.st_classes.specs.declared.refusals.Refusal.TheVariants.{NoMemory};
 ghost use Rattle.st_classes.specs.Classes.{class_name};
 ghost use Rattle.st_image.specs.Images.{world};
-ghost use Rattle.st_server.specs.ArgumentValues.{Resolves, AllResolve, found_selector, is_told_by_text, value_text as shown_as};
+ghost use Rattle.st_server.specs.ArgumentValues.{found_selector, is_told_by_text, value_text as shown_as};
 
 use crate::images::Image;
 use st_classes::names::Names;
 use st_classes::refusals::Refusal;
 use st_classes::selectors::arity_of;
-use st_classes::seq::Seq;
-use st_classes::values::{ClassId, Selector, Value, Values};
-use st_wire::commands::Argument;
+use st_classes::values::{ClassId, Selector, Value};
 use st_wire::replies::Answered;
 use st_wire::text::Text;
 use std::alloc::{AllocError, Global};
-
-/// The value of an argument. A symbol's text is interned.
-fn argument_value(alloc: Global, image: &mut Image, argument: &Argument) -> Result<Value, Refusal>
-    ensures { Resolves image.old argument.now result image.new }
-{
-    match argument {
-        Argument::Int(n) => Ok(Value::Int(*n)),
-        Argument::Bool(b) => Ok(Value::Bool(*b)),
-        Argument::Nil => Ok(Value::Nil),
-        Argument::Symbol(text) => match image.intern(alloc, text.as_slice()) {
-            Ok(selector) => Ok(Value::Sym(selector)),
-            Err(refusal) => Err(refusal),
-        },
-        Argument::Class(text) => match image.version().class_named(text.as_slice()) {
-            Some(class) => Ok(Value::Class(class)),
-            None => Err(Refusal::UnknownClass),
-        },
-        Argument::Actor(actor) => Ok(Value::Actor(*actor)),
-    }
-}
-
-/// The values of arguments, from the left up to the first that is refused.
-pub fn argument_values(
-    alloc: Global,
-    image: &mut Image,
-    arguments: &[Argument],
-) -> Result<Values, Refusal>
-    ensures { ((result ≡ Err NoMemory) × (image.new ≡ image.old)) ⊎ AllResolve image.old arguments.now result image.new }
-{
-    let mut values = Vec::with_capacity(alloc, arguments.len())?;
-    for argument in arguments {
-        match argument_value(alloc, image, argument) {
-            Ok(value) => values.push(value).unwrap(),
-            Err(refusal) => return Err(refusal),
-        }
-    }
-    Ok(Seq::from_vec(values))
-}
 
 /// The number of a selector's text. The text is not interned.
 ///

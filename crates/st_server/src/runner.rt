@@ -4,7 +4,7 @@ ghost use Rattle.st_classes.specs.EditLists.{Begins};
 ghost use Rattle.st_turn.specs.Idle.{is_idle};
 ghost use Rattle.st_image.specs.Commits.{KnowsBody, Settles};
 ghost use Rattle.st_image.specs.Images.{world};
-ghost use Rattle.st_server.specs.CommandReplies.{Asks};
+ghost use Rattle.st_server.specs.CommandReplies.{AsksImage};
 ghost use Rattle.st_server.specs.Runners.{AreNew, NextAdvances, NoneReady, TakesQuantum, Works, quantum_answer};
 
 use crate::asking::ask;
@@ -128,11 +128,11 @@ impl Runner {
 
     /// The reply to a command that needs the image alone.
     pub(crate) fn ask(&mut self, alloc: Global, command: Command) -> Reply
-        ensures asks { Asks self.old.image command result self.new.image }
+        ensures asks { AsksImage self.old.image command result self.new.image }
         ensures caches { self.new.caches ≡ self.old.caches }
     {
         self.image.known();
-        let reply = ask(alloc, &mut self.image, command);
+        let reply = ask(alloc, &mut self.image, &mut (), command);
         self.image.known();
         reply
     }

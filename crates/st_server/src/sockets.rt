@@ -3,9 +3,10 @@ ghost use Rattle.std.specs.Prelude.{◌≡◌, ◌⊎◌, ◌+◌, ◌≤◌, �
 ghost use Rattle.std.specs.Option.{IfSome};
 ghost use Rattle.std.specs.declared.io.ErrorKind.TheVariants.{ConnectionAborted, Interrupted};
 ghost use Rattle.st_classes.specs.declared.refusals.Refusal.TheVariants as refusals;
+ghost use Rattle.st_image.specs.GoingOn.{GoesOnIn};
 ghost use Rattle.st_image.specs.Images.{ImageView};
 ghost use Rattle.st_image.specs.WorldInvariant.{IsLawful};
-ghost use Rattle.st_pool.specs.Counts.{amounts, no_amounts};
+ghost use Rattle.st_calls.specs.Growth.{amounts, no_amounts};
 ghost use Rattle.st_pool.specs.Settled.{AreCounts};
 ghost use Rattle.st_server.specs.Serving.{AreInRange, AreSumsOver};
 
@@ -331,8 +332,10 @@ fn serve<K: Naming + Send + Sync, R: Threads + Wait + Sync>(
     requires emptied { blanks.emptied.name ≡ K.emptied }
     requires book { opened.seen.book ≡ K.book }
     requires start { K.start ≡ amounts image }
+    requires first { K.first ≡ image }
     ensures counts { IfOk result (λ r. AreCounts (amounts image) r.image r.totals) }
     ensures sums { IfOk result (λ r. AreSumsOver (vec_len workers) r.image r.totals) }
+    ensures later { IfOk result (λ r. GoesOnIn image r.image) }
     ensures fault { IfOk result (λ r. IfSome r.fault (λ e. e ≡ refusals.ReadFault)) }
     ensures refused { IfErr result (λ e. (e ≡ refusals.BadArguments) ⊎ (e ≡ refusals.NoMemory) ⊎ (e ≡ refusals.Changed)) }
 {
@@ -395,6 +398,7 @@ pub fn serve_image<R: Threads + Wait + Sync>(
     ensures range { ¬ (AreInRange workers sessions) → result ≡ Err refusals.BadArguments }
     ensures counts { IfOk result (λ r. AreCounts (amounts image) r.image r.totals) }
     ensures sums { IfOk result (λ r. AreSumsOver workers r.image r.totals) }
+    ensures later { IfOk result (λ r. GoesOnIn image r.image) }
     ensures fault { IfOk result (λ r. IfSome r.fault (λ e. e ≡ refusals.ReadFault)) }
     ensures refused { IfErr result (λ e. (e ≡ refusals.BadArguments) ⊎ (e ≡ refusals.NoMemory) ⊎ (e ≡ refusals.Changed)) }
 {

@@ -1,5 +1,4 @@
 pub mod Seats
-pub mod Interning
 pub mod ClaimsSeen
 pub mod WorkersActing
 pub mod EventRuns

@@ -2,45 +2,31 @@
 use Rattle.std.proofs.Common.{◌≡◌, ◌⊎◌, ℕ, [], ◌∷◌, ◌++◌, List, Option, Some, None, Result, Ok, Err, ap, sym, ◌∙◌, refl, append_assoc, append-nil, slice_get, inl, inr}
 use Rattle.std.proofs.lemmas.List.Elements.{All-nil, All-push}
 use Rattle.st_classes.specs.declared.values.ActorId.{ActorId}
-use Rattle.st_classes.specs.declared.values.Selector.{Selector}
 use Rattle.st_classes.specs.declared.refusals.Refusal.{Refusal}
 use Rattle.st_image.specs.declared.items.Item.{Item}
 use Rattle.st_image.specs.Worlds.{World}
 use Rattle.st_image.specs.Parts.{rebase}
 use Rattle.st_image.specs.Delivery.{IsPrefixOf}
 use Rattle.st_image.specs.Images.{ImageView, world}
-use Rattle.st_image.specs.Checkpoints.{BeginsAnew, MakesCheckpoint}
-use Rattle.st_image.specs.PostRules.{from_client}
+use Rattle.st_image.specs.Checkpoints.{BeginsAnew}
 use Rattle.st_image.proofs.GrowingEdits.{GoesOn, goes_from}
-use Rattle.st_image.proofs.CallsGoOn.{checks_out_goes, closes_goes, commits_goes, creates_goes, defines_goes, installs_goes, interns_goes, out_goes, posts_goes, removes_goes, reparents_goes}
+use Rattle.st_image.proofs.CallsGoOn.{checks_out_goes, commits_goes, out_goes}
+use Rattle.st_calls.proofs.DoingMoves.{Moves, does_moves}
 use Rattle.st_system.specs.declared.events.Answer.{Answer}
 use Rattle.st_system.specs.declared.events.Event.{Event}
-use Rattle.st_system.specs.declared.events.Event.TheVariants.{Intern, Define, Install, Remove, Reparent, Create, Post, Close, Checkpoint, Checkout, Local, Commit, Release, Forget}
+use Rattle.st_system.specs.declared.events.Event.TheVariants.{Call, Checkout, Local, Commit, Release, Forget}
 use Rattle.st_system.specs.Schedules.{BareClaim, Schedule, with_sends}
-use Rattle.st_image.specs.Calls.{Interns}
 use Rattle.st_system.specs.ClaimEvents.{AtWorker, CommitsClaim, KeepsClaim, OfClaim, ReleasesClaim, StepsClaim, TakesClaim}
 use Rattle.st_system.specs.Acts.{Acts}
 use Rattle.st_system.specs.Segments.{Follow, HasSegments, IsSegment}
 
 -- ---- one event
 
--- the history goes on, or begins anew
-abbrev pub Moves : ImageView → ImageView → Type 0
-Moves i j = GoesOn i j ⊎ BeginsAnew i j
-
 same : (S T : Schedule) → T ≡ S → Moves S.image T.image
 same S T e = inl (goes_from S.image T.image (ap (λ (X : Schedule). X.image) e))
 
 same_image : (i j : ImageView) → j ≡ i → Moves i j
 same_image i j e = inl (goes_from i j e)
-
-interns_by : (i j : ImageView) (text : List ℕ) (r : Result Selector Refusal) → Interns i text r j → GoesOn i j
-interns_by i j text (Ok s) h = interns_goes i j text (Ok s) h.0.1.0 tt
-interns_by i j text (Err e) h = interns_goes i j text (Err e) tt h.1
-
-checkpoint_moves : (i j : ImageView) (r : Result (Unit {0}) Refusal) → MakesCheckpoint i r j → Moves i j
-checkpoint_moves i j (Ok v) h = inr h
-checkpoint_moves i j (Err e) h = same_image i j h.1
 
 takes_moves : (S T : Schedule) (w : ℕ) (a : ActorId) (r : Result Answer Refusal) (o : Option (Option BareClaim)) → AtWorker (TakesClaim a) S w r T o → Moves S.image T.image
 takes_moves S T w a r None h = same S T h.1
@@ -67,16 +53,8 @@ forget_moves S T w r None h = same S T h.1
 forget_moves S T w r (Some c) h = same_image S.image T.image h.1.1
 
 event_moves : (S T : Schedule) (e : Event) (r : Result Answer Refusal) → Acts S e r T → Moves S.image T.image
-event_moves S T (Intern text) r h = inl (interns_by S.image T.image text h.0 h.2)
-event_moves S T (Define name parent slots) r h = inl (defines_goes S.image T.image name parent slots h.0 h.2)
-event_moves S T (Install c source) r h = inl (installs_goes S.image T.image c source h.0 h.2)
-event_moves S T (Remove c s) r h = inl (removes_goes S.image T.image c s h.0 h.2)
-event_moves S T (Reparent c p) r h = inl (reparents_goes S.image T.image c p h.0 h.2)
-event_moves S T (Create c) r h = inl (creates_goes S.image T.image c h.0 h.2)
-event_moves S T (Post sender seq a s args) r (inl h) = same S T h.1
-event_moves S T (Post sender seq a s args) r (inr h) = inl (posts_goes S.image T.image a (from_client sender seq s args) h.0 h.2)
-event_moves S T (Close a) r h = inl (closes_goes S.image T.image a h.0 h.2)
-event_moves S T Checkpoint r h = checkpoint_moves S.image T.image h.0 h.2
+event_moves S T (Call c) r (inl h) = same S T h.1
+event_moves S T (Call c) r (inr h) = does_moves S.image T.image c h.0 h.2
 event_moves S T (Checkout w a) r h = takes_moves S T w a r (slice_get S.claims w) h
 event_moves S T (Local w) r h = local_moves S T w r (slice_get S.claims w) h
 event_moves S T (Commit w) r h = commit_moves S T w r (slice_get S.claims w) h

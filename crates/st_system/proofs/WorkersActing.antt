@@ -1,5 +1,5 @@
 -- An event of a worker, seen in its place among the workers, is one of the schedule.
-use Rattle.std.proofs.Common.{◌≡◌, ℕ, ◌≤◌, Option, Some, None, Result, Err, refl, ap, sym, ◌∙◌, subst, map}
+use Rattle.std.proofs.Common.{◌≡◌, ℕ, ◌≤◌, Option, Some, None, Result, Err, refl, ap, sym, ◌∙◌, subst, map, inr}
 use Rattle.std.specs.Prelude.{length, slice_get, slice_set}
 use Rattle.std.specs.Option.{option_map}
 use Rattle.std.proofs.lemmas.Option.{slice_get-map, slice_get_past}
@@ -7,16 +7,20 @@ use Rattle.std.proofs.lemmas.List.{map-set}
 use Rattle.st_classes.specs.declared.refusals.Refusal.{Refusal}
 use Rattle.st_classes.specs.declared.refusals.Refusal.TheVariants.{BadArguments}
 use Rattle.st_image.specs.Images.{ImageView}
+use Rattle.st_calls.specs.declared.calls.Answer.{Answer as CallAnswer}
+use Rattle.st_calls.specs.declared.calls.Call.{Call}
+use Rattle.st_calls.specs.Does.{Does}
 use Rattle.st_system.specs.declared.events.Answer.{Answer}
+use Rattle.st_system.specs.declared.events.Answer.TheVariants.{Called}
 use Rattle.st_system.specs.Schedules.{BareClaim, claim_of, schedule}
 use Rattle.st_system.specs.Seats.{SeatView, SystemView}
-use Rattle.st_system.specs.ImageEvents.{OfImage, told}
+use Rattle.st_system.specs.ImageEvents.{Calls, told}
 use Rattle.st_system.specs.ClaimEvents.{AtWorker}
 use Rattle.st_system.specs.WorkerEvents.{AtSeat}
 
 -- a call of the image, which leaves the workers
-pub image_acts : {G A : Type 0} (tell : A → Answer) (Call : ImageView → Result A Refusal → ImageView → Type 0) (S T : SystemView G) (r : Result A Refusal) → Call S.image r T.image → T.seats ≡ S.seats → OfImage tell (Call S.image) (schedule S) (told tell r) (schedule T)
-image_acts {G} tell Call S T r h same = (r, refl, h, ap (map claim_of) same)
+pub image_acts : {G : Type 0} (c : Call) (S T : SystemView G) (r : Result CallAnswer Refusal) → Does S.image c r T.image → T.seats ≡ S.seats → Calls (schedule S) c (told Called r) (schedule T)
+image_acts {G} c S T r h same = inr (r, refl, h, ap (map claim_of) same)
 
 -- there is no such worker
 pub no_worker : {G : Type 0} (Does : ImageView → Option BareClaim → Result Answer Refusal → ImageView → Option BareClaim → Type 0) (S T : SystemView G) (w : ℕ) (r : Result Answer Refusal) → length S.seats ≤ w → r ≡ Err BadArguments → T ≡ S → AtWorker Does (schedule S) w r (schedule T) (slice_get (schedule S).claims w)

@@ -1,6 +1,7 @@
 //! Copies of what an event holds, for calls that take it by value.
 ghost use Rattle.std.specs.Prelude.{◌≡◌, IfOk};
 
+use st_calls::calls::Call;
 use st_classes::seq::Seq;
 use st_classes::values::Values;
 use std::alloc::{AllocError, Global};
@@ -13,7 +14,7 @@ fn copy_text(alloc: Global, text: &Seq<u8>) -> Result<Seq<u8>, AllocError>
 }
 
 /// A copy of texts.
-pub(crate) fn copy_texts(alloc: Global, texts: &Seq<Seq<u8>>) -> Result<Seq<Seq<u8>>, AllocError>
+fn copy_texts(alloc: Global, texts: &Seq<Seq<u8>>) -> Result<Seq<Seq<u8>>, AllocError>
     ensures { IfOk result (λ copies. copies ≡ texts.now) }
 {
     let mut copies = Vec::with_capacity(alloc, texts.len())?;
@@ -24,8 +25,54 @@ pub(crate) fn copy_texts(alloc: Global, texts: &Seq<Seq<u8>>) -> Result<Seq<Seq<
 }
 
 /// A copy of values.
-pub(crate) fn copy_values(alloc: Global, values: &Values) -> Result<Values, AllocError>
+fn copy_values(alloc: Global, values: &Values) -> Result<Values, AllocError>
     ensures { IfOk result (λ copies. copies ≡ values.now) }
 {
     Ok(Seq::from_vec(values.as_slice().to_vec(alloc)?))
+}
+
+/// A copy of a call.
+pub(crate) fn copy_call(alloc: Global, call: &Call) -> Result<Call, AllocError>
+    ensures { IfOk result (λ copy. copy ≡ call.now) }
+{
+    Ok(match call {
+        Call::Intern(text) => Call::Intern(copy_text(alloc, text)?),
+        Call::Define {
+            name,
+            parent,
+            slots,
+        } => Call::Define {
+            name: copy_text(alloc, name)?,
+            parent: *parent,
+            slots: copy_texts(alloc, slots)?,
+        },
+        Call::Install { class, source } => Call::Install {
+            class: *class,
+            source: copy_text(alloc, source)?,
+        },
+        Call::Remove { class, selector } => Call::Remove {
+            class: *class,
+            selector: *selector,
+        },
+        Call::Reparent { class, parent } => Call::Reparent {
+            class: *class,
+            parent: *parent,
+        },
+        Call::Create(class) => Call::Create(*class),
+        Call::Post {
+            sender,
+            seq,
+            actor,
+            selector,
+            args,
+        } => Call::Post {
+            sender: *sender,
+            seq: *seq,
+            actor: *actor,
+            selector: *selector,
+            args: copy_values(alloc, args)?,
+        },
+        Call::Close(actor) => Call::Close(*actor),
+        Call::Checkpoint => Call::Checkpoint,
+    })
 }

@@ -5,7 +5,6 @@
 //! replay of its history.
 #![tactic(auto)]
 
-mod calls;
 mod copies;
 pub mod events;
 pub mod laws;

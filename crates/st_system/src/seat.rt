@@ -13,13 +13,14 @@ ghost use Rattle.st_system.specs.ImageEvents.{told};
 ghost use Rattle.st_system.specs.ClaimEvents.{CommitsClaim, KeepsClaim, OfClaim, ReleasesClaim, StepsClaim, TakesClaim, TakesOne};
 ghost use Rattle.st_system.specs.WorkerEvents.{ChecksOutSeat, CommitsSeat, MovesAndSteps, StepsSeat};
 
-use crate::calls;
 use crate::events::Answer;
+use st_calls::claims;
 use st_classes::refusals::Refusal;
 use st_classes::values::ActorId;
 use st_classes::version::Version;
 use st_guard::guard::Guard;
 use st_image::image::Image;
+use st_image::leavings::Leavings;
 use st_mailbox::mailboxes::Mailbox;
 use st_turn::claim::Claim;
 use st_turn::worker::Worker;
@@ -116,7 +117,7 @@ impl<G: Guard> Seat<G> {
         if self.claim.is_some() {
             return Err(Refusal::BadArguments);
         }
-        let claim = calls::check_out(alloc, image, actor)?;
+        let claim = claims::check_out(alloc, image, actor, &mut Leavings::none())?;
         self.claim = Some(claim);
         Ok(Answer::Done)
     }
@@ -149,7 +150,7 @@ impl<G: Guard> Seat<G> {
         let Some(claim) = self.claim.take() else {
             return Err(Refusal::NothingToDo);
         };
-        match calls::commit(alloc, image, claim) {
+        match claims::commit(alloc, image, claim, &mut Leavings::none()) {
             Ok(steps) => Ok(Answer::Steps(steps)),
             Err((refusal, back)) => {
                 self.claim = back;
@@ -170,7 +171,7 @@ impl<G: Guard> Seat<G> {
         let Some(claim) = self.claim.take() else {
             return Err(Refusal::NothingToDo);
         };
-        calls::release(image, claim);
+        claims::release(image, claim);
         Ok(Answer::Done)
     }
 

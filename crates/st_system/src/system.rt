@@ -133,25 +133,7 @@ impl<M: Mailbox, G: Guard> System<M, G> {
         ensures work { TellsWork G.count G.floor G.raises self.old event.now result self.new }
     {
         match event {
-            Event::Intern(text) => self.intern(alloc, text),
-            Event::Define {
-                name,
-                parent,
-                slots,
-            } => self.define(alloc, name, *parent, slots),
-            Event::Install { class, source } => self.install(alloc, *class, source),
-            Event::Remove { class, selector } => self.remove(alloc, *class, *selector),
-            Event::Reparent { class, parent } => self.reparent(alloc, *class, *parent),
-            Event::Create(class) => self.create(alloc, *class),
-            Event::Post {
-                sender,
-                seq,
-                actor,
-                selector,
-                args,
-            } => self.post(alloc, *sender, *seq, *actor, *selector, args),
-            Event::Close(actor) => self.close(*actor),
-            Event::Checkpoint => self.checkpoint(alloc),
+            Event::Call(call) => self.call(alloc, call),
             Event::Checkout { worker, actor } => self.check_out(alloc, *worker, *actor),
             Event::Local(worker) => self.step(alloc, *worker),
             Event::Commit(worker) => self.commit(alloc, *worker),

@@ -1,7 +1,7 @@
 use Rattle.std.proofs.Common.{◌≡◌, ℕ, List, Result, Ok, Err, IfOk, OnOk, subst}
 use Rattle.st_classes.specs.declared.refusals.Refusal.{Refusal}
 use Rattle.st_image.specs.Images.{ImageView}
-use Rattle.st_pool.specs.Counts.{Amounts}
+use Rattle.st_calls.specs.Growth.{Amounts}
 use Rattle.st_pool.specs.Done.{Done}
 use Rattle.st_pool.specs.Settled.{AllStand, AreCounts, AreFew, HaveStood, emptied_by}
 use Rattle.st_pool.specs.declared.totals.Totals.{Totals}

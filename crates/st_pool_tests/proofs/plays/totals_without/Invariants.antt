@@ -1,4 +1,4 @@
-use Rattle.st_pool.specs.Counts.{amounts}
+use Rattle.st_calls.specs.Growth.{amounts}
 use Rattle.st_pool_tests.proofs.plays.totals_without.Given as goal
 
 -- the ledgers are the blanks', the book is that of what was opened, and all begin at what the image has counted

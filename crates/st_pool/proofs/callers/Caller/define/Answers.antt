@@ -1,8 +1,8 @@
-use Rattle.std.proofs.Common.{rules}
-use Rattle.st_pool.specs.Done.{HasAtLeast}
+use Rattle.st_pool.proofs.Calling.{defines_once}
 use Rattle.st_pool.proofs.callers.Caller.define.Goals as goal
 
+pub returns-clause-edits : goal.returns-clause-edits
+returns-clause-edits g c = rw c.version.ensures (defines_once g.K.Naming.start g.K.Naming.first c.args.self.now c.call-answer.new.self c.args.name c.args.parent c.args.slots c.call-answer.result c.call-answer.ensures).0
+
 pub returns-clause-answers : goal.returns-clause-answers
-returns-clause-answers g c =
-    let least : HasAtLeast g.K.Naming.start c.args.self.now c.deref_mut-2.result.now.image = search (rules, c.audit.ensures.least, c.audit.ensures.same, c.deref_mut.ensures, c.deref_mut-2.ensures, c.self.view_is) in
-    (c.deref_mut-2.result.now.image, c.define-answer.new.self.image, least, c.define-answer.ensures.defines)
+returns-clause-answers g c = rw c.version.ensures (defines_once g.K.Naming.start g.K.Naming.first c.args.self.now c.call-answer.new.self c.args.name c.args.parent c.args.slots c.call-answer.result c.call-answer.ensures).1

@@ -1,4 +1,5 @@
 use Rattle.st_pool.proofs.Weights.{kept_same}
+use Rattle.st_pool.proofs.Fronts.{goes_then}
 use Rattle.st_pool.proofs.Knowing.{front_ended, front_later}
 use Rattle.st_pool.proofs.office.Office.check_out.Goals as goal
 
@@ -9,4 +10,12 @@ pub invariant_of-self : goal.invariant_of-self
 invariant_of-self g c = (
   kept_same g.K.Naming.start c.self.inside.image c.check_out.new.image c.self.inside.books c.self.invariant.0 c.in-Ok.ensures.grows,
   front_ended c.note.new.front c.check_out.new.image c.note.ensures,
+  goes_then g.K.Naming.first c.self.inside.image c.check_out.new.image c.self.invariant.2 c.in-Ok.ensures.later,
+)
+
+pub invariant_of-self-in-Err : goal.invariant_of-self-in-Err
+invariant_of-self-in-Err g c = (
+  kept_same g.K.Naming.start c.self.inside.image c.check_out.new.image c.self.inside.books c.self.invariant.0 c.in-Err.ensures.grows,
+  front_later c.self.inside.front c.self.inside.image c.check_out.new.image c.in-Err.ensures.later c.self.invariant.1,
+  goes_then g.K.Naming.first c.self.inside.image c.check_out.new.image c.self.invariant.2 c.in-Err.ensures.later,
 )

@@ -1,15 +1,35 @@
-use Rattle.st_pool.proofs.Weights.{kept_emptied, kept_same}
+use Rattle.std.proofs.Common.{ℕ, Ok, Err, Result, ap, length, subst, sym, ◌+◌, ◌∙◌, ◌≡◌}
+use Rattle.st_classes.specs.declared.refusals.Refusal.{Refusal}
+use Rattle.st_image.specs.declared.items.Item.{Item}
+use Rattle.std.specs.Prelude.{List}
+use Rattle.st_calls.specs.declared.calls.Answer.{Answer}
+use Rattle.st_calls.specs.Growth.{Grows, edits_by, posts_by}
+use Rattle.st_pool.specs.Books.{BooksView, Kept}
+use Rattle.st_pool.specs.Calling.{booked}
+use Rattle.st_pool.specs.Done.{OfficeView}
+use Rattle.st_pool.proofs.Calling.{checkpoint_booked, kept_booked}
+use Rattle.st_pool.proofs.Fronts.{goes_then}
 use Rattle.st_pool.proofs.Knowing.{front_later}
 use Rattle.st_pool.proofs.office.Office.checkpoint.Goals as goal
 
 pub invariant_of-self : goal.invariant_of-self
-invariant_of-self g c = (
-  kept_same g.K.Naming.start c.self.inside.image c.checkpoint.new.image c.self.inside.books c.self.invariant.0 c.checkpoint.ensures.grows,
-  front_later c.self.inside.front c.self.inside.image c.checkpoint.new.image c.checkpoint.ensures.later c.self.invariant.1,
-)
+invariant_of-self g c =
+    let o : OfficeView = record { image = c.self.inside.image; books = c.self.inside.books } in
+    let j = c.apply.new.image in
+    let are : c.empty.new.self ≡ booked o (Ok c.in-Ok.answer) =
+    c.empty.ensures.books
+    ∙ ap (λ (h : List Item). let k : BooksView = record o.books { emptied = o.books.emptied + length h } in k) c.history.ensures
+    ∙ sym (checkpoint_booked o c.in-Ok.answer j c.in-Ok.ensures.does) in (
+      subst (λ (b : BooksView). Kept g.K.Naming.start j b) (sym are) (kept_booked g.K.Naming.start o j (Ok c.in-Ok.answer) c.self.invariant.0 c.in-Ok.ensures.grows),
+      front_later c.self.inside.front c.self.inside.image j c.in-Ok.ensures.later c.self.invariant.1,
+      goes_then g.K.Naming.first c.self.inside.image j c.self.invariant.2 c.in-Ok.ensures.later,
+    )
 
-pub invariant_of-self-2 : goal.invariant_of-self-2
-invariant_of-self-2 g c = (
-  kept_emptied g.K.Naming.start c.self.inside.image c.checkpoint.new.image c.self.inside.books c.empty.new.self _ c.self.invariant.0 c.checkpoint.ensures.grows c.empty.ensures.books,
-  front_later c.self.inside.front c.self.inside.image c.checkpoint.new.image c.checkpoint.ensures.later c.self.invariant.1,
-)
+pub invariant_of-self-in-Err : goal.invariant_of-self-in-Err
+invariant_of-self-in-Err g c =
+    let o : OfficeView = record { image = c.self.inside.image; books = c.self.inside.books } in
+    let j = c.apply.new.image in (
+      kept_booked g.K.Naming.start o j (Err c.in-Err.refusal) c.self.invariant.0 c.in-Err.ensures.grows,
+      front_later c.self.inside.front c.self.inside.image j c.in-Err.ensures.later c.self.invariant.1,
+      goes_then g.K.Naming.first c.self.inside.image j c.self.invariant.2 c.in-Err.ensures.later,
+    )

@@ -1,11 +1,21 @@
-use Rattle.std.specs.Prelude.{is_ok}
-use Rattle.st_pool.specs.Books.{counted}
-use Rattle.st_pool.proofs.Weights.{kept_posted}
+use Rattle.std.proofs.Common.{Bool, ap, subst, sym, ◌+◌, ◌∙◌, ◌≡◌}
+use Rattle.st_calls.specs.Growth.{counted}
+use Rattle.st_pool.specs.Books.{BooksView, Kept}
+use Rattle.st_pool.specs.Calling.{booked}
+use Rattle.st_pool.specs.Done.{OfficeView}
+use Rattle.st_pool.proofs.Calling.{kept_booked, post_booked}
+use Rattle.st_pool.proofs.Fronts.{goes_then}
 use Rattle.st_pool.proofs.Knowing.{front_later}
 use Rattle.st_pool.proofs.office.Office.post.Goals as goal
 
 pub invariant_of-self : goal.invariant_of-self
-invariant_of-self g c = (
-  kept_posted g.K.Naming.start c.self.inside.image c.post-answer.new.image c.self.inside.books c.post.new.self (counted (is_ok c.post-answer.result)) c.self.invariant.0 c.post-answer.ensures.grows c.post.ensures.books,
-  front_later c.self.inside.front c.self.inside.image c.post-answer.new.image c.post-answer.ensures.later c.self.invariant.1,
-)
+invariant_of-self g c =
+    let o : OfficeView = record { image = c.self.inside.image; books = c.self.inside.books } in
+    let are : c.post.new.self ≡ booked o c.apply-answer.result =
+    c.post.ensures.books
+    ∙ ap (λ (b : Bool). let k : BooksView = record o.books { posts = o.books.posts + counted b } in k) c.is_ok-is_accepted.ensures.value
+    ∙ post_booked o c.args.sender c.args.seq c.args.actor c.args.selector c.args.args c.apply-answer.result c.apply-answer.new.image c.apply-answer.ensures.does in (
+      subst (λ (b : BooksView). Kept g.K.Naming.start c.apply-answer.new.image b) (sym are) (kept_booked g.K.Naming.start o c.apply-answer.new.image c.apply-answer.result c.self.invariant.0 c.apply-answer.ensures.grows),
+      front_later c.self.inside.front c.self.inside.image c.apply-answer.new.image c.apply-answer.ensures.later c.self.invariant.1,
+      goes_then g.K.Naming.first c.self.inside.image c.apply-answer.new.image c.self.invariant.2 c.apply-answer.ensures.later,
+    )

@@ -1,0 +1,24 @@
+-- Images that go on in one another.
+use Rattle.std.proofs.Common.{◌≡◌, List, [], ◌++◌, ap, sym, ◌∙◌, arith, append_assoc, append-nil}
+use Rattle.st_classes.specs.declared.edits.Edit.{Edit}
+use Rattle.st_classes.specs.EditLists.{Begins}
+use Rattle.st_image.specs.Images.{ImageView, world}
+use Rattle.st_image.specs.Commits.{changed_at}
+use Rattle.st_image.specs.GoingOn.{GoesOnIn}
+
+pub begins_then : (es fs gs : List Edit) → Begins es fs → Begins fs gs → Begins es gs
+begins_then es fs gs (more, h) (rest, k) = (more ++ rest, k ∙ ap (λ (l : List Edit). l ++ rest) h ∙ append_assoc es more rest)
+
+pub goes_then : (i j k : ImageView) → GoesOnIn i j → GoesOnIn j k → GoesOnIn i k
+goes_then i j k p q = record {
+  edits = begins_then (world i).edits (world j).edits (world k).edits p.edits q.edits;
+  bodies = λ a.
+      let s = p.bodies a in
+      let t = q.bodies a in (
+        omega (arith, s.0, t.0),
+        λ b e at.
+            let first : changed_at j a.0 ≡ changed_at i a.0 = omega (arith, s.0, t.0, e) in
+            let last : changed_at k a.0 ≡ changed_at j a.0 = omega (arith, s.0, t.0, e) in
+            t.1 b last (s.1 b first at),
+      );
+}

@@ -1,0 +1,4 @@
+pub mod GoingThen
+pub mod Growing
+pub mod Doing
+pub mod DoingMoves

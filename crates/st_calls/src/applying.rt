@@ -1,0 +1,110 @@
+//! Making a call.
+ghost use Rattle.std.specs.Prelude.{◌≡◌};
+ghost use Rattle.st_image.specs.GoingOn.{GoesOnIn};
+ghost use Rattle.st_calls.specs.declared.calls.Answer.TheVariants as answers;
+ghost use Rattle.st_calls.specs.declared.calls.Call.TheVariants as calls;
+ghost use Rattle.st_calls.specs.Does.{Does, told};
+ghost use Rattle.st_calls.specs.Growth.{Grows, edits_by, posts_by};
+
+use crate::calls::{Answer, Call};
+use st_classes::refusals::Refusal;
+use st_classes::values::{ActorId, Selector};
+use st_image::image::Image;
+use st_mailbox::mailboxes::Mailbox;
+use std::alloc::Global;
+
+fn interned(answer: Result<Selector, Refusal>) -> Result<Answer, Refusal>
+    ensures { result ≡ told answers.Interned answer }
+{
+    match answer {
+        Ok(selector) => Ok(Answer::Interned(selector)),
+        Err(refusal) => Err(refusal),
+    }
+}
+
+fn version(answer: Result<u32, Refusal>) -> Result<Answer, Refusal>
+    ensures { result ≡ told answers.Version answer }
+{
+    match answer {
+        Ok(edits) => Ok(Answer::Version(edits)),
+        Err(refusal) => Err(refusal),
+    }
+}
+
+fn created(answer: Result<ActorId, Refusal>) -> Result<Answer, Refusal>
+    ensures { result ≡ told answers.Created answer }
+{
+    match answer {
+        Ok(actor) => Ok(Answer::Created(actor)),
+        Err(refusal) => Err(refusal),
+    }
+}
+
+fn position(answer: Result<u64, Refusal>) -> Result<Answer, Refusal>
+    ensures { result ≡ told answers.Position answer }
+{
+    match answer {
+        Ok(place) => Ok(Answer::Position(place)),
+        Err(refusal) => Err(refusal),
+    }
+}
+
+fn closed(answer: Result<(), Refusal>) -> Result<Answer, Refusal>
+    ensures { result ≡ told (λ _. answers.Closed) answer }
+{
+    match answer {
+        Ok(()) => Ok(Answer::Closed),
+        Err(refusal) => Err(refusal),
+    }
+}
+
+/// Makes a checkpoint, and answers what the image has counted.
+fn checkpoint<M: Mailbox>(alloc: Global, image: &mut Image<M>) -> Result<Answer, Refusal>
+    ensures { Does image.old calls.Checkpoint result image.new }
+{
+    match image.checkpoint(alloc) {
+        Ok(()) => Ok(Answer::Counted(image.counted())),
+        Err(_) => Err(Refusal::NoMemory),
+    }
+}
+
+/// Makes a call.
+fn perform<M: Mailbox>(alloc: Global, image: &mut Image<M>, call: Call) -> Result<Answer, Refusal>
+    ensures { Does image.old call result image.new }
+{
+    match call {
+        Call::Intern(text) => interned(image.intern(alloc, text.as_slice())),
+        Call::Define {
+            name,
+            parent,
+            slots,
+        } => version(image.define(alloc, name.as_slice(), parent, slots)),
+        Call::Install { class, source } => {
+            version(image.install(alloc, class, source.as_slice()))
+        }
+        Call::Remove { class, selector } => version(image.remove(alloc, class, selector)),
+        Call::Reparent { class, parent } => version(image.reparent(alloc, class, parent)),
+        Call::Create(class) => created(image.create(alloc, class)),
+        Call::Post {
+            sender,
+            seq,
+            actor,
+            selector,
+            args,
+        } => position(image.post(alloc, sender, seq, actor, selector, args)),
+        Call::Close(actor) => closed(image.close(actor)),
+        Call::Checkpoint => checkpoint(alloc, image),
+    }
+}
+
+/// Makes a call. The image goes on in the new one, and has counted as many posts and edits more as the answer tells.
+pub fn apply<M: Mailbox>(alloc: Global, image: &mut Image<M>, call: Call) -> Result<Answer, Refusal>
+    ensures does { Does image.old call result image.new }
+    ensures later { GoesOnIn image.old image.new }
+    ensures grows { Grows (posts_by result) (edits_by result) 0 image.old image.new }
+{
+    image.known();
+    let answer = perform(alloc, image, call);
+    image.known();
+    answer
+}

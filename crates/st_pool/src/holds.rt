@@ -1,0 +1,44 @@
+//! What is done in one hold of the lock.
+ghost use Rattle.st_pool.specs.Done.{Done, OfficeView};
+
+use crate::naming::Naming;
+use crate::office::Office;
+use crate::shares::CallerShare;
+use st_calls::calls::{Answer, Call};
+use st_classes::refusals::Refusal;
+use st_mailbox::mailboxes::Mailbox;
+use std::alloc::Global;
+
+/// What is done in one hold of the lock: it may read the image, and make calls of it.
+pub trait Job<K: Naming, M: Mailbox> {
+    /// What comes of it.
+    type Out;
+
+    ghost done: { Self → OfficeView → Done → Self.Out → OfficeView → Done → Type 0 };
+
+    fn run(self, alloc: Global, office: &mut Office<K, M>, mine: &mut CallerShare<K>) -> Self::Out
+        ensures { done self office.old mine.old result office.new mine.new };
+}
+
+/// One call.
+#[derive(Drop)]
+pub(crate) struct Calling {
+    pub(crate) call: Call,
+}
+
+impl<K: Naming, M: Mailbox> Job<K, M> for Calling {
+    ghost use Rattle.st_pool.specs.Calling.{PoolCalls};
+
+    type Out = Result<Answer, Refusal>;
+
+    ghost done = { λ c o d r p e. PoolCalls o d c.call r p e };
+
+    fn run(
+        self,
+        alloc: Global,
+        office: &mut Office<K, M>,
+        mine: &mut CallerShare<K>,
+    ) -> Result<Answer, Refusal> {
+        office.apply(alloc, mine, self.call)
+    }
+}

@@ -1,6 +1,0 @@
-use Rattle.std.proofs.Common.{Some}
-use Rattle.st_server.proofs.pool_asking.reparent.Goals as goal
-
-pub returns-clause-replies : goal.returns-clause-replies
-returns-clause-replies g c =
-    (Some c.in-Some.class, c.in-Some.ensures.named, (c.reparent_named-answer.result, rw c.in-Some.ensures.same at c.reparent_named-answer.ensures.reparents, c.edit_reply.ensures))

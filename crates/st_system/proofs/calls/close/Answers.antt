@@ -1,5 +1,0 @@
-use Rattle.st_image.proofs.CallsLater.{closes_later}
-use Rattle.st_system.proofs.calls.close.Goals as goal
-
-pub returns-clause-later : goal.returns-clause-later
-returns-clause-later g c = closes_later c.args.image.now c.close-answer.new.self c.args.actor c.close-answer.result c.known.ensures c.known-2.ensures c.close-answer.ensures

@@ -1,5 +1,0 @@
-use Rattle.st_image.proofs.CallsLater.{creates_later}
-use Rattle.st_system.proofs.calls.create.Goals as goal
-
-pub returns-clause-later : goal.returns-clause-later
-returns-clause-later g c = creates_later c.args.image.now c.create-answer.new.self c.args.class c.create-answer.result c.known.ensures c.known-2.ensures c.create-answer.ensures

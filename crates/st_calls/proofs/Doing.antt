@@ -23,7 +23,7 @@ use Rattle.st_calls.proofs.Growing.{checkpoints_grow, closes_grow, creates_grow,
 
 -- ---- the image goes on
 
-texts_later : (i j : ImageView) (text : List ℕ) (r : Result Selector Refusal) → InternsIn i text r j → GoesOnIn i j
+pub texts_later : (i j : ImageView) (text : List ℕ) (r : Result Selector Refusal) → InternsIn i text r j → GoesOnIn i j
 texts_later i j text (Ok s) h = interns_later i j text (Ok s) h.0.0.1.0 tt h.1
 texts_later i j text (Err e) h = interns_later i j text (Err e) tt h.0.1 h.1
 
@@ -48,7 +48,7 @@ does_later i j call.Checkpoint r li lj h = checkpoints_later i j h.0 h.2
 grows_by : (i j : ImageView) (p e : ℕ) (r : Result Answer Refusal) → posts_by r ≡ p → edits_by r ≡ e → Grows p e 0 i j → Grows (posts_by r) (edits_by r) 0 i j
 grows_by i j p e r hp he g = subst (λ (m : ℕ). Grows m (edits_by r) 0 i j) (sym hp) (subst (λ (n : ℕ). Grows p n 0 i j) (sym he) g)
 
-texts_grow : (i j : ImageView) (text : List ℕ) (r : Result Selector Refusal) → IsLawful i → IsLawful j → InternsIn i text r j → Grows 0 0 0 i j
+pub texts_grow : (i j : ImageView) (text : List ℕ) (r : Result Selector Refusal) → IsLawful i → IsLawful j → InternsIn i text r j → Grows 0 0 0 i j
 texts_grow i j text (Ok s) li lj h = interns_grow i j text (Ok s) li lj h.0.0.1.0 tt
 texts_grow i j text (Err e) li lj h = interns_grow i j text (Err e) li lj tt h.0.1
 

@@ -97,6 +97,22 @@ fn perform<M: Mailbox>(alloc: Global, image: &mut Image<M>, call: Call) -> Resul
     }
 }
 
+/// Makes the call that interns a text, which is not copied for it.
+pub fn intern<M: Mailbox>(
+    alloc: Global,
+    image: &mut Image<M>,
+    text: &[u8],
+) -> Result<Selector, Refusal>
+    ensures does { Does image.old (calls.Intern text.now) (told answers.Interned result) image.new }
+    ensures later { GoesOnIn image.old image.new }
+    ensures grows { Grows 0 0 0 image.old image.new }
+{
+    image.known();
+    let answer = image.intern(alloc, text);
+    image.known();
+    answer
+}
+
 /// Makes a call. The image goes on in the new one, and has counted as many posts and edits more as the answer tells.
 pub fn apply<M: Mailbox>(alloc: Global, image: &mut Image<M>, call: Call) -> Result<Answer, Refusal>
     ensures does { Does image.old call result image.new }

@@ -1,15 +1,18 @@
-//! Who holds an image: calls can be made of it, and it can be read.
+//! Who holds an image: it can be read, and calls can be made of it.
 ghost use Rattle.std.specs.Prelude.{◌≡◌, Result};
 ghost use Rattle.st_classes.specs.declared.refusals.Refusal.{Refusal as RefusalOf};
 ghost use Rattle.st_image.specs.GoingOn.{GoesOnIn};
 ghost use Rattle.st_image.specs.Images.{ImageView};
 ghost use Rattle.st_calls.specs.declared.calls.Answer.{Answer as AnswerOf};
+ghost use Rattle.st_calls.specs.declared.calls.Answer.TheVariants as answers;
 ghost use Rattle.st_calls.specs.declared.calls.Call.{Call as CallOf};
-ghost use Rattle.st_calls.specs.Does.{Does};
+ghost use Rattle.st_calls.specs.declared.calls.Call.TheVariants as call_kinds;
+ghost use Rattle.st_calls.specs.Does.{Does, told};
 
 use crate::applying;
 use crate::calls::{Answer, Call};
 use st_classes::refusals::Refusal;
+use st_classes::values::Selector;
 use st_image::image::Image;
 use st_mailbox::mailboxes::Mailbox;
 use std::alloc::Global;
@@ -28,12 +31,18 @@ pub trait Holder<M: Mailbox> {
     fn image(&self) -> &Image<M>
         ensures { result.now ≡ image_of self.now };
 
-    fn apply(
+    /// Makes the call that interns a text, which is not copied for it.
+    fn intern(
         &mut self,
         alloc: Global,
         mine: &mut Self::Mine,
-        call: Call,
-    ) -> Result<Answer, Refusal>
+        text: &[u8],
+    ) -> Result<Selector, Refusal>
+        ensures calls { calls self.old mine.old (call_kinds.Intern text.now) (told answers.Interned result) self.new mine.new }
+        ensures later { GoesOnIn (image_of self.old) (image_of self.new) };
+
+    /// Makes a call.
+    fn apply(&mut self, alloc: Global, mine: &mut Self::Mine, call: Call) -> Result<Answer, Refusal>
         ensures calls { calls self.old mine.old call result self.new mine.new }
         ensures later { GoesOnIn (image_of self.old) (image_of self.new) };
 }
@@ -47,6 +56,10 @@ impl<M: Mailbox> Holder<M> for Image<M> {
 
     fn image(&self) -> &Image<M> {
         self
+    }
+
+    fn intern(&mut self, alloc: Global, _mine: &mut (), text: &[u8]) -> Result<Selector, Refusal> {
+        applying::intern(alloc, self, text)
     }
 
     fn apply(&mut self, alloc: Global, _mine: &mut (), call: Call) -> Result<Answer, Refusal> {

@@ -27,7 +27,7 @@ hold_one o p e h = record { events = e ∷ []; happen = (p, h, refl) }
 pub hold_then : (o m p : OfficeView) → IsHold o m → IsHold m p → IsHold o p
 hold_then o m p h k = record { events = h.events ++ k.events; happen = happen_then o m p h.events k.events h.happen k.happen }
 
-same_office : (o p : OfficeView) → p.image ≡ o.image → p.books ≡ o.books → p ≡ o
+pub same_office : (o p : OfficeView) → p.image ≡ o.image → p.books ≡ o.books → p ≡ o
 same_office o p i b = ap₂ (λ (x : ImageView) (y : BooksView). let q : OfficeView = record { image = x; books = y } in q) i b
 
 -- what a worker finds is a hold

@@ -1,13 +1,13 @@
 -- A call in a hold: what it does to the image, in the books, and to what its caller has done.
-use Rattle.std.specs.Prelude.{◌≡◌, ◌⊎◌, ℕ, ◌+◌, List, [], ◌∷◌, ◌++◌, length, Bool, true, false, Result, Ok, Err, MatchOption, MatchResult, nat_lt}
+use Rattle.std.specs.Prelude.{◌≡◌, ◌⊎◌, ℕ, ◌+◌, List, [], ◌∷◌, ◌++◌, length, Bool, true, false, Result, Ok, Err, MatchOption, MatchResult}
 use Rattle.st_classes.specs.declared.refusals.Refusal.{Refusal}
-use Rattle.st_classes.specs.declared.refusals.Refusal.TheVariants.{BadCommand, HistoryFull, NoMemory}
+use Rattle.st_classes.specs.declared.refusals.Refusal.TheVariants.{BadCommand, NoMemory}
 use Rattle.st_classes.specs.Refusals.{Rule, first_of}
 use Rattle.st_classes.specs.declared.values.ActorId.{ActorId}
 use Rattle.st_mailbox.specs.declared.messages.Message.{Message}
 use Rattle.st_image.specs.Calls.{Posts}
 use Rattle.st_image.specs.Images.{ImageView}
-use Rattle.st_image.specs.Counts.{most_counted}
+use Rattle.st_image.specs.declared.counts.Counts.{Counts}
 use Rattle.st_image.specs.PostRules.{from_client}
 use Rattle.st_calls.specs.declared.calls.Answer.{Answer}
 use Rattle.st_calls.specs.declared.calls.Answer.TheVariants as answer
@@ -17,11 +17,12 @@ use Rattle.st_calls.specs.Does.{Does}
 use Rattle.st_calls.specs.Growth.{Amounts}
 use Rattle.st_pool.specs.declared.receipts.Receipt.{Receipt}
 use Rattle.st_pool.specs.Books.{BooksView}
+use Rattle.st_pool.specs.Checkpointed.{checkpoint_rules}
 use Rattle.st_pool.specs.Done.{Done, Finds, OfficeView, receipt}
 
--- why the pool refuses a call before the image is asked: no more items are emptied than places are counted for
+-- why the pool refuses a call before the image is asked
 abbrev pub place_rules : OfficeView → Call → List Rule
-place_rules o call.Checkpoint = (nat_lt most_counted (o.books.emptied + length o.image.history), HistoryFull) ∷ []
+place_rules o call.Checkpoint = checkpoint_rules o
 place_rules o c = []
 
 -- calls that have a receipt
@@ -85,6 +86,16 @@ abbrev pub created_in : Result Answer Refusal → Result ActorId Refusal
 created_in (Ok (answer.Created a)) = Ok a
 created_in (Ok told) = Err BadCommand
 created_in (Err e) = Err e
+
+abbrev pub closed_in : Result Answer Refusal → Result (Unit {0}) Refusal
+closed_in (Ok answer.Closed) = Ok tt
+closed_in (Ok told) = Err BadCommand
+closed_in (Err e) = Err e
+
+abbrev pub counts_in : Result Answer Refusal → Result Counts Refusal
+counts_in (Ok (answer.Counted c)) = Ok c
+counts_in (Ok told) = Err BadCommand
+counts_in (Err e) = Err e
 
 -- a message is posted in one hold, and if it is accepted its receipt goes last: its place is where the history ended in that hold,
 -- behind all that was emptied. Memory may run out before

@@ -1,10 +1,11 @@
 //! The books of a pool: accepted posts, accepted edits, committed steps, and the items of histories that checkpoints have emptied. Four
 //! ledgers of the library, as one.
-ghost use Rattle.std.specs.Prelude.{◌≡◌, ℕ, ◌+◌, ◌<◌, ◌≤◌, ◌^◌, count_by, length, vec_len, nat_lt};
+ghost use Rattle.std.specs.Prelude.{◌≡◌, ℕ, ◌+◌, ◌<◌, ◌≤◌, ◌^◌, [], ◌∷◌, ◌++◌, count_by, length, reverse, vec_capacity, vec_len, nat_lt};
 ghost use Rattle.std.specs.List.{sum_by};
 ghost use Rattle.st_pool.specs.Done.{Done};
 ghost use Rattle.st_pool.specs.Settled.{emptied_by, gone as gone_of};
 
+use crate::accounts::{Account, Accounts};
 use crate::naming::{Edits, Emptied, Naming, Posts, Steps};
 use crate::receipts::Receipt;
 use crate::shares::{CallerShare, WorkerShare};
@@ -81,8 +82,28 @@ fn gone(emptied: u64, receipts: &[Receipt]) -> u64
         .count() as u64
 }
 
+/// Adds an account, if there is room for it.
+fn keep(accounts: &mut Vec<Account>, account: Account)
+    ensures kept { vec_len accounts.old < vec_capacity accounts.old → accounts.new.items ≡ accounts.old.items ++ account ∷ [] }
+    ensures capacity { vec_capacity accounts.new ≡ vec_capacity accounts.old }
+{
+    if accounts.len() < accounts.capacity() {
+        accounts.push_reserved(account);
+    }
+}
+
+/// Adds the steps of a worker, if there is room for them.
+fn keep_steps(workers: &mut Vec<u64>, steps: u64)
+    ensures kept { vec_len workers.old < vec_capacity workers.old → workers.new.items ≡ workers.old.items ++ steps ∷ [] }
+    ensures capacity { vec_capacity workers.new ≡ vec_capacity workers.old }
+{
+    if workers.len() < workers.capacity() {
+        workers.push_reserved(steps);
+    }
+}
+
 /// Takes in the callers' shares, and answers the sums of their posts and edits, and how many receipts have their items among the
-/// first `emptied` items.
+/// first `emptied` items. If there is room, it leaves the callers' accounts there, the last one first.
 fn gather_callers<K: Naming>(
     posts: &mut Book<Posts<K>>,
     edits: &mut Book<Edits<K>>,
@@ -91,7 +112,9 @@ fn gather_callers<K: Naming>(
     cleared_left: &mut Share<Emptied<K>>,
     emptied: u64,
     mut callers: Vec<CallerShare<K>>,
+    accounts: &mut Vec<Account>,
 ) -> (u64, u64, u64)
+    requires new { accounts.old.items ≡ [] }
     requires few { (posts.old.total < 2 ^ 63) × (edits.old.total < 2 ^ 63) }
     requires empty { (posts_left.old.amount ≡ 0) × (edits_left.old.amount ≡ 0) }
     requires some { (0 < posts_left.old.parts) × (0 < edits_left.old.parts) }
@@ -100,6 +123,7 @@ fn gather_callers<K: Naming>(
     ensures edits { (result.1 ≡ sum_by (λ (d : Done). d.edits) callers.items) × (edits_left.new.amount ≡ result.1) }
     ensures gone { result.2 ≡ sum_by (gone_of emptied) callers.items }
     ensures cleared { cleared_left.new.amount ≡ cleared_left.old.amount + emptied_by callers.items }
+    ensures accounts { vec_len callers ≤ vec_capacity accounts.old → reverse accounts.new.items ≡ callers.items }
     ensures parts { (posts_left.new.parts ≡ posts_left.old.parts + vec_len callers) × (edits_left.new.parts ≡ edits_left.old.parts + vec_len callers)
         × (cleared_left.new.parts ≡ cleared_left.old.parts + vec_len callers) }
 {
@@ -108,9 +132,8 @@ fn gather_callers<K: Naming>(
     let mut gone_sum: u64 = 0;
     while let Some(share) = callers.pop() {
         let CallerShare {
-            edits: made,
-            receipts,
-            emptied: _,
+            account,
+            room: _,
             posted,
             edited,
             cleared,
@@ -120,24 +143,29 @@ fn gather_callers<K: Naming>(
         cleared_left.merge(cleared);
         posts.audit(posts_left);
         edits.audit(edits_left);
-        posted_sum += receipts.len() as u64;
-        edited_sum += made;
-        gone_sum += gone(emptied, receipts.as_slice());
+        posted_sum += account.receipts.len() as u64;
+        edited_sum += account.edits;
+        gone_sum += gone(emptied, account.receipts.as_slice());
+        keep(accounts, account);
     }
     (posted_sum, edited_sum, gone_sum)
 }
 
-/// Takes in the workers' shares, and answers the sum of their steps.
+/// Takes in the workers' shares, and answers the sum of their steps. If there is room, it leaves the steps of each there, the last
+/// one first.
 fn gather_workers<K: Naming>(
     steps: &mut Book<Steps<K>>,
     left: &mut Share<Steps<K>>,
     mut workers: Vec<WorkerShare<K>>,
+    kept: &mut Vec<u64>,
 ) -> u64
+    requires new { kept.old.items ≡ [] }
     requires few { steps.old.total < 2 ^ 63 }
     requires empty { left.old.amount ≡ 0 }
     requires some { 0 < left.old.parts }
     ensures book { steps.new.total ≡ steps.old.total }
     ensures steps { (result ≡ sum_by (λ (n : ℕ). n) workers.items) × (left.new.amount ≡ result) }
+    ensures kept { vec_len workers ≤ vec_capacity kept.old → reverse kept.new.items ≡ workers.items }
     ensures parts { left.new.parts ≡ left.old.parts + vec_len workers }
 {
     let mut sum: u64 = 0;
@@ -146,12 +174,13 @@ fn gather_workers<K: Naming>(
         left.merge(ran);
         steps.audit(left);
         sum += taken;
+        keep_steps(kept, taken);
     }
     sum
 }
 
 impl<K: Naming> Books<K> {
-    ghost use Rattle.std.specs.Prelude.{◌≡◌, ◌+◌, ◌<◌, ◌≤◌, ◌^◌, length, vec_len, is_ok};
+    ghost use Rattle.std.specs.Prelude.{◌≡◌, ◌+◌, ◌<◌, ◌≤◌, ◌^◌, [], length, vec_capacity, vec_len};
     ghost use Rattle.st_calls.specs.Growth.{committed, counted, edits_by};
     ghost use Rattle.st_pool.specs.Books.{no_books};
     ghost use Rattle.st_pool.specs.Done.{nothing_done};
@@ -230,9 +259,12 @@ impl<K: Naming> Books<K> {
         let cleared = self.cleared_left.split_off(1, 0);
         self.callers += 1;
         CallerShare {
-            edits: 0,
-            receipts: Vec::new(alloc),
-            emptied: 0,
+            account: Account {
+                edits: 0,
+                receipts: Vec::new(alloc),
+                emptied: 0,
+            },
+            room: Vec::new(alloc),
             posted,
             edited,
             cleared,
@@ -279,11 +311,15 @@ impl<K: Naming> Books<K> {
         ensures share { mine.new ≡ record mine.old { edits = mine.old.edits + edits_by answer.now } }
         ensures within { mine.old.edits ≤ self.old.edits }
     {
-        let CallerShare { edits, edited, .. } = mine;
+        let CallerShare {
+            account,
+            edited,
+            ..
+        } = mine;
         self.edits.audit(edited);
         if let Ok(Answer::Version(_)) = answer {
             self.edits.add(edited, 1);
-            *edits += 1;
+            account.edits += 1;
         }
     }
 
@@ -294,14 +330,14 @@ impl<K: Naming> Books<K> {
         ensures share { mine.new ≡ record mine.old { emptied = mine.old.emptied + count } }
     {
         let CallerShare {
-            emptied,
+            account,
             cleared,
             ..
         } = mine;
         self.cleared.audit(cleared);
         self.cleared.add(cleared, count);
         self.emptied += count;
-        *emptied += count;
+        account.emptied += count;
     }
 
     /// Books the steps of a commit.
@@ -347,12 +383,15 @@ impl<K: Naming> Books<K> {
         self.steps.audit(&mut mine.ran);
     }
 
-    /// The totals of all shares, none of which is missing, and how many receipts have their items among those that were emptied.
+    /// The totals of all shares, none of which is missing, and how many receipts have their items among those that were emptied. If
+    /// there is room, it leaves there what each has done.
     pub(crate) fn close(
         self,
         callers: Vec<CallerShare<K>>,
         workers: Vec<WorkerShare<K>>,
+        accounts: &mut Accounts,
     ) -> (Totals, u64)
+        requires new { (accounts.old.callers.items ≡ []) × (accounts.old.workers.items ≡ []) }
         requires few { (self.posts < 2 ^ 63) × (self.edits < 2 ^ 63) × (self.steps < 2 ^ 63) }
         requires callers { vec_len callers ≡ self.callers }
         requires workers { vec_len workers ≡ self.workers }
@@ -362,6 +401,8 @@ impl<K: Naming> Books<K> {
         ensures steps { result.0.steps ≡ self.steps }
         ensures gone { result.1 ≡ sum_by (gone_of self.emptied) callers.items }
         ensures emptied { self.emptied ≡ emptied_by callers.items }
+        ensures callers { vec_len callers ≤ vec_capacity accounts.old.callers → accounts.new.callers.items ≡ callers.items }
+        ensures workers { vec_len workers ≤ vec_capacity accounts.old.workers → accounts.new.workers.items ≡ workers.items }
     {
         let Books {
             mut posts,
@@ -383,8 +424,11 @@ impl<K: Naming> Books<K> {
             &mut cleared_left,
             emptied,
             callers,
+            &mut accounts.callers,
         );
-        let steps_sum = gather_workers(&mut steps, &mut steps_left, workers);
+        accounts.callers.reverse();
+        let steps_sum = gather_workers(&mut steps, &mut steps_left, workers, &mut accounts.workers);
+        accounts.workers.reverse();
         posts.audit(&mut posts_left);
         edits.audit(&mut edits_left);
         steps.audit(&mut steps_left);

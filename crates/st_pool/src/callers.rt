@@ -3,17 +3,19 @@ ghost use Rattle.std.specs.Prelude.{◌≡◌, ◌+◌, is_ok};
 ghost use Rattle.std.specs.Borrow.{Bor};
 ghost use Rattle.std.specs.Fn.{FnOnceReturnsAt};
 ghost use Rattle.st_classes.specs.Refusals.{first_of};
-ghost use Rattle.st_image.specs.Calls.{AnswersExactly, Creates, Defines};
+ghost use Rattle.st_image.specs.Calls.{AnswersExactly, Closes, Creates, Defines, InstallsIn, Interns, Removes, Reparents};
 ghost use Rattle.st_image.specs.GoingOn.{GoesOnIn};
 ghost use Rattle.st_image.specs.Images.{ImageView, world};
 ghost use Rattle.st_image.specs.Outcomes.{image_outcome};
 ghost use Rattle.st_image.specs.PostRules.{from_client};
 ghost use Rattle.st_image.specs.Stats.{installed_own, method_stats, stats_rules};
 ghost use Rattle.st_calls.specs.Growth.{counted};
-ghost use Rattle.st_pool.specs.Calling.{CallsOnce, PostsOnce, created_in, position_in, version_in};
+ghost use Rattle.st_pool.specs.Calling.{CallsOnce, PostsOnce};
+ghost use Rattle.st_pool.specs.Checkpointed.{Checkpoints, with_checkpoint};
 ghost use Rattle.st_pool.specs.Done.{Finds, HasAtLeast, OfficeView};
 
-use crate::holds::{Calling, Job};
+use crate::answers::{closed, counts, created, position, version};
+use crate::holds::{Calling, Interning, Job};
 use crate::naming::Naming;
 use crate::shared::Shared;
 use crate::shares::CallerShare;
@@ -21,12 +23,13 @@ use st_calls::calls::{Answer, Call};
 use st_classes::refusals::Refusal;
 use st_classes::seq::Seq;
 use st_classes::values::{ActorId, ClassId, Selector, Values};
+use st_image::counts::Counts;
 use st_image::image::Image;
 use st_image::tallies::SiteStats;
 use st_mailbox::mailboxes::Mailbox;
 use st_mailbox::ring_box::RingBox;
 use st_turn::body::Outcome;
-use std::alloc::Global;
+use std::alloc::{AllocError, Global};
 use std::marker::Model;
 use std::sync::Wait;
 
@@ -49,39 +52,6 @@ impl<'a, K: Naming, M: Mailbox> Model for Caller<'a, K, M> {
     ghost view = { λ s. s.share };
 }
 
-/// The version that a call answered.
-fn version(answer: Result<Answer, Refusal>) -> Result<u32, Refusal>
-    ensures { result ≡ version_in answer }
-{
-    match answer {
-        Ok(Answer::Version(edits)) => Ok(edits),
-        Ok(_) => Err(Refusal::BadCommand),
-        Err(refusal) => Err(refusal),
-    }
-}
-
-/// The number of a turn that a call answered.
-fn position(answer: Result<Answer, Refusal>) -> Result<u64, Refusal>
-    ensures { result ≡ position_in answer }
-{
-    match answer {
-        Ok(Answer::Position(turn)) => Ok(turn),
-        Ok(_) => Err(Refusal::BadCommand),
-        Err(refusal) => Err(refusal),
-    }
-}
-
-/// The actor that a call answered.
-fn created(answer: Result<Answer, Refusal>) -> Result<ActorId, Refusal>
-    ensures { result ≡ created_in answer }
-{
-    match answer {
-        Ok(Answer::Created(actor)) => Ok(actor),
-        Ok(_) => Err(Refusal::BadCommand),
-        Err(refusal) => Err(refusal),
-    }
-}
-
 impl<'a, K: Naming, M: Mailbox> Caller<'a, K, M> {
     /// A caller that holds a share.
     pub(crate) fn new(shared: &'a Shared<K, M>, share: CallerShare<K>) -> Caller<'a, K, M>
@@ -90,34 +60,55 @@ impl<'a, K: Naming, M: Mailbox> Caller<'a, K, M> {
         Caller { shared, share }
     }
 
-    /// Does something in one hold of the lock. The image is lawful then and has at least what this caller has done.
+    /// Does something in one hold of the lock. The image is lawful then and has at least what this caller has done. If something has
+    /// moved in the hold, one worker that sleeps is woken, and one that rests.
     pub fn hold<R: Wait, J: Job<K, M>>(&mut self, rt: &R, alloc: Global, job: J) -> J::Out
         ensures { (o : OfficeView) × (p : OfficeView) × Finds K.start K.first self.old o × J.done job o self.old result p self.new }
     {
         let Caller { shared, share } = self;
         let mut office = shared.enter(rt);
         office.audit(share);
+        let moves = office.moves();
         let out = job.run(alloc, &mut office, share);
+        let has_moved = office.moves() != moves;
         drop(office);
+        if has_moved {
+            shared.wake();
+        }
         out
     }
 
-    /// Something has moved: workers that sleep or rest are woken.
-    pub fn wake(&self) {
-        self.shared.wake();
-    }
-
-    /// Makes a call of the image, in one hold. Workers that sleep or rest are woken.
+    /// Makes a call of the image, in one hold.
     pub fn call<R: Wait>(&mut self, rt: &R, alloc: Global, call: Call) -> Result<Answer, Refusal>
         ensures { CallsOnce K.start K.first self.old call result self.new }
     {
-        let answer = self.hold(rt, alloc, Calling { call });
-        self.shared.wake();
-        answer
+        self.hold(rt, alloc, Calling { call })
+    }
+
+    /// Makes room for the receipt of a message with this many arguments, so that its post takes no memory for it in its hold.
+    pub fn make_room(&mut self, arguments: usize) -> Result<(), AllocError>
+        ensures { self.new ≡ self.old }
+    {
+        self.share.make_room(arguments)
+    }
+
+    /// Interns a text: the answer is its number. It is refused by `BadName` if the text is no selector, and by `TooMany` names if it
+    /// is new and there are 8,192. No worker is woken.
+    pub fn intern<R: Wait>(
+        &mut self,
+        rt: &R,
+        alloc: Global,
+        text: &[u8],
+    ) -> Result<Selector, Refusal>
+        ensures same { self.new ≡ self.old }
+        ensures answers { (o : OfficeView) × (j : ImageView) × Finds K.start K.first self.old o × Interns o.image text.now result j }
+    {
+        self.hold(rt, alloc, Interning { text })
     }
 
     /// Posts a message of a client, and answers the number of its turn: its place, from 1, among what waited in the actor's mailbox at
-    /// the last checkpoint and what it accepted since. If it is accepted, its receipt is added last.
+    /// the last checkpoint and what it accepted since. If it is accepted, its receipt is added last, for which room is made before the
+    /// hold.
     ///
     /// It is refused, with the first that applies, by `UnknownActor`, `BadArguments`, `Old`, `Closed`, `Full` and `HistoryFull`, and
     /// by `NoMemory` if memory ran out. If it is accepted, one worker that sleeps is woken, and one that rests.
@@ -133,6 +124,8 @@ impl<'a, K: Naming, M: Mailbox> Caller<'a, K, M> {
     ) -> Result<u64, Refusal>
         ensures { PostsOnce K.start K.first self.old actor (from_client sender seq selector args) result self.new }
     {
+        // If there is no room yet, the hold asks for it again, and refuses the post.
+        let _ = self.make_room(args.len());
         let answer = self.call(
             rt,
             alloc,
@@ -157,7 +150,7 @@ impl<'a, K: Naming, M: Mailbox> Caller<'a, K, M> {
         slots: Seq<Seq<u8>>,
     ) -> Result<u32, Refusal>
         ensures edits { self.new ≡ record self.old { edits = self.old.edits + counted (is_ok result) } }
-        ensures answers { (i : ImageView) × (j : ImageView) × HasAtLeast K.start self.old i × Defines i name parent slots result j }
+        ensures answers { (o : OfficeView) × (j : ImageView) × Finds K.start K.first self.old o × Defines o.image name parent slots result j }
     {
         let answer = self.call(
             rt,
@@ -171,6 +164,51 @@ impl<'a, K: Naming, M: Mailbox> Caller<'a, K, M> {
         version(answer)
     }
 
+    /// Compiles a method and installs it, and answers the version. A refused source may leave names (`InstallsIn`).
+    pub fn install<R: Wait>(
+        &mut self,
+        rt: &R,
+        alloc: Global,
+        class: ClassId,
+        source: Seq<u8>,
+    ) -> Result<u32, Refusal>
+        ensures edits { self.new ≡ record self.old { edits = self.old.edits + counted (is_ok result) } }
+        ensures answers { (o : OfficeView) × (j : ImageView) × Finds K.start K.first self.old o × InstallsIn o.image class source result j }
+    {
+        let answer = self.call(rt, alloc, Call::Install { class, source });
+        version(answer)
+    }
+
+    /// Removes a method, and answers the version.
+    pub fn remove<R: Wait>(
+        &mut self,
+        rt: &R,
+        alloc: Global,
+        class: ClassId,
+        selector: Selector,
+    ) -> Result<u32, Refusal>
+        ensures edits { self.new ≡ record self.old { edits = self.old.edits + counted (is_ok result) } }
+        ensures answers { (o : OfficeView) × (j : ImageView) × Finds K.start K.first self.old o × Removes o.image class selector result j }
+    {
+        let answer = self.call(rt, alloc, Call::Remove { class, selector });
+        version(answer)
+    }
+
+    /// Puts a class under another superclass, and answers the version.
+    pub fn reparent<R: Wait>(
+        &mut self,
+        rt: &R,
+        alloc: Global,
+        class: ClassId,
+        parent: ClassId,
+    ) -> Result<u32, Refusal>
+        ensures edits { self.new ≡ record self.old { edits = self.old.edits + counted (is_ok result) } }
+        ensures answers { (o : OfficeView) × (j : ImageView) × Finds K.start K.first self.old o × Reparents o.image class parent result j }
+    {
+        let answer = self.call(rt, alloc, Call::Reparent { class, parent });
+        version(answer)
+    }
+
     /// Makes an actor of a class, and answers its number, from 0.
     pub fn create<R: Wait>(
         &mut self,
@@ -179,10 +217,31 @@ impl<'a, K: Naming, M: Mailbox> Caller<'a, K, M> {
         class: ClassId,
     ) -> Result<ActorId, Refusal>
         ensures same { self.new ≡ self.old }
-        ensures answers { (i : ImageView) × (j : ImageView) × HasAtLeast K.start self.old i × Creates i class result j }
+        ensures answers { (o : OfficeView) × (j : ImageView) × Finds K.start K.first self.old o × Creates o.image class result j }
     {
         let answer = self.call(rt, alloc, Call::Create(class));
         created(answer)
+    }
+
+    /// Closes a mailbox. The messages that wait in it are still run.
+    pub fn close<R: Wait>(&mut self, rt: &R, alloc: Global, actor: ActorId) -> Result<(), Refusal>
+        ensures same { self.new ≡ self.old }
+        ensures answers { (o : OfficeView) × (j : ImageView) × Finds K.start K.first self.old o × Closes o.image actor result j }
+    {
+        let answer = self.call(rt, alloc, Call::Close(actor));
+        closed(answer)
+    }
+
+    /// The present world becomes the base of the image: its history is emptied, and how turns ended and the statistics are forgotten.
+    /// The answer is how many posts and steps the image has counted, which a checkpoint does not change.
+    ///
+    /// It is refused by `HistoryFull` if more than 2^63 - 1 items would have been emptied since the image was shared, and by `NoMemory`
+    /// if memory ran out. A refused checkpoint changes nothing. Workers that waited for room in the history go on.
+    pub fn checkpoint<R: Wait>(&mut self, rt: &R, alloc: Global) -> Result<Counts, Refusal>
+        ensures { (o : OfficeView) × (p : OfficeView) × Finds K.start K.first self.old o × Checkpoints o result p × (self.new ≡ with_checkpoint o result self.old) }
+    {
+        let answer = self.call(rt, alloc, Call::Checkpoint);
+        counts(answer)
     }
 
     /// How a turn of an actor ended. It is refused by `Pending` if the turn has not ended, and by `Expired` if its outcome is no
@@ -194,7 +253,7 @@ impl<'a, K: Naming, M: Mailbox> Caller<'a, K, M> {
         turn: u64,
     ) -> Result<Outcome, Refusal>
         ensures same { self.new ≡ self.old }
-        ensures answers { (i : ImageView) × HasAtLeast K.start self.old i × (result ≡ image_outcome i actor turn) }
+        ensures answers { (o : OfficeView) × Finds K.start K.first self.old o × (result ≡ image_outcome o.image actor turn) }
     {
         let Caller { shared, share } = self;
         let mut office = shared.enter(rt);
@@ -211,7 +270,7 @@ impl<'a, K: Naming, M: Mailbox> Caller<'a, K, M> {
         selector: Selector,
     ) -> Result<Vec<SiteStats>, Refusal>
         ensures same { self.new ≡ self.old }
-        ensures answers { (i : ImageView) × HasAtLeast K.start self.old i × AnswersExactly (first_of (stats_rules i class selector)) result (λ list. list.items ≡ method_stats i (installed_own (world i).edits class selector)) }
+        ensures answers { (o : OfficeView) × Finds K.start K.first self.old o × AnswersExactly (first_of (stats_rules o.image class selector)) result (λ list. list.items ≡ method_stats o.image (installed_own (world o.image).edits class selector)) }
     {
         let Caller { shared, share } = self;
         let mut office = shared.enter(rt);

@@ -6,6 +6,7 @@ use crate::office::Office;
 use crate::shares::CallerShare;
 use st_calls::calls::{Answer, Call};
 use st_classes::refusals::Refusal;
+use st_classes::values::Selector;
 use st_mailbox::mailboxes::Mailbox;
 use std::alloc::Global;
 
@@ -40,5 +41,31 @@ impl<K: Naming, M: Mailbox> Job<K, M> for Calling {
         mine: &mut CallerShare<K>,
     ) -> Result<Answer, Refusal> {
         office.apply(alloc, mine, self.call)
+    }
+}
+
+/// A text is interned.
+#[derive(Drop)]
+pub(crate) struct Interning<'a> {
+    pub(crate) text: &'a [u8],
+}
+
+impl<'a, K: Naming, M: Mailbox> Job<K, M> for Interning<'a> {
+    ghost use Rattle.st_calls.specs.declared.calls.Answer.TheVariants as answers;
+    ghost use Rattle.st_calls.specs.declared.calls.Call.TheVariants as calls;
+    ghost use Rattle.st_calls.specs.Does.{told};
+    ghost use Rattle.st_pool.specs.Calling.{PoolCalls};
+
+    type Out = Result<Selector, Refusal>;
+
+    ghost done = { λ j o d r p e. PoolCalls o d (calls.Intern j.text.now) (told answers.Interned r) p e };
+
+    fn run(
+        self,
+        alloc: Global,
+        office: &mut Office<K, M>,
+        mine: &mut CallerShare<K>,
+    ) -> Result<Selector, Refusal> {
+        office.intern(alloc, mine, self.text)
     }
 }

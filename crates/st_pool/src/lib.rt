@@ -6,14 +6,16 @@
 //! done. In the end all hand back their shares, and what they have done together is what the history has ([`settling::settle`]).
 #![tactic(auto)]
 
+pub mod accounts;
+mod answers;
 pub mod books;
 pub mod callers;
 pub(crate) mod crowding;
 pub mod front;
 pub mod hand;
 pub mod held;
-pub mod naming;
 pub mod holds;
+pub mod naming;
 pub mod office;
 pub mod receipts;
 mod seats;

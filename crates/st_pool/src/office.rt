@@ -11,9 +11,9 @@ use crate::front::{Front, Head, Opened, again, precedes};
 use crate::held::Held;
 use crate::naming::Naming;
 use crate::receipts::Receipt;
-use crate::shares::{CallerShare, WorkerShare};
+use crate::shares::{CallerShare, WorkerShare, copied};
 use crate::waiting::Waiting;
-use st_calls::applying::apply;
+use st_calls::applying::{apply, intern};
 use st_calls::calls::{Answer, Call};
 use st_calls::claims;
 use st_calls::holders::Holder;
@@ -25,8 +25,9 @@ use st_image::image::Image;
 use st_image::leavings::Leavings;
 use st_mailbox::mailboxes::Mailbox;
 use st_mailbox::messages::{Message, Sender};
-use std::alloc::{AllocError, Global};
+use std::alloc::Global;
 use std::marker::Model;
+use std::mem::replace;
 
 /// What a worker finds under the lock.
 #[derive(Drop)]
@@ -80,13 +81,6 @@ fn note<K: Naming, M: Mailbox>(head: &Head<K>, front: &mut Option<Front<K>>, ima
     }
 }
 
-/// A copy of arguments.
-fn copied(alloc: Global, args: &Values) -> Result<Values, AllocError>
-    ensures { IfOk result (λ v. v ≡ args.now) }
-{
-    Ok(Seq::from_vec(args.as_slice().to_vec(alloc)?))
-}
-
 /// Whether steps were committed.
 fn has_steps(answer: &Result<u32, Refusal>) -> bool {
     match answer {
@@ -117,7 +111,9 @@ impl<K: Naming, M: Mailbox> Office<K, M> {
     ghost use Rattle.st_image.specs.Commits.{ChecksOut, Settles};
     ghost use Rattle.st_image.specs.GoingOn.{GoesOnIn};
     ghost use Rattle.st_image.specs.WorldInvariant.{IsLawful};
+    ghost use Rattle.st_calls.specs.declared.calls.Answer.TheVariants as answers;
     ghost use Rattle.st_calls.specs.declared.calls.Call.TheVariants as calls;
+    ghost use Rattle.st_calls.specs.Does.{told};
     ghost use Rattle.st_pool.specs.Books.{no_books};
     ghost use Rattle.st_pool.specs.Calling.{PoolCalls, is_plain};
     ghost use Rattle.st_calls.specs.Growth.{amounts, committed};
@@ -199,13 +195,14 @@ impl<K: Naming, M: Mailbox> Office<K, M> {
         ensures later { GoesOnIn self.old.image self.new.image }
     {
         let CallerShare {
-            receipts,
+            account,
+            room,
             posted,
             edited,
             ..
         } = mine;
-        let copy = copied(alloc, &args)?;
-        receipts.reserve(1)?;
+        copied(room, args.as_slice())?;
+        account.receipts.reserve(1)?;
         let place = self.books.emptied() + self.image.history().len() as u64;
         let answer = apply(
             alloc,
@@ -222,7 +219,8 @@ impl<K: Naming, M: Mailbox> Office<K, M> {
         self.waiting.note_post(is_accepted);
         self.books.post(posted, edited, is_accepted);
         if is_accepted {
-            receipts.push_reserved(Receipt {
+            let copy = Seq::from_vec(replace(room, Vec::new(alloc)));
+            account.receipts.push_reserved(Receipt {
                 place,
                 actor,
                 message: Message {
@@ -238,11 +236,7 @@ impl<K: Naming, M: Mailbox> Office<K, M> {
 
     /// The present world becomes the base of the image, and its history is emptied.
     #[tactic(auto, using(crate::proofs::Fronts::goes_by))]
-    fn checkpoint(
-        &mut self,
-        alloc: Global,
-        mine: &mut CallerShare<K>,
-    ) -> Result<Answer, Refusal>
+    fn checkpoint(&mut self, alloc: Global, mine: &mut CallerShare<K>) -> Result<Answer, Refusal>
         ensures calls { PoolCalls self.old mine.old calls.Checkpoint result self.new mine.new }
         ensures later { GoesOnIn self.old.image self.new.image }
     {
@@ -261,6 +255,20 @@ impl<K: Naming, M: Mailbox> Office<K, M> {
         }
     }
 
+    /// Interns a text, which is not copied. It wakes no worker, so it is not counted as a move.
+    #[tactic(auto, using(crate::proofs::Fronts::goes_by))]
+    pub(crate) fn intern(
+        &mut self,
+        alloc: Global,
+        mine: &mut CallerShare<K>,
+        text: &[u8],
+    ) -> Result<Selector, Refusal>
+        ensures calls { PoolCalls self.old mine.old (calls.Intern text.now) (told answers.Interned result) self.new mine.new }
+        ensures later { GoesOnIn self.old.image self.new.image }
+    {
+        intern(alloc, &mut self.image, text)
+    }
+
     /// Makes a call that is neither a post nor a checkpoint. All but the interning of a text are counted as moves.
     #[tactic(auto, using(crate::proofs::Fronts::goes_by))]
     fn call(
@@ -273,8 +281,9 @@ impl<K: Naming, M: Mailbox> Office<K, M> {
         ensures calls { PoolCalls self.old mine.old call result self.new mine.new }
         ensures later { GoesOnIn self.old.image self.new.image }
     {
-        let is_move = !matches!(call, Call::Intern(_));
-        self.waiting.note_post(is_move);
+        if !matches!(call, Call::Intern(_)) {
+            self.waiting.note_move();
+        }
         self.image.known();
         self.image.version().known();
         let answer = apply(alloc, &mut self.image, call);
@@ -460,6 +469,15 @@ impl<K: Naming, M: Mailbox> Holder<M> for Office<K, M> {
 
     fn image(&self) -> &Image<M> {
         Office::image(self)
+    }
+
+    fn intern(
+        &mut self,
+        alloc: Global,
+        mine: &mut CallerShare<K>,
+        text: &[u8],
+    ) -> Result<Selector, Refusal> {
+        Office::intern(self, alloc, mine, text)
     }
 
     fn apply(

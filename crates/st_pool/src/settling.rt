@@ -1,5 +1,6 @@
 //! Settling: what all threads have done is what the history has.
-ghost use Rattle.std.specs.Prelude.{◌≡◌, ℕ, ◌+◌, ◌<◌, ◌≤◌, ◌^◌, ◌⊎◌, All, Some, length, vec_len, slice_get, IsTrue, ◌↔◌, MatchBool, OnOk, IfOk, IfErr};
+ghost use Rattle.std.specs.Prelude.{◌≡◌, ℕ, ◌+◌, ◌<◌, ◌≤◌, ◌^◌, ◌⊎◌, [], All, Some, length, vec_capacity, vec_len, slice_get, IsTrue, ◌↔◌, MatchBool, OnOk, IfOk, IfErr};
+ghost use Rattle.std.specs.Option.{IfSome};
 ghost use Rattle.std.specs.List.{sum_by};
 ghost use Rattle.st_classes.specs.declared.refusals.Refusal.TheVariants as refusals;
 ghost use Rattle.st_image.specs.declared.items.Item.TheVariants.{Posted as PostedItem};
@@ -10,6 +11,7 @@ ghost use Rattle.st_image.specs.WorldInvariant.{IsLawful};
 ghost use Rattle.st_pool.specs.Done.{Done, StandsIn};
 ghost use Rattle.st_pool.specs.Settled.{AreAll, AllStand, AreCounts, AreFew, AreSums, HaveStood};
 
+use crate::accounts::Accounts;
 use crate::naming::Naming;
 use crate::office::Office;
 use crate::receipts::Receipt;
@@ -110,15 +112,35 @@ fn all_callers_stand<K: Naming>(
         .all(|share| all_stand(emptied, history, share.receipts()))
 }
 
+/// Room for the accounts of this many callers and workers, without memory if it is there already; or `None` if memory ran out.
+fn emptied(room: Accounts, callers: usize, workers: usize) -> Option<Accounts>
+    ensures new { IfSome result (λ r. (r.callers.items ≡ []) × (r.workers.items ≡ [])) }
+    ensures enough { IfSome result (λ r. (callers ≤ vec_capacity r.callers) × (workers ≤ vec_capacity r.workers)) }
+{
+    let mut accounts = room;
+    accounts.callers.clear();
+    accounts.workers.clear();
+    let is_enough = accounts.callers.reserve(callers).is_ok()
+        && accounts.workers.reserve(workers).is_ok();
+    if is_enough { Some(accounts) } else { None }
+}
+
 impl<K: Naming, M: Mailbox> Office<K, M> {
-    ghost use Rattle.std.specs.Prelude.{◌≡◌, ◌⊎◌, OnOk, IfOk, IfErr};
+    ghost use Rattle.std.specs.Prelude.{◌≡◌, ◌⊎◌, ◌≤◌, [], OnOk, IfOk, IfErr, vec_capacity, vec_len};
     ghost use Rattle.st_classes.specs.declared.refusals.Refusal.TheVariants as refusals;
     ghost use Rattle.st_pool.specs.Settled.{AreAll, AllStand, AreCounts, AreFew, AreSums, emptied_by};
 
-    /// The image, and what all threads have done together. It is refused by `BadArguments` exactly if not all shares that were given
+    /// The image, and what all threads have done together. If there is room, it leaves there what each has done. It is refused by `BadArguments` exactly if not all shares that were given
     /// out are here, and then by `Changed` exactly if the message of a receipt is not in the history at its place, or the items of more
     /// receipts are among the emptied ones than posts were emptied.
-    pub(crate) fn settle(self, shares: Shares<K>) -> Result<(Image<M>, Totals), Refusal>
+    pub(crate) fn settle(
+        self,
+        shares: Shares<K>,
+        accounts: &mut Accounts,
+    ) -> Result<(Image<M>, Totals), Refusal>
+        requires new { (accounts.old.callers.items ≡ []) × (accounts.old.workers.items ≡ []) }
+        ensures callers { OnOk result (vec_len shares.callers ≤ vec_capacity accounts.old.callers → accounts.new.callers.items ≡ shares.callers.items) }
+        ensures workers { OnOk result (vec_len shares.workers ≤ vec_capacity accounts.old.workers → accounts.new.workers.items ≡ shares.workers.items) }
         ensures image { IfOk result (λ r. r.0 ≡ self.image) }
         ensures later { IfOk result (λ r. GoesOnIn K.first r.0) }
         ensures sums { IfOk result (λ r. AreSums r.1 shares.callers.items shares.workers.items) }
@@ -143,7 +165,7 @@ impl<K: Naming, M: Mailbox> Office<K, M> {
         self.image.known();
         self.image.version().known();
         let Office { books, image, .. } = self;
-        let (totals, gone) = books.close(callers, workers);
+        let (totals, gone) = books.close(callers, workers, accounts);
         if totals.posts.saturating_sub(posts_in(image.history())) < gone {
             drop(image);
             return Err(Refusal::Changed);
@@ -152,26 +174,40 @@ impl<K: Naming, M: Mailbox> Office<K, M> {
     }
 }
 
-/// The image, and what all threads have done together, once they have handed back their shares: the sums of the shares, which are
-/// what the image has counted since the pool was made. The message of each receipt is in the history at its place, posted to its actor,
-/// unless a checkpoint of these callers has emptied its item; and of the emptied items no more belong to receipts than are posts.
+/// The image, what all threads have done together, once they have handed back their shares, and what each has done. The totals are the
+/// sums over these accounts, and what the image has counted since the pool was made. The message of each receipt is in the history at
+/// its place, posted to its actor, unless a checkpoint of these callers has emptied its item; and of the emptied items no more belong to
+/// receipts than are posts.
 ///
-/// It is refused by `BadArguments` if not all shares that were given out are here, and then by `Changed` if the message of a receipt is
-/// not there, or more receipts have emptied items than posts were emptied. The image and the shares are spent either way.
+/// What `room` has is dropped, and its room is taken for the accounts; memory is taken only if it is not enough.
+///
+/// It is refused by `NoMemory` if memory ran out; by `BadArguments` if not all shares that were given out are here; and then by `Changed`
+/// if the message of a receipt is not there, or more receipts have emptied items than posts were emptied. The image and the shares are
+/// spent either way.
 pub fn settle_image<K: Naming, M: Mailbox>(
     shared: Shared<K, M>,
     shares: Shares<K>,
-) -> Result<(Image<M>, Totals), Refusal>
-    ensures sums { IfOk result (λ r. AreSums r.1 shares.callers.items shares.workers.items) }
-    ensures history { IfOk result (λ r. AreCounts K.start r.0 r.1 × HaveStood r.0 r.1.posts shares.callers.items) }
+    room: Accounts,
+) -> Result<(Image<M>, Totals, Accounts), Refusal>
+    ensures accounts { IfOk result (λ r. (r.2.callers.items ≡ shares.callers.items) × (r.2.workers.items ≡ shares.workers.items)) }
+    ensures sums { IfOk result (λ r. AreSums r.1 r.2.callers.items r.2.workers.items) }
+    ensures history { IfOk result (λ r. AreCounts K.start r.0 r.1 × HaveStood r.0 r.1.posts r.2.callers.items) }
     ensures later { IfOk result (λ r. GoesOnIn K.first r.0) }
-    ensures refused { IfErr result (λ e. (e ≡ refusals.BadArguments) ⊎ (e ≡ refusals.Changed)) }
+    ensures refused { IfErr result (λ e. (e ≡ refusals.NoMemory) ⊎ (e ≡ refusals.BadArguments) ⊎ (e ≡ refusals.Changed)) }
 {
+    let Some(mut accounts) = emptied(room, shares.callers.len(), shares.workers.len()) else {
+        drop((shared, shares));
+        return Err(Refusal::NoMemory);
+    };
     let Shared { office, .. } = shared;
-    office.into_inner().settle(shares)
+    let (image, totals) = office.into_inner().settle(shares, &mut accounts)?;
+    Ok((image, totals, accounts))
 }
 
-/// The same without the image.
+/// The totals of what all threads have done, once they have handed back their shares. No memory is taken.
+///
+/// It is refused by `BadArguments` if not all shares that were given out are here, and then by `Changed` as [`settle_image`] is. All is
+/// spent either way.
 pub fn settle<K: Naming, M: Mailbox>(
     shared: Shared<K, M>,
     shares: Shares<K>,
@@ -180,7 +216,13 @@ pub fn settle<K: Naming, M: Mailbox>(
     ensures history { IfOk result (λ t. (i : ImageView) × IsLawful i × AreCounts K.start i t × HaveStood i t.posts shares.callers.items) }
     ensures refused { IfErr result (λ e. (e ≡ refusals.BadArguments) ⊎ (e ≡ refusals.Changed)) }
 {
-    let (image, totals) = settle_image(shared, shares)?;
+    let alloc = *shares.callers.allocator();
+    let Shared { office, .. } = shared;
+    let mut none = Accounts {
+        callers: Vec::new(alloc),
+        workers: Vec::new(alloc),
+    };
+    let (image, totals) = office.into_inner().settle(shares, &mut none)?;
     image.known();
     Ok(totals)
 }

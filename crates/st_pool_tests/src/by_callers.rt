@@ -85,9 +85,9 @@ pub fn closing<C: Calls, R: Wait + Clock>(
         && marks.await_claims(rt, 1)
         && post(rt, alloc, caller, 2, SECOND, "a") == Ok(1)
         && post(rt, alloc, caller, 3, SECOND, "a") == Ok(2)
-        && caller.close(rt, SECOND) == Ok(())
+        && caller.close(rt, alloc, SECOND) == Ok(())
         && post(rt, alloc, caller, 4, SECOND, "a") == Err(Refusal::Closed)
-        && caller.close(rt, SECOND) == Err(Refusal::Closed)
+        && caller.close(rt, alloc, SECOND) == Err(Refusal::Closed)
         && post(rt, alloc, caller, 5, FIRST, "a") == Ok(2);
     marks.tell();
     is_closed

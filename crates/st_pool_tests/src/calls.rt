@@ -72,7 +72,7 @@ pub trait Calls {
     /// How many messages of clients were accepted, read in the hold of a checkpoint.
     fn checkpoint<R: Wait>(&mut self, rt: &R, alloc: Global) -> Result<u64, Refusal>;
 
-    fn close<R: Wait>(&mut self, rt: &R, actor: ActorId) -> Result<(), Refusal>;
+    fn close<R: Wait>(&mut self, rt: &R, alloc: Global, actor: ActorId) -> Result<(), Refusal>;
 
     fn post<R: Wait>(
         &mut self,
@@ -106,6 +106,11 @@ pub trait Calls {
 
     /// Whether the caller sees the messages of all four senders of a crowd in their orders.
     fn sees_order<R: Wait>(&mut self, rt: &R) -> bool;
+}
+
+/// A text of its own.
+fn text(alloc: Global, text: &str) -> Result<Seq<u8>, AllocError> {
+    Ok(Seq::from_vec(text.as_bytes().to_vec(alloc)?))
 }
 
 /// Whether an item is a message of a number for an actor.
@@ -147,7 +152,8 @@ impl<K: Naming> Calls for Caller<'_, K> {
         parent: ClassId,
     ) -> Result<u32, Refusal> {
         let slots = Seq::from_vec(Vec::new(alloc));
-        self.define(rt, alloc, name.as_bytes(), parent, slots)
+        let name = text(alloc, name)?;
+        self.define(rt, alloc, name, parent, slots)
     }
 
     fn install<R: Wait>(
@@ -157,7 +163,8 @@ impl<K: Naming> Calls for Caller<'_, K> {
         class: ClassId,
         source: &str,
     ) -> Result<u32, Refusal> {
-        self.install(rt, alloc, class, source.as_bytes())
+        let source = text(alloc, source)?;
+        self.install(rt, alloc, class, source)
     }
 
     fn remove<R: Wait>(
@@ -193,8 +200,8 @@ impl<K: Naming> Calls for Caller<'_, K> {
         Ok(self.checkpoint(rt, alloc)?.posts)
     }
 
-    fn close<R: Wait>(&mut self, rt: &R, actor: ActorId) -> Result<(), Refusal> {
-        self.close(rt, actor)
+    fn close<R: Wait>(&mut self, rt: &R, alloc: Global, actor: ActorId) -> Result<(), Refusal> {
+        self.close(rt, alloc, actor)
     }
 
     fn post<R: Wait>(

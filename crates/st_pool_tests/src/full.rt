@@ -66,7 +66,7 @@ fn is_refused<C: Calls, R: Wait + Clock>(
         Call::Remove => remove(rt, alloc, caller, A, "go").err(),
         Call::Reparent => caller.reparent(rt, alloc, A, OBJECT).err(),
         Call::Create => caller.create(rt, alloc, A).err(),
-        Call::Close => caller.close(rt, FIRST).err(),
+        Call::Close => caller.close(rt, alloc, FIRST).err(),
     };
     refused == Some(Refusal::HistoryFull)
 }

@@ -166,7 +166,7 @@ fn call_until_gone<K: Naming, R: Wait + Clock>(rt: &R, alloc: Global, stage: &St
         if stage.marks.are_gone(stage.scene.workers() as u64) {
             return;
         }
-        let _answer = caller.close(rt, FIRST);
+        let _answer = caller.close(rt, alloc, FIRST);
         pause(rt, 1);
     }
 }

@@ -96,7 +96,7 @@ fn act<C: Calls, R: Wait>(
         "sites" => sites(rt, alloc, caller, rest),
         "checkpoint" => caller.checkpoint(rt, alloc),
         "close" => {
-            caller.close(rt, FIRST)?;
+            caller.close(rt, alloc, FIRST)?;
             Ok(0)
         }
         _ => {

@@ -5,12 +5,13 @@ use Rattle.st_classes.specs.declared.values.Selector.{Selector}
 use Rattle.st_classes.specs.declared.values.Value.{Value}
 use Rattle.st_classes.specs.declared.values.Value.TheVariants as value
 use Rattle.st_classes.specs.declared.refusals.Refusal.{Refusal}
-use Rattle.st_classes.specs.declared.refusals.Refusal.TheVariants.{BadCommand, NoMemory}
+use Rattle.st_classes.specs.declared.refusals.Refusal.TheVariants.{NoMemory}
 use Rattle.st_image.specs.Images.{ImageView}
 use Rattle.st_calls.specs.declared.calls.Answer.{Answer}
 use Rattle.st_calls.specs.declared.calls.Answer.TheVariants as answer
 use Rattle.st_calls.specs.declared.calls.Call.{Call}
 use Rattle.st_calls.specs.declared.calls.Call.TheVariants as call
+use Rattle.st_calls.specs.Does.{told}
 use Rattle.st_wire.specs.declared.commands.Argument.{Argument}
 use Rattle.st_wire.specs.declared.commands.Argument.TheVariants as argument
 use Rattle.st_wire.specs.declared.replies.Reply.{Reply}
@@ -18,26 +19,20 @@ use Rattle.st_wire.specs.declared.replies.Reply.TheVariants as reply
 use Rattle.st_server.specs.ArgumentValues.{with_first}
 use Rattle.st_server.specs.CallOf.{RepliesTo, class_in, then_by}
 
--- the selector that a call answered
-abbrev pub selector_in : Result Answer Refusal → Result Selector Refusal
-selector_in (Ok (answer.Interned s)) = Ok s
-selector_in (Ok told) = Err BadCommand
-selector_in (Err e) = Err e
-
 -- nothing is done
 abbrev pub Nothing : {H N : Type 0} → H → N → H → N → Type 0
 Nothing {H} {N} h n k m = (k ≡ h) × (m ≡ n)
 
 -- a text is interned
 abbrev pub InternsBy : {H N : Type 0} → (H → N → Call → Result Answer Refusal → H → N → Type 0) → H → N → List ℕ → Result Selector Refusal → H → N → Type 0
-InternsBy {H} {N} Calls h n text result k m = (a : Result Answer Refusal) × Calls h n (call.Intern text) a k m × (result ≡ selector_in a)
+InternsBy {H} {N} Calls h n text result k m = Calls h n (call.Intern text) (told answer.Interned result) k m
 
 abbrev pub sym_by : Result Selector Refusal → Result Value Refusal
 sym_by r = then_by (λ s. Ok (value.Sym s)) r
 
--- the symbol of a text; memory may run out before it is interned
+-- the symbol of a text, which is interned
 abbrev pub IsSymbol : {H N : Type 0} → (H → N → Call → Result Answer Refusal → H → N → Type 0) → H → N → List ℕ → Result Value Refusal → H → N → Type 0
-IsSymbol {H} {N} Calls h n text r k m = ((r ≡ Err NoMemory) × Nothing h n k m) ⊎ ((s : Result Selector Refusal) × InternsBy Calls h n text s k m × (r ≡ sym_by s))
+IsSymbol {H} {N} Calls h n text r k m = (s : Result Selector Refusal) × InternsBy Calls h n text s k m × (r ≡ sym_by s)
 
 -- an argument has a value or a refusal
 abbrev pub Resolves : {H N : Type 0} → (H → ImageView) → (H → N → Call → Result Answer Refusal → H → N → Type 0) → H → N → Argument → Result Value Refusal → H → N → Type 0

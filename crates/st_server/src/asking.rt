@@ -106,7 +106,7 @@ pub(crate) fn ask<H: Holder<RingBox>>(
                 sender,
                 seq,
             };
-            post(alloc, holder, mine, &posting, selector)
+            post(alloc, holder, mine, &posting, selector.as_slice())
         }
         Command::Outcome { actor, turn } => outcome(alloc, holder.image(), actor, turn),
         Command::Stats { class, selector } => {

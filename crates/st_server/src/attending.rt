@@ -6,8 +6,8 @@ ghost use Rattle.st_session.specs.Sessions.{Replies, end_of, failures_after};
 ghost use Rattle.st_session.specs.DeviceSessions.{DeviceSession, FlushesAsOftenAsReads};
 ghost use Rattle.st_server.specs.PoolReplies.{Attends};
 
-use crate::images::Mailbox;
 use crate::asking::ask;
+use crate::images::Mailbox;
 use st_classes::refusals::Refusal;
 use st_pool::callers::Caller;
 use st_pool::holds::Job;
@@ -65,9 +65,11 @@ impl<'a, R: Wait, K: Naming> Handler for PoolHandler<'a, R, K> {
     ghost answers = { Attends K.start K.first };
 
     fn reply(&mut self, alloc: Global, command: Command) -> Reply {
-        let reply = self.caller.hold(self.rt, alloc, Asking { command });
-        self.caller.wake();
-        reply
+        if let Command::Post { args, .. } = &command {
+            // If there is no room yet, the hold asks for it again, and refuses the post.
+            let _ = self.caller.make_room(args.len());
+        }
+        self.caller.hold(self.rt, alloc, Asking { command })
     }
 }
 

@@ -5,8 +5,8 @@
 #![tactic(auto)]
 
 mod asking;
-mod calls_of;
 pub mod attending;
+mod calls_of;
 pub mod checking;
 pub mod images;
 mod polling;

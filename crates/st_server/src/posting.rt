@@ -1,11 +1,11 @@
 //! A post: its selector and then its arguments are resolved, from the left, before it is posted.
-ghost use Rattle.std.specs.Prelude.{◌≡◌, ◌⊎◌, Err, IfOk};
+ghost use Rattle.std.specs.Prelude.{◌≡◌, ◌⊎◌, Err};
 ghost use Rattle.st_classes.specs.declared.refusals.Refusal.TheVariants.{NoMemory};
 ghost use Rattle.st_image.specs.GoingOn.{GoesOnIn};
-ghost use Rattle.st_server.specs.Posting.{AllResolve, InternsBy, IsSymbol, Nothing, PostsArguments, PostsNamed, Resolves, selector_in};
+ghost use Rattle.st_server.specs.Posting.{AllResolve, InternsBy, IsSymbol, Nothing, PostsArguments, PostsNamed, Resolves};
 
 use crate::asking::make;
-use st_calls::calls::{Answer, Call};
+use st_calls::calls::Call;
 use st_calls::holders::Holder;
 use st_classes::refusals::Refusal;
 use st_classes::seq::Seq;
@@ -13,40 +13,7 @@ use st_classes::values::{ActorId, Selector, Value, Values};
 use st_mailbox::ring_box::RingBox;
 use st_wire::commands::Argument;
 use st_wire::replies::Reply;
-use std::alloc::{AllocError, Global};
-
-/// The selector that a call answered.
-fn selector_of(answer: Result<Answer, Refusal>) -> Result<Selector, Refusal>
-    ensures { result ≡ selector_in answer }
-{
-    match answer {
-        Ok(Answer::Interned(selector)) => Ok(selector),
-        Ok(_) => Err(Refusal::BadCommand),
-        Err(refusal) => Err(refusal),
-    }
-}
-
-/// Interns a text.
-#[tactic(auto, using(crate::proofs::GoingThen::goes_then, crate::proofs::GoingThen::goes_by))]
-fn intern<H: Holder<RingBox>>(
-    alloc: Global,
-    holder: &mut H,
-    mine: &mut H::Mine,
-    text: Seq<u8>,
-) -> Result<Selector, Refusal>
-    ensures interns { InternsBy H.calls holder.old mine.old text result holder.new mine.new }
-    ensures later { GoesOnIn (H.image_of holder.old) (H.image_of holder.new) }
-{
-    let answer = holder.apply(alloc, mine, Call::Intern(text));
-    selector_of(answer)
-}
-
-/// A copy of a text.
-fn copied(alloc: Global, text: &[u8]) -> Result<Seq<u8>, AllocError>
-    ensures { IfOk result (λ v. v ≡ text.now) }
-{
-    Ok(Seq::from_vec(text.to_vec(alloc)?))
-}
+use std::alloc::Global;
 
 /// The symbol of a text, which is interned.
 #[tactic(auto, using(crate::proofs::GoingThen::goes_then, crate::proofs::GoingThen::goes_by))]
@@ -59,10 +26,7 @@ fn symbol<H: Holder<RingBox>>(
     ensures symbol { IsSymbol H.calls holder.old mine.old text.now result holder.new mine.new }
     ensures later { GoesOnIn (H.image_of holder.old) (H.image_of holder.new) }
 {
-    let Ok(text) = copied(alloc, text) else {
-        return Err(Refusal::NoMemory);
-    };
-    match intern(alloc, holder, mine, text) {
+    match holder.intern(alloc, mine, text) {
         Ok(selector) => Ok(Value::Sym(selector)),
         Err(refusal) => Err(refusal),
     }
@@ -163,12 +127,12 @@ pub(crate) fn post<H: Holder<RingBox>>(
     holder: &mut H,
     mine: &mut H::Mine,
     posting: &Posting<'_>,
-    selector: Seq<u8>,
+    selector: &[u8],
 ) -> Reply
-    ensures posts { PostsNamed H.image_of H.calls holder.old mine.old posting.now.actor posting.now.arguments.now selector posting.now.sender posting.now.seq result holder.new mine.new }
+    ensures posts { PostsNamed H.image_of H.calls holder.old mine.old posting.now.actor posting.now.arguments.now selector.now posting.now.sender posting.now.seq result holder.new mine.new }
     ensures later { GoesOnIn (H.image_of holder.old) (H.image_of holder.new) }
 {
-    match intern(alloc, holder, mine, selector) {
+    match holder.intern(alloc, mine, selector) {
         Ok(selector) => post_arguments(alloc, holder, mine, posting, selector),
         Err(refusal) => Reply::Refused(refusal),
     }

@@ -4,11 +4,9 @@ ghost use Rattle.std.specs.Option.{IfSome};
 ghost use Rattle.std.specs.declared.io.ErrorKind.TheVariants.{ConnectionAborted, Interrupted};
 ghost use Rattle.st_classes.specs.declared.refusals.Refusal.TheVariants as refusals;
 ghost use Rattle.st_image.specs.GoingOn.{GoesOnIn};
-ghost use Rattle.st_image.specs.Images.{ImageView};
-ghost use Rattle.st_image.specs.WorldInvariant.{IsLawful};
-ghost use Rattle.st_calls.specs.Growth.{amounts, no_amounts};
-ghost use Rattle.st_pool.specs.Settled.{AreCounts};
-ghost use Rattle.st_server.specs.Serving.{AreInRange, AreSumsOver};
+ghost use Rattle.st_calls.specs.Growth.{amounts};
+ghost use Rattle.st_pool.specs.Settled.{AreCounts, AreSums, HaveStood};
+ghost use Rattle.st_server.specs.Serving.{AreInRange, HaveServed};
 
 use crate::attending::attend;
 use crate::images::{Image, Mailbox, Worker};
@@ -17,6 +15,7 @@ use crate::runner::new_worker;
 use boxcar::Vec as Faults;
 use st_classes::refusals::Refusal;
 use st_image::settings::Settings;
+use st_pool::accounts::{Account, Accounts};
 use st_pool::books::Blanks;
 use st_pool::callers::Caller;
 use st_pool::front::Opened;
@@ -49,10 +48,12 @@ const TOO_MANY: &[u8] = b"{\"error\":\"TooMany\",\"what\":\"sessions\"}\n";
 /// without a line.
 const NO_MEMORY: &[u8] = b"{\"error\":\"NoMemory\"}\n";
 
-/// The result of serving: the image, the totals of what all have done, and the fault that ended accepting, if accepting failed.
+/// The result of serving: the image, what each session and each worker has done, the totals of that, and the fault that ended
+/// accepting, if accepting failed.
 #[derive(Drop)]
 pub struct Served {
     pub image: Image,
+    pub accounts: Accounts,
     pub totals: Totals,
     pub fault: Option<Refusal>,
 }
@@ -65,11 +66,13 @@ struct Door<'a> {
     faults: &'a Faults<Refusal>,
 }
 
-/// What the sessions share: the image, the shares of ended sessions, the number of open ones, and where refusals go.
+/// What the sessions share: the image, the shares of ended sessions, room for what these have done, the number of open sessions, and
+/// where refusals go.
 #[derive(Drop)]
 struct Room<'a, K: Naming> {
     shared: &'a Shared<K, Mailbox>,
     shares: &'a Mutex<Vec<CallerShare<K>>>,
+    accounts: &'a Mutex<Vec<Account>>,
     active: &'a AtomicU64,
     faults: Option<&'a Faults<Refusal>>,
 }
@@ -143,9 +146,15 @@ fn host<K: Naming, R: Wait>(rt: &R, alloc: Global, room: &Room<'_, K>, stream: U
     drop(stream);
 }
 
-/// Makes room for the shares of as many sessions as can be open.
+/// Makes room for the shares of as many sessions as can be open, and for the accounts of these and of all that have ended.
 fn make_room<K: Naming, R: Wait>(rt: &R, room: &Room<'_, K>) -> bool {
-    room.shares.lock(rt).reserve(MOST_SESSIONS as usize).is_ok()
+    let mut shares = room.shares.lock(rt);
+    if shares.reserve(MOST_SESSIONS as usize).is_err() {
+        return false;
+    }
+    let most = shares.capacity();
+    drop(shares);
+    room.accounts.lock(rt).reserve(most).is_ok()
 }
 
 /// Whether the error concerns one connection and not the socket.
@@ -334,26 +343,36 @@ fn serve<K: Naming + Send + Sync, R: Threads + Wait + Sync>(
     requires start { K.start ≡ amounts image }
     requires first { K.first ≡ image }
     ensures counts { IfOk result (λ r. AreCounts (amounts image) r.image r.totals) }
-    ensures sums { IfOk result (λ r. AreSumsOver (vec_len workers) r.image r.totals) }
+    ensures sums { IfOk result (λ r. AreSums r.totals r.accounts.callers.items r.accounts.workers.items) }
+    ensures stood { IfOk result (λ r. HaveStood r.image r.totals.posts r.accounts.callers.items) }
+    ensures workers { IfOk result (λ r. vec_len r.accounts.workers ≡ vec_len workers) }
     ensures later { IfOk result (λ r. GoesOnIn image r.image) }
     ensures fault { IfOk result (λ r. IfSome r.fault (λ e. e ≡ refusals.ReadFault)) }
     ensures refused { IfErr result (λ e. (e ≡ refusals.BadArguments) ⊎ (e ≡ refusals.NoMemory) ⊎ (e ≡ refusals.Changed)) }
 {
     let shared = Shared::<K, Mailbox>::new(image, blanks, opened);
     let shares = Mutex::new(Vec::new(alloc));
+    let accounts = Mutex::new(Vec::new(alloc));
+    let steps = Vec::with_capacity(alloc, workers.len())?;
     let active = AtomicU64::new(0);
     let room = Room {
         shared: &shared,
         shares: &shares,
+        accounts: &accounts,
         active: &active,
         faults: door.sessions.is_some().then_some(door.faults),
     };
     let (workers, are_accepted) = work(rt, alloc, door, &room, workers)?;
     let callers = shares.into_inner();
-    let (image, totals) = settle_image(shared, Shares { callers, workers })?;
+    let room = Accounts {
+        callers: accounts.into_inner(),
+        workers: steps,
+    };
+    let (image, totals, accounts) = settle_image(shared, Shares { callers, workers }, room)?;
     let fault = (!are_accepted).then_some(Refusal::ReadFault);
     Ok(Served {
         image,
+        accounts,
         totals,
         fault,
     })
@@ -374,8 +393,8 @@ fn is_served(workers: u32, sessions: Option<u32>) -> bool
 /// client beyond 64 gets a refusal and is disconnected.
 ///
 /// `sessions` is how many sessions are accepted, from 1 to 1,000,000. Then the call waits for their ends, stops the workers, and
-/// answers the image and the totals of what all have done: what the image has counted beyond its counts at the start. A session
-/// that ends with a refusal adds it to `faults`, if there is memory. With `None`, serving goes on, and nothing is added to
+/// answers the image, what each session and each worker has done, and the totals of that: what the image has counted beyond its counts
+/// at the start. A session that ends with a refusal adds it to `faults`, if there is memory. With `None`, serving goes on, and nothing is added to
 /// `faults`.
 ///
 /// If accepting fails, no more sessions are accepted. When the open ones have ended, the call ends in the same way, and the fault
@@ -385,7 +404,7 @@ fn is_served(workers: u32, sessions: Option<u32>) -> bool
 /// the system.
 ///
 /// Refusals: `BadArguments` if a number is out of its range, or a share is missing at the end; `NoMemory` if there is no memory at
-/// the start, or no thread for a worker; `Changed` if the history lacks something that the callers have done.
+/// the start, or no thread for a worker (room for what the end needs is made as sessions come); `Changed` if the history lacks something that the callers have done.
 pub fn serve_image<R: Threads + Wait + Sync>(
     rt: &R,
     alloc: Global,
@@ -397,7 +416,9 @@ pub fn serve_image<R: Threads + Wait + Sync>(
 ) -> Result<Served, Refusal>
     ensures range { ¬ (AreInRange workers sessions) → result ≡ Err refusals.BadArguments }
     ensures counts { IfOk result (λ r. AreCounts (amounts image) r.image r.totals) }
-    ensures sums { IfOk result (λ r. AreSumsOver workers r.image r.totals) }
+    ensures sums { IfOk result (λ r. AreSums r.totals r.accounts.callers.items r.accounts.workers.items) }
+    ensures stood { IfOk result (λ r. HaveStood r.image r.totals.posts r.accounts.callers.items) }
+    ensures workers { IfOk result (λ r. vec_len r.accounts.workers ≡ workers) }
     ensures later { IfOk result (λ r. GoesOnIn image r.image) }
     ensures fault { IfOk result (λ r. IfSome r.fault (λ e. e ≡ refusals.ReadFault)) }
     ensures refused { IfErr result (λ e. (e ≡ refusals.BadArguments) ⊎ (e ≡ refusals.NoMemory) ⊎ (e ≡ refusals.Changed)) }
@@ -437,17 +458,18 @@ pub fn serve_on<R: Threads + Wait + Sync>(
     sessions: Option<u32>,
 ) -> Result<Totals, Refusal>
     ensures range { ¬ (AreInRange workers sessions) → (result ≡ Err refusals.BadArguments) ⊎ (result ≡ Err refusals.NoMemory) }
-    ensures counts { IfOk result (λ t. (i : ImageView) × IsLawful i × AreCounts no_amounts i t × AreSumsOver workers i t) }
+    ensures counts { IfOk result (HaveServed workers) }
     ensures refused { IfErr result (λ e. (e ≡ refusals.BadArguments) ⊎ (e ≡ refusals.NoMemory) ⊎ (e ≡ refusals.ReadFault) ⊎ (e ≡ refusals.Changed)) }
 {
     let image = Image::new(alloc, Settings::DEFAULT)?;
     let Served {
         image,
+        accounts,
         totals,
         fault,
     } = serve_image(rt, alloc, listener, faults, workers, sessions, image)?;
     image.known();
-    drop(image);
+    drop((image, accounts));
     match fault {
         Some(refusal) => Err(refusal),
         None => Ok(totals),

@@ -53,7 +53,7 @@ forget_moves S T w r None h = same S T h.1
 forget_moves S T w r (Some c) h = same_image S.image T.image h.1.1
 
 event_moves : (S T : Schedule) (e : Event) (r : Result Answer Refusal) → Acts S e r T → Moves S.image T.image
-event_moves S T (Call c) r (inl h) = same S T h.1
+event_moves S T (Call c) r (inl h) = same S T h.1.1
 event_moves S T (Call c) r (inr h) = does_moves S.image T.image c h.0 h.2
 event_moves S T (Checkout w a) r h = takes_moves S T w a r (slice_get S.claims w) h
 event_moves S T (Local w) r h = local_moves S T w r (slice_get S.claims w) h

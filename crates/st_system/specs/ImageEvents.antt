@@ -1,9 +1,10 @@
 -- Events that are calls of the image.
-use Rattle.std.specs.Prelude.{◌≡◌, ◌⊎◌, Result, Ok, Err}
+use Rattle.std.specs.Prelude.{◌≡◌, ◌⊎◌, Bool, true, false, Result, Ok, Err}
 use Rattle.st_classes.specs.declared.refusals.Refusal.{Refusal}
 use Rattle.st_classes.specs.declared.refusals.Refusal.TheVariants.{NoMemory}
 use Rattle.st_calls.specs.declared.calls.Answer.{Answer as CallAnswer}
 use Rattle.st_calls.specs.declared.calls.Call.{Call}
+use Rattle.st_calls.specs.declared.calls.Call.TheVariants as call
 use Rattle.st_calls.specs.Does.{Does}
 use Rattle.st_system.specs.declared.events.Answer.{Answer}
 use Rattle.st_system.specs.declared.events.Answer.TheVariants.{Called}
@@ -22,6 +23,13 @@ OfImage S c r T = (result : Result CallAnswer Refusal) × (r ≡ told Called res
 abbrev pub FindsNoMemory : Schedule → Result Answer Refusal → Schedule → Type 0
 FindsNoMemory S r T = (r ≡ Err NoMemory) × (T ≡ S)
 
--- a call is copied for the image, and made
+-- calls of which the image takes a copy: those with texts or arguments, but for the text that is interned
+abbrev pub copies : Call → Bool
+copies (call.Define name parent slots) = true
+copies (call.Install c source) = true
+copies (call.Post sender seq a s args) = true
+copies c = false
+
+-- a call is made of the image; memory may run out before only where it is copied
 abbrev pub Calls : Schedule → Call → Result Answer Refusal → Schedule → Type 0
-Calls S c r T = FindsNoMemory S r T ⊎ OfImage S c r T
+Calls S c r T = ((copies c ≡ true) × FindsNoMemory S r T) ⊎ OfImage S c r T

@@ -9,10 +9,7 @@ pub enum Event {
     /// A call that changes the image.
     Call(Call),
     /// A worker is given a claim of an actor.
-    Checkout {
-        worker: u32,
-        actor: ActorId,
-    },
+    Checkout { worker: u32, actor: ActorId },
     /// A worker takes one step of its claim.
     Local(u32),
     /// A worker commits its claim.

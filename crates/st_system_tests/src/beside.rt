@@ -2,6 +2,7 @@
 use crate::lists::random_list;
 use crate::model::{Done, Model, ModelActor};
 use crate::workers::*;
+use st_calls::calls::Call;
 use st_classes::edits::Edit;
 use st_classes::refusals::Refusal;
 use st_classes::values::ActorId;
@@ -23,11 +24,13 @@ const NAMES: u32 = 29;
 fn is_edit_of(event: &Event, edit: &Edit) -> bool {
     match (event, edit) {
         (
-            Event::Define {
-                name,
-                parent,
-                slots,
-            },
+            Event::Call(
+                Call::Define {
+                    name,
+                    parent,
+                    slots,
+                },
+            ),
             Edit::Define {
                 name: edit_name,
                 parent: edit_parent,
@@ -39,21 +42,21 @@ fn is_edit_of(event: &Event, edit: &Edit) -> bool {
                 && slots.len() == edit_slots.len()
         }
         (
-            Event::Install { class, source },
+            Event::Call(Call::Install { class, source }),
             Edit::Install {
                 class: edit_class,
                 method,
             },
         ) => class == edit_class && source.as_slice() == method.source(),
         (
-            Event::Remove { class, selector },
+            Event::Call(Call::Remove { class, selector }),
             Edit::Remove {
                 class: edit_class,
                 selector: edit_selector,
             },
         ) => class == edit_class && selector == edit_selector,
         (
-            Event::Reparent { class, parent },
+            Event::Call(Call::Reparent { class, parent }),
             Edit::Reparent {
                 class: edit_class,
                 parent: edit_parent,
@@ -67,15 +70,17 @@ fn is_edit_of(event: &Event, edit: &Edit) -> bool {
 fn is_item_of(event: &Event, item: &Item) -> bool {
     match (event, item) {
         (_, Item::Edited(edit)) => is_edit_of(event, edit.edit()),
-        (Event::Create(class), Item::Created(created)) => class == created,
+        (Event::Call(Call::Create(class)), Item::Created(created)) => class == created,
         (
-            Event::Post {
-                sender,
-                seq,
-                actor,
-                selector,
-                args,
-            },
+            Event::Call(
+                Call::Post {
+                    sender,
+                    seq,
+                    actor,
+                    selector,
+                    args,
+                },
+            ),
             Item::Posted {
                 actor: posted_to,
                 message,
@@ -87,7 +92,7 @@ fn is_item_of(event: &Event, item: &Item) -> bool {
                 && message.selector == *selector
                 && message.args.as_slice() == args.as_slice()
         }
-        (Event::Close(actor), Item::Closed(closed)) => actor == closed,
+        (Event::Call(Call::Close(actor)), Item::Closed(closed)) => actor == closed,
         _ => false,
     }
 }

@@ -1,6 +1,7 @@
 //! Events of a system of two workers, and what they answer: scenes in tables, which one function plays.
 use crate::lists::text;
 use crate::workers::{Answered, apply, system_of};
+use st_calls::calls::{Answer as Called, Call};
 use st_classes::kernel::{OBJECT, SMALL_INTEGER};
 use st_classes::refusals::Refusal;
 use st_classes::seq::Seq;
@@ -90,20 +91,23 @@ const THREE: Answered = Ok(Answer::Steps(3));
 
 const NONE: Answered = Ok(Answer::Steps(0));
 
-const FOURTH: Answered = Ok(Answer::Version(4));
+const FOURTH: Answered = Ok(Answer::Called(Called::Version(4)));
 
 /// A class A with a method `go` that sends `tag` to a number, the number's method, and an actor of A to which `go` was sent. The
 /// history has five items then.
 const POSTED: Rows = &[
-    (Work::Define, Ok(Answer::Version(1))),
-    (Work::Install(A, "go ^3 tag + 1"), Ok(Answer::Version(2))),
+    (Work::Define, Ok(Answer::Called(Called::Version(1)))),
+    (
+        Work::Install(A, "go ^3 tag + 1"),
+        Ok(Answer::Called(Called::Version(2))),
+    ),
     (
         Work::Install(SMALL_INTEGER, "tag ^1"),
-        Ok(Answer::Version(3)),
+        Ok(Answer::Called(Called::Version(3))),
     ),
-    (Work::Intern, Ok(Answer::Interned(GO))),
-    (Work::Create, Ok(Answer::Created(FIRST))),
-    (Work::Post(1), Ok(Answer::Position(1))),
+    (Work::Intern, Ok(Answer::Called(Called::Interned(GO)))),
+    (Work::Create, Ok(Answer::Called(Called::Created(FIRST)))),
+    (Work::Post(1), Ok(Answer::Called(Called::Position(1)))),
 ];
 
 /// Events of workers that are not there, or that have no claim or one too many.
@@ -258,7 +262,7 @@ const TURN: Rows = &[
 ];
 
 /// The message is posted once more.
-const POSTED_AGAIN: Rows = &[(Work::Post(2), Ok(Answer::Position(2)))];
+const POSTED_AGAIN: Rows = &[(Work::Post(2), Ok(Answer::Called(Called::Position(2))))];
 
 // The tables stand behind functions without a contract, so that the proofs of tests carry none of them.
 fn scenes() -> &'static [Scene] {
@@ -291,25 +295,25 @@ fn event(alloc: Global, work: Work) -> Result<Event, AllocError> {
         Work::Commit(worker) => Event::Commit(worker),
         Work::Release(worker) => Event::Release(worker),
         Work::Forget(worker) => Event::Forget(worker),
-        Work::Define => Event::Define {
+        Work::Define => Event::Call(Call::Define {
             name: text(alloc, "A")?,
             parent: OBJECT,
             slots: Seq::from_vec(Vec::new(alloc)),
-        },
-        Work::Install(class, source) => Event::Install {
+        }),
+        Work::Install(class, source) => Event::Call(Call::Install {
             class,
             source: text(alloc, source)?,
-        },
-        Work::Reparent(class, parent) => Event::Reparent { class, parent },
-        Work::Intern => Event::Intern(text(alloc, "go")?),
-        Work::Create => Event::Create(A),
-        Work::Post(seq) => Event::Post {
+        }),
+        Work::Reparent(class, parent) => Event::Call(Call::Reparent { class, parent }),
+        Work::Intern => Event::Call(Call::Intern(text(alloc, "go")?)),
+        Work::Create => Event::Call(Call::Create(A)),
+        Work::Post(seq) => Event::Call(Call::Post {
             sender: 1,
             seq,
             actor: FIRST,
             selector: GO,
             args: Seq::from_vec(Vec::new(alloc)),
-        },
+        }),
     })
 }
 

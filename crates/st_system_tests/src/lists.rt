@@ -1,5 +1,6 @@
 //! Random lists of events for three workers, of actors that post to one another, close one another and make new ones.
 use crate::dice::Dice;
+use st_calls::calls::Call;
 use st_classes::kernel::{OBJECT, SMALL_INTEGER};
 use st_classes::seq::Seq;
 use st_classes::values::{ActorId, ClassId, Selector, Value, Values};
@@ -95,11 +96,11 @@ pub(crate) fn define(alloc: Global, name: &str, parent: ClassId) -> Result<Event
     if parent == OBJECT {
         slots.push(text(alloc, "s")?)?;
     }
-    Ok(Event::Define {
+    Ok(Event::Call(Call::Define {
         name: text(alloc, name)?,
         parent,
         slots: Seq::from_vec(slots),
-    })
+    }))
 }
 
 pub(crate) fn install(alloc: Global, class: ClassId, row: u16) -> Result<Event, AllocError> {
@@ -107,18 +108,18 @@ pub(crate) fn install(alloc: Global, class: ClassId, row: u16) -> Result<Event, 
         Some((_, source)) => *source,
         None => "",
     };
-    Ok(Event::Install {
+    Ok(Event::Call(Call::Install {
         class,
         source: text(alloc, source)?,
-    })
+    }))
 }
 
 /// One of the three classes gets another superclass, or the one that it has, or one that it can't have.
 fn random_reparent(dice: &mut Dice) -> Event {
-    Event::Reparent {
+    Event::Call(Call::Reparent {
         class: ClassId(dice.below(3).saturating_add(A.0)),
         parent: holder(dice),
-    }
+    })
 }
 
 /// A method is installed or removed, or a class gets another superclass.
@@ -128,10 +129,10 @@ fn random_edit(alloc: Global, dice: &mut Dice) -> Result<Event, AllocError> {
         0 => install(alloc, A, 0),
         row @ 1..=19 => install(alloc, class, row),
         20..=28 => Ok(random_reparent(dice)),
-        _ => Ok(Event::Remove {
+        _ => Ok(Event::Call(Call::Remove {
             class,
             selector: Selector(number(dice, 6)),
-        }),
+        })),
     }
 }
 
@@ -172,21 +173,21 @@ fn arguments(alloc: Global, dice: &mut Dice, selector: u16) -> Result<Values, Al
 /// A message of one of two clients.
 fn random_post(alloc: Global, dice: &mut Dice, round: u16) -> Result<Event, AllocError> {
     let selector = number(dice, 8);
-    Ok(Event::Post {
+    Ok(Event::Call(Call::Post {
         sender: dice.below(2),
         seq: u64::from(round.saturating_sub(dice.below(12))),
         actor: actor(dice),
         selector: Selector(selector),
         args: arguments(alloc, dice, selector)?,
-    })
+    }))
 }
 
 /// An event of a worker or an actor, for which no memory is needed.
 fn random_work(dice: &mut Dice) -> Event {
     let worker = worker(dice);
     match dice.below(400) {
-        0..=3 => Event::Create(holder(dice)),
-        4 => Event::Close(actor(dice)),
+        0..=3 => Event::Call(Call::Create(holder(dice))),
+        4 => Event::Call(Call::Close(actor(dice))),
         5..=124 => Event::Checkout {
             worker,
             actor: actor(dice),
@@ -194,7 +195,7 @@ fn random_work(dice: &mut Dice) -> Event {
         125..=130 => Event::Release(worker),
         131..=136 => Event::Forget(worker),
         137..=180 => Event::Commit(worker),
-        397..=399 => Event::Checkpoint,
+        397..=399 => Event::Call(Call::Checkpoint),
         _ => Event::Local(worker),
     }
 }
@@ -217,7 +218,7 @@ pub(crate) fn first_events(alloc: Global) -> Result<Vec<Event>, AllocError> {
         events.push(install(alloc, *class, *row)?)?;
     }
     for class in [A, A, B] {
-        events.push(Event::Create(class))?;
+        events.push(Event::Call(Call::Create(class)))?;
     }
     Ok(events)
 }

@@ -11,9 +11,11 @@ mod surviving;
 mod turns;
 
 use crate::workers::Answered;
+use st_calls::calls::Call;
 use st_classes::refusals::Refusal;
 use st_classes::seq::Seq;
 use st_classes::values::{ActorId, ClassId, Selector};
+use st_image::counts::Counts;
 use st_image::image::Image;
 use st_mailbox::mailboxes::Mailbox;
 use st_mailbox::messages::{Message, Sender};
@@ -71,6 +73,8 @@ pub(crate) struct Model {
     /// How many of these were made before the last checkpoint.
     pub edits_before: u32,
     pub actors: Vec<ModelActor>,
+    /// How many messages of clients were accepted, and how many steps were committed.
+    pub counted: Counts,
     /// The number of the last message of each client.
     pub clients: Vec<u64>,
     /// What happened since the last checkpoint.
@@ -93,6 +97,7 @@ impl Model {
             edits: 0,
             edits_before: 0,
             actors: Vec::new(alloc),
+            counted: Counts { posts: 0, steps: 0 },
             clients: vec![in alloc; 0; 2]?,
             history: Vec::new(alloc),
             claims,
@@ -113,26 +118,26 @@ impl Model {
             Event::Commit(worker) => self.commit(alloc, *worker, image.version()),
             Event::Release(worker) => self.release(*worker),
             Event::Forget(worker) => self.forget(*worker),
-            Event::Checkpoint => self.checkpoint(alloc),
-            call => self.call(alloc, place, call),
+            Event::Call(Call::Checkpoint) => self.checkpoint(alloc),
+            Event::Call(call) => self.call(alloc, place, call),
         }
     }
 
     /// Lets a call of the image happen. One that is not refused enters the history.
-    fn call(&mut self, alloc: Global, place: usize, event: &Event) -> Answered {
-        let answer = self.image_call(alloc, event)?;
+    fn call(&mut self, alloc: Global, place: usize, call: &Call) -> Answered {
+        let answer = self.image_call(alloc, call)?;
         self.note(Done::Event(place))?;
         Ok(answer)
     }
 
-    fn image_call(&mut self, alloc: Global, event: &Event) -> Answered {
-        match event {
-            Event::Define { parent, .. } => self.define(*parent),
-            Event::Install { class, source } => self.install(*class, source.as_slice()),
-            Event::Remove { class, selector } => self.remove(*class, *selector),
-            Event::Reparent { class, parent } => self.reparent(*class, *parent),
-            Event::Create(class) => self.create(alloc, *class),
-            Event::Post {
+    fn image_call(&mut self, alloc: Global, call: &Call) -> Answered {
+        match call {
+            Call::Define { parent, .. } => self.define(*parent),
+            Call::Install { class, source } => self.install(*class, source.as_slice()),
+            Call::Remove { class, selector } => self.remove(*class, *selector),
+            Call::Reparent { class, parent } => self.reparent(*class, *parent),
+            Call::Create(class) => self.create(alloc, *class),
+            Call::Post {
                 sender,
                 seq,
                 actor,
@@ -147,7 +152,7 @@ impl Model {
                 };
                 self.post(*sender, *actor, message)
             }
-            Event::Close(actor) => self.close(*actor),
+            Call::Close(actor) => self.close(*actor),
             _ => Err(Refusal::BadArguments),
         }
     }

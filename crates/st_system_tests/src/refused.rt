@@ -5,6 +5,7 @@ use crate::boxes::difference;
 use crate::lists::{A, B, C, define, install, text};
 use crate::rounds::{ASK, ASKED, BUSY, GO, IDLE, Rounds};
 use crate::workers::*;
+use st_calls::calls::Call;
 use st_classes::refusals::Refusal;
 use st_classes::values::{ActorId, Selector, Value};
 use st_guard::switch_guard::SwitchGuard;
@@ -24,18 +25,18 @@ const MAKE: Selector = Selector(25);
 
 /// The names and the class table change.
 fn edit(alloc: Global, rounds: &mut Rounds) -> Result<(), AllocError> {
-    rounds.add(Event::Intern(text(alloc, "fresh:")?))?;
+    rounds.add(Event::Call(Call::Intern(text(alloc, "fresh:")?)))?;
     rounds.add(define(alloc, "C", A)?)?;
     rounds.add(install(alloc, C, 6)?)?;
-    rounds.add(Event::Remove {
+    rounds.add(Event::Call(Call::Remove {
         class: C,
         selector: TAG,
-    })?;
-    rounds.add(Event::Reparent {
+    }))?;
+    rounds.add(Event::Call(Call::Reparent {
         class: C,
         parent: B,
-    })?;
-    rounds.add(Event::Create(C))
+    }))?;
+    rounds.add(Event::Call(Call::Create(C)))
 }
 
 /// An actor makes another one, and posts to a third one, which takes its turn.
@@ -65,7 +66,7 @@ fn survive(alloc: Global, rounds: &mut Rounds) -> Result<(), AllocError> {
     rounds.post(alloc, BUSY, GO, &[])?;
     edit_under(rounds, define(alloc, "D", A)?)?;
     for parent in [A, B] {
-        edit_under(rounds, Event::Reparent { class: C, parent })?;
+        edit_under(rounds, Event::Call(Call::Reparent { class: C, parent }))?;
     }
     edit_under(rounds, install(alloc, B, 10)?)?;
     rounds.quantum(0, BUSY, 8)
@@ -82,7 +83,7 @@ fn give_back(rounds: &mut Rounds, actor: ActorId) -> Result<(), AllocError> {
 fn keep(rounds: &mut Rounds, actor: ActorId) -> Result<(), AllocError> {
     rounds.add(Event::Checkout { worker: 2, actor })?;
     rounds.add(Event::Local(2))?;
-    rounds.add(Event::Checkpoint)?;
+    rounds.add(Event::Call(Call::Checkpoint))?;
     rounds.add(Event::Forget(2))?;
     rounds.add(Event::Local(2))?;
     rounds.add(Event::Commit(2))
@@ -95,7 +96,7 @@ fn go_on(alloc: Global, rounds: &mut Rounds) -> Result<(), AllocError> {
     give_back(rounds, BUSY)?;
     give_back(rounds, IDLE)?;
     keep(rounds, BUSY)?;
-    rounds.add(Event::Close(BUSY))?;
+    rounds.add(Event::Call(Call::Close(BUSY)))?;
     rounds.quantum(2, IDLE, 8)
 }
 

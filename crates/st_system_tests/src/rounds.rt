@@ -1,6 +1,7 @@
 //! A list of 200 events by which mailboxes for three messages are filled, emptied and closed: by messages that are refused too, and
 //! ten times three that go through one mailbox.
 use crate::lists::first_events;
+use st_calls::calls::Call;
 use st_classes::seq::Seq;
 use st_classes::values::{ActorId, Selector, Value};
 use st_system::events::Event;
@@ -57,13 +58,13 @@ impl Rounds {
         args: &[Value],
     ) -> Result<(), AllocError> {
         self.last = self.last.saturating_add(1);
-        self.events.push(Event::Post {
+        self.events.push(Event::Call(Call::Post {
             sender: 1,
             seq: self.last,
             actor: to,
             selector,
             args: Seq::from_vec(args.to_vec(alloc)?),
-        })?;
+        }))?;
         Ok(())
     }
 
@@ -110,8 +111,8 @@ impl Rounds {
 
     /// A full mailbox is closed, twice, refuses messages, and is emptied.
     fn close_full(&mut self, alloc: Global) -> Result<(), AllocError> {
-        self.events.push(Event::Close(BUSY))?;
-        self.events.push(Event::Close(BUSY))?;
+        self.events.push(Event::Call(Call::Close(BUSY)))?;
+        self.events.push(Event::Call(Call::Close(BUSY)))?;
         self.post(alloc, BUSY, GO, &[])?;
         self.ask(alloc, BUSY)?;
         self.quantum(2, BUSY, 8)?;
@@ -127,7 +128,7 @@ impl Rounds {
             worker: 0,
             actor: BUSY,
         })?;
-        self.events.push(Event::Close(IDLE))?;
+        self.events.push(Event::Call(Call::Close(IDLE)))?;
         self.post(alloc, IDLE, GO, &[])
     }
 

@@ -2,8 +2,8 @@
 use crate::copies::copy_call;
 use crate::events::Answer;
 use crate::system::System;
-use st_calls::applying::apply;
-use st_calls::calls::Call;
+use st_calls::applying::{apply, intern};
+use st_calls::calls::{Answer as CallAnswer, Call};
 use st_classes::refusals::Refusal;
 use st_guard::guard::Guard;
 use st_mailbox::mailboxes::Mailbox;
@@ -11,11 +11,24 @@ use std::alloc::Global;
 
 impl<M: Mailbox, G: Guard> System<M, G> {
     ghost use Rattle.st_system.specs.declared.events.Event.TheVariants.{Call as CallOf};
+    ghost use Rattle.st_calls.specs.declared.calls.Call.TheVariants as calls;
     ghost use Rattle.st_system.specs.Acts.{Acts};
     ghost use Rattle.st_system.specs.Others.{LeavesOthers};
     ghost use Rattle.st_system.specs.Schedules.{schedule};
 
-    pub(super) fn call(&mut self, alloc: Global, call: &Call) -> Result<Answer, Refusal>
+    /// A text is interned. It is not copied for that.
+    fn intern(&mut self, alloc: Global, text: &[u8]) -> Result<Answer, Refusal>
+        ensures acts { Acts (schedule self.old) (CallOf (calls.Intern text.now)) result (schedule self.new) }
+        ensures others { LeavesOthers (CallOf (calls.Intern text.now)) self.old.seats self.new.seats }
+    {
+        match intern(alloc, &mut self.image, text) {
+            Ok(selector) => Ok(Answer::Called(CallAnswer::Interned(selector))),
+            Err(refusal) => Err(refusal),
+        }
+    }
+
+    /// A copy of a call is made of the image.
+    fn copied(&mut self, alloc: Global, call: &Call) -> Result<Answer, Refusal>
         ensures acts { Acts (schedule self.old) (CallOf call.now) result (schedule self.new) }
         ensures others { LeavesOthers (CallOf call.now) self.old.seats self.new.seats }
     {
@@ -23,6 +36,16 @@ impl<M: Mailbox, G: Guard> System<M, G> {
         match apply(alloc, &mut self.image, call) {
             Ok(answer) => Ok(Answer::Called(answer)),
             Err(refusal) => Err(refusal),
+        }
+    }
+
+    pub(super) fn call(&mut self, alloc: Global, call: &Call) -> Result<Answer, Refusal>
+        ensures acts { Acts (schedule self.old) (CallOf call.now) result (schedule self.new) }
+        ensures others { LeavesOthers (CallOf call.now) self.old.seats self.new.seats }
+    {
+        match call {
+            Call::Intern(text) => self.intern(alloc, text.as_slice()),
+            call => self.copied(alloc, call),
         }
     }
 }

@@ -1,6 +1,7 @@
 //! Actors, messages of clients, and closes by clients.
 use crate::model::Model;
 use crate::workers::Answered;
+use st_calls::calls::Answer as Called;
 use st_classes::refusals::Refusal;
 use st_classes::values::{ActorId, ClassId};
 use st_mailbox::messages::Message;
@@ -15,7 +16,7 @@ impl Model {
         if 1 <= class.0 && class.0 <= 7 {
             return Err(Refusal::KernelClass);
         }
-        Ok(Answer::Created(self.add_actor(alloc, class)?))
+        Ok(Answer::Called(Called::Created(self.add_actor(alloc, class)?)))
     }
 
     /// A message of a client, with the client's number for it.
@@ -28,7 +29,9 @@ impl Model {
         if let Some(last) = self.clients.get_mut(client) {
             *last = message.seq;
         }
-        Ok(Answer::Position(self.deliver(to, message)?))
+        let place = self.deliver(to, message)?;
+        self.counted.posts = self.counted.posts.saturating_add(1);
+        Ok(Answer::Called(Called::Position(place)))
     }
 
     pub(super) fn close(&mut self, actor: ActorId) -> Answered {
@@ -38,6 +41,6 @@ impl Model {
         if !self.shut(actor) {
             return Err(Refusal::Closed);
         }
-        Ok(Answer::Done)
+        Ok(Answer::Called(Called::Closed))
     }
 }

@@ -1,6 +1,7 @@
 //! Checkpoints: what happened is forgotten, and what stands stays.
 use crate::model::{Model, ModelActor};
 use crate::workers::Answered;
+use st_calls::calls::Answer as Called;
 use st_mailbox::messages::Message;
 use st_system::events::Answer;
 use st_turn::body::Phase;
@@ -36,6 +37,6 @@ impl Model {
         }
         self.history = Vec::new(alloc);
         self.edits_before = self.edits;
-        Ok(Answer::Done)
+        Ok(Answer::Called(Called::Counted(self.counted)))
     }
 }

@@ -2,6 +2,7 @@
 use crate::lists::methods;
 use crate::model::Model;
 use crate::workers::Answered;
+use st_calls::calls::Answer as Called;
 use st_classes::kernel::OBJECT;
 use st_classes::refusals::Refusal;
 use st_classes::values::{ClassId, Selector};
@@ -89,7 +90,7 @@ impl Model {
     /// The class table has one edit more.
     pub(super) fn edited(&mut self) -> Answered {
         self.edits = self.edits.saturating_add(1);
-        Ok(Answer::Version(self.edits))
+        Ok(Answer::Called(Called::Version(self.edits)))
     }
 
     fn add_method(&mut self, class: ClassId, selector: Selector) -> Result<(), AllocError> {

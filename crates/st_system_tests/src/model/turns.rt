@@ -252,7 +252,9 @@ impl Model {
         if let Some(refusal) = self.refused_claim(alloc, &claim, version)? {
             return Err(refusal);
         }
-        Ok(Answer::Steps(self.take(alloc, &claim)?))
+        let steps = self.take(alloc, &claim)?;
+        self.counted.steps = self.counted.steps.saturating_add(u64::from(steps));
+        Ok(Answer::Steps(steps))
     }
 
     pub(super) fn release(&mut self, worker: u32) -> Answered {

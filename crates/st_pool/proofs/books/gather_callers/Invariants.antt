@@ -1,4 +1,5 @@
-use Rattle.std.proofs.Common.{◌≡◌, ◌+◌, ◌≤◌, length, vec_len}
+use Rattle.std.proofs.Common.{◌≡◌, ◌+◌, ◌≤◌, ◌++◌, length, vec_len}
+use Rattle.std.specs.Prelude.{reverse, vec_capacity}
 use Rattle.std.specs.List.{sum_by}
 use Rattle.st_pool.specs.Done.{Done}
 use Rattle.st_pool.specs.Settled.{emptied_by, gone}
@@ -16,6 +17,9 @@ invariant-loop-share g l =
       cleared : l.cleared_left.amount + emptied_by l.callers.items ≡ l.fn.cleared_left.amount + emptied_by l.fn.callers.items;
       amounts : (l.posts_left.amount ≡ l.posted_sum) × (l.edits_left.amount ≡ l.edited_sum);
       parts : (l.posts_left.parts + vec_len l.callers ≡ l.fn.posts_left.parts + vec_len l.fn.callers) × (l.edits_left.parts + vec_len l.callers ≡ l.fn.edits_left.parts + vec_len l.fn.callers) × (l.cleared_left.parts + vec_len l.callers ≡ l.fn.cleared_left.parts + vec_len l.fn.callers);
+      capacity : vec_capacity l.accounts ≡ vec_capacity l.fn.accounts;
+      kept : vec_len l.fn.callers ≤ vec_capacity l.fn.accounts → (l.callers.items ++ reverse l.accounts.items ≡ l.fn.callers.items);
+      counted : vec_len l.fn.callers ≤ vec_capacity l.fn.accounts → (vec_len l.callers + vec_len l.accounts ≡ vec_len l.fn.callers);
     }
 
 abbrev pub decreases-loop-share : goal.decreases-loop-share

@@ -1,4 +1,3 @@
-use Rattle.std.proofs.Common.{subst, sym}
 use Rattle.st_pool.proofs.Calling.{creates_once}
 use Rattle.st_pool.proofs.callers.Caller.create.Goals as goal
 

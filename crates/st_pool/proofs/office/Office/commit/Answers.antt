@@ -11,5 +11,5 @@ pub invariant_of-self : goal.invariant_of-self
 invariant_of-self g c = (
   kept_ran g.K.Naming.start c.self.inside.image c.settle-answer.new.image c.self.inside.books c.run.new.self (committed c.settle-answer.result) c.self.invariant.0 c.settle-answer.ensures.grows c.run.ensures.books,
   front_later c.self.inside.front c.self.inside.image c.settle-answer.new.image c.settle-answer.ensures.later c.self.invariant.1,
-      goes_then g.K.Naming.first c.self.inside.image c.settle-answer.new.image c.self.invariant.2 c.settle-answer.ensures.later,
+  goes_then g.K.Naming.first c.self.inside.image c.settle-answer.new.image c.self.invariant.2 c.settle-answer.ensures.later,
 )

@@ -1,0 +1,5 @@
+use Rattle.st_system.proofs.Seats.{all_later}
+use Rattle.st_system.proofs.system.System.intern.Goals as goal
+
+pub invariant_of-self : goal.invariant_of-self
+invariant_of-self g c = all_later c.self.inside.image c.intern.new.image c.self.inside.seats.items c.in-Ok.ensures.later c.self.invariant

@@ -1,13 +1,20 @@
 -- Images that go on in one another.
-use Rattle.std.proofs.Common.{◌≡◌, List, [], ◌++◌, ap, sym, ◌∙◌, arith, append_assoc, append-nil}
+use Rattle.std.proofs.Common.{◌≡◌, List, [], ◌++◌, refl, ap, sym, subst, ◌∙◌, arith, append_assoc, append-nil}
 use Rattle.st_classes.specs.declared.edits.Edit.{Edit}
 use Rattle.st_classes.specs.EditLists.{Begins}
 use Rattle.st_image.specs.Images.{ImageView, world}
 use Rattle.st_image.specs.Commits.{changed_at}
 use Rattle.st_image.specs.GoingOn.{GoesOnIn}
+use Rattle.st_image.proofs.KnownBodies.{last_as_before}
 
 pub begins_then : (es fs gs : List Edit) → Begins es fs → Begins fs gs → Begins es gs
 begins_then es fs gs (more, h) (rest, k) = (more ++ rest, k ∙ ap (λ (l : List Edit). l ++ rest) h ∙ append_assoc es more rest)
+
+pub goes_same : (i : ImageView) → GoesOnIn i i
+goes_same i = record { edits = ([], sym (append-nil (world i).edits)); bodies = last_as_before i i refl refl refl }
+
+pub goes_by : (i j : ImageView) → i ≡ j → GoesOnIn i j
+goes_by i j e = subst (GoesOnIn i) e (goes_same i)
 
 pub goes_then : (i j k : ImageView) → GoesOnIn i j → GoesOnIn j k → GoesOnIn i k
 goes_then i j k p q = record {

@@ -22,8 +22,9 @@ use Rattle.st_calls.specs.Growth.{Amounts, Grows, counted, edits_by, posts_by}
 use Rattle.st_pool.specs.Books.{BooksView, Kept}
 use Rattle.st_pool.specs.Checkpointed.{Checkpoints, HasCheckpointed, checkpoint_rules, with_checkpoint}
 use Rattle.st_pool.specs.Done.{Done, Finds, OfficeView, receipt}
-use Rattle.st_pool.specs.Calling.{Asked, CallsOnce, PoolCalls, PostsOnce, booked, closed_in, counts_in, created_in, done_by, is_plain, position_in, version_in}
-use Rattle.st_pool.proofs.Holding.{same_office}
+use Rattle.st_pool.specs.Calling.{Asked, CallsOnce, PoolCalls, PostsOnce, booked, closed_in, counts_in, created_in, done_by, is_plain, place_rules, position_in, version_in}
+use Rattle.st_pool.specs.Holds.{IsHold, called}
+use Rattle.st_pool.proofs.Holding.{hold_none, hold_one, same_office}
 use Rattle.st_pool.proofs.Weights.{kept_on}
 
 -- the books keep up with the image
@@ -267,3 +268,14 @@ pub checkpoints_once : (start : Amounts) (first : ImageView) (d e : Done) (r : R
     → (o : OfficeView) × (p : OfficeView) × Finds start first d o × Checkpoints o (counts_in r) p × (e ≡ with_checkpoint o (counts_in r) d)
 checkpoints_once start first d e r (o, p, finds, (h, done)) =
     let both = ruled o p d e r (first_of (checkpoint_rules o)) refl h done in (o, p, finds, both.0, both.1)
+
+-- ---- a call is a hold
+
+called_hold : (o p : OfficeView) (c : Call) (r : Result Answer Refusal) (f : Option Refusal) → MatchOption f (Asked o c r p) (λ g. (r ≡ Err g) × (p ≡ o)) → IsHold o p
+called_hold o p c r None (inl none) = hold_none o p none.2
+called_hold o p c r None (inr does) = hold_one o p (called c r) does
+called_hold o p c r (Some g) h = hold_none o p h.1
+
+-- what a call does in a hold is that one event, or none
+pub calls_hold : (o p : OfficeView) (d e : Done) (c : Call) (r : Result Answer Refusal) → PoolCalls o d c r p e → IsHold o p
+calls_hold o p d e c r h = called_hold o p c r (first_of (place_rules o c)) h.0

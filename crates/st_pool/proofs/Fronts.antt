@@ -3,12 +3,9 @@ use Rattle.std.proofs.Common.{◌≡◌, ◌≤◌, List, [], ◌∷◌, ◌++�
 use Rattle.std.specs.Prelude.{All}
 use Rattle.std.proofs.lemmas.List.Elements.{All-nil, All-cons, All-head, All-tail, All-push}
 use mathlib.Core.List.{IsPrefix}
-use Rattle.st_classes.specs.declared.edits.Edit.{Edit}
-use Rattle.st_classes.specs.EditLists.{Begins}
-use Rattle.st_image.specs.Images.{ImageView, world}
-use Rattle.st_image.specs.Commits.{changed_at}
-use Rattle.st_image.proofs.KnownBodies.{last_as_before}
+use Rattle.st_image.specs.Images.{ImageView}
 use Rattle.st_image.specs.GoingOn.{GoesOnIn}
+use Rattle.st_calls.proofs.GoingThen.{goes_same, goes_then}
 use Rattle.st_pool.specs.Seen.{Along, Ends, LeadsTo, MayFollow}
 
 -- of two beginnings of one list the shorter begins the longer
@@ -28,29 +25,6 @@ prefix_whole [] (y ∷ ys) p le = absurd (omega arith)
 prefix_whole (x ∷ xs) [] p le = absurd (cc (p.1))
 prefix_whole (x ∷ xs) (y ∷ ys) p le =
     let rest = prefix_whole xs ys (p.0, cc (p.1)) (omega arith) in cc (p.1, rest)
-
-pub begins_then : (es fs gs : List Edit) → Begins es fs → Begins fs gs → Begins es gs
-begins_then es fs gs (more, h) (rest, k) = (more ++ rest, k ∙ ap (λ (l : List Edit). l ++ rest) h ∙ append_assoc es more rest)
-
-pub goes_same : (i : ImageView) → GoesOnIn i i
-goes_same i = record { edits = ([], sym (append-nil (world i).edits)); bodies = last_as_before i i refl refl refl }
-
-pub goes_by : (i j : ImageView) → i ≡ j → GoesOnIn i j
-goes_by i j e = subst (GoesOnIn i) e (goes_same i)
-
-pub goes_then : (i j k : ImageView) → GoesOnIn i j → GoesOnIn j k → GoesOnIn i k
-goes_then i j k p q = record {
-  edits = begins_then (world i).edits (world j).edits (world k).edits p.edits q.edits;
-  bodies = λ a.
-      let s = p.bodies a in
-      let t = q.bodies a in (
-        omega (arith, s.0, t.0),
-        λ b e at.
-            let first : changed_at j a.0 ≡ changed_at i a.0 = omega (arith, s.0, t.0, e) in
-            let last : changed_at k a.0 ≡ changed_at j a.0 = omega (arith, s.0, t.0, e) in
-            t.1 b last (s.1 b first at),
-      );
-}
 
 last_all : (P : ImageView → Type 0) (bs : List ImageView) (l : ImageView) → All P (bs ++ l ∷ []) → P l
 last_all P [] l h = All-head P l [] h

@@ -9,7 +9,8 @@ use Rattle.st_image.specs.Images.{ImageView, world}
 use Rattle.st_image.proofs.KnownBodies.{knows_as, knows_later}
 use Rattle.st_image.specs.GoingOn.{FitsClaim, GoesOnIn}
 use Rattle.st_pool.specs.Seen.{Ends, Fits, Follows, MayFollow, Precedes}
-use Rattle.st_pool.proofs.Fronts.{begins_then, carries, follows_later, follows_leads, goes_same}
+use Rattle.st_calls.proofs.GoingThen.{begins_then, goes_same}
+use Rattle.st_pool.proofs.Fronts.{carries, follows_later, follows_leads}
 
 pub fits_later : (i j : ImageView) (c : ClaimView) → GoesOnIn i j → FitsClaim i c → FitsClaim j c
 fits_later i j c on h = record {

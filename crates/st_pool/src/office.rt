@@ -120,7 +120,7 @@ impl<K: Naming, M: Mailbox> Office<K, M> {
     ghost use Rattle.st_pool.specs.Done.{HasAtLeast, Takes, TurnsOver, nothing_done};
 
     /// The image with empty books.
-    #[tactic(auto, using(crate::proofs::Fronts::goes_by))]
+    #[tactic(auto, using(st_calls::proofs::GoingThen::goes_by))]
     pub(crate) fn new(image: Image<M>, blanks: Blanks, opened: Opened) -> Office<K, M>
         requires posts { blanks.posts.name ≡ K.posts }
         requires edits { blanks.edits.name ≡ K.edits }
@@ -180,7 +180,7 @@ impl<K: Naming, M: Mailbox> Office<K, M> {
     }
 
     /// Posts a message, and adds its receipt if it is accepted.
-    #[tactic(auto, using(crate::proofs::Fronts::goes_by))]
+    #[tactic(auto, using(st_calls::proofs::GoingThen::goes_by))]
     fn post(
         &mut self,
         alloc: Global,
@@ -235,7 +235,7 @@ impl<K: Naming, M: Mailbox> Office<K, M> {
     }
 
     /// The present world becomes the base of the image, and its history is emptied.
-    #[tactic(auto, using(crate::proofs::Fronts::goes_by))]
+    #[tactic(auto, using(st_calls::proofs::GoingThen::goes_by))]
     fn checkpoint(&mut self, alloc: Global, mine: &mut CallerShare<K>) -> Result<Answer, Refusal>
         ensures calls { PoolCalls self.old mine.old calls.Checkpoint result self.new mine.new }
         ensures later { GoesOnIn self.old.image self.new.image }
@@ -256,7 +256,7 @@ impl<K: Naming, M: Mailbox> Office<K, M> {
     }
 
     /// Interns a text, which is not copied. It wakes no worker, so it is not counted as a move.
-    #[tactic(auto, using(crate::proofs::Fronts::goes_by))]
+    #[tactic(auto, using(st_calls::proofs::GoingThen::goes_by))]
     pub(crate) fn intern(
         &mut self,
         alloc: Global,
@@ -270,7 +270,7 @@ impl<K: Naming, M: Mailbox> Office<K, M> {
     }
 
     /// Makes a call that is neither a post nor a checkpoint. All but the interning of a text are counted as moves.
-    #[tactic(auto, using(crate::proofs::Fronts::goes_by))]
+    #[tactic(auto, using(st_calls::proofs::GoingThen::goes_by))]
     fn call(
         &mut self,
         alloc: Global,

@@ -8,4 +8,4 @@ pub mod Taken
 pub mod Arguments
 pub mod Scripting
 pub mod Amounts
-pub mod GoingThen
+pub mod AskingHolds

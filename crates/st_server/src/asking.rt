@@ -37,7 +37,7 @@ pub(crate) fn reply_of(answer: Result<Answer, Refusal>) -> Reply
 }
 
 /// Makes a call.
-#[tactic(auto, using(crate::proofs::GoingThen::goes_then, crate::proofs::GoingThen::goes_by))]
+#[tactic(auto, using(st_calls::proofs::GoingThen::goes_then, st_calls::proofs::GoingThen::goes_by))]
 pub(crate) fn make<H: Holder<RingBox>>(
     alloc: Global,
     holder: &mut H,
@@ -52,7 +52,7 @@ pub(crate) fn make<H: Holder<RingBox>>(
 }
 
 /// The reply to a command that makes one call of the image.
-#[tactic(auto, using(crate::proofs::GoingThen::goes_then, crate::proofs::GoingThen::goes_by))]
+#[tactic(auto, using(st_calls::proofs::GoingThen::goes_then, st_calls::proofs::GoingThen::goes_by))]
 fn perform<H: Holder<RingBox>>(
     alloc: Global,
     holder: &mut H,
@@ -82,7 +82,7 @@ pub(crate) fn outcome(alloc: Global, image: &Image, actor: ActorId, turn: u64) -
 }
 
 /// The reply to a command that needs the image alone. A run needs a worker, and is refused here by BadCommand.
-#[tactic(auto, using(crate::proofs::GoingThen::goes_then, crate::proofs::GoingThen::goes_by))]
+#[tactic(auto, using(st_calls::proofs::GoingThen::goes_then, st_calls::proofs::GoingThen::goes_by))]
 pub(crate) fn ask<H: Holder<RingBox>>(
     alloc: Global,
     holder: &mut H,

@@ -30,12 +30,11 @@ struct Asking {
 }
 
 impl<K: Naming> Job<K, Mailbox> for Asking {
-    ghost use Rattle.st_pool.specs.Calling.{PoolCalls};
-    ghost use Rattle.st_server.specs.CommandReplies.{Asks};
+    ghost use Rattle.st_server.specs.PoolReplies.{AsksInHold};
 
     type Out = Reply;
 
-    ghost done = { λ a o d r p e. Asks (λ x. x.image) PoolCalls o d a.command r p e };
+    ghost done = { λ a o d r p e. AsksInHold o d a.command r p e };
 
     fn run(
         self,

@@ -16,7 +16,7 @@ use st_wire::replies::Reply;
 use std::alloc::Global;
 
 /// The symbol of a text, which is interned.
-#[tactic(auto, using(crate::proofs::GoingThen::goes_then, crate::proofs::GoingThen::goes_by))]
+#[tactic(auto, using(st_calls::proofs::GoingThen::goes_then, st_calls::proofs::GoingThen::goes_by))]
 fn symbol<H: Holder<RingBox>>(
     alloc: Global,
     holder: &mut H,
@@ -33,7 +33,7 @@ fn symbol<H: Holder<RingBox>>(
 }
 
 /// The value of an argument. A symbol's text is interned.
-#[tactic(auto, using(crate::proofs::GoingThen::goes_then, crate::proofs::GoingThen::goes_by))]
+#[tactic(auto, using(st_calls::proofs::GoingThen::goes_then, st_calls::proofs::GoingThen::goes_by))]
 fn argument_value<H: Holder<RingBox>>(
     alloc: Global,
     holder: &mut H,
@@ -57,7 +57,7 @@ fn argument_value<H: Holder<RingBox>>(
 }
 
 /// The values of arguments, from the left up to the first that is refused.
-#[tactic(auto, using(crate::proofs::GoingThen::goes_then, crate::proofs::GoingThen::goes_by))]
+#[tactic(auto, using(st_calls::proofs::GoingThen::goes_then, st_calls::proofs::GoingThen::goes_by))]
 fn argument_values<H: Holder<RingBox>>(
     alloc: Global,
     holder: &mut H,
@@ -86,7 +86,7 @@ pub(crate) struct Posting<'a> {
     pub(crate) seq: u64,
 }
 
-#[tactic(auto, using(crate::proofs::GoingThen::goes_then, crate::proofs::GoingThen::goes_by))]
+#[tactic(auto, using(st_calls::proofs::GoingThen::goes_then, st_calls::proofs::GoingThen::goes_by))]
 fn post_arguments<H: Holder<RingBox>>(
     alloc: Global,
     holder: &mut H,
@@ -121,7 +121,7 @@ fn post_arguments<H: Holder<RingBox>>(
 }
 
 /// Posts a message.
-#[tactic(auto, using(crate::proofs::GoingThen::goes_then, crate::proofs::GoingThen::goes_by))]
+#[tactic(auto, using(st_calls::proofs::GoingThen::goes_then, st_calls::proofs::GoingThen::goes_by))]
 pub(crate) fn post<H: Holder<RingBox>>(
     alloc: Global,
     holder: &mut H,

@@ -1,7 +1,7 @@
 use Rattle.std.proofs.Common.{◌≡◌, ◌++◌, [], ◌∷◌, arith, inr}
 use Rattle.std.proofs.lemmas.Grind.{common_steps}
 use Rattle.st_server.proofs.Arguments.{resolves_more, resolves_stops, resolves_done}
-use Rattle.st_server.proofs.GoingThen.{goes_then}
+use Rattle.st_calls.proofs.GoingThen.{goes_then}
 use Rattle.st_server.proofs.posting.argument_values.Goals as goal
 
 pub returns-in-Err-clause-values : goal.returns-in-Err-clause-values

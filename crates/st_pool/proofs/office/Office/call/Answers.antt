@@ -3,7 +3,7 @@ use Rattle.st_pool.specs.Books.{BooksView, Kept}
 use Rattle.st_pool.specs.Calling.{booked}
 use Rattle.st_pool.specs.Done.{Done, OfficeView, nothing_done}
 use Rattle.st_pool.proofs.Calling.{kept_booked, plain_told}
-use Rattle.st_pool.proofs.Fronts.{goes_then}
+use Rattle.st_calls.proofs.GoingThen.{goes_then}
 use Rattle.st_pool.proofs.Knowing.{front_later}
 use Rattle.st_pool.proofs.office.Office.call.Goals as goal
 

@@ -1,5 +1,5 @@
 use Rattle.st_pool.proofs.Weights.{kept_same}
-use Rattle.st_pool.proofs.Fronts.{goes_then}
+use Rattle.st_calls.proofs.GoingThen.{goes_then}
 use Rattle.st_pool.proofs.Knowing.{front_ended, front_later}
 use Rattle.st_pool.proofs.office.Office.check_out.Goals as goal
 

@@ -1,6 +1,6 @@
 use Rattle.st_calls.specs.Growth.{committed}
 use Rattle.st_pool.proofs.Weights.{kept_ran}
-use Rattle.st_pool.proofs.Fronts.{goes_then}
+use Rattle.st_calls.proofs.GoingThen.{goes_then}
 use Rattle.st_pool.proofs.Knowing.{claim_known, front_later}
 use Rattle.st_pool.proofs.office.Office.commit.Goals as goal
 

@@ -4,7 +4,7 @@ use Rattle.st_pool.specs.Books.{BooksView, Kept}
 use Rattle.st_pool.specs.Calling.{booked}
 use Rattle.st_pool.specs.Done.{OfficeView}
 use Rattle.st_pool.proofs.Calling.{kept_booked, post_booked}
-use Rattle.st_pool.proofs.Fronts.{goes_then}
+use Rattle.st_calls.proofs.GoingThen.{goes_then}
 use Rattle.st_pool.proofs.Knowing.{front_later}
 use Rattle.st_pool.proofs.office.Office.post.Goals as goal
 

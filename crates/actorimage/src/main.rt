@@ -217,6 +217,7 @@ fn end_serving<R: Files<File = File> + Print + Eprint + AllocGlobal>(
         image,
         totals,
         fault,
+        ..
     } = match ended {
         Ok(served) => served,
         Err(refusal) => {

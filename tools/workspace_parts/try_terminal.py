@@ -96,8 +96,6 @@ def whole_methods(program):
         terminal.see(text + "this method stays; one that does nothing is written  Counter >> bump  ^self\n> ")
         same(terminal.ask("c bump"), "7\n")
         type_lines(terminal, ["Counter >> rest", "^self", ""])
-        type_lines(terminal, ["Counter >> other", ""])
-        same(terminal.ask("c other"), "a Counter\n")
         if not readline or "libedit" in readline.__doc__:
             return
         # The last word, count, is written over.

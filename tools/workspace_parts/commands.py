@@ -93,6 +93,7 @@ COMMANDS = {
         Described(":names", "lists what was named", browsing.names),
         Described(":stats Counter bump", "shows how the caches answered the sends of a method", browsing.stats),
         Described(":learn FILE", "is for a served image", browsing.learn),
+        Described(":expect 5", "is refused where the messages before have another answer, so that a file can check", running.expect),
         Described(":load FILE", "does what a file has: definitions, messages, comments", files.load),
         Described(":save FILE", "writes the image to a file now; alone, to that of --image", saving.save),
         Described(":sources FILE", "writes all classes and methods to a file, for :load", files.sources),

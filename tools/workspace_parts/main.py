@@ -9,8 +9,8 @@ starts one.
 
 The FILEs are loaded first. Then lines are read from standard input; at a terminal `:help` lists what can be typed. If
 standard input is no terminal, each line is printed after `> ` before what it gives, and a line that begins with two spaces
-or more goes on with the one before. The status is 1 then where something of a FILE was refused; a class that a served image had
-already is not.
+or more goes on with the one before. The status is 1 then where something of a FILE was refused, or an answer was not as `:expect`
+says; a class that a served image had already is not refused.
 """
 
 import argparse
@@ -116,11 +116,11 @@ def work(session, names):
     are_whole = [load(session, name) for name in names]
     if is_terminal:
         talk(session)
-    else:
-        transcript(session)
-        saving.end(session)
-        if not all(are_whole):
-            sys.exit(1)
+        return
+    transcript(session)
+    saving.end(session)
+    if not (all(are_whole) and session.is_as_expected):
+        sys.exit(1)
 
 
 def end_at_signals():

@@ -63,7 +63,8 @@ class Sending:
             raise Wrong(f"{shown} stays in its actor; only numbers, symbols, classes and actors can be named")
         is_named = actor is None and isinstance(value, dict) and "ref" in value
         if is_last:
-            self.session.say(f"actor {value['ref']}" if is_named else show(value, self.known, actor))
+            self.session.answer = f"actor {value['ref']}" if is_named else show(value, self.known, actor)
+            self.session.say(self.session.answer)
         for name in statement.names:
             self.known.names[name] = value
 

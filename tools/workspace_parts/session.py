@@ -123,6 +123,7 @@ class Session:
         elif isinstance(found, Command):
             self.command(found)
         elif found:
+            self.answer = None
             Sending(self).do(read_statements(text))
 
     def command(self, found):

@@ -8,7 +8,7 @@ import subprocess
 import sys
 import tempfile
 
-from .try_common import COUNTER, SPIN, WORKSPACE, piped, same, shell_program
+from .try_common import COUNTER, SPIN, TOP, WORKSPACE, piped, same, shell_program
 
 
 STOPPED = "was stopped after ([0-9,]+) quanta, to save half of the history; an edit of a method that it sends ends it"
@@ -35,6 +35,36 @@ def files(program):
             with open(path, "w", encoding="utf-8") as file:
                 file.write(text)
             same(piped(program, ["c := C actor"], path).returncode, status)
+
+
+def expected(program):
+    """A file checks answers. The first that is another one fails it, with its line; so does one that is typed."""
+    lines = ["C : Object | n |", "C >> up  n isNil ifTrue: [n := 0]. n := n + 1. ^n", "c := C actor", ":expect actor 0", "c up. c up"]
+    good = [*lines, '"Two."', "C >> name  ^#c", ":expect  2", "c name", ":expect #c"]
+    with tempfile.TemporaryDirectory() as folder:
+        path = os.path.join(folder, "c.st")
+        for more, wrong, status in (
+            ([], [], 0),
+            (["c up", ":expect 4"], ["3", "c.st, line 12:", "4 is expected, and the answer is 3"], 1),
+            (["c foo", ":expect nil"], ["c.st, line 11:", FAULT, "c.st, line 12:", "nil is expected, and the answer is none"], 1),
+        ):
+            with open(path, "w", encoding="utf-8") as file:
+                file.write("\n".join([*good, *more]))
+            ended = piped(program, [], "c.st", cwd=folder)
+            refused = sum("line" in it for it in wrong)
+            said = ["actor 0", "2", "#c", *wrong, "c.st: 1 class, 2 methods" + (f", {refused} refused" if refused else "")]
+            same((ended.stdout.decode().splitlines(), ended.returncode), (said, status))
+    same([piped(program, [*lines, f":expect {number}"]).returncode for number in (2, 3)], [0, 1])
+
+
+FAULT = "fault notUnderstood in turn 4 of actor 0"
+
+
+def helped(program):
+    """The tools that try the program say how they are used."""
+    for name in ("transcripts", "listings", "replies"):
+        ended = subprocess.run([os.path.join(TOP, "tools", name), "--help"], capture_output=True, text=True, timeout=60)
+        same((f"tools/{name} " in ended.stdout, "PROGRAM" in ended.stdout, ended.stderr, ended.returncode), (True, True, "", 0))
 
 
 def interrupted(program):
@@ -104,4 +134,4 @@ def too_long(program):
     same(found.endswith("actor 0\n"), True)
 
 
-TRIALS = (endless, files, interrupted, log, no_program, no_file, lost_program, too_long)
+TRIALS = (endless, files, expected, helped, interrupted, log, no_program, no_file, lost_program, too_long)

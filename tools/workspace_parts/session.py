@@ -49,6 +49,7 @@ class Session:
 
     def save(self):
         """Whether the image was saved. The program saves it where its session ends, and another one goes on."""
+        self.about_to_save()
         is_saved = self.log.connection.close() == 0
         self.go_on(is_saved)
         return is_saved
@@ -75,10 +76,20 @@ class Session:
         if self.image.is_served or not self.image.kept:
             self.end()
             return True
+        self.about_to_save()
         return self.log.connection.close() == 0
 
     def end(self):
-        self.log.connection.end()
+        try:
+            self.about_to_save()
+        finally:
+            self.log.connection.end()
+
+    def about_to_save(self):
+        """Lets go of the file in which the image is kept, and says if it was changed. A program that is no more does not save."""
+        if self.image.hold:
+            said = self.image.about_to_save() if self.log.connection.is_alive() else self.image.give_back()
+            self.tell([said] if said else [])
 
     def do(self, text):
         """Does one entry, and returns the name of its kind, or `refused` where it was not done whole."""

@@ -100,6 +100,8 @@ def fails_later(program):
             terminal.ask(line)
         same(terminal.ask(":save"), f"{NAME}: {ONE}\n")
         same(terminal.ask("c bump"), "3\n")
+        # The workspace holds the file beside it.
+        os.remove(beside)
         os.mkdir(beside)
         same(FULL in terminal.ask(":save"), True)
         same(terminal.ask("c bump"), "4\n")

@@ -18,12 +18,12 @@ import os
 import signal
 import sys
 
-from . import files, saving
+from . import files, rescue, saving
 from .breaks import Breaks
 from .cutting import entries
 from .images import OwnImage, ServedImage, WatchedImage
 from .session import Session
-from .wrong import Ended, Wrong
+from .wrong import Died, Ended, Wrong
 
 TOP = os.path.dirname(os.path.dirname(os.path.dirname(os.path.realpath(__file__))))
 # Numbers of senders go from 0 up to this one (docs/LIMITS.md).
@@ -139,6 +139,8 @@ def main():
         session = Session(image(given), Breaks(), lambda line: print(line, flush=True))
         try:
             work(session, given.files)
+        except Died as died:
+            raise Ended(died.sentence + rescue.written(session)) from None
         finally:
             session.end()
     except Ended as ended:

@@ -117,12 +117,19 @@ def no_file(program):
 
 
 def lost_program(program):
-    """A program that ends in the middle, or replies what is no reply."""
+    """A program that ends in the middle, or replies what is no reply. What was typed so far is kept."""
     greeting = """read line; echo '{"error":"UnknownActor"}'; read line; """
+    kept = "; the classes and methods of this session are in lost1.st, for  :load"
     with tempfile.TemporaryDirectory() as folder:
-        for more, wanted in (("exit 3", "the program ended with status 3"), ("echo no", "the program ended with status 0")):
-            ended = piped(shell_program(folder, greeting + more), ["C : Object", "C actor"])
-            same((ended.stderr.decode(), ended.returncode), (f"tools/workspace: {wanted}; start the workspace again\n", 1))
+        for before, more, wanted in (
+            ("", "exit 3", "the program ended with status 3; start the workspace again"),
+            ("", "echo no", "the program ended with status 0; start the workspace again"),
+            ("""echo '{"ok":{"version":1}}'; read line; """, "exit 3", "the program ended with status 3; start the workspace again" + kept),
+        ):
+            ended = piped(shell_program(folder, greeting + before + more), ["C : Object | a |", "C actor"], cwd=folder)
+            same((ended.stderr.decode(), ended.returncode), (f"tools/workspace: {wanted}\n", 1))
+        with open(os.path.join(folder, "lost1.st"), encoding="utf-8") as file:
+            same(file.read(), "C : Object | a |\n")
 
 
 def too_long(program):

@@ -86,7 +86,9 @@ def not_written(program):
         wanted = f"{FULL}; nothing is lost, since all that it has not was done once more"
         told = ["turn 2 of actor 0 answers 3", "4", "turn 2 of actor 0 answers 3"]
         same(found[2:], ["2", "turn 2 of actor 0 waits", wanted, wanted, "1 quantum, 8 steps", *told])
-        same((said.splitlines()[-1], status), (f"tools/workspace: {FULL}, and has what was saved last", 1))
+        kept = "the classes and methods of this session are in lost1.st, for  :load"
+        same((said.splitlines()[-1], status), (f"tools/workspace: {FULL}, and has what was saved last; {kept}", 1))
+        same(content(folder, "lost1.st").decode().splitlines(), COUNTER)
         same((content(folder), os.path.exists(os.path.join(folder, "two.image"))), (before, False))
 
 

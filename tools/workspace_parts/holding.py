@@ -5,6 +5,7 @@ given back before."""
 
 import contextlib
 import errno
+import fcntl
 import hashlib
 import itertools
 import os
@@ -15,6 +16,8 @@ TAKEN = (
     "another program has {}: a workspace, or a server, whose image is typed into with  tools/workspace --socket PATH; wait until it has "
     "ended, or work on a copy of the file"
 )
+# More files than a workspace has open.
+HIGH = 100
 CHANGED = "{} was changed by another program since it was loaded; what that wrote "
 KEPT = CHANGED + "is kept in {}"
 NOT_KEPT = CHANGED + "cannot be kept ({}), and is written over"
@@ -34,7 +37,7 @@ class Hold:
         if self.file:
             return True
         try:
-            file = open(os.open(self.place + BESIDE, HOW, 0o666), "wb")
+            file = opened(self.place + BESIDE)
         except OSError:
             return True
         try:
@@ -83,6 +86,16 @@ class Hold:
         with contextlib.suppress(OSError), open(self.place, "rb") as file:
             return file.read()
         return None
+
+
+def opened(name):
+    """An open file with a high number. If the workspace is killed, Linux closes its files from the highest number down: so the file is
+    let go of before the program's input ends, and the program can save."""
+    low = os.open(name, HOW, 0o666)
+    try:
+        return open(fcntl.fcntl(low, fcntl.F_DUPFD_CLOEXEC, HIGH), "wb")
+    finally:
+        os.close(low)
 
 
 def sum_of(data):

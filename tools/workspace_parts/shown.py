@@ -6,22 +6,30 @@ from .known import KnownClass, near
 from .wrong import Refused, Wrong
 
 NO_BODY = "a method without a body is not written; one that does nothing is  {}  ^self"
+# What is said where more than the pattern was typed: elsewhere an empty line often stands behind a comment.
+TYPED_BELOW = "an empty line ends a method that is typed; type the body right below"
+FILED_BELOW = "; behind an empty line a body goes on with lines that begin with two blanks or a tab"
 
 
 def refuse(found, head):
     """In a file nobody asks."""
-    raise Wrong(NO_BODY.format(f"{found.holder} >> {head}"))
+    raise Wrong(NO_BODY.format(f"{found.holder} >> {head}") + (FILED_BELOW if found.source != head else ""))
 
 
 def shown(session, found, selector, head):
     """The lines for the method that an object of the class runs, with the class that has it; `head` is the pattern that was typed."""
-    holder, lines = method_of(session, found.holder, selector)
-    typed = f"{found.holder} >> {head}"
+    lines = answer(session, found.holder, selector, head)
+    return lines if found.source == head else [*lines, TYPED_BELOW]
+
+
+def answer(session, name, selector, head):
+    holder, lines = method_of(session, name, selector)
+    typed = f"{name} >> {head}"
     if holder is None:
-        return [f"no method {selector} of {found.holder} is known{near(selector, session.known.selectors(found.holder))}", NO_BODY.format(typed)]
-    if selector in KERNEL_SELECTORS.get(found.holder, ()):
+        return [f"no method {selector} of {name} is known{near(selector, session.known.selectors(name))}", NO_BODY.format(typed)]
+    if selector in KERNEL_SELECTORS.get(name, ()):
         return lines
-    stays = "this method stays" if holder == found.holder else f"{found.holder} has this method from {holder}"
+    stays = "this method stays" if holder == name else f"{name} has this method from {holder}"
     return [*lines, f"{stays}; one that does nothing is written  {typed}  ^self"]
 
 

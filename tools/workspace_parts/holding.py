@@ -37,16 +37,17 @@ class Hold:
         if self.file:
             return True
         try:
-            file = opened(self.place + BESIDE)
-        except OSError:
-            return True
-        try:
-            hold(file, self.place + BESIDE)
-            self.file = file
+            self.file = opened(self.place + BESIDE)
+            hold(self.file, self.place + BESIDE)
         except OSError as error:
-            file.close()
+            self.let_go()
             return error.errno != errno.EBUSY
         return True
+
+    def let_go(self):
+        if self.file:
+            self.file.close()
+            self.file = None
 
     def give_back(self):
         """Removes the new file, if it is still the one that is held."""
@@ -55,8 +56,7 @@ class Hold:
         with contextlib.suppress(OSError):
             if os.path.samestat(os.fstat(self.file.fileno()), os.lstat(self.place + BESIDE)):
                 os.remove(self.place + BESIDE)
-        self.file.close()
-        self.file = None
+        self.let_go()
 
     def see(self):
         """Takes note of what the file has."""

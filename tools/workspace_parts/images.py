@@ -41,11 +41,10 @@ class OwnImage:
         try:
             self.load()
             return Connection(self.program, ["--image", self.path, *self.options], bool(self.kept))
-        except Wrong as wrong:
+        except BaseException as stopped:
             self.give_back()
-            raise Ended(wrong.sentence) from None
-        except BaseException:
-            self.give_back()
+            if isinstance(stopped, Wrong):
+                raise Ended(stopped.sentence) from None
             raise
 
     def load(self):

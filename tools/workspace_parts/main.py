@@ -4,8 +4,8 @@
     tools/workspace --socket PATH [--sender N] [FILE..]
 
 The first starts a script with an image of its own. With --image it begins with the image of that file, if it is there, and keeps
-it there when it ends. The second connects to an image that a server keeps for many: `./actorimage serve --socket PATH --workers 4`
-starts one.
+it there when it ends; meanwhile no other workspace or server begins on it. The second connects to an image that a server keeps for
+many: `./actorimage serve --socket PATH --workers 4` starts one.
 
 The FILEs are loaded first. Then lines are read from standard input; at a terminal `:help` lists what can be typed. If
 standard input is no terminal, each line is printed after `> ` before what it gives, and a line that begins with two spaces

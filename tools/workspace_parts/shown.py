@@ -29,8 +29,15 @@ def answer(session, name, selector, head):
         return [f"no method {selector} of {name} is known{near(selector, session.known.selectors(name))}", NO_BODY.format(typed)]
     if selector in KERNEL_SELECTORS.get(name, ()):
         return lines
-    stays = "this method stays" if holder == name else f"{name} has this method from {holder}"
+    this = f"this method{of_session(session, holder, selector)}"
+    stays = f"{this} stays" if holder == name else f"{name} has {this} from {holder}"
     return [*lines, f"{stays}; one that does nothing is written  {typed}  ^self"]
+
+
+def of_session(session, holder, selector):
+    """In a served image another session may have replaced what this one knows."""
+    is_known = holder in session.known.classes and selector in session.known.classes[holder].methods
+    return ", as this session knows it," if session.image.is_served and is_known else ""
 
 
 def method_of(session, name, selector):

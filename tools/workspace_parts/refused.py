@@ -48,8 +48,9 @@ def class_exists(command, reply, known, turns):
     if not old:
         return None
     more = [slot for slot in command["slots"] if slot not in old.slots]
-    is_wider = more and command["super"] == old.parent and set(old.slots) < set(command["slots"])
-    return f"{reply['error']}: there is already  {old.written()}  and its variables stay; " + (ADD.format(name, " ".join(more)) if is_wider else MOVE)
+    is_wider = command["super"] == old.parent and set(old.slots) < set(command["slots"])
+    advised = ADD.format(name, " ".join(more)) if is_wider else MOVE
+    return f"{reply['error']}: there is already  {old.written()}  and its variables stay; {advised}"
 
 
 ADD = "tools/add-variable FILE {} {}  gives it these too, in an image file that no program has"

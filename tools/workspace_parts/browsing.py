@@ -52,7 +52,7 @@ def learn(session, rest):
         raise Wrong("write the name of the server's image file after it, as in  :learn shop.image")
     image = image_file.read(os.path.expanduser(rest))
     if not image:
-        raise Wrong(f"{rest} cannot be read (No such file or directory)")
+        raise Wrong(f"{rest} is not there; a server writes its image's file when it ends")
     learning.add(image, session.known)
     session.known.learned.append(rest)
     session.say(f"{rest}: {learning.contents(image)}, as they were saved last")

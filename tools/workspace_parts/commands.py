@@ -14,7 +14,7 @@ c start. c bump                    sends messages, and shows the last answer
 A line that begins with two spaces goes on with the one before. At a terminal the prompt is blank while a bracket is open,
 and after the name of a method alone; an empty line or Ctrl-D ends that, so a method that is typed has no empty line inside.
 What is pasted is taken as a file is, once Enter is typed behind it. Counter >> bump alone, and an empty line, show a method
-that is there. Tab completes names, and after Counter >> whole methods; the keys of the cursor bring back what was typed.
+and write nothing. Tab completes names, and after Counter >> whole methods; the keys of the cursor bring back what was typed.
 Ctrl-C breaks a long run off, and its turn stays where it was.
 """.splitlines()
 
@@ -93,6 +93,7 @@ COMMANDS = {
         Described(":names", "lists what was named", browsing.names),
         Described(":stats Counter bump", "shows how the caches answered the sends of a method", browsing.stats),
         Described(":learn FILE", "is for a served image", browsing.learn),
+        Described(":expect 5", "is refused where the messages before have another answer, so that a file can check", running.expect),
         Described(":load FILE", "does what a file has: definitions, messages, comments", files.load),
         Described(":save FILE", "writes the image to a file now; alone, to that of --image", saving.save),
         Described(":sources FILE", "writes all classes and methods to a file, for :load", files.sources),

@@ -5,7 +5,7 @@ import os
 import signal
 import subprocess
 
-from .wrong import Ended
+from .wrong import Died, Ended
 
 # A longer line would end the session (docs/LIMITS.md).
 LONGEST_LINE = 8192
@@ -83,7 +83,7 @@ class Connection:
             return json.loads(self.process.stdout.readline())
         except (BrokenPipeError, ValueError):
             again = "start the workspace again" + (", on the image as it was saved last" if self.is_kept else "")
-            raise Ended(f"the program ended with status {self.process.wait()}; {again}") from None
+            raise Died(f"the program ended with status {self.process.wait()}; {again}") from None
 
     def send(self, command):
         """Whether a command is short enough to be sent."""
@@ -93,6 +93,10 @@ class Connection:
         self.process.stdin.write(line + b"\n")
         self.process.stdin.flush()
         return True
+
+    def is_alive(self):
+        """Whether the program goes on."""
+        return self.process.poll() is None
 
     def close(self, seconds=None):
         """Ends the session of the program, which saves its image then. The status tells whether it did."""

@@ -4,6 +4,7 @@ from dataclasses import dataclass
 
 from .copied import typed
 from .entries import begins, lacks_body
+from .tokens import begins_comment
 
 
 @dataclass
@@ -17,11 +18,6 @@ class Entry:
 def continues(line):
     """Whether a line goes on with the one before."""
     return line.startswith(("  ", "\t"))
-
-
-def in_comment(text):
-    """Whether a text begins with a comment that is open at its end."""
-    return text.lstrip().startswith('"') and text.count('"') % 2 == 1
 
 
 class Cutter:
@@ -42,7 +38,7 @@ class Cutter:
     def take(self, line, number):
         """Takes a line, and gives the entries that are over."""
         last = self.held or self.begun
-        if last and in_comment(last.text):
+        if last and begins_comment(last.text):
             last.text += "\n" + line
         elif not line.strip():
             self.empty += 1

@@ -3,8 +3,8 @@
 import re
 from dataclasses import dataclass
 
-from .habits import subclass
-from .tokens import has_body, is_open, without_comments
+from .habits import no_token, subclass
+from .tokens import begins_comment, body, has_body, is_open, without_comments
 from .wrong import Wrong
 
 WORD = r"[^\s:|.;()\[\]<>=#]+"
@@ -65,14 +65,27 @@ def lacks_body(text):
 
 
 def wants_more(text):
-    """Whether the lines so far are not the whole entry: a bracket or a comment is open, or a method has a pattern alone."""
+    """Whether the lines so far are not the whole entry: a bracket is open, or a method has a pattern alone, or a comment is open
+    before which nothing is to be done. One that is open behind that is a slip, which is told at once."""
     try:
         found = form(text)
     except Wrong:
         return False
     if isinstance(found, Method):
-        return is_open(found.source) or lacks_body(text)
-    return isinstance(found, Statements) and is_open(text)
+        return is_open(found.source) or lacks_body(text) or begins_comment(body(found.source))
+    return isinstance(found, Statements) and (is_open(text) or begins_comment(text))
+
+
+def check_below(plain):
+    """Wrong if a method stands in a method's text, which has blanks where comments were."""
+    below = METHOD_BELOW.search(plain)
+    if not below:
+        return
+    opened = plain.find('"', 0, below.end())
+    if opened >= 0:
+        raise Wrong(no_token(plain, opened), opened)
+    place = below.end() - len(below[0].lstrip())
+    raise Wrong("an empty line ends the method above; in a file, no blanks stand before this", place)
 
 
 def form(text):
@@ -91,10 +104,7 @@ def form(text):
         raise Wrong("classes have no methods of their own side; write  Name >> pattern  and a body")
     method = METHOD.match(plain)
     if method:
-        below = METHOD_BELOW.search(plain)
-        if below:
-            place = below.end() - len(below[0].lstrip())
-            raise Wrong("an empty line ends the method above; in a file, no blanks stand before this", place)
+        check_below(plain)
         start = len(text) - len(text[method.end() :].lstrip())
         return Method(method[1], text[start:].rstrip(), start)
     if subclass(plain):

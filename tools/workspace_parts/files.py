@@ -4,8 +4,9 @@ import os
 from collections import Counter
 from dataclasses import dataclass
 
-from .cutting import entries
+from .cutting import continues, entries
 from .entries import Command, Definition, form
+from .tokens import has_body
 from .values import count
 from .wrong import Wrong
 
@@ -100,13 +101,24 @@ def kind_of(text):
 def sources(session, rest):
     if not rest:
         raise Wrong("write the name of a file after it, as in  :sources counter.st")
-    known, defined = session.known.classes.values(), session.known.user_classes()
-    lines = [it.written() for it in defined]
-    lines += [line for it in known for line in it.method_lines()]
-    write(rest, lines)
+    write(rest, definitions(session.known))
     of_session = " that this session knows" if session.image.is_served else ""
-    methods = count(sum(len(it.methods) for it in known), "method")
-    session.say(f"{rest}: {count(len(defined), 'class')}, {methods}{of_session}")
+    methods = count(sum(len(it.methods) for it in session.known.classes.values()), "method")
+    session.say(f"{rest}: {count(len(session.known.user_classes()), 'class')}, {methods}{of_session}")
+
+
+def definitions(known):
+    """The lines of all classes and methods, in such an order and form that an image into which they are loaded has the same lines."""
+    defined = {it.name: it for it in known.user_classes()}
+    ordered = {name: it for name, it in known.classes.items() if name not in defined} | defined
+    return [it.written() for it in defined.values()] + [line for it in ordered.values() for line in it.method_lines(as_loaded)]
+
+
+def as_loaded(source):
+    """A source as it is when it was loaded: a later line begins with two blanks or is empty, and there is a body."""
+    first, *more = source.strip().replace("\r\n", "\n").replace("\r", "\n").split("\n")
+    later = ["" if not line.strip() else line if continues(line) else "  " + line for line in more]
+    return "\n".join([first, *later]) + ("" if has_body(source) else "  ^self")
 
 
 def log(session, rest):

@@ -3,7 +3,7 @@
 import os
 import tempfile
 
-from . import image_file, served_advice
+from . import holding, image_file, served_advice
 from .connection import Connection
 from .reconnecting import Reconnecting
 from .served_turns import ServedTurns
@@ -24,7 +24,7 @@ class OwnImage:
     """A script of the workspace's own: nobody else edits it. `advice`, `in_general` and `commands` have sentences in place of those
     for a script, `not_there` says why there is no such command, and `help` has lines that `:help` says besides. `kept` is the name of
     the file in which the image is kept, if one was given, and `path` is that of the file with which the program works. `loaded` is
-    what was there when the program began."""
+    what was there when the program began. `hold` is that on the file which is kept."""
 
     is_served = False
     advice, in_general, commands, not_there, help = {}, {}, {}, {}, HELP
@@ -34,15 +34,40 @@ class OwnImage:
         self.folder = None if kept else tempfile.TemporaryDirectory()
         self.path = os.path.realpath(kept or os.path.join(self.folder.name, "image"))
         self.loaded = None
+        self.hold = holding.Hold(kept) if kept else None
+        self.is_begun = False
 
     def connect(self, session):
         try:
-            name = self.kept or self.path
-            image_file.check_room(name)
-            self.loaded = image_file.read(name)
-        except Wrong as wrong:
-            raise Ended(wrong.sentence) from None
-        return Connection(self.program, ["--image", self.path, *self.options], bool(self.kept))
+            self.load()
+            return Connection(self.program, ["--image", self.path, *self.options], bool(self.kept))
+        except BaseException as stopped:
+            self.give_back()
+            if isinstance(stopped, Wrong):
+                raise Ended(stopped.sentence) from None
+            raise
+
+    def load(self):
+        """Only at the begin it matters that another program has the file: later there is something to lose."""
+        name = self.kept or self.path
+        if self.hold and not self.hold.take() and not self.is_begun:
+            raise Wrong(holding.TAKEN.format(name))
+        self.is_begun = True
+        image_file.check_room(name)
+        self.loaded = image_file.read(name)
+        if self.hold:
+            self.hold.see()
+
+    def give_back(self):
+        if self.hold:
+            self.hold.give_back()
+
+    def about_to_save(self):
+        """Lets the program save the file. What there is to say of what the file has by now, or None."""
+        try:
+            return self.hold.keep_other()
+        finally:
+            self.give_back()
 
     def turns(self, connection, breaks):
         return Turns(connection, breaks)
@@ -57,7 +82,7 @@ class ServedImage:
     """An image that a server keeps, which others edit as well. Messages are numbered as those of a sender."""
 
     is_served = True
-    kept = loaded = None
+    kept = loaded = hold = None
     advice, in_general = served_advice.REFUSALS, served_advice.IN_GENERAL
     commands, not_there, help = served_advice.COMMANDS, served_advice.NOT_THERE, served_advice.HELP
 

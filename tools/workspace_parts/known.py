@@ -4,6 +4,8 @@ were given."""
 import difflib
 from dataclasses import dataclass, field
 
+from second_opinion.language import KERNEL_SELECTORS
+
 KERNEL = ("Object", "SmallInteger", "True", "False", "UndefinedObject", "Symbol", "ActorRef", "Class")
 
 
@@ -20,9 +22,9 @@ class KnownClass:
         """The definition as it is typed."""
         return f"{self.name} : {self.parent}" + (f" | {' '.join(self.slots)} |" if self.slots else "")
 
-    def method_lines(self):
-        """The methods as they are typed."""
-        return [line for source in self.methods.values() for line in f"{self.name} >> {source}".split("\n")]
+    def method_lines(self, form=str):
+        """The methods as they are typed, each in a form."""
+        return [line for source in self.methods.values() for line in f"{self.name} >> {form(source)}".split("\n")]
 
 
 @dataclass
@@ -79,6 +81,11 @@ class Known:
         """The selectors of the methods of a class and those above it; of all classes if it is not known."""
         classes = list(self.chain(name)) or list(self.classes.values())
         return sorted({selector for known in classes for selector in known.methods})
+
+    def understood(self, name):
+        """The messages that an actor of a class understands, as far as that is known, but for doesNotUnderstand:."""
+        own = {selector for known in self.chain(name) for selector in known.methods}
+        return [it for it in (*sorted(own), *KERNEL_SELECTORS["Object"]) if it != "doesNotUnderstand:"]
 
     def actor(self, number):
         return self.actors.setdefault(number, KnownActor())

@@ -3,7 +3,7 @@
 import json
 
 from .connection import as_line
-from .wrong import Ended
+from .wrong import Died
 
 NOT_AGAIN = (
     "what was done since the image was saved last could not be done once more, and is lost; the file has the image from before"
@@ -33,4 +33,4 @@ class Log:
         for line in self.lines[self.loaded :]:
             done = json.loads(line)
             if connection.ask(done["sent"]) != done["answered"]:
-                raise Ended(NOT_AGAIN)
+                raise Died(NOT_AGAIN)

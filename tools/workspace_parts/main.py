@@ -4,13 +4,13 @@
     tools/workspace --socket PATH [--sender N] [FILE..]
 
 The first starts a script with an image of its own. With --image it begins with the image of that file, if it is there, and keeps
-it there when it ends. The second connects to an image that a server keeps for many: `./actorimage serve --socket PATH --workers 4`
-starts one.
+it there when it ends; meanwhile no other workspace or server begins on it. The second connects to an image that a server keeps for
+many: `./actorimage serve --socket PATH --workers 4` starts one.
 
 The FILEs are loaded first. Then lines are read from standard input; at a terminal `:help` lists what can be typed. If
 standard input is no terminal, each line is printed after `> ` before what it gives, and a line that begins with two spaces
-or more goes on with the one before. The status is 1 then where something of a FILE was refused; a class that a served image had
-already is not.
+or more goes on with the one before. The status is 1 then where something of a FILE was refused, or an answer was not as `:expect`
+says; a class that a served image had already is not refused.
 """
 
 import argparse
@@ -18,12 +18,12 @@ import os
 import signal
 import sys
 
-from . import files, saving
+from . import files, rescue, saving
 from .breaks import Breaks
 from .cutting import entries
 from .images import OwnImage, ServedImage, WatchedImage
 from .session import Session
-from .wrong import Ended, Wrong
+from .wrong import Died, Ended, Wrong
 
 TOP = os.path.dirname(os.path.dirname(os.path.dirname(os.path.realpath(__file__))))
 # Numbers of senders go from 0 up to this one (docs/LIMITS.md).
@@ -116,11 +116,11 @@ def work(session, names):
     are_whole = [load(session, name) for name in names]
     if is_terminal:
         talk(session)
-    else:
-        transcript(session)
-        saving.end(session)
-        if not all(are_whole):
-            sys.exit(1)
+        return
+    transcript(session)
+    saving.end(session)
+    if not (all(are_whole) and session.is_as_expected):
+        sys.exit(1)
 
 
 def end_at_signals():
@@ -139,6 +139,8 @@ def main():
         session = Session(image(given), Breaks(), lambda line: print(line, flush=True))
         try:
             work(session, given.files)
+        except Died as died:
+            raise Ended(died.sentence + rescue.written(session)) from None
         finally:
             session.end()
     except Ended as ended:

@@ -9,11 +9,12 @@ PERHAPS = "the number {seq} of sender {sender} was used before: perhaps this mes
 class Reconnecting:
     """`tell` takes a sentence on what broke. `begin_again` is called when there is a connection again, asks the image what it has to,
     and gives a sentence on that. The first command of an entry is sent once more on the new connection. Later ones are not: they rest
-    on what was done on the old one."""
+    on what was done on the old one. `file` is that of the last server's image."""
 
     def __init__(self, path, tell, begin_again):
         self.path, self.tell, self.begin_again = path, tell, begin_again
         self.connection = SocketConnection(path)
+        self.file = self.connection.file
         self.is_first = True
 
     def begin(self):
@@ -51,9 +52,10 @@ class Reconnecting:
 
     def connect_again(self):
         try:
-            self.connection = SocketConnection(self.path)
+            self.connection = SocketConnection(self.path, self.file)
         except Ended as ended:
             raise Lost(f"{ended.sentence}; the next entry tries again") from None
+        self.file = self.connection.file
         self.tell(self.begin_again())
 
     def lose(self):

@@ -24,7 +24,7 @@ def unknown_class(command, reply, known, image):
     name = " or ".join(unknown if image.is_served else unknown[:1]) or "this"
     if unknown and name[0].islower():
         return f"{reply['error']}: no class is named {name}; the name of a class begins with a capital" + near(name, known.classes)
-    return advice.refusal({**command, "class": name, "super": name}, reply, image.advice) + near(name, known.classes)
+    return advice.refusal({**command, "class": name, "super": name}, reply, image.advice) + near(name, [*known.classes, *known.names])
 
 
 def no_such_method(command, reply, known, turns):
@@ -45,10 +45,16 @@ def class_exists(command, reply, known, turns):
         return f"{reply['error']}: {name} is a class of the kernel, and stays as it is; take another name"
     if old and (old.parent, old.slots) == (command["super"], command["slots"]):
         return f"{reply['error']}: this class is there already, with these variables, and nothing is to be done"
-    return old and f"{reply['error']}: there is already  {old.written()}  {STAYS}"
+    if not old:
+        return None
+    more = [slot for slot in command["slots"] if slot not in old.slots]
+    is_wider = command["super"] == old.parent and set(old.slots) < set(command["slots"])
+    advised = ADD.format(name, " ".join(more)) if is_wider else MOVE
+    return f"{reply['error']}: there is already  {old.written()}  and its variables stay; {advised}"
 
 
-STAYS = "and its variables stay; name just these to put it under another class, and further ones in a class below it"
+ADD = "tools/add-variable FILE {} {}  gives it these too, in an image file that no program has"
+MOVE = "name just these to put it under another class, and further ones in a class below it"
 
 
 # What is known for certain where nobody else edits and posts.

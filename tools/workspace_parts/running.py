@@ -74,6 +74,15 @@ def checkpoint(session, rest):
     session.say(f"the history is empty, and turns are numbered anew; {posts} and {steps} so far")
 
 
+def expect(session, rest):
+    """Wrong if the messages before have another answer, or none."""
+    if not rest:
+        raise Wrong("write the answer after it that the message before is to have, as in  :expect 5")
+    if session.answer != " ".join(rest.split()):
+        session.is_as_expected = False
+        raise Wrong(f"{rest} is expected, and the answer is {session.answer or 'none'}")
+
+
 def actor_of(session, text):
     """The number of an actor that is written as its name or as `actor 3`."""
     match = re.fullmatch(r"actor\s+([0-9]{1,9})", text)

@@ -5,7 +5,7 @@ import os
 
 from . import image_file
 from .learning import contents
-from .wrong import Ended, Wrong
+from .wrong import Died, Wrong
 
 OF_SERVER = (
     "the server keeps this image; one that was started with --image FILE saves it when tools/stop ends it, and "
@@ -28,7 +28,7 @@ def begin(session):
 def end(session):
     """Ends the session."""
     if not session.close():
-        raise Ended(LOST.format(session.image.kept))
+        raise Died(LOST.format(session.image.kept))
 
 
 def ends(session):

@@ -1,6 +1,7 @@
 """Typed statements are done here: names are looked up, and messages are sent one after the other."""
 
 from .known import near
+from .shown import has_method
 from .statements import Actor, Literal, Name, Send
 from .values import show
 from .wrong import BrokenOff, Faulted, Stopped, Wrong
@@ -24,6 +25,8 @@ class Sending:
                 if self.session.breaks.asked:
                     raise BrokenOff(f"broken off before {statement.text}")
                 value, actor = self.value_of(statement.expression)
+                if isinstance(statement.expression, Name) and statement.expression.text[0].isupper():
+                    self.ask_for_class(statement.expression.text)
                 self.give_names(statement, value, actor, is_last=at == len(statements) - 1)
             except Stopped as stopped:
                 later = [it.text for it in statements[at + 1 :]]
@@ -60,7 +63,8 @@ class Sending:
             raise Wrong(f"{shown} stays in its actor; only numbers, symbols, classes and actors can be named")
         is_named = actor is None and isinstance(value, dict) and "ref" in value
         if is_last:
-            self.session.say(f"actor {value['ref']}" if is_named else show(value, self.known, actor))
+            self.session.answer = f"actor {value['ref']}" if is_named else show(value, self.known, actor)
+            self.session.say(self.session.answer)
         for name in statement.names:
             self.known.names[name] = value
 
@@ -92,6 +96,11 @@ class Sending:
         value = {"ref": actor.number}
         self.known.see(value)
         return value
+
+    def ask_for_class(self, name):
+        """Refused if there is no such class: the program is asked for one that another session may have defined."""
+        if name not in self.known.classes:
+            has_method(self.session, name, "class")
 
     def send(self, receiver, selector, arguments, place):
         if isinstance(receiver, dict) and "class" in receiver:
@@ -129,6 +138,7 @@ class Sending:
         if selector == "removeSelector:" and isinstance(arguments[0], dict) and "sym" in arguments[0]:
             self.session.remove(name, arguments[0]["sym"])
             return {"class": name}
+        self.ask_for_class(name)
         raise Wrong(asked_of_class(name, selector, arguments), place)
 
 

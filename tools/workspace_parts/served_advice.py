@@ -1,8 +1,8 @@
 """What is said of a served image in place of what advice.py says of a script, and what `:help` says besides."""
 
 REFUSALS = {
-    "ClassExists": "there is a class {class} already, perhaps of another session, and its variables stay; replace its methods, or "
-    "take another name",
+    "ClassExists": "there is a class {class} already, perhaps of another session, and its variables stay; :learn FILE tells what the "
+    "server's image file has of it; replace its methods, or take another name",
     "Full": "the mailbox of {actor} is full; send it again when the actor has come further",
     "HistoryFull": "the history of the server is full, often of the quanta of an endless turn, and nothing more is accepted; "
     ":checkpoint empties it",

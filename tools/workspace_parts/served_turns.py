@@ -9,8 +9,8 @@ from .wrong import BrokenOff, Refused, Wrong
 FIRST_PAUSE, LONGEST_PAUSE = 0.001, 0.02
 # What is said behind a new connection: of a session that has posted nothing, of an image that has nothing of the sender, and of one
 # that has its messages up to a number, all of them or not.
-AGAIN = "connected again; if the server is a new one, so is the image, and names of actors from before may mean nothing"
-NEW = "connected again; the image has no message of sender {}: it is a new one, and names of actors from before may mean nothing"
+AGAIN = "connected again; the image may be another one, in which names of actors from before mean nothing"
+NEW = "connected again; the image has no message of sender {}: it is another one, or was saved before, and names of actors may mean nothing"
 HAS = "connected again; the image has the messages of sender {} up to number {}"
 HAS_NOT = "connected again; the image was saved before: it has the messages of sender {} up to number {}, and not those up to {}"
 NOBODY_RUNS = "the server's workers run the actors, so there is nothing to run here; :turn 3 of c asks how a turn ended"

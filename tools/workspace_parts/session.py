@@ -1,13 +1,12 @@
 """A session: each entry is done, and what it gives is said."""
 
-from . import advice, commands
+from . import advice, commands, fault_places, shown
 from .entries import Command, Definition, Method, form
 from .known import Known
 from .learning import learn
 from .log import Log
 from .refused import lines as refused_lines
 from .sending import Sending
-from .shown import shown
 from .sources import marked
 from .statements import read_statements
 from .tokens import has_body, pattern
@@ -19,15 +18,17 @@ OFFER = "a tenth of the history is left;  :checkpoint  empties it, and all goes 
 
 class Session:
     """`say` takes each line that is told. `loading` are the files that are being loaded, `why` is what `:why` says, and `told`
-    is where in the log the last entry begins. `is_by_hand` says that a person types at a terminal."""
+    is where in the log the last entry begins. `answer` is what the last entry showed, if it sent messages; `is_as_expected` is what
+    `:expect` found so far."""
 
     command_names = tuple(commands.COMMANDS)
 
     def __init__(self, image, breaks, say):
         self.image, self.breaks = image, breaks
         self.say = say
-        self.is_over = self.is_by_hand = False
+        self.is_over = False
         self.loading = []
+        self.answer, self.is_as_expected = None, True
         self.start()
 
     def start(self):
@@ -48,6 +49,7 @@ class Session:
 
     def save(self):
         """Whether the image was saved. The program saves it where its session ends, and another one goes on."""
+        self.about_to_save()
         is_saved = self.log.connection.close() == 0
         self.go_on(is_saved)
         return is_saved
@@ -74,10 +76,20 @@ class Session:
         if self.image.is_served or not self.image.kept:
             self.end()
             return True
+        self.about_to_save()
         return self.log.connection.close() == 0
 
     def end(self):
-        self.log.connection.end()
+        try:
+            self.about_to_save()
+        finally:
+            self.log.connection.end()
+
+    def about_to_save(self):
+        """Lets go of the file in which the image is kept, and says if it was changed. A program that is no more does not save."""
+        if self.image.hold:
+            said = self.image.about_to_save() if self.log.connection.is_alive() else self.image.give_back()
+            self.tell([said] if said else [])
 
     def do(self, text):
         """Does one entry, and returns the name of its kind, or `refused` where it was not done whole."""
@@ -122,6 +134,7 @@ class Session:
         elif isinstance(found, Command):
             self.command(found)
         elif found:
+            self.answer = None
             Sending(self).do(read_statements(text))
 
     def command(self, found):
@@ -179,19 +192,18 @@ class Session:
         stands = holder and holder.methods.get(selector) == found.source and not self.image.is_served
         if self.loading and stands:
             return
-        if self.is_by_hand and not self.loading and not has_body(found.source) and self.has_method(found.holder, selector):
-            self.tell(shown(found, selector, holder))
+        if not has_body(found.source):
+            self.show(found, selector)
             return
         self.turns.ask({"cmd": "method", "class": found.holder, "source": found.source})
         self.known.install(found.holder, selector, found.source)
 
-    def has_method(self, class_name, selector):
-        """Whether a class has a method of its own, whoever wrote it."""
-        try:
-            self.turns.ask({"cmd": "stats", "class": class_name, "selector": selector})
-        except Refused:
-            return False
-        return True
+    def show(self, found, selector):
+        """Shows a method whose pattern alone was typed; a file that has no more of one is wrong there."""
+        head = found.source[: pattern(found.source)[1]]
+        if self.loading:
+            shown.refuse(found, head)
+        self.tell(shown.shown(self, found, selector, head))
 
     def remove(self, class_name, selector):
         self.turns.ask({"cmd": "remove", "class": class_name, "selector": selector})
@@ -231,22 +243,9 @@ class Session:
             self.say(f"{turn} has ended, and its answer is no longer kept")
 
     def tell_fault(self, turn, fault):
-        self.why = [f"{fault}: {advice.explain(fault)}", self.place_of(turn)]
+        places = fault_places.lines(turn, fault, self.known, self.turns, self.image.is_served)
+        self.why = [f"{fault}: {advice.explain(fault)}", *places]
         self.say(f"fault {fault} in {turn}")
-
-    def place_of(self, turn):
-        """How the place of a fault is found."""
-        name, selector = self.known.actor(turn.actor).class_name, self.turns.selectors.get(turn)
-        if not name or not selector:
-            ask = "" if name else "; the message  class  asks an actor for its class"
-            return f"to find the place, see how far the methods came, as in  :stats Counter bump{ask}"
-        for sent in (selector, "doesNotUnderstand:"):
-            if self.known.holder(name, sent):
-                return f"to find the place:  :stats {self.known.holder(name, sent)} {sent}"
-        if self.image.is_served:
-            unknown = f"no method {selector} of {name} was written in this session"
-            return f"{unknown}; see how far others came, as in  :stats Counter bump"
-        return f"{name} has no method {selector}, and no class above it has one"
 
     def tell_refusal(self, refused):
         self.why = refused_lines(refused.command, refused.reply, self.known, self.turns, self.image)

@@ -6,7 +6,8 @@ import socket
 import stat
 
 from .connection import LONGEST_LINE, as_line
-from .wrong import Ended
+from .served_file import file_of
+from .wrong import Died, Ended
 
 # A server takes no such command, since its workers run the actors. So this reply tells that a server is there.
 GREETING = {"cmd": "run"}
@@ -16,15 +17,16 @@ SECONDS_TO_GREET = 30
 
 
 class SocketConnection:
-    """A session of a server."""
+    """A session of a server. `file` is that of the server's image, as far as it is known; at first that is of a server before."""
 
-    def __init__(self, path):
-        self.path = path
+    def __init__(self, path, file=None):
+        self.path, self.file = path, file
         self.socket = socket.socket(socket.AF_UNIX)
         self.replies = self.socket.makefile("rb")
         try:
             self.connect()
             self.greet()
+            self.file = file_of(self.socket)
         except BaseException:
             self.end()
             raise
@@ -33,7 +35,7 @@ class SocketConnection:
         try:
             self.socket.connect(self.path)
         except (FileNotFoundError, ConnectionRefusedError):
-            raise Ended(nothing_listens(self.path)) from None
+            raise Ended(nothing_listens(self.path, self.file)) from None
         except OSError as error:
             raise Ended(f"{self.path} cannot be connected to ({error.strerror or error})") from None
 
@@ -65,7 +67,7 @@ class SocketConnection:
                 raise ValueError
             return json.loads(line)
         except (OSError, ValueError):
-            raise Ended(f"the connection to {self.path} broke, perhaps since the server has ended") from None
+            raise Died(f"the connection to {self.path} broke, perhaps since the server has ended") from None
 
     def send(self, command):
         """A server that is full replies without reading, so its reply is looked for even if this fails."""
@@ -91,8 +93,8 @@ def fits(command):
     return len(encoded(command)) <= LONGEST_LINE
 
 
-def nothing_listens(path):
-    start = f"./actorimage serve --socket {path} --workers 4"
+def nothing_listens(path, file):
+    start = f"./actorimage serve --socket {path} --workers 4" + (f" --image {file}" if file else "")
     if os.path.exists(path) and not stat.S_ISSOCK(os.stat(path).st_mode):
         return f"{path} is no socket, and stays; take the path at which a server listens, or another one for a new server"
     if os.path.lexists(path):

@@ -126,10 +126,15 @@ class Fault:
         if self.here[:1].isupper():
             return "an argument begins with a small letter; take another name"
         if self.before and self.before[-1].kind in ("keyword", "binary"):
-            return f"{self.stands()} where the name of an argument is expected"
+            return self.no_argument(self.before[-1].text)
         if self.token.kind == "symbol" and not self.before:
             return "a pattern has no #; to see a method type  :methods  with its class and its name"
         return KINDS["BadPattern"]
+
+    def no_argument(self, keyword):
+        if self.token.kind != "end":
+            return f"{self.stands()} where the name of an argument is expected"
+        return f"the name of an argument is wanted, as in  {keyword} x; to see a method type  :methods  with its class and its name"
 
     def too_large(self):
         if len(self.here.rstrip(":")) > MOST_LETTERS and self.token.kind in ("word", "keyword"):

@@ -79,7 +79,6 @@ def is_method(text):
 
 def talk(session):
     """Reads and does entries until the end."""
-    session.is_by_hand = True
     start_reading(session)
     try:
         while not session.is_over:

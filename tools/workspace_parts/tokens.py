@@ -48,11 +48,14 @@ def tokens(text):
 
 
 def is_open(text):
-    """Whether a bracket or a comment is open at the end."""
-    found = tokens(text)
-    if found[-1].text == '"':
-        return True
-    return sum({"(": 1, "[": 1, ")": -1, "]": -1}.get(token.kind, 0) for token in found) > 0
+    """Whether a bracket is open at the end. It is also where something before the end begins no token, as in the colon of `[:each | 3]`."""
+    plain = without_comments(text).partition('"')[0]
+    return sum({"(": 1, "[": 1, ")": -1, "]": -1}.get(character, 0) for character in plain) > 0
+
+
+def begins_comment(text):
+    """Whether a comment is open at the end, with nothing but comments before it."""
+    return without_comments(text).lstrip().startswith('"')
 
 
 def without_comments(text):
@@ -93,6 +96,11 @@ def arguments(source):
     return [token.text for token in words[1:] if token.kind == "word"]
 
 
+def body(source):
+    """What stands after the pattern and the temporaries of a source."""
+    return source[temporaries(source)[1] :]
+
+
 def has_body(source):
-    """Whether something stands after the pattern and the temporaries of a source."""
-    return pattern(source) is None or tokens(source[temporaries(source)[1] :])[0].kind != "end"
+    """Whether a source has more than a pattern, temporaries and comments."""
+    return pattern(source) is None or tokens(body(source))[0].kind != "end"

@@ -2,10 +2,10 @@
 
 import subprocess
 
-from . import try_images, try_pretended, try_program, try_saving, try_served, try_terminal, try_words
+from . import try_holding, try_images, try_pretended, try_program, try_saving, try_served, try_sources, try_terminal, try_words
 
-OF_SCRIPTS = try_words.TRIALS + try_terminal.TRIALS + try_program.TRIALS + try_images.TRIALS + try_saving.TRIALS
-TRIALS = OF_SCRIPTS + try_served.TRIALS + try_pretended.TRIALS
+OF_FILES = try_images.TRIALS + try_saving.TRIALS + try_holding.TRIALS + try_sources.TRIALS
+TRIALS = try_words.TRIALS + try_terminal.TRIALS + try_program.TRIALS + OF_FILES + try_served.TRIALS + try_pretended.TRIALS
 
 
 def failures(program):

@@ -135,8 +135,9 @@ def linked(program):
 
 
 def at_signals(program):
-    """A signal that ends the workspace does not end its image: the program's session ends well."""
-    for number, status in ((signal.SIGTERM, 143), (signal.SIGHUP, 129), (signal.SIGKILL, -9)):
+    """A signal that ends the workspace does not end its image: the program's session ends well. A kill leaves the file to the program
+    in time, which several show more surely than one."""
+    for number, status in ((signal.SIGTERM, 143), (signal.SIGHUP, 129), *[(signal.SIGKILL, -9)] * 5):
         with tempfile.TemporaryDirectory() as folder:
             terminal = Terminal([WORKSPACE, "--program", program, *OPTIONS], folder, folder)
             terminal.see("\n> ")

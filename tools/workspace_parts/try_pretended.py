@@ -103,7 +103,7 @@ def perhaps_accepted(program):
 
 def begins_again(program):
     """Behind a new connection the image is asked for the sender's last message, and what it says is told."""
-    new = "connected again; the image has no message of sender 7: it is a new one, and names of actors from before may mean nothing"
+    new = "connected again; the image has no message of sender 7: it is another one, or was saved before, and names of actors may mean nothing"
     for here, reply, wanted in (
         (0, '{"error":"Old","last":0}', AGAIN),
         (3, '{"error":"Old","last":0}', new),

@@ -8,7 +8,7 @@ import subprocess
 import sys
 import tempfile
 
-from .try_common import COUNTER, SPIN, WORKSPACE, piped, same, shell_program
+from .try_common import COUNTER, SPIN, TOP, WORKSPACE, piped, same, shell_program
 
 
 STOPPED = "was stopped after ([0-9,]+) quanta, to save half of the history; an edit of a method that it sends ends it"
@@ -35,6 +35,36 @@ def files(program):
             with open(path, "w", encoding="utf-8") as file:
                 file.write(text)
             same(piped(program, ["c := C actor"], path).returncode, status)
+
+
+def expected(program):
+    """A file checks answers. The first that is another one fails it, with its line; so does one that is typed."""
+    lines = ["C : Object | n |", "C >> up  n isNil ifTrue: [n := 0]. n := n + 1. ^n", "c := C actor", ":expect actor 0", "c up. c up"]
+    good = [*lines, '"Two."', "C >> name  ^#c", ":expect  2", "c name", ":expect #c"]
+    with tempfile.TemporaryDirectory() as folder:
+        path = os.path.join(folder, "c.st")
+        for more, wrong, status in (
+            ([], [], 0),
+            (["c up", ":expect 4"], ["3", "c.st, line 12:", "4 is expected, and the answer is 3"], 1),
+            (["c foo", ":expect nil"], ["c.st, line 11:", FAULT, "c.st, line 12:", "nil is expected, and the answer is none"], 1),
+        ):
+            with open(path, "w", encoding="utf-8") as file:
+                file.write("\n".join([*good, *more]))
+            ended = piped(program, [], "c.st", cwd=folder)
+            refused = sum("line" in it for it in wrong)
+            said = ["actor 0", "2", "#c", *wrong, "c.st: 1 class, 2 methods" + (f", {refused} refused" if refused else "")]
+            same((ended.stdout.decode().splitlines(), ended.returncode), (said, status))
+    same([piped(program, [*lines, f":expect {number}"]).returncode for number in (2, 3)], [0, 1])
+
+
+FAULT = "fault notUnderstood in turn 4 of actor 0"
+
+
+def helped(program):
+    """The tools that try the program say how they are used."""
+    for name in ("transcripts", "listings", "replies"):
+        ended = subprocess.run([os.path.join(TOP, "tools", name), "--help"], capture_output=True, text=True, timeout=60)
+        same((f"tools/{name} " in ended.stdout, "PROGRAM" in ended.stdout, ended.stderr, ended.returncode), (True, True, "", 0))
 
 
 def interrupted(program):
@@ -87,12 +117,19 @@ def no_file(program):
 
 
 def lost_program(program):
-    """A program that ends in the middle, or replies what is no reply."""
+    """A program that ends in the middle, or replies what is no reply. What was typed so far is kept."""
     greeting = """read line; echo '{"error":"UnknownActor"}'; read line; """
+    kept = "; the classes and methods of this session are in lost1.st, for  :load"
     with tempfile.TemporaryDirectory() as folder:
-        for more, wanted in (("exit 3", "the program ended with status 3"), ("echo no", "the program ended with status 0")):
-            ended = piped(shell_program(folder, greeting + more), ["C : Object", "C actor"])
-            same((ended.stderr.decode(), ended.returncode), (f"tools/workspace: {wanted}; start the workspace again\n", 1))
+        for before, more, wanted in (
+            ("", "exit 3", "the program ended with status 3; start the workspace again"),
+            ("", "echo no", "the program ended with status 0; start the workspace again"),
+            ("""echo '{"ok":{"version":1}}'; read line; """, "exit 3", "the program ended with status 3; start the workspace again" + kept),
+        ):
+            ended = piped(shell_program(folder, greeting + before + more), ["C : Object | a |", "C actor"], cwd=folder)
+            same((ended.stderr.decode(), ended.returncode), (f"tools/workspace: {wanted}\n", 1))
+        with open(os.path.join(folder, "lost1.st"), encoding="utf-8") as file:
+            same(file.read(), "C : Object | a |\n")
 
 
 def too_long(program):
@@ -104,4 +141,4 @@ def too_long(program):
     same(found.endswith("actor 0\n"), True)
 
 
-TRIALS = (endless, files, interrupted, log, no_program, no_file, lost_program, too_long)
+TRIALS = (endless, files, expected, helped, interrupted, log, no_program, no_file, lost_program, too_long)

@@ -86,7 +86,9 @@ def not_written(program):
         wanted = f"{FULL}; nothing is lost, since all that it has not was done once more"
         told = ["turn 2 of actor 0 answers 3", "4", "turn 2 of actor 0 answers 3"]
         same(found[2:], ["2", "turn 2 of actor 0 waits", wanted, wanted, "1 quantum, 8 steps", *told])
-        same((said.splitlines()[-1], status), (f"tools/workspace: {FULL}, and has what was saved last", 1))
+        kept = "the classes and methods of this session are in lost1.st, for  :load"
+        same((said.splitlines()[-1], status), (f"tools/workspace: {FULL}, and has what was saved last; {kept}", 1))
+        same(content(folder, "lost1.st").decode().splitlines(), COUNTER)
         same((content(folder), os.path.exists(os.path.join(folder, "two.image"))), (before, False))
 
 
@@ -100,6 +102,8 @@ def fails_later(program):
             terminal.ask(line)
         same(terminal.ask(":save"), f"{NAME}: {ONE}\n")
         same(terminal.ask("c bump"), "3\n")
+        # The workspace holds the file beside it.
+        os.remove(beside)
         os.mkdir(beside)
         same(FULL in terminal.ask(":save"), True)
         same(terminal.ask("c bump"), "4\n")
@@ -139,12 +143,14 @@ def of_server(program):
         same(told[:3], ["actor 0", "turn 0 of actor 0 answers 2", "3"])
         same(told[-1], "the image has 1 actor, numbered from 0")
         new = "Counter >> bump  ^0"
-        told = served(program, folder, [new, f":learn {NAME}", ":classes", ":methods", ":sources c.st", ":learn", ":learn c.st"])
+        asked = [":learn", ":learn c.st", ":learn two.image"]
+        told = served(program, folder, [new, f":learn {NAME}", ":classes", ":methods", ":sources c.st", *asked])
         last = f"this is what this session typed, and what {NAME} has; no command lists what others did"
         same(told[:3], [f"{NAME}: {ONE}, as they were saved last", "Counter : Object | count |", last])
         same(told[3:6], [new, "Counter >> start  count := 0", last])
         same(told[6:8], ["c.st: 1 class, 2 methods that this session knows", NO_NAME])
         same(told[8].startswith("c.st is refused, and stays as it is; place json"), True)
+        same(told[9], "two.image is not there; a server writes its image's file when it ends")
 
 
 def endless_on_server(program):

@@ -172,7 +172,8 @@ def lost_server(program):
             see(process, "actor 0")
             server.end()
             out, err = process.communicate("c bump\nc bump\n", timeout=60)
-            same((out.count("bump"), err, process.returncode), (0, f"tools/workspace: {BROKE}\n", 1))
+            kept = "; the classes and methods of this session are in lost1.st, for  :load"
+            same((out.count("bump"), err, process.returncode), (0, f"tools/workspace: {BROKE}{kept}\n", 1))
 
 
 class Watching:
@@ -230,8 +231,9 @@ def older_image(program):
             same(terminal.ask("c := actor 0"), "actor 0\n")
             same(terminal.ask("c bump. c bump"), "4\n")
             server.end()
+            same(terminal.ask("c bump"), f"{BROKE}\n{NOTHING} --image image; the next entry tries again\n")
             with Server(program, folder, *kept):
-                same(terminal.ask("c bump"), f"{BROKE}\n{HAS_NOT.format(7, 2, 4)}\n3\n")
+                same(terminal.ask("c bump"), f"{HAS_NOT.format(7, 2, 4)}\n3\n")
                 same(terminal.ask("c bump"), "4\n")
                 same(terminal.end(), 0)
 

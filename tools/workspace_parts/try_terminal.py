@@ -96,8 +96,6 @@ def whole_methods(program):
         terminal.see(text + "this method stays; one that does nothing is written  Counter >> bump  ^self\n> ")
         same(terminal.ask("c bump"), "7\n")
         type_lines(terminal, ["Counter >> rest", "^self", ""])
-        type_lines(terminal, ["Counter >> other", ""])
-        same(terminal.ask("c other"), "a Counter\n")
         if not readline or "libedit" in readline.__doc__:
             return
         # The last word, count, is written over.
@@ -111,6 +109,23 @@ def whole_methods(program):
         terminal.type("\x1b[A\x1b[A\x1b[A\n")
         terminal.see("\n> ")
         same(terminal.ask("c bump"), "8\n")
+
+
+def slips(program):
+    """A block with a parameter, and a comment that is not closed, are told of at once, and the next entry is one of its own."""
+    with Typing(program) as terminal:
+        typed(terminal, ["C : Object", "c := C actor"])
+        said = "a block has no parameters; write the loop with whileTrue: and a temporary\n"
+        same(terminal.ask("C >> each  self do: [:e | e foo]")[-len(said) :], said)
+        same(terminal.ask("c each: [:e | e foo]").endswith("^ blocks stand in methods only; here messages are sent to actors\n"), True)
+        said = "this comment is not closed; put a double quote at its end\n"
+        for line in ('C >> one  ^1 "one', 'c one "one', '"The one." c one "one'):
+            same(terminal.ask(line)[-len(said) :], said)
+        type_lines(terminal, ['C >> one  "One, and', 'no more."', "^1", ""])
+        same(terminal.ask("c one"), "1\n")
+        terminal.type('C >> two  "Two\nC >> one  ^2\n')
+        terminal.see(said + "> ")
+        same(terminal.ask("c one"), "1\n")
 
 
 def type_lines(terminal, lines):
@@ -199,4 +214,4 @@ def lives(number):
         return False
 
 
-TRIALS = (session, keys, whole_methods, pasted, long_run, broken_line, slow_start)
+TRIALS = (session, keys, whole_methods, slips, pasted, long_run, broken_line, slow_start)

@@ -56,3 +56,7 @@ class Ended(Exception):
     def __init__(self, sentence):
         super().__init__(sentence)
         self.sentence = sentence
+
+
+class Died(Ended):
+    """The program, or the connection to it, has ended before what was typed was kept."""

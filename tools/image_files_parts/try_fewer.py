@@ -85,7 +85,8 @@ def counted(program, path):
 def good_files_stay(program):
     """Of good files nothing is lost but edits, or names."""
     files = good_files()
-    for tool_name, parts in ((EDITS, ("format", "senders", "posts", "steps")), (NAMES, ("format", "senders", "posts", "steps", "actors", "edits"))):
+    parts = "format", "senders", "posts", "steps"
+    for tool_name, parts in ((EDITS, parts), (NAMES, (*parts, "actors", "edits"))):
         for name, path in files.items():
             new = program.at(f"{name}-{tool_name}")
             done = tool(tool_name, path, new)
@@ -113,7 +114,8 @@ def lines_of_symbols():
     """Lines that are refused, whose 8,200 new symbols fill the table of names."""
     for start in range(0, 8200, 400):
         args = [{"sym": f"u{number}"} for number in range(start, start + 400)]
-        yield json.dumps({"actor": 0, "args": args, "cmd": "post", "selector": "isNil", "sender": 1, "seq": 9}, separators=(",", ":")).encode()
+        post = {"actor": 0, "args": args, "cmd": "post", "selector": "isNil", "sender": 1, "seq": 9}
+        yield json.dumps(post, separators=(",", ":")).encode()
 
 
 def unused_names_go(program):

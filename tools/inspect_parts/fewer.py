@@ -1,7 +1,6 @@
 """What tools/fewer-edits and tools/fewer-names have in common: an image file is written anew, with less of one thing."""
 
 import argparse
-import json
 import os
 import sys
 
@@ -41,7 +40,7 @@ def written(fewer, count, name, new):
     """Writes the new file, and answers the two counts."""
     with open(name, "rb") as file:
         image = read_image(file.read())
-    text = compact(json.loads(json.dumps(fewer(image))))
+    text = compact(fewer(image))
     after = read_image(text.encode())
     assert world(after) == world(image), "the classes would be others"
     rights = os.stat(name).st_mode & 0o777

@@ -68,18 +68,18 @@ class Supervised:
 
     def __exit__(self, *_):
         self.told.close()
+        for process in self.servers():
+            os.kill(process, signal.SIGKILL)
         self.process.kill()
         self.process.wait()
-        with contextlib.suppress(ProcessLookupError):
-            os.kill(self.server(), signal.SIGKILL)
 
     def hears(self):
         return self.told.recv(100).decode()
 
-    def server(self):
-        """The process of the server; that of nobody where it has ended."""
-        told = subprocess.run(["pgrep", "-P", str(self.process.pid)], capture_output=True, text=True).stdout.split()
-        return int(told[0]) if told else 2**22
+    def servers(self):
+        """The processes that were started, which are the server."""
+        told = subprocess.run(["pgrep", "-P", str(self.process.pid)], capture_output=True, text=True)
+        return [int(it) for it in told.stdout.split()]
 
     def client(self, Server):
         server = Server(None, 1)
@@ -105,8 +105,8 @@ def supervised(program, Server, _post):
                 os.killpg(them.process.pid, sign)
                 assert them.hears() == "STOPPING=1"
                 out, err, status = them.ended()
-                refusal = "" if options else "actorimage: ReadFault\n"
-                assert sorted(err.splitlines()) == sorted(f"{refusal}tools/stop: the server has ended, and {file} is written".splitlines()), err
+                refusals = [] if options else ["actorimage: ReadFault"]
+                assert sorted(err.splitlines()) == [*refusals, f"tools/stop: the server has ended, and {file} is written"], err
                 assert (out, status) == ('{"ok":{"posts":0,"steps":0}}\n', 0), (out, err, status)
             assert checked(program, file) == '{"ok":{"actors":0,"classes":9,"edits":1}}\n'
 
@@ -119,15 +119,17 @@ def supervised_in_vain(program, Server, _post):
             client.make("M", [])
             them.process.terminate()
             out, err, status = them.ended()
-            said = "tools/supervise: the server has not ended after 1.5 seconds: it is killed, and what was done since its start is NOT saved"
-            assert (out, status) == ("", 1) and err.splitlines()[-1] == said and not os.path.exists(file), (out, err, status)
+            said = "the server has not ended after 1.5 seconds: it is killed, and what was done since its start is NOT saved"
+            assert (out, status) == ("", 1) and not os.path.exists(file), (out, status)
+            assert err.splitlines()[-1] == f"tools/supervise: {said}", err
     with tempfile.TemporaryDirectory() as folder:
         with Supervised(folder, 60, program, "serve", "--workers", "1", "--sessions", "1") as them:
             them.client(Server).leave()
             assert them.ended() == ('{"ok":{"posts":0,"steps":0}}\n', "", 0)
     with tempfile.TemporaryDirectory() as folder:
         with Supervised(folder, 60, program, "serve", "--workers", "1") as them:
-            os.kill(them.server(), signal.SIGKILL)
+            (server,) = them.servers()
+            os.kill(server, signal.SIGKILL)
             assert them.ended() == ("", "", 128 + signal.SIGKILL)
         none = subprocess.run([SUPERVISE, program, "script"], capture_output=True, text=True, timeout=60)
         assert none.returncode == 2 and "start a server" in none.stderr, none

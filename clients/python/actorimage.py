@@ -154,14 +154,26 @@ class BadSource(Refused, stands="The method that was there stays: `kind` and `of
     offset: int
 class Old(Refused, stands="Not accepted now, but before if `last` is its number and the sender nobody else's. Go on above `last`."):
     last: int
-class TooMany(Refused, stands="There are as many as there may be; `what` says of what. A session too many has not begun."):
+class TooMany(Refused, stands="There are as many as there may be; `what` says of what."):
     what: str
+
+    def __init__(self, name: str, fields: Mapping[str, Any]):
+        super().__init__(name, fields)
+        self.stands = MOST_OF.get(self.fields.get("what", ""), self.stands)
 class BadImage(Refused, stands="The image file is malformed at `place`, and stays as it is."):
     place: str
 class Stale(Refused, stands="The classes were edited meanwhile; `version` is the number of edits: try again."):
     version: int
 
 
+MOST_OF = {
+    "classes": "The image has 1,024 classes with the kernel's 8, and keeps them: use those that are there.",
+    "slots": "A class has at most 64 instance variables, with those that it inherits.",
+    "edits": "2,048 since the program began, so start it anew on its file; or 4,096 in the image, so use tools/fewer-edits on the file.",
+    "names": "The image has 8,192 selectors and symbols: use those that are there, or tools/fewer-names on its file.",
+    "actors": "The image has 65,536 actors, and keeps them: use those that are there.",
+    "sessions": "The server has 64 sessions, and this one has not begun: end another one, or try again later.",
+}  # What `TooMany` means, by its `what`.
 REFUSALS: dict[str, type[Refused]] = {kind.__name__: kind for kind in Refused.__subclasses__()}
 
 
@@ -186,10 +198,17 @@ def _sent(value: Value) -> Any:
     raise TypeError(f"{value!r} cannot be an argument{hint}")
 
 
+def _bounded(number: int, most: int, what: str) -> int:
+    """A number that the protocol has a place for."""
+    if 0 <= number <= most:
+        return number
+    raise ValueError(f"{number} cannot be {what}: these are 0 to {most:,}")
+
+
 def _number(actor: Actor) -> int:
     if not isinstance(actor, Actor):
         raise TypeError(f"{actor!r} is no actor; write Actor(0) for actor 0")
-    return actor.number
+    return _bounded(actor.number, 2**32 - 1, "the number of an actor")
 
 
 def _received(value: Any) -> Value:
@@ -303,9 +322,14 @@ class Image:
         with self._lock:
             line = self._ready()
             try:
-                for command in commands:
+                coming = iter(commands)
+                while True:
+                    # What is read may decide whether there is another command.
                     if self._waiting == window:
                         yield self._read(line)
+                    command = next(coming, None)
+                    if command is None:
+                        break
                     line.write(command)
                     self._waiting += 1
                 while self._waiting:
@@ -380,7 +404,8 @@ class Image:
 
     def answer(self, turn: Turn) -> Value:
         """What a turn answered. `Fault`, `Pending` or `Expired` is raised where it did not, or where it is not known."""
-        told = self.ask({"cmd": "outcome", "actor": turn.actor.number, "turn": turn.number})
+        number = _bounded(turn.number, 2**64 - 1, "the number of a turn")
+        told = self.ask({"cmd": "outcome", "actor": _number(turn.actor), "turn": number})
         if "fault" in told:
             raise Fault(told["fault"], turn)
         return _received(told["answer"])
@@ -404,7 +429,7 @@ class Sender:
     that was refused as Full is not lost where it is posted again."""
 
     def __init__(self, image: Image, number: int, last: Optional[int] = None):
-        self.image, self.number = image, number
+        self.image, self.number = image, _bounded(number, 65_535, "the number of a sender")
         self._learn(image.last_of(number) if last is None else last)
 
     def _learn(self, last: int) -> None:
@@ -419,6 +444,7 @@ class Sender:
 
     def _post(self, actor: Actor, selector: str, args: Sequence[Value], seq: int) -> Reply:
         given = [_sent(it) for it in args]
+        _bounded(seq, 2**64 - 1, f"the number of a message, of which sender {self.number} has no more")
         return {"cmd": "post", "actor": _number(actor), "selector": selector, "args": given, "sender": self.number, "seq": seq}
 
     def post(self, actor: Actor, selector: str, *args: Value) -> Turn:
@@ -449,10 +475,15 @@ class Sender:
             except Ended:
                 self.image.reconnect(seconds)
 
-    def post_all(self, messages: Iterable[tuple], window: int = 100) -> Iterator[Union[Turn, Refused]]:
+    def post_all(
+        self, messages: Iterable[tuple], window: int = 100, stop_at_full: bool = False
+    ) -> Iterator[Union[Turn, Refused]]:
         """Posts many messages, each an actor, a selector and arguments, at most `window` of them ahead of the replies that are read.
-        Gives for each its turn, or its refusal. The number of a refused one stays unused."""
+        Gives for each its turn, or its refusal. The number of a refused one stays unused. A message behind one that was refused as
+        `Full` may be accepted. With `stop_at_full` none is taken from `messages` once `Full` was read; those that were sent ahead, none
+        with a window of 1, have their replies still."""
         actors: list[Actor] = []
+        is_full = False
 
         def commands() -> Iterator[Reply]:
             for actor, selector, *args in messages:
@@ -460,11 +491,14 @@ class Sender:
                 actors.append(actor)
                 self._last += 1
                 yield command
+                if is_full:
+                    return
 
         self._learn(self.last)
         for place, told in enumerate(self.image.ask_all(commands(), window)):
             if isinstance(told, Old):
                 self._last = max(self._last, told.last)
+            is_full = is_full or stop_at_full and isinstance(told, Full)
             yield told if isinstance(told, Refused) else Turn(actors[place], told["turn"])
 
 

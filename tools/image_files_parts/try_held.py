@@ -5,6 +5,7 @@ import fcntl
 import json
 import os
 import resource
+import socket
 import stat
 import subprocess
 import sys
@@ -185,6 +186,36 @@ def taken_away(program):
     return "4 servers"
 
 
+def ended(server):
+    out, err = server.communicate(timeout=SECONDS)
+    return Ended(server.returncode, out, err)
+
+
+def two_at_once(program):
+    """Where the new file is taken away, or the file has two names by a hard link, two servers have the file at once. In the first case
+    what one of them did is lost, and in the second each name has an image of its own."""
+    path, one, two = texts(program)
+    third = text_of(program, FIRST, SECOND.replace(b"Second", b"Third"))
+    os.link(path, program.at("other"))
+    for other, is_removed, wanted in ((path, True, (two, one)), (program.at("other"), False, (two, third))):
+        with begun(program, path) as server, connected(server, program.at("socket")) as end, end.makefile("rb") as lines:
+            edit(end, lines)
+            if is_removed:
+                os.remove(path + ".new")
+            with begun(program, other, name="socket2") as later, connected(later, program.at("socket2")) as its, its.makefile("rb") as more:
+                same("the other's edit", ask(its, more, json.loads(SECOND.replace(b"Second", b"Third"))), {"ok": {"version": 2}})
+                its.shutdown(socket.SHUT_RDWR)
+                same("the end of the later server", ended(later), ENDED)
+            same("what the later one has saved", read(other), third)
+            end.shutdown(socket.SHUT_RDWR)
+            same("the end of the earlier server", ended(server), ENDED)
+        same("what there is then", (read(path), read(program.at("other"))), wanted)
+        program.put("file", one)
+        os.remove(program.at("other"))
+        os.link(path, program.at("other"))
+    return "4 servers"
+
+
 def killed_server(program):
     """A server that is killed leaves the file as it was and an empty one beside it, with which the next one begins."""
     path, one, two = texts(program)
@@ -219,4 +250,4 @@ def broken_off(program):
     return "3 scripts"
 
 
-TRIALS = (second_server, at_once, script_beside, change_beside, of_another, taken_away, killed_server, broken_off)
+TRIALS = (second_server, at_once, script_beside, change_beside, of_another, taken_away, two_at_once, killed_server, broken_off)

@@ -3,7 +3,7 @@ ghost use Rattle.std.specs.Prelude.{◌≡◌};
 ghost use Rattle.st_image.specs.GoingOn.{GoesOnIn};
 ghost use Rattle.st_calls.specs.declared.calls.Answer.TheVariants as answers;
 ghost use Rattle.st_calls.specs.declared.calls.Call.TheVariants as calls;
-ghost use Rattle.st_calls.specs.Does.{Does, told};
+ghost use Rattle.st_calls.specs.Does.{Does, InternsIn, told};
 ghost use Rattle.st_calls.specs.Growth.{Grows, edits_by, posts_by};
 
 use crate::calls::{Answer, Call};
@@ -97,6 +97,17 @@ fn perform<M: Mailbox>(alloc: Global, image: &mut Image<M>, call: Call) -> Resul
     }
 }
 
+/// Interns a text.
+fn intern_in<M: Mailbox>(
+    alloc: Global,
+    image: &mut Image<M>,
+    text: &[u8],
+) -> Result<Selector, Refusal>
+    ensures { InternsIn image.old text.now result image.new }
+{
+    image.intern(alloc, text)
+}
+
 /// Makes the call that interns a text, which is not copied for it.
 pub fn intern<M: Mailbox>(
     alloc: Global,
@@ -108,7 +119,7 @@ pub fn intern<M: Mailbox>(
     ensures grows { Grows 0 0 0 image.old image.new }
 {
     image.known();
-    let answer = image.intern(alloc, text);
+    let answer = intern_in(alloc, image, text);
     image.known();
     answer
 }

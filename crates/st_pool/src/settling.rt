@@ -174,6 +174,24 @@ impl<K: Naming, M: Mailbox> Office<K, M> {
     }
 }
 
+/// The image, and what all threads have done together. If there is room, it leaves there what each has done.
+fn settle_in<K: Naming, M: Mailbox>(
+    shared: Shared<K, M>,
+    shares: Shares<K>,
+    accounts: &mut Accounts,
+) -> Result<(Image<M>, Totals), Refusal>
+    requires new { (accounts.old.callers.items ≡ []) × (accounts.old.workers.items ≡ []) }
+    ensures callers { OnOk result (vec_len shares.callers ≤ vec_capacity accounts.old.callers → accounts.new.callers.items ≡ shares.callers.items) }
+    ensures workers { OnOk result (vec_len shares.workers ≤ vec_capacity accounts.old.workers → accounts.new.workers.items ≡ shares.workers.items) }
+    ensures sums { IfOk result (λ r. AreSums r.1 shares.callers.items shares.workers.items) }
+    ensures history { IfOk result (λ r. AreCounts K.start r.0 r.1 × HaveStood r.0 r.1.posts shares.callers.items) }
+    ensures later { IfOk result (λ r. GoesOnIn K.first r.0) }
+    ensures refused { IfErr result (λ e. (e ≡ refusals.BadArguments) ⊎ (e ≡ refusals.Changed)) }
+{
+    let Shared { office, .. } = shared;
+    office.into_inner().settle(shares, accounts)
+}
+
 /// The image, what all threads have done together, once they have handed back their shares, and what each has done. The totals are the
 /// sums over these accounts, and what the image has counted since the pool was made. The message of each receipt is in the history at
 /// its place, posted to its actor, unless a checkpoint of these callers has emptied its item; and of the emptied items no more belong to
@@ -199,9 +217,10 @@ pub fn settle_image<K: Naming, M: Mailbox>(
         drop((shared, shares));
         return Err(Refusal::NoMemory);
     };
-    let Shared { office, .. } = shared;
-    let (image, totals) = office.into_inner().settle(shares, &mut accounts)?;
-    Ok((image, totals, accounts))
+    match settle_in(shared, shares, &mut accounts) {
+        Ok((image, totals)) => Ok((image, totals, accounts)),
+        Err(refusal) => Err(refusal),
+    }
 }
 
 /// The totals of what all threads have done, once they have handed back their shares. No memory is taken.
@@ -217,12 +236,11 @@ pub fn settle<K: Naming, M: Mailbox>(
     ensures refused { IfErr result (λ e. (e ≡ refusals.BadArguments) ⊎ (e ≡ refusals.Changed)) }
 {
     let alloc = *shares.callers.allocator();
-    let Shared { office, .. } = shared;
     let mut none = Accounts {
         callers: Vec::new(alloc),
         workers: Vec::new(alloc),
     };
-    let (image, totals) = office.into_inner().settle(shares, &mut none)?;
+    let (image, totals) = settle_in(shared, shares, &mut none)?;
     image.known();
     Ok(totals)
 }

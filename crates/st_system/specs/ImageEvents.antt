@@ -30,6 +30,11 @@ copies (call.Install c source) = true
 copies (call.Post sender seq a s args) = true
 copies c = false
 
+-- calls with texts or arguments
+abbrev pub has_texts : Call → Bool
+has_texts (call.Intern text) = true
+has_texts c = copies c
+
 -- a call is made of the image; memory may run out before only where it is copied
 abbrev pub Calls : Schedule → Call → Result Answer Refusal → Schedule → Type 0
 Calls S c r T = ((copies c ≡ true) × FindsNoMemory S r T) ⊎ OfImage S c r T

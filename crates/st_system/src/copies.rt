@@ -1,6 +1,6 @@
 //! Copies of what an event holds, for calls that take it by value.
 ghost use Rattle.std.specs.Prelude.{◌≡◌, true, IfOk, OnErr};
-ghost use Rattle.st_system.specs.ImageEvents.{copies as copies_of};
+ghost use Rattle.st_system.specs.ImageEvents.{has_texts};
 
 use st_calls::calls::Call;
 use st_classes::seq::Seq;
@@ -35,7 +35,7 @@ fn copy_values(alloc: Global, values: &Values) -> Result<Values, AllocError>
 /// A copy of a call. Memory can run out only if the call has texts or arguments.
 pub(crate) fn copy_call(alloc: Global, call: &Call) -> Result<Call, AllocError>
     ensures copy { IfOk result (λ copy. copy ≡ call.now) }
-    ensures memory { OnErr result (copies_of call.now ≡ true) }
+    ensures memory { OnErr result (has_texts call.now ≡ true) }
 {
     Ok(match call {
         Call::Intern(text) => Call::Intern(copy_text(alloc, text)?),

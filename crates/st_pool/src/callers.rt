@@ -72,9 +72,7 @@ impl<'a, K: Naming, M: Mailbox> Caller<'a, K, M> {
         let out = job.run(alloc, &mut office, share);
         let has_moved = office.moves() != moves;
         drop(office);
-        if has_moved {
-            shared.wake();
-        }
+        shared.wake_if(has_moved);
         out
     }
 

@@ -104,6 +104,13 @@ impl<K: Naming, M: Mailbox> Shared<K, M> {
         self.eased.notify_one();
     }
 
+    /// The same, if something has moved.
+    pub(crate) fn wake_if(&self, has_moved: bool) {
+        if has_moved {
+            self.wake();
+        }
+    }
+
     /// Tells the workers to end, each when its quantum is over. Those that wait or rest are woken.
     pub fn stop<R: Wait>(&self, rt: &R) {
         self.enter(rt).stop();

@@ -10,6 +10,7 @@ pub mod checking;
 pub mod images;
 mod polling;
 mod pool_asking;
+pub mod porters;
 mod postings;
 mod quantum;
 mod resolving;

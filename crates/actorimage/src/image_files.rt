@@ -7,7 +7,7 @@ ghost use Rattle.st_file.specs.Files.{LoadsFile};
 ghost use Rattle.actorimage.specs.Runs as spec;
 
 use crate::failures::Failure;
-use crate::new_files::HELD;
+use crate::new_files::HELD_BY_ANOTHER;
 use crate::runs::found_as;
 use crate::stamps::Stamp;
 use st_classes::refusals::Refusal;
@@ -67,11 +67,13 @@ pub struct Opened {
 }
 
 impl Opened {
-    /// What is at no place.
-    pub const NOTHING: Opened = Opened {
-        file: None,
-        seen: None,
-    };
+    /// What is at a place where nothing is.
+    pub fn nothing() -> Opened {
+        Opened {
+            file: None,
+            seen: None,
+        }
+    }
 
     /// Locks the file, so that no other server begins on it by whatever name. Where files cannot be locked nothing is done.
     pub fn lock(&self, alloc: Global, path: &str) -> Result<(), Failure> {
@@ -80,7 +82,7 @@ impl Opened {
         };
         match file.try_lock() {
             Err(TryLockError::WouldBlock) => {
-                Err(Failure::of(alloc, Refusal::WriteFault, path, HELD))
+                Err(Failure::of(alloc, Refusal::WriteFault, path, HELD_BY_ANOTHER))
             }
             _ => Ok(()),
         }
@@ -102,7 +104,7 @@ pub fn open<R: Files<File = File>>(
     let file = match File::open(rt, path) {
         Ok(file) => file,
         Err(error) if error.kind() == ErrorKind::NotFound && !place.must_exist => {
-            return Ok(Opened::NOTHING);
+            return Ok(Opened::nothing());
         }
         Err(error) => return Err(unread(alloc, path, &error)),
     };

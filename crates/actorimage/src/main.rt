@@ -210,7 +210,7 @@ fn open_at<R: Files<File = File>>(
 ) -> Result<Opened, Failure> {
     match place {
         Some(place) => open(rt, alloc, place),
-        None => Ok(Opened::NOTHING),
+        None => Ok(Opened::nothing()),
     }
 }
 

@@ -13,11 +13,11 @@ use std::os::unix::fs::{MetadataExt, OpenOptionsExt, PermissionsExt, fchown};
 /// How often a new file is opened, at most, until it is the one at its path.
 const TRIES: u32 = 8;
 
-/// How many names are tried for an image that cannot take its file's place.
-const KEPT: u32 = 1000;
+/// Below this number are those of the names that are tried for an image which cannot take its file's place.
+const MOST_KEPT: u32 = 1000;
 
 /// What is said of a file that another process has locked.
-pub const HELD: &str = "is held by another process";
+pub const HELD_BY_ANOTHER: &str = "is held by another process";
 
 /// The permissions of an image's file that is made where none was: its owner can read and write.
 const OWNER_ALONE: u32 = 0o600;
@@ -116,7 +116,7 @@ fn locked<R: Files<File = File>>(
         Err(error) => return Err(Failure::at(alloc, Refusal::WriteFault, path, &error)),
     };
     match file.try_lock() {
-        Err(TryLockError::WouldBlock) => Err(unwritten(alloc, path, HELD)),
+        Err(TryLockError::WouldBlock) => Err(unwritten(alloc, path, HELD_BY_ANOTHER)),
         _ => Ok(file),
     }
 }
@@ -189,7 +189,7 @@ impl<'a> Write for Written<'a> {
     }
 }
 
-/// Writes an image to an open file and waits until it is on the disk. The answer to a failure has the path as its file's.
+/// Writes an image to an open file and waits until it is on the disk. A failure is said of the path.
 fn write_image(alloc: Global, file: &File, path: &str, image: &Image) -> Result<(), Failure> {
     let mut written = Written { file, error: None };
     let saved = save(alloc, image, &mut Writer::new(&mut written));
@@ -248,7 +248,7 @@ impl NewFile {
     /// Moves the new file, which is filled, to a free name beside the old one. The answer is its path then.
     fn moved_aside<R: Files>(&self, rt: &R, alloc: Global) -> Option<String> {
         let place = self.place.as_str();
-        for number in 1..=KEPT {
+        for number in 1..MOST_KEPT {
             let path = format!(in alloc; "{place}.kept{number}").ok()?;
             if !is_nothing(rt, path.as_str()) {
                 continue;

@@ -169,7 +169,7 @@ fn program<'a>(alloc: Global) -> Result<Command<'a>, AllocError> {
 }
 
 /// Where the image is kept, if it is kept in a file.
-fn place<'a>(matches: &ArgMatches<'a>) -> Option<Place<'a>> {
+fn image_place<'a>(matches: &ArgMatches<'a>) -> Option<Place<'a>> {
     match matches.get_str("image") {
         Some(path) => Some(Place {
             path,
@@ -183,7 +183,7 @@ fn script_options<'a>(matches: &ArgMatches<'a>) -> ScriptOptions<'a> {
     ScriptOptions {
         quantum: matches.get_one::<u32>("quantum"),
         capacity: matches.get_one::<u32>("capacity"),
-        image: place(matches),
+        image: image_place(matches),
     }
 }
 
@@ -192,7 +192,7 @@ fn serve_options<'a>(matches: &ArgMatches<'a>) -> ServeOptions<'a> {
         socket: matches.get_str("socket").unwrap_or(""),
         workers: matches.get_one::<u32>("workers").unwrap_or(1),
         sessions: matches.get_one::<u32>("sessions"),
-        image: place(matches),
+        image: image_place(matches),
         is_verbose: matches.get_flag("verbose"),
     }
 }

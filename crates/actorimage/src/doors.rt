@@ -5,6 +5,7 @@ use st_server::porters::Porter;
 use st_wire::names::refusal_name;
 use std::fs::Files;
 use std::io::Error;
+use std::os::unix::net::{SocketAddrExt, UnixStream};
 use std::sync::atomic::{AtomicBool, Ordering};
 use std::thread;
 use std::time::{Clock, Duration};
@@ -12,6 +13,9 @@ use std::time::{Clock, Duration};
 /// The system's errors that pass when somebody lets something go: there is no memory (`ENOMEM`), the system or the process has as
 /// many open files as it may (`ENFILE`, `EMFILE`), or there are no buffers (`ENOBUFS`).
 const SHORTAGES: [i32; 4] = [12, 23, 24, 105];
+
+/// With this begins the name, in Linux's abstract namespace, to which an operator's end of a session is bound.
+const OPERATOR: &[u8] = b"actorimage.operator.";
 
 /// Milliseconds between two tries to accept while something is short.
 const PAUSE: u64 = 100;
@@ -58,6 +62,16 @@ impl<'a, R: Files + Eprint + Clock> Porter<R> for Doorkeeper<'a> {
         }
         thread::sleep(rt, Duration::from_millis(PAUSE));
         true
+    }
+
+    fn is_operator(&self, _rt: &R, client: &UnixStream) -> bool {
+        let Ok(address) = client.peer_addr() else {
+            return false;
+        };
+        match address.as_abstract_name() {
+            Some(name) => name.starts_with(OPERATOR),
+            None => false,
+        }
     }
 
     fn ended(&self, rt: &R, refusal: Refusal) {

@@ -39,7 +39,7 @@ use std::thread::{JoinHandle, Scope, Threads};
 /// The steps of a quantum: the maximum, since each quantum takes the lock once and adds an item to the history.
 const QUANTUM: u32 = 1024;
 
-/// The most sessions at a time.
+/// The most sessions at a time. One more may be the operator's.
 const MOST_SESSIONS: u64 = 64;
 
 /// Written to a client that comes while the most sessions are open.
@@ -153,7 +153,21 @@ fn host<K: Naming, P: Porter<R>, R: Wait>(
 
 /// Makes room for the shares of as many sessions as can be open.
 fn make_room<K: Naming, R: Wait>(rt: &R, room: &Room<'_, K>) -> bool {
-    room.shares.lock(rt).reserve(MOST_SESSIONS as usize).is_ok()
+    room.shares
+        .lock(rt)
+        .reserve(MOST_SESSIONS as usize + 1)
+        .is_ok()
+}
+
+/// Whether there is no place for a client.
+fn is_full<K: Naming, P: Porter<R>, R>(
+    rt: &R,
+    room: &Room<'_, K>,
+    porter: &P,
+    client: &UnixStream,
+) -> bool {
+    let open = room.active.load(Ordering::SeqCst);
+    open > MOST_SESSIONS || open == MOST_SESSIONS && !porter.is_operator(rt, client)
 }
 
 /// Whether the error concerns one connection and not the socket.
@@ -188,7 +202,7 @@ fn accept<'s, E, K: Naming + Send + Sync, P: Porter<R> + Sync, R: Threads + Wait
                 return false;
             }
         };
-        if room.active.load(Ordering::SeqCst) >= MOST_SESSIONS {
+        if is_full(rt, room, porter, &stream) {
             turn_away(&stream, TOO_MANY);
             continue;
         }
@@ -389,7 +403,7 @@ fn is_served(workers: u32, sessions: Option<u32>) -> bool
 }
 
 /// Serves an image over a socket. Each session has its own thread, at most 64 at a time, and 1 to 16 workers run the actors. A
-/// client beyond 64 gets a refusal and is disconnected.
+/// client beyond 64 gets a refusal and is disconnected, unless the porter says that it is the operator: one of these is let in.
 ///
 /// `sessions` is how many sessions are accepted, from 1 to 1,000,000. Then the call waits for their ends, stops the workers, and
 /// answers the image and the totals of what all have done: what the image has counted beyond its counts at the start. A session

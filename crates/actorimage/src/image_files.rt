@@ -95,7 +95,7 @@ fn unread(alloc: Global, path: &str, error: &io::Error) -> Failure {
 }
 
 /// Opens the file at an image's place. `ReadFault` says that it cannot be read, or is not there and must be.
-pub fn open<R: Files<File = File>>(
+pub fn open_file<R: Files<File = File>>(
     rt: &R,
     alloc: Global,
     place: Place<'_>,

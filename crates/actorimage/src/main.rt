@@ -14,7 +14,7 @@ mod stamps;
 
 use crate::doors::Doorkeeper;
 use crate::failures::Failure;
-use crate::image_files::{Opened, Place, Unreadable, load_file, open};
+use crate::image_files::{Opened, Place, Unreadable, load_file, open_file};
 use crate::new_files::{NewFile, hold};
 use crate::options::{Request, ScriptOptions, ServeOptions, invalid_utf8_error, parsed_request};
 use crate::runs::{begin_with, saved_at};
@@ -209,7 +209,7 @@ fn open_at<R: Files<File = File>>(
     place: Option<Place<'_>>,
 ) -> Result<Opened, Failure> {
     match place {
-        Some(place) => open(rt, alloc, place),
+        Some(place) => open_file(rt, alloc, place),
         None => Ok(Opened::nothing()),
     }
 }

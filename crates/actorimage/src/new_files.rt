@@ -193,10 +193,11 @@ impl<'a> Write for Written<'a> {
 fn write_image(alloc: Global, file: &File, path: &str, image: &Image) -> Result<(), Failure> {
     let mut written = Written { file, error: None };
     let saved = save(alloc, image, &mut Writer::new(&mut written));
-    match (saved, written.error) {
-        (Ok(()), _) => {}
-        (Err(refusal), Some(error)) => return Err(Failure::at(alloc, refusal, path, &error)),
-        (Err(refusal), None) => return Err(Failure::from(refusal)),
+    if let Err(refusal) = saved {
+        return Err(match &written.error {
+            Some(error) => Failure::at(alloc, refusal, path, error),
+            None => Failure::from(refusal),
+        });
     }
     match file.sync_all() {
         Ok(()) => Ok(()),

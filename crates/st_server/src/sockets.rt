@@ -166,8 +166,8 @@ fn is_full<K: Naming, P: Porter<R>, R>(
     porter: &P,
     client: &UnixStream,
 ) -> bool {
-    let open = room.active.load(Ordering::SeqCst);
-    open > MOST_SESSIONS || open == MOST_SESSIONS && !porter.is_operator(rt, client)
+    let active = room.active.load(Ordering::SeqCst);
+    active > MOST_SESSIONS || active == MOST_SESSIONS && !porter.is_operator(rt, client)
 }
 
 /// Whether the error concerns one connection and not the socket.

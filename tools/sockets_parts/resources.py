@@ -279,7 +279,8 @@ def full_output(program, Server, _post):
         soon(lambda: os.path.exists(path) and os.stat(path).st_mode & 0o777 == 0o600, "no socket is made")
         other.path = path
         other.client().leave()
-        assert process.communicate(timeout=60)[1] == "actorimage: WriteFault\n" and process.returncode == 1
+        said = "actorimage: WriteFault\nstandard output: No space left on device\n"
+        assert (process.communicate(timeout=60)[1], process.returncode) == (said, 1)
         assert not os.path.exists(path), "the socket's file is still there"
 
 

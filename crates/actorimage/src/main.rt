@@ -133,8 +133,9 @@ fn tell_end<R: Print + Eprint + AllocGlobal>(
     rt: &R,
     faults: &Faults<Refusal>,
     totals: Totals,
-) -> Result<(), Refusal> {
-    let names = sorted_names(rt.alloc(), faults)?;
+) -> Result<(), Failure> {
+    let alloc = rt.alloc();
+    let names = sorted_names(alloc, faults)?;
     for name in &names {
         let _ = eprintln!(rt; "session: {name}");
     }
@@ -142,7 +143,7 @@ fn tell_end<R: Print + Eprint + AllocGlobal>(
     let steps = totals.steps;
     match println!(rt; "{{\"ok\":{{\"posts\":{posts},\"steps\":{steps}}}}}") {
         Ok(()) => Ok(()),
-        Err(_) => Err(Refusal::WriteFault),
+        Err(error) => Err(Failure::at(alloc, Refusal::WriteFault, "standard output", &error)),
     }
 }
 

@@ -216,7 +216,7 @@ impl<K: Naming, M: Mailbox> Office<K, M> {
             },
         );
         let is_accepted = answer.is_ok();
-        self.waiting.note_post(is_accepted);
+        self.waiting.note_if(is_accepted);
         self.books.post(posted, edited, is_accepted);
         if is_accepted {
             let copy = Seq::from_vec(replace(room, Vec::new(alloc)));
@@ -281,9 +281,8 @@ impl<K: Naming, M: Mailbox> Office<K, M> {
         ensures calls { PoolCalls self.old mine.old call result self.new mine.new }
         ensures later { GoesOnIn self.old.image self.new.image }
     {
-        if !matches!(call, Call::Intern(_)) {
-            self.waiting.note_move();
-        }
+        let is_move = !matches!(call, Call::Intern(_));
+        self.waiting.note_if(is_move);
         self.image.known();
         self.image.version().known();
         let answer = apply(alloc, &mut self.image, call);

@@ -41,10 +41,10 @@ impl Waiting {
         self.moves = self.moves.wrapping_add(1);
     }
 
-    /// A post was answered. That is a move if it was accepted.
+    /// The same, if it is a move.
     #[inline]
-    pub(crate) fn note_post(&mut self, is_accepted: bool) {
-        self.moves = self.moves.wrapping_add(is_accepted as u64);
+    pub(crate) fn note_if(&mut self, is_move: bool) {
+        self.moves = self.moves.wrapping_add(is_move as u64);
     }
 
     /// A quantum was committed. That is a move if it had steps.

@@ -10,6 +10,7 @@ mod calls_of;
 pub mod checking;
 pub mod images;
 mod polling;
+pub mod porters;
 mod posting;
 mod quantum;
 mod resolving;

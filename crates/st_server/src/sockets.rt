@@ -11,6 +11,7 @@ ghost use Rattle.st_server.specs.Serving.{AreInRange, HaveServed};
 use crate::attending::attend;
 use crate::images::{Image, Mailbox, Worker};
 use crate::polling::Polled;
+use crate::porters::{OpenDoor, Porter};
 use crate::runner::new_worker;
 use boxcar::Vec as Faults;
 use st_classes::refusals::Refusal;
@@ -38,7 +39,7 @@ use std::thread::{JoinHandle, Scope, Threads};
 /// The steps of a quantum: the maximum, since each quantum takes the lock once and adds an item to the history.
 const QUANTUM: u32 = 1024;
 
-/// The most sessions at a time.
+/// The most sessions at a time. One more may be the operator's.
 const MOST_SESSIONS: u64 = 64;
 
 /// Written to a client that comes while the most sessions are open.
@@ -58,12 +59,13 @@ pub struct Served {
     pub fault: Option<Refusal>,
 }
 
-/// Where sessions come from, how many are accepted, if they are counted, and where refusals go.
+/// Where sessions come from, how many are accepted, if they are counted, where refusals go, and who is asked and told.
 #[derive(Drop)]
-struct Door<'a> {
+struct Door<'a, P> {
     listener: UnixListener,
     sessions: Option<u32>,
     faults: &'a Faults<Refusal>,
+    porter: &'a P,
 }
 
 /// What the sessions share: the image, the shares of ended sessions, room for what these have done, the number of open sessions, and
@@ -134,9 +136,16 @@ fn talk<K: Naming, R: Wait>(
 }
 
 /// Runs a session in its thread.
-fn host<K: Naming, R: Wait>(rt: &R, alloc: Global, room: &Room<'_, K>, stream: UnixStream) {
+fn host<K: Naming, P: Porter<R>, R: Wait>(
+    rt: &R,
+    alloc: Global,
+    room: &Room<'_, K>,
+    porter: &P,
+    stream: UnixStream,
+) {
     if let Err(refusal) = talk(rt, alloc, room, &stream) {
         drain(&stream);
+        porter.ended(rt, refusal);
         if let Some(faults) = room.faults {
             let _ = faults.push(rt, refusal);
         }
@@ -149,12 +158,23 @@ fn host<K: Naming, R: Wait>(rt: &R, alloc: Global, room: &Room<'_, K>, stream: U
 /// Makes room for the shares of as many sessions as can be open, and for the accounts of these and of all that have ended.
 fn make_room<K: Naming, R: Wait>(rt: &R, room: &Room<'_, K>) -> bool {
     let mut shares = room.shares.lock(rt);
-    if shares.reserve(MOST_SESSIONS as usize).is_err() {
+    if shares.reserve(MOST_SESSIONS as usize + 1).is_err() {
         return false;
     }
     let most = shares.capacity();
     drop(shares);
     room.accounts.lock(rt).reserve(most).is_ok()
+}
+
+/// Whether there is no place for a client.
+fn is_full<K: Naming, P: Porter<R>, R>(
+    rt: &R,
+    room: &Room<'_, K>,
+    porter: &P,
+    client: &UnixStream,
+) -> bool {
+    let active = room.active.load(Ordering::SeqCst);
+    active > MOST_SESSIONS || active == MOST_SESSIONS && !porter.is_operator(rt, client)
 }
 
 /// Whether the error concerns one connection and not the socket.
@@ -164,28 +184,32 @@ fn is_passing(kind: ErrorKind) -> bool
     kind == ErrorKind::Interrupted || kind == ErrorKind::ConnectionAborted
 }
 
-/// Accepts sessions, each in its own thread of a scope, until their number is reached or accepting fails. The answer is whether the
-/// number was reached.
-fn accept<'s, E, K: Naming + Send + Sync, R: Threads + Wait + Sync>(
+/// Accepts sessions, each in its own thread of a scope, until their number is reached, the porter lets in nobody any more, or accepting
+/// fails. The answer is false if it fails.
+fn accept<'s, E, K: Naming + Send + Sync, P: Porter<R> + Sync, R: Threads + Wait + Sync>(
     scope: &Scope<'s, E>,
     rt: &'s R,
     alloc: Global,
     listener: &UnixListener,
     room: &'s Room<'_, K>,
+    porter: &'s P,
     sessions: Option<u32>,
 ) -> bool {
     let mut left = sessions;
     for stream in listener.incoming() {
+        if !porter.is_open(rt) {
+            return true;
+        }
         let stream = match stream {
             Ok(stream) => stream,
             Err(error) => {
-                if is_passing(error.kind()) {
+                if is_passing(error.kind()) || porter.tries_again(rt, &error) {
                     continue;
                 }
                 return false;
             }
         };
-        if room.active.load(Ordering::SeqCst) >= MOST_SESSIONS {
+        if is_full(rt, room, porter, &stream) {
             turn_away(&stream, TOO_MANY);
             continue;
         }
@@ -194,7 +218,7 @@ fn accept<'s, E, K: Naming + Send + Sync, R: Threads + Wait + Sync>(
             continue;
         }
         room.active.fetch_add(1, Ordering::SeqCst);
-        if let Err(refused) = scope.spawn(move || host(rt, alloc, room, stream)) {
+        if let Err(refused) = scope.spawn(move || host(rt, alloc, room, porter, stream)) {
             room.active.fetch_sub(1, Ordering::SeqCst);
             drop(refused);
             continue;
@@ -208,19 +232,27 @@ fn accept<'s, E, K: Naming + Send + Sync, R: Threads + Wait + Sync>(
     false
 }
 
-/// Accepts sessions until their number is reached or accepting fails, and waits for their ends. The answer is whether the number was
-/// reached.
-fn accept_all<K: Naming + Send + Sync, R: Threads + Wait + Sync>(
+/// Accepts sessions as `accept` does, and waits for their ends.
+fn accept_all<K: Naming + Send + Sync, P: Porter<R> + Sync, R: Threads + Wait + Sync>(
     rt: &R,
     alloc: Global,
-    door: Door<'_>,
+    door: Door<'_, P>,
     room: &Room<'_, K>,
 ) -> bool {
+    let porter = door.porter;
     thread::scope(thread::scope_env(), rt, |scope| -> bool {
-        let is_reached = accept(scope, rt, alloc, &door.listener, room, door.sessions);
+        let is_well = accept(
+            scope,
+            rt,
+            alloc,
+            &door.listener,
+            room,
+            porter,
+            door.sessions,
+        );
         // The open sessions go on, and whoever connects from here on is refused by the system.
         drop(door);
-        is_reached
+        is_well
     })
 }
 
@@ -284,12 +316,12 @@ fn ended<K: Naming, R: Threads>(
     Ok(shares)
 }
 
-/// Lets workers run the image's actors while sessions are accepted, until the number of sessions is reached and all have ended. The
-/// answer is the threads of the workers, and whether the number was reached. If a worker gets no thread, nothing is accepted.
-fn run_workers<K: Naming + Send + Sync, R: Threads + Wait + Sync>(
+/// Lets workers run the image's actors while sessions are accepted, until no more are and all have ended. The answer is the threads of
+/// the workers, and false if accepting failed. If a worker gets no thread, nothing is accepted.
+fn run_workers<K: Naming + Send + Sync, P: Porter<R> + Sync, R: Threads + Wait + Sync>(
     rt: &R,
     alloc: Global,
-    door: Door<'_>,
+    door: Door<'_, P>,
     room: &Room<'_, K>,
     workers: Vec<Worker>,
 ) -> (Vec<Ended<K>>, bool) {
@@ -305,10 +337,10 @@ fn run_workers<K: Naming + Send + Sync, R: Threads + Wait + Sync>(
 }
 
 /// The same, with the shares of all workers in place of their threads.
-fn work<K: Naming + Send + Sync, R: Threads + Wait + Sync>(
+fn work<K: Naming + Send + Sync, P: Porter<R> + Sync, R: Threads + Wait + Sync>(
     rt: &R,
     alloc: Global,
-    door: Door<'_>,
+    door: Door<'_, P>,
     room: &Room<'_, K>,
     workers: Vec<Worker>,
 ) -> Result<(Vec<WorkerShare<K>>, bool), Refusal>
@@ -326,13 +358,13 @@ fn work<K: Naming + Send + Sync, R: Threads + Wait + Sync>(
 }
 
 /// Serves an image, and settles at the end.
-fn serve<K: Naming + Send + Sync, R: Threads + Wait + Sync>(
+fn serve<K: Naming + Send + Sync, P: Porter<R> + Sync, R: Threads + Wait + Sync>(
     rt: &R,
     alloc: Global,
     image: Image,
     blanks: Blanks,
     opened: Opened,
-    door: Door<'_>,
+    door: Door<'_, P>,
     workers: Vec<Worker>,
 ) -> Result<Served, Refusal>
     requires posts { blanks.posts.name ≡ K.posts }
@@ -390,26 +422,27 @@ fn is_served(workers: u32, sessions: Option<u32>) -> bool
 }
 
 /// Serves an image over a socket. Each session has its own thread, at most 64 at a time, and 1 to 16 workers run the actors. A
-/// client beyond 64 gets a refusal and is disconnected.
+/// client beyond 64 gets a refusal and is disconnected, unless the porter says that it is the operator: one of these is let in.
 ///
 /// `sessions` is how many sessions are accepted, from 1 to 1,000,000. Then the call waits for their ends, stops the workers, and
 /// answers the image, what each session and each worker has done, and the totals of that: what the image has counted beyond its counts
 /// at the start. A session that ends with a refusal adds it to `faults`, if there is memory. With `None`, serving goes on, and nothing is added to
 /// `faults`.
 ///
-/// If accepting fails, no more sessions are accepted. When the open ones have ended, the call ends in the same way, and the fault
-/// is `ReadFault`.
+/// The porter is told of each session that ends with a refusal. If it lets in nobody any more, the call ends as behind the last
+/// session. If accepting fails and the porter does not try again, it ends so too, and the fault is `ReadFault`.
 ///
 /// The listener is let go as soon as no more sessions are accepted, so clients that come while the open ones go on are refused by
 /// the system.
 ///
 /// Refusals: `BadArguments` if a number is out of its range, or a share is missing at the end; `NoMemory` if there is no memory at
 /// the start, or no thread for a worker (room for what the end needs is made as sessions come); `Changed` if the history lacks something that the callers have done.
-pub fn serve_image<R: Threads + Wait + Sync>(
+pub fn serve_image<P: Porter<R> + Sync, R: Threads + Wait + Sync>(
     rt: &R,
     alloc: Global,
     listener: UnixListener,
     faults: &Faults<Refusal>,
+    porter: &P,
     workers: u32,
     sessions: Option<u32>,
     image: Image,
@@ -435,8 +468,9 @@ pub fn serve_image<R: Threads + Wait + Sync>(
         listener,
         sessions,
         faults,
+        porter,
     };
-    serve::<Brand, R>(
+    serve::<Brand, P, R>(
         rt,
         alloc,
         image,
@@ -467,7 +501,9 @@ pub fn serve_on<R: Threads + Wait + Sync>(
         accounts,
         totals,
         fault,
-    } = serve_image(rt, alloc, listener, faults, workers, sessions, image)?;
+    } = serve_image(
+        rt, alloc, listener, faults, &OpenDoor, workers, sessions, image,
+    )?;
     image.known();
     drop((image, accounts));
     match fault {

@@ -1,14 +1,12 @@
 -- After each call the image goes on, and has counted as many posts and edits more as the answer tells.
 use Rattle.std.proofs.Common.{◌≡◌, ℕ, List, Result, Ok, Err, ap, sym, subst, ◌∙◌, refl}
-use Rattle.std.specs.Prelude.{OnErr, OnOk, is_ok}
+use Rattle.std.specs.Prelude.{is_ok}
 use Rattle.st_classes.specs.declared.refusals.Refusal.{Refusal}
 use Rattle.st_classes.specs.declared.values.Selector.{Selector}
 use Rattle.st_classes.specs.declared.values.ActorId.{ActorId}
-use Rattle.st_classes.specs.Names.{interned}
-use Rattle.st_image.specs.Calls.{Interns}
 use Rattle.st_image.specs.Checkpoints.{MakesCheckpoint}
 use Rattle.st_image.specs.GoingOn.{GoesOnIn}
-use Rattle.st_image.specs.Images.{ImageView, counts_of, world}
+use Rattle.st_image.specs.Images.{ImageView, counts_of}
 use Rattle.st_image.specs.PostRules.{from_client}
 use Rattle.st_image.specs.WorldInvariant.{IsLawful}
 use Rattle.st_image.proofs.CallsLater.{closes_later, creates_later, defines_later, installs_later, interns_later, posts_later, removes_later, reparents_later, same_image}

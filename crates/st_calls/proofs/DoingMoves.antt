@@ -1,5 +1,5 @@
 -- After each call the history goes on from its base, or the image begins anew.
-use Rattle.std.proofs.Common.{◌≡◌, ◌⊎◌, ℕ, List, Result, Ok, Err, ap, inl, inr}
+use Rattle.std.proofs.Common.{◌⊎◌, ℕ, List, Result, Ok, Err, inl, inr}
 use Rattle.st_classes.specs.declared.refusals.Refusal.{Refusal}
 use Rattle.st_classes.specs.declared.values.Selector.{Selector}
 use Rattle.st_image.specs.Checkpoints.{BeginsAnew, MakesCheckpoint}

@@ -25,7 +25,7 @@ use Rattle.st_image.specs.RanTargets.{edits_among}
 use Rattle.st_image.specs.Installs.{LeavesNames}
 use Rattle.st_image.specs.Commits.{ChecksOut, HasCheckedOut, RefusesCommit, ReleasesBack, Settles, idle_at, steps_of, with_out}
 use Rattle.st_image.specs.WorldInvariant.{IsLawful}
-use Rattle.st_calls.specs.Growth.{Grows, counted, committed, edits_by, posts_by}
+use Rattle.st_calls.specs.Growth.{Grows, counted, committed}
 use Rattle.st_image.specs.Counts.{edits_of, posts_of, ran_of, weigh}
 use Rattle.st_image.specs.GoingOn.{GoesOnIn}
 use Rattle.st_image.proofs.GrowingEdits.{edits_longer as edits_go_on}

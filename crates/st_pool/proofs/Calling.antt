@@ -1,5 +1,5 @@
 -- Calls in a hold.
-use Rattle.std.proofs.Common.{◌≡◌, ℕ, ◌+◌, ◌++◌, List, [], Option, None, Some, Result, Ok, Err, Bool, true, false, ap, sym, subst, ◌∙◌, refl, arith, inl, inr}
+use Rattle.std.proofs.Common.{◌≡◌, ℕ, ◌+◌, ◌++◌, List, [], Option, None, Some, Result, Ok, Err, Bool, true, ap, sym, subst, ◌∙◌, refl, arith, inl, inr}
 use Rattle.std.specs.Prelude.{◌∷◌, MatchOption, MatchResult, is_ok, length}
 use Rattle.st_classes.specs.Refusals.{first_of}
 use Rattle.st_classes.specs.declared.refusals.Refusal.{Refusal}
@@ -204,7 +204,7 @@ intern_done o c d (Ok s) = refl
 intern_done o c d (Err e) = refl
 
 interns : (start : Amounts) (first : ImageView) (d : Done) (text : List ℕ) (x y : Result Selector Refusal) → y ≡ x → (q : OfficeView) × (j : ImageView) × Finds start first d q × InternsIn q.image text y j → (o : OfficeView) × (j : ImageView) × Finds start first d o × Interns o.image text x j
-interns start first d text x y is (q, j, finds, made) = (q, j, finds, subst (λ (z : Result Selector Refusal). Interns q.image text z j) is (made.0, made.1))
+interns start first d text x y is (q, j, finds, made) = (q, j, finds, subst (λ (z : Result Selector Refusal). Interns q.image text z j) is made.0)
 
 pub interns_once : (start : Amounts) (first : ImageView) (d e : Done) (text : List ℕ) (x : Result Selector Refusal) → CallsOnce start first d (call.Intern text) (told answer.Interned x) e
     → (e ≡ d) × ((o : OfficeView) × (j : ImageView) × Finds start first d o × Interns o.image text x j)

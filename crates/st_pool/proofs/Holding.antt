@@ -1,12 +1,9 @@
 -- Holds, one after the other, are a hold.
-use Rattle.std.proofs.Common.{◌≡◌, ◌⊎◌, ℕ, ◌+◌, List, [], ◌∷◌, ◌++◌, Bool, true, false, Result, Ok, Err, refl, ap, ap₂, sym, subst, ◌∙◌, inl, inr}
+use Rattle.std.proofs.Common.{◌≡◌, ℕ, ◌+◌, List, [], ◌∷◌, ◌++◌, Bool, true, false, Result, Ok, refl, ap₂, subst}
 use Rattle.std.specs.Prelude.{MatchBool}
 use Rattle.st_classes.specs.declared.refusals.Refusal.{Refusal}
-use Rattle.st_classes.specs.declared.values.ActorId.{ActorId}
 use Rattle.st_turn.specs.Claims.{ClaimView}
 use Rattle.st_image.specs.Images.{ImageView}
-use Rattle.st_image.specs.Commits.{ChecksOut, Settles}
-use Rattle.st_image.specs.Scheduling.{IsNextReady, is_free_at}
 use Rattle.st_calls.specs.Growth.{committed}
 use Rattle.st_pool.specs.declared.office.Work.{Work}
 use Rattle.st_pool.specs.declared.office.Work.TheVariants.{Stop, Wait, Turn}

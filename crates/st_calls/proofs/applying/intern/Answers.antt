@@ -1,4 +1,3 @@
-use Rattle.std.proofs.Common.{refl}
 use Rattle.st_calls.proofs.Doing.{texts_grow, texts_later}
 use Rattle.st_calls.proofs.applying.intern.Goals as goal
 

@@ -1,7 +1,7 @@
 use Rattle.std.proofs.Common.{◌≡◌, ◌∙◌, subst, sym}
 use Rattle.st_pool.specs.Books.{BooksView, Kept}
 use Rattle.st_pool.specs.Calling.{booked}
-use Rattle.st_pool.specs.Done.{Done, OfficeView, nothing_done}
+use Rattle.st_pool.specs.Done.{OfficeView, nothing_done}
 use Rattle.st_pool.proofs.Calling.{kept_booked, plain_told}
 use Rattle.st_calls.proofs.GoingThen.{goes_then}
 use Rattle.st_pool.proofs.Knowing.{front_later}

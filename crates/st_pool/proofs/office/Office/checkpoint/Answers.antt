@@ -1,9 +1,6 @@
-use Rattle.std.proofs.Common.{ℕ, Ok, Err, Result, ap, length, subst, sym, ◌+◌, ◌∙◌, ◌≡◌}
-use Rattle.st_classes.specs.declared.refusals.Refusal.{Refusal}
+use Rattle.std.proofs.Common.{Ok, Err, ap, length, subst, sym, ◌+◌, ◌∙◌, ◌≡◌}
 use Rattle.st_image.specs.declared.items.Item.{Item}
 use Rattle.std.specs.Prelude.{List}
-use Rattle.st_calls.specs.declared.calls.Answer.{Answer}
-use Rattle.st_calls.specs.Growth.{Grows, edits_by, posts_by}
 use Rattle.st_pool.specs.Books.{BooksView, Kept}
 use Rattle.st_pool.specs.Calling.{booked}
 use Rattle.st_pool.specs.Done.{OfficeView}

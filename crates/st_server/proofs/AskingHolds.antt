@@ -1,12 +1,11 @@
 -- What is done for a command in a hold of the lock is a list of events.
-use Rattle.std.proofs.Common.{◌≡◌, ◌⊎◌, ℕ, List, [], ◌∷◌, Result, Ok, Err, ap, sym, inl, inr}
+use Rattle.std.proofs.Common.{◌≡◌, ℕ, List, [], ◌∷◌, Result, Ok, Err, inl, inr}
 use Rattle.std.specs.Prelude.{MatchResult}
 use Rattle.st_classes.specs.declared.refusals.Refusal.{Refusal}
 use Rattle.st_classes.specs.declared.values.ActorId.{ActorId}
 use Rattle.st_classes.specs.declared.values.Selector.{Selector}
 use Rattle.st_classes.specs.declared.values.Value.{Value}
 use Rattle.st_image.specs.Images.{ImageView}
-use Rattle.st_calls.specs.declared.calls.Answer.{Answer}
 use Rattle.st_calls.specs.declared.calls.Answer.TheVariants as answer
 use Rattle.st_calls.specs.declared.calls.Call.{Call}
 use Rattle.st_calls.specs.declared.calls.Call.TheVariants as call

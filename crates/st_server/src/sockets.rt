@@ -357,6 +357,17 @@ fn work<K: Naming + Send + Sync, P: Porter<R> + Sync, R: Threads + Wait + Sync>(
     Ok((shares, are_accepted))
 }
 
+/// The fault that ended accepting, if accepting failed.
+fn fault_of(are_accepted: bool) -> Option<Refusal>
+    ensures { IfSome result (λ e. e ≡ refusals.ReadFault) }
+{
+    if are_accepted {
+        None
+    } else {
+        Some(Refusal::ReadFault)
+    }
+}
+
 /// Serves an image, and settles at the end.
 fn serve<K: Naming + Send + Sync, P: Porter<R> + Sync, R: Threads + Wait + Sync>(
     rt: &R,
@@ -401,7 +412,7 @@ fn serve<K: Naming + Send + Sync, P: Porter<R> + Sync, R: Threads + Wait + Sync>
         workers: steps,
     };
     let (image, totals, accounts) = settle_image(shared, Shares { callers, workers }, room)?;
-    let fault = (!are_accepted).then_some(Refusal::ReadFault);
+    let fault = fault_of(are_accepted);
     Ok(Served {
         image,
         accounts,

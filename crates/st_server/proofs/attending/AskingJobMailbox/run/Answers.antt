@@ -1,0 +1,8 @@
+use Rattle.st_server.proofs.AskingHolds.{asks_hold}
+use Rattle.st_server.proofs.attending.AskingJobMailbox.run.Goals as goal
+
+pub returns : goal.returns
+returns g c = record {
+  asks = c.ask.ensures.asks;
+  hold = asks_hold c.args.office.now c.ask.new.holder c.args.mine.now c.ask.new.mine c.args.self.command c.ask.result c.ask.ensures.asks;
+}

@@ -240,6 +240,7 @@ fn played<K: Naming + Send + Sync, R: Threads + Wait + Clock + Sync>(
     requires emptied { blanks.emptied.name ≡ K.emptied }
     requires book { opened.seen.book ≡ K.book }
     requires start { K.start ≡ amounts image.value }
+    requires first { K.first ≡ image.value }
 {
     let stage = Stage {
         shared: Shared::<K>::new(Box::into_inner(image), blanks, opened),

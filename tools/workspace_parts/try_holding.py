@@ -78,7 +78,7 @@ def killed_program(program):
         with open(killer, "w", encoding="utf-8") as file:
             file.write(f'#!/bin/sh\n(sleep 1; kill -9 $$) &\nexec "{program}" "$@"\n')
         os.chmod(killer, 0o700)
-        spin = ["D : Object", "D >> m  [true] whileTrue: [nil]", "d := D actor", "d m"]
+        spin = ["D : Object", "D >> m  [true] whileTrue: [nil]", "d := D actor", "d m", *[":checkpoint", ":run"] * 10]
         said = typed(killer, folder, spin)[1].splitlines()[-1]
         kept = "the classes and methods of this session are in lost1.st, for  :load"
         again = "the program ended with status -9; start the workspace again, on the image as it was saved last"

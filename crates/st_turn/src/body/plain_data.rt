@@ -1,5 +1,6 @@
 //! Bodies as plain data: how they are copied and compared.
 ghost use Rattle.std.specs.Prelude.{◌≡◌, ◌↔◌, ◌≤◌, length, take, IfOk, IsTrue, OnOk};
+ghost use Rattle.st_turn.specs.Idle.{is_in_method};
 
 use crate::body::{Body, Object, Objects, Outcome, Phase};
 use crate::value_lists::{copied, copied_into, same_values};
@@ -191,7 +192,10 @@ impl Body {
 
     /// Whether a copy of this body finds what it needs in the memory of another one, and leaves little of that: the same number of
     /// objects, and frames if it has some itself.
-    pub fn fits_in(&self, spare: &Body) -> bool {
+    pub fn fits_in(&self, spare: &Body) -> bool
+        ensures objects { IsTrue result → length self.now.objects ≡ length spare.now.objects }
+        ensures frames { IsTrue result → is_in_method self.now.phase ≡ is_in_method spare.now.phase }
+    {
         if self.objects.len() != spare.objects.len() {
             return false;
         }

@@ -1,6 +1,7 @@
 //! The second copy of the body to which the steps of a claim lead.
 ghost use Rattle.std.specs.Prelude.{◌≡◌, None};
 ghost use Rattle.std.specs.Option.{IfSome, unwrap_or};
+ghost use Rattle.st_turn.specs.Claims.{goes_on as claim_goes_on};
 
 use crate::body::{Body, Phase};
 use crate::claim::Claim;
@@ -40,8 +41,10 @@ fn copy_of(alloc: Global, before: &Body, after: &Option<Body>, spare: Option<Bod
 }
 
 impl Claim {
-    /// Whether the turn goes on with a step of the actor's own.
-    pub fn goes_on(&self) -> bool {
+    /// Whether the turn is in a method and goes on with a step of the actor's own.
+    pub fn goes_on(&self) -> bool
+        ensures { result ≡ claim_goes_on self.now }
+    {
         match self.after().phase {
             Phase::Frames(_) => !self.is_act_next(),
             _ => false,

@@ -21,9 +21,9 @@ use Rattle.st_calls.specs.Does.{Does, InternsIn, Tells, told}
 use Rattle.st_calls.specs.Growth.{Amounts, Grows, counted, edits_by, posts_by}
 use Rattle.st_pool.specs.Books.{BooksView, Kept}
 use Rattle.st_pool.specs.Checkpointed.{Checkpoints, HasCheckpointed, checkpoint_rules, with_checkpoint}
-use Rattle.st_pool.specs.Done.{Done, Finds, OfficeView, receipt}
-use Rattle.st_pool.specs.Calling.{Asked, CallsOnce, PoolCalls, PostsOnce, booked, closed_in, counts_in, created_in, done_by, is_plain, place_rules, position_in, version_in}
-use Rattle.st_pool.specs.Holds.{IsHold, called}
+use Rattle.st_pool.specs.Done.{Done, Finds, OfficeView, one_call_more, receipt}
+use Rattle.st_pool.specs.Calling.{Asked, CallsOnce, Makes, PoolCalls, PostsOnce, booked, closed_in, counts_in, created_in, done_by, is_plain, place_rules, position_in, version_in}
+use Rattle.st_pool.specs.Holds.{IsHold, called, of_caller}
 use Rattle.st_pool.proofs.Holding.{hold_none, hold_one, same_office}
 use Rattle.st_pool.proofs.Weights.{kept_on}
 
@@ -95,7 +95,7 @@ plain_told o d (call.Post sender seq a s args) r j p h = cc
 plain_told o d call.Checkpoint r j p h = cc
 
 -- such a call in a hold
-pub plain_calls : (o p : OfficeView) (d e : Done) (c : Call) (r : Result Answer Refusal) → is_plain c ≡ true → Asked o c r p → e ≡ done_by o c r d → PoolCalls o d c r p e
+pub plain_calls : (o p : OfficeView) (d e : Done) (c : Call) (r : Result Answer Refusal) → is_plain c ≡ true → Asked o c r p → e ≡ done_by o c r d → Makes o d c r p e
 plain_calls o p d e (call.Intern text) r is h done = (h, done)
 plain_calls o p d e (call.Define name parent slots) r is h done = (h, done)
 plain_calls o p d e (call.Install c source) r is h done = (h, done)
@@ -139,65 +139,65 @@ edit_done o c d (Ok n) = refl
 edit_done o c d (Err e) = sym (same_done d)
 
 -- an edit is counted once; Made is what the image's call of that name does
-edits_once : (Made : ImageView → Result ℕ Refusal → ImageView → Type 0) (start : Amounts) (first : ImageView) (d e : Done) (c : Call) (r : Result Answer Refusal) (o p : OfficeView) → Finds start first d o → Tells answer.Version (Made o.image) r p.image → e ≡ done_by o c r d
-    → (e ≡ record d { edits = d.edits + counted (is_ok (version_in r)) }) × ((q : OfficeView) × (j : ImageView) × Finds start first d q × Made q.image (version_in r) j)
-edits_once Made start first d e c r o p finds does done =
+edits_once : (Made : ImageView → Result ℕ Refusal → ImageView → Type 0) (start : Amounts) (first : ImageView) (d f e : Done) (c : Call) (r : Result Answer Refusal) (o p : OfficeView) → Finds start first d o → Tells answer.Version (Made o.image) r p.image → e ≡ done_by o c r f
+    → (e ≡ record f { edits = f.edits + counted (is_ok (version_in r)) }) × ((q : OfficeView) × (j : ImageView) × Finds start first d q × Made q.image (version_in r) j)
+edits_once Made start first d f e c r o p finds does done =
     let x = does.0 in
     let is : version_in r ≡ x = ap version_in does.1 ∙ version_told x in
-    let done_is : e ≡ record d { edits = d.edits + counted (is_ok x) } = done ∙ ap (λ (s : Result Answer Refusal). done_by o c s d) does.1 ∙ edit_done o c d x in (
-      subst (λ (y : Result ℕ Refusal). e ≡ record d { edits = d.edits + counted (is_ok y) }) (sym is) done_is,
+    let done_is : e ≡ record f { edits = f.edits + counted (is_ok x) } = done ∙ ap (λ (s : Result Answer Refusal). done_by o c s f) does.1 ∙ edit_done o c f x in (
+      subst (λ (y : Result ℕ Refusal). e ≡ record f { edits = f.edits + counted (is_ok y) }) (sym is) done_is,
       (o, p.image, finds, subst (λ (y : Result ℕ Refusal). Made o.image y p.image) (sym is) does.2),
     )
 
 -- a call that neither posts nor edits leaves what its caller has done
-same_once : {A : Type 0} (tell : A → Answer) (read : Result Answer Refusal → Result A Refusal) (Made : ImageView → Result A Refusal → ImageView → Type 0) (start : Amounts) (first : ImageView) (d e : Done) (c : Call) (r : Result Answer Refusal) (o p : OfficeView)
-    → ((x : Result A Refusal) → read (told tell x) ≡ x) → ((x : Result A Refusal) → done_by o c (told tell x) d ≡ d)
-    → Finds start first d o → Tells tell (Made o.image) r p.image → e ≡ done_by o c r d
-    → (e ≡ d) × ((q : OfficeView) × (j : ImageView) × Finds start first d q × Made q.image (read r) j)
-same_once {A} tell read Made start first d e c r o p reads stays finds does done =
+same_once : {A : Type 0} (tell : A → Answer) (read : Result Answer Refusal → Result A Refusal) (Made : ImageView → Result A Refusal → ImageView → Type 0) (start : Amounts) (first : ImageView) (d f e : Done) (c : Call) (r : Result Answer Refusal) (o p : OfficeView)
+    → ((x : Result A Refusal) → read (told tell x) ≡ x) → ((x : Result A Refusal) → done_by o c (told tell x) f ≡ f)
+    → Finds start first d o → Tells tell (Made o.image) r p.image → e ≡ done_by o c r f
+    → (e ≡ f) × ((q : OfficeView) × (j : ImageView) × Finds start first d q × Made q.image (read r) j)
+same_once {A} tell read Made start first d f e c r o p reads stays finds does done =
     let x = does.0 in
     let is : read r ≡ x = ap read does.1 ∙ reads x in (
-      done ∙ ap (λ (s : Result Answer Refusal). done_by o c s d) does.1 ∙ stays x,
+      done ∙ ap (λ (s : Result Answer Refusal). done_by o c s f) does.1 ∙ stays x,
       (o, p.image, finds, subst (λ (y : Result A Refusal). Made o.image y p.image) (sym is) does.2),
     )
 
 pub defines_once : (start : Amounts) (first : ImageView) (d e : Done) (name : List ℕ) (parent : ClassId) (slots : List (List ℕ)) (r : Result Answer Refusal) → CallsOnce start first d (call.Define name parent slots) r e
-    → (e ≡ record d { edits = d.edits + counted (is_ok (version_in r)) }) × ((o : OfficeView) × (j : ImageView) × Finds start first d o × Defines o.image name parent slots (version_in r) j)
+    → (e ≡ record (one_call_more d) { edits = d.edits + counted (is_ok (version_in r)) }) × ((o : OfficeView) × (j : ImageView) × Finds start first d o × Defines o.image name parent slots (version_in r) j)
 defines_once start first d e name parent slots r (o, p, finds, (inl none, done)) = cc (none.0)
-defines_once start first d e name parent slots r (o, p, finds, (inr does, done)) = edits_once (λ i x j. Defines i name parent slots x j) start first d e (call.Define name parent slots) r o p finds does.0 done
+defines_once start first d e name parent slots r (o, p, finds, (inr does, done)) = edits_once (λ i x j. Defines i name parent slots x j) start first d (one_call_more d) e (call.Define name parent slots) r o p finds does.0 done
 
 pub installs_once : (start : Amounts) (first : ImageView) (d e : Done) (class : ClassId) (source : List ℕ) (r : Result Answer Refusal) → CallsOnce start first d (call.Install class source) r e
-    → (e ≡ record d { edits = d.edits + counted (is_ok (version_in r)) }) × ((o : OfficeView) × (j : ImageView) × Finds start first d o × InstallsIn o.image class source (version_in r) j)
+    → (e ≡ record (one_call_more d) { edits = d.edits + counted (is_ok (version_in r)) }) × ((o : OfficeView) × (j : ImageView) × Finds start first d o × InstallsIn o.image class source (version_in r) j)
 installs_once start first d e class source r (o, p, finds, (inl none, done)) = cc (none.0)
-installs_once start first d e class source r (o, p, finds, (inr does, done)) = edits_once (λ i x j. InstallsIn i class source x j) start first d e (call.Install class source) r o p finds does.0 done
+installs_once start first d e class source r (o, p, finds, (inr does, done)) = edits_once (λ i x j. InstallsIn i class source x j) start first d (one_call_more d) e (call.Install class source) r o p finds does.0 done
 
 pub removes_once : (start : Amounts) (first : ImageView) (d e : Done) (class : ClassId) (s : Selector) (r : Result Answer Refusal) → CallsOnce start first d (call.Remove class s) r e
-    → (e ≡ record d { edits = d.edits + counted (is_ok (version_in r)) }) × ((o : OfficeView) × (j : ImageView) × Finds start first d o × Removes o.image class s (version_in r) j)
+    → (e ≡ record (one_call_more d) { edits = d.edits + counted (is_ok (version_in r)) }) × ((o : OfficeView) × (j : ImageView) × Finds start first d o × Removes o.image class s (version_in r) j)
 removes_once start first d e class s r (o, p, finds, (inl none, done)) = cc (none.0)
-removes_once start first d e class s r (o, p, finds, (inr does, done)) = edits_once (λ i x j. Removes i class s x j) start first d e (call.Remove class s) r o p finds does.0 done
+removes_once start first d e class s r (o, p, finds, (inr does, done)) = edits_once (λ i x j. Removes i class s x j) start first d (one_call_more d) e (call.Remove class s) r o p finds does.0 done
 
 pub reparents_once : (start : Amounts) (first : ImageView) (d e : Done) (class parent : ClassId) (r : Result Answer Refusal) → CallsOnce start first d (call.Reparent class parent) r e
-    → (e ≡ record d { edits = d.edits + counted (is_ok (version_in r)) }) × ((o : OfficeView) × (j : ImageView) × Finds start first d o × Reparents o.image class parent (version_in r) j)
+    → (e ≡ record (one_call_more d) { edits = d.edits + counted (is_ok (version_in r)) }) × ((o : OfficeView) × (j : ImageView) × Finds start first d o × Reparents o.image class parent (version_in r) j)
 reparents_once start first d e class parent r (o, p, finds, (inl none, done)) = cc (none.0)
-reparents_once start first d e class parent r (o, p, finds, (inr does, done)) = edits_once (λ i x j. Reparents i class parent x j) start first d e (call.Reparent class parent) r o p finds does.0 done
+reparents_once start first d e class parent r (o, p, finds, (inr does, done)) = edits_once (λ i x j. Reparents i class parent x j) start first d (one_call_more d) e (call.Reparent class parent) r o p finds does.0 done
 
 create_done : (o : OfficeView) (c : Call) (d : Done) (x : Result ActorId Refusal) → done_by o c (told answer.Created x) d ≡ d
 create_done o c d (Ok a) = refl
 create_done o c d (Err e) = refl
 
 pub creates_once : (start : Amounts) (first : ImageView) (d e : Done) (class : ClassId) (r : Result Answer Refusal) → CallsOnce start first d (call.Create class) r e
-    → (e ≡ d) × ((o : OfficeView) × (j : ImageView) × Finds start first d o × Creates o.image class (created_in r) j)
+    → (e ≡ one_call_more d) × ((o : OfficeView) × (j : ImageView) × Finds start first d o × Creates o.image class (created_in r) j)
 creates_once start first d e class r (o, p, finds, (inl none, done)) = cc (none.0)
-creates_once start first d e class r (o, p, finds, (inr does, done)) = same_once answer.Created created_in (λ i x j. Creates i class x j) start first d e (call.Create class) r o p created_told (create_done o (call.Create class) d) finds does.0 done
+creates_once start first d e class r (o, p, finds, (inr does, done)) = same_once answer.Created created_in (λ i x j. Creates i class x j) start first d (one_call_more d) e (call.Create class) r o p created_told (create_done o (call.Create class) (one_call_more d)) finds does.0 done
 
 close_done : (o : OfficeView) (c : Call) (d : Done) (x : Result (Unit {0}) Refusal) → done_by o c (told (λ _. answer.Closed) x) d ≡ d
 close_done o c d (Ok u) = refl
 close_done o c d (Err e) = refl
 
 pub closes_once : (start : Amounts) (first : ImageView) (d e : Done) (a : ActorId) (r : Result Answer Refusal) → CallsOnce start first d (call.Close a) r e
-    → (e ≡ d) × ((o : OfficeView) × (j : ImageView) × Finds start first d o × Closes o.image a (closed_in r) j)
+    → (e ≡ one_call_more d) × ((o : OfficeView) × (j : ImageView) × Finds start first d o × Closes o.image a (closed_in r) j)
 closes_once start first d e a r (o, p, finds, (inl none, done)) = cc (none.0)
-closes_once start first d e a r (o, p, finds, (inr does, done)) = same_once {A = Unit {0}} (λ _. answer.Closed) closed_in (λ i x j. Closes i a x j) start first d e (call.Close a) r o p closed_told (close_done o (call.Close a) d) finds does.0 done
+closes_once start first d e a r (o, p, finds, (inr does, done)) = same_once {A = Unit {0}} (λ _. answer.Closed) closed_in (λ i x j. Closes i a x j) start first d (one_call_more d) e (call.Close a) r o p closed_told (close_done o (call.Close a) (one_call_more d)) finds does.0 done
 
 intern_done : (o : OfficeView) (c : Call) (d : Done) (x : Result Selector Refusal) → done_by o c (told answer.Interned x) d ≡ d
 intern_done o c d (Ok s) = refl
@@ -207,10 +207,10 @@ interns : (start : Amounts) (first : ImageView) (d : Done) (text : List ℕ) (x 
 interns start first d text x y is (q, j, finds, made) = (q, j, finds, subst (λ (z : Result Selector Refusal). Interns q.image text z j) is made.0)
 
 pub interns_once : (start : Amounts) (first : ImageView) (d e : Done) (text : List ℕ) (x : Result Selector Refusal) → CallsOnce start first d (call.Intern text) (told answer.Interned x) e
-    → (e ≡ d) × ((o : OfficeView) × (j : ImageView) × Finds start first d o × Interns o.image text x j)
+    → (e ≡ one_call_more d) × ((o : OfficeView) × (j : ImageView) × Finds start first d o × Interns o.image text x j)
 interns_once start first d e text x (o, p, finds, (inl none, done)) = cc (none.0)
 interns_once start first d e text x (o, p, finds, (inr does, done)) =
-    let once = same_once answer.Interned interned_in (λ i y j. InternsIn i text y j) start first d e (call.Intern text) (told answer.Interned x) o p interned_told (intern_done o (call.Intern text) d) finds does.0 done in
+    let once = same_once answer.Interned interned_in (λ i y j. InternsIn i text y j) start first d (one_call_more d) e (call.Intern text) (told answer.Interned x) o p interned_told (intern_done o (call.Intern text) (one_call_more d)) finds does.0 done in
     (once.0, interns start first d text x (interned_in (told answer.Interned x)) (interned_told x) once.1)
 
 post_done : (o : OfficeView) (d : Done) (sender seq : ℕ) (a : ActorId) (s : Selector) (args : List Value) (x : Result ℕ Refusal) (e : Done)
@@ -223,45 +223,45 @@ post_done o d sender seq a s args (Err f) e h = h
 pub posts_once : (start : Amounts) (first : ImageView) (d e : Done) (sender seq : ℕ) (a : ActorId) (s : Selector) (args : List Value) (r : Result Answer Refusal) → CallsOnce start first d (call.Post sender seq a s args) r e
     → PostsOnce start first d a (from_client sender seq s args) (position_in r) e
 posts_once start first d e sender seq a s args r (o, p, finds, (inl none, done)) =
-    inl (ap position_in none.1, done ∙ ap (λ (x : Result Answer Refusal). done_by o (call.Post sender seq a s args) x d) none.1)
+    inl (ap position_in none.1, done ∙ ap (λ (x : Result Answer Refusal). done_by o (call.Post sender seq a s args) x (one_call_more d)) none.1)
 posts_once start first d e sender seq a s args r (o, p, finds, (inr does, done)) =
     let x = does.0.0 in
     let is : position_in r ≡ x = ap position_in does.0.1 ∙ position_told x in
-    let done_is = post_done o d sender seq a s args x e (done ∙ ap (λ (y : Result Answer Refusal). done_by o (call.Post sender seq a s args) y d) does.0.1) in
+    let done_is = post_done o (one_call_more d) sender seq a s args x e (done ∙ ap (λ (y : Result Answer Refusal). done_by o (call.Post sender seq a s args) y (one_call_more d)) does.0.1) in
     inr (
       o,
       p.image,
       finds,
       subst (λ (y : Result ℕ Refusal). Posts o.image a (from_client sender seq s args) y p.image) (sym is) does.0.2,
-      subst (λ (y : Result ℕ Refusal). MatchResult y (λ turn. e ≡ record d { receipts = d.receipts ++ receipt (o.books.emptied + length o.image.history) a (from_client sender seq s args) ∷ [] }) (λ f. e ≡ d)) (sym is) done_is,
+      subst (λ (y : Result ℕ Refusal). MatchResult y (λ turn. e ≡ record (one_call_more d) { receipts = d.receipts ++ receipt (o.books.emptied + length o.image.history) a (from_client sender seq s args) ∷ [] }) (λ f. e ≡ one_call_more d)) (sym is) done_is,
     )
 
 -- ---- a checkpoint
 
 -- what a checkpoint of the image does, in the hold
-made : (o p : OfficeView) (d e : Done) (x : Result (Unit {0}) Refusal) (r : Result Answer Refusal) → first_of (checkpoint_rules o) ≡ None → r ≡ told (λ _. answer.Counted (counts_of p.image)) x → MakesCheckpoint o.image x p.image → p.books ≡ booked o r → e ≡ done_by o call.Checkpoint r d
+made : (o p : OfficeView) (d e : Done) (x : Result (Unit {0}) Refusal) (r : Result Answer Refusal) → first_of (checkpoint_rules o) ≡ None → r ≡ told (λ _. answer.Counted (counts_of p.image)) x → MakesCheckpoint o.image x p.image → p.books ≡ booked o r → e ≡ done_by o call.Checkpoint r (one_call_more d)
     → Checkpoints o (counts_in r) p × (e ≡ with_checkpoint o (counts_in r) d)
 made o p d e (Ok u) r none is h books done =
     let counted_is : counts_in r ≡ Ok (counts_of p.image) = ap counts_in is in
     let has : HasCheckpointed o (counts_of p.image) p = record { image = h; counts = refl; books = books ∙ ap (booked o) is } in (
       subst (λ (y : Result Counts Refusal). Checkpoints o y p) (sym counted_is) ((none, has), tt),
-      done ∙ ap (λ (y : Result Answer Refusal). done_by o call.Checkpoint y d) is ∙ sym (ap (λ (y : Result Counts Refusal). with_checkpoint o y d) counted_is),
+      done ∙ ap (λ (y : Result Answer Refusal). done_by o call.Checkpoint y (one_call_more d)) is ∙ sym (ap (λ (y : Result Counts Refusal). with_checkpoint o y d) counted_is),
     )
 made o p d e (Err f) r none is h books done =
     let refused_is : counts_in r ≡ Err f = ap counts_in is in
     let stays : p ≡ o = same_office o p h.1 (books ∙ ap (booked o) is) in (
       subst (λ (y : Result Counts Refusal). Checkpoints o y p) (sym refused_is) (inr (none, h.0), stays),
-      done ∙ ap (λ (y : Result Answer Refusal). done_by o call.Checkpoint y d) is ∙ sym (ap (λ (y : Result Counts Refusal). with_checkpoint o y d) refused_is),
+      done ∙ ap (λ (y : Result Answer Refusal). done_by o call.Checkpoint y (one_call_more d)) is ∙ sym (ap (λ (y : Result Counts Refusal). with_checkpoint o y d) refused_is),
     )
 
-ruled : (o p : OfficeView) (d e : Done) (r : Result Answer Refusal) (f : Option Refusal) → first_of (checkpoint_rules o) ≡ f → MatchOption f (Asked o call.Checkpoint r p) (λ g. (r ≡ Err g) × (p ≡ o)) → e ≡ done_by o call.Checkpoint r d
+ruled : (o p : OfficeView) (d e : Done) (r : Result Answer Refusal) (f : Option Refusal) → first_of (checkpoint_rules o) ≡ f → MatchOption f (Asked o call.Checkpoint r p) (λ g. (r ≡ Err g) × (p ≡ o)) → e ≡ done_by o call.Checkpoint r (one_call_more d)
     → Checkpoints o (counts_in r) p × (e ≡ with_checkpoint o (counts_in r) d)
 ruled o p d e r None none (inl post) done = cc (post.0)
 ruled o p d e r None none (inr does) done = made o p d e does.0.0 r none does.0.1 does.0.2 does.1 done
 ruled o p d e r (Some g) some h done =
     let refused_is : counts_in r ≡ Err g = ap counts_in h.0 in (
       subst (λ (y : Result Counts Refusal). Checkpoints o y p) (sym refused_is) (inl some, h.1),
-      done ∙ ap (λ (y : Result Answer Refusal). done_by o call.Checkpoint y d) h.0 ∙ sym (ap (λ (y : Result Counts Refusal). with_checkpoint o y d) refused_is),
+      done ∙ ap (λ (y : Result Answer Refusal). done_by o call.Checkpoint y (one_call_more d)) h.0 ∙ sym (ap (λ (y : Result Counts Refusal). with_checkpoint o y d) refused_is),
     )
 
 pub checkpoints_once : (start : Amounts) (first : ImageView) (d e : Done) (r : Result Answer Refusal) → CallsOnce start first d call.Checkpoint r e
@@ -271,11 +271,11 @@ checkpoints_once start first d e r (o, p, finds, (h, done)) =
 
 -- ---- a call is a hold
 
-called_hold : (o p : OfficeView) (c : Call) (r : Result Answer Refusal) (f : Option Refusal) → MatchOption f (Asked o c r p) (λ g. (r ≡ Err g) × (p ≡ o)) → IsHold o p
-called_hold o p c r None (inl none) = hold_none o p none.2
-called_hold o p c r None (inr does) = hold_one o p (called c r) does
-called_hold o p c r (Some g) h = hold_none o p h.1
+called_hold : (o p : OfficeView) (c : Call) (r : Result Answer Refusal) (f : Option Refusal) → MatchOption f (Asked o c r p) (λ g. (r ≡ Err g) × (p ≡ o)) → IsHold of_caller o p
+called_hold o p c r None (inl none) = hold_none of_caller o p none.2
+called_hold o p c r None (inr does) = hold_one of_caller o p (called c r) refl does
+called_hold o p c r (Some g) h = hold_none of_caller o p h.1
 
 -- what a call does in a hold is that one event, or none
-pub calls_hold : (o p : OfficeView) (d e : Done) (c : Call) (r : Result Answer Refusal) → PoolCalls o d c r p e → IsHold o p
+pub calls_hold : (o p : OfficeView) (d e : Done) (c : Call) (r : Result Answer Refusal) → PoolCalls o d c r p e → IsHold of_caller o p
 calls_hold o p d e c r h = called_hold o p c r (first_of (place_rules o c)) h.0

@@ -18,7 +18,7 @@ use Rattle.st_calls.specs.Growth.{Amounts}
 use Rattle.st_pool.specs.declared.receipts.Receipt.{Receipt}
 use Rattle.st_pool.specs.Books.{BooksView}
 use Rattle.st_pool.specs.Checkpointed.{checkpoint_rules}
-use Rattle.st_pool.specs.Done.{Done, Finds, OfficeView, receipt}
+use Rattle.st_pool.specs.Done.{Done, Finds, OfficeView, one_call_more, receipt}
 
 -- why the pool refuses a call before the image is asked
 abbrev pub place_rules : OfficeView → Call → List Rule
@@ -49,7 +49,7 @@ abbrev pub receipts_of : OfficeView → Call → List Receipt
 receipts_of o (call.Post sender seq a s args) = receipt (o.books.emptied + length o.image.history) a (from_client sender seq s args) ∷ []
 receipts_of o c = []
 
--- what a caller has done then
+-- what a caller has done then, for whom the call is counted already
 abbrev pub done_by : OfficeView → Call → Result Answer Refusal → Done → Done
 done_by o c (Err e) d = d
 done_by o c (Ok (answer.Position n)) d = record d { receipts = d.receipts ++ receipts_of o c }
@@ -61,10 +61,14 @@ done_by o c (Ok told) d = d
 abbrev pub Asked : OfficeView → Call → Result Answer Refusal → OfficeView → Type 0
 Asked o c r p = ((is_post c ≡ true) × (r ≡ Err NoMemory) × (p ≡ o)) ⊎ (Does o.image c r p.image × (p.books ≡ booked o r))
 
--- a call in a hold
-abbrev pub PoolCalls : OfficeView → Done → Call → Result Answer Refusal → OfficeView → Done → Type 0
-PoolCalls o d c r p e = MatchOption (first_of (place_rules o c)) (Asked o c r p) (λ f. (r ≡ Err f) × (p ≡ o))
+-- a call in a hold, of a caller for whom it is counted already
+abbrev pub Makes : OfficeView → Done → Call → Result Answer Refusal → OfficeView → Done → Type 0
+Makes o d c r p e = MatchOption (first_of (place_rules o c)) (Asked o c r p) (λ f. (r ≡ Err f) × (p ≡ o))
     × (e ≡ done_by o c r d)
+
+-- a call in a hold, which is counted whatever it answers
+abbrev pub PoolCalls : OfficeView → Done → Call → Result Answer Refusal → OfficeView → Done → Type 0
+PoolCalls o d c r p e = Makes o (one_call_more d) c r p e
 
 -- a call in a hold that finds an image with at least what its caller has done
 abbrev pub CallsOnce : Amounts → ImageView → Done → Call → Result Answer Refusal → Done → Type 0
@@ -100,7 +104,7 @@ counts_in (Err e) = Err e
 -- a message is posted in one hold, and if it is accepted its receipt goes last: its place is where the history ended in that hold,
 -- behind all that was emptied. Memory may run out before
 abbrev pub PostsOnce : Amounts → ImageView → Done → ActorId → Message → Result ℕ Refusal → Done → Type 0
-PostsOnce start first d a m result e = ((result ≡ Err NoMemory) × (e ≡ d))
+PostsOnce start first d a m result e = ((result ≡ Err NoMemory) × (e ≡ one_call_more d))
     ⊎ ((o : OfficeView) × (j : ImageView) × Finds start first d o × Posts o.image a m result j × MatchResult result
-    (λ turn. e ≡ record d { receipts = d.receipts ++ receipt (o.books.emptied + length o.image.history) a m ∷ [] })
-    (λ f. e ≡ d))
+    (λ turn. e ≡ record (one_call_more d) { receipts = d.receipts ++ receipt (o.books.emptied + length o.image.history) a m ∷ [] })
+    (λ f. e ≡ one_call_more d))

@@ -8,7 +8,7 @@ use Rattle.st_image.specs.Calls.{AnswersExactly}
 use Rattle.st_image.specs.Checkpoints.{BeginsAnew}
 use Rattle.st_image.specs.Counts.{most_counted}
 use Rattle.st_image.specs.Images.{counts_of}
-use Rattle.st_pool.specs.Done.{Done, OfficeView}
+use Rattle.st_pool.specs.Done.{Done, OfficeView, one_call_more}
 
 -- the refusals of a checkpoint: no more items are emptied than places are counted for
 abbrev pub checkpoint_rules : OfficeView → List Rule
@@ -27,5 +27,5 @@ Checkpoints o result p = AnswersExactly (first_of (checkpoint_rules o)) result (
 
 -- what a caller has done behind its checkpoint, which emptied the history that it found
 abbrev pub with_checkpoint : OfficeView → Result Counts Refusal → Done → Done
-with_checkpoint o (Ok c) d = record d { emptied = d.emptied + length o.image.history }
-with_checkpoint o (Err e) d = d
+with_checkpoint o (Ok c) d = record (one_call_more d) { emptied = d.emptied + length o.image.history }
+with_checkpoint o (Err e) d = one_call_more d

@@ -1,5 +1,5 @@
 -- What a caller has done, and how it stands in an image.
-use Rattle.std.specs.Prelude.{◌≡◌, ◌⊎◌, ℕ, ◌+◌, ◌-◌, ◌<◌, ◌≤◌, List, [], Bool, true, false, not, Some, Result, Ok, Err, MatchBool, length, slice_get}
+use Rattle.std.specs.Prelude.{◌≡◌, ◌⊎◌, ℕ, ◌+◌, ◌-◌, ◌%◌, ◌^◌, ◌<◌, ◌≤◌, List, [], Bool, true, false, not, Some, Result, Ok, Err, MatchBool, length, slice_get}
 use Rattle.st_classes.specs.declared.values.ActorId.{ActorId}
 use Rattle.st_classes.specs.declared.refusals.Refusal.{Refusal}
 use Rattle.st_classes.specs.declared.refusals.Refusal.TheVariants.{HistoryFull, NoMemory}
@@ -18,14 +18,20 @@ use Rattle.st_pool.specs.declared.receipts.Receipt.{Receipt}
 use Rattle.st_pool.specs.Books.{BooksView}
 use Rattle.st_calls.specs.Growth.{Amounts, amounts}
 
--- the edits that were accepted, a receipt for each post that was, and how many items of histories its checkpoints have emptied
+-- the edits that were accepted, a receipt for each post that was, how many items of histories its checkpoints have emptied, and how many
+-- calls it has made, refused ones too, modulo 2^64
 pub record Done : Type 0 where
   pub edits : ℕ
   pub receipts : List Receipt
   pub emptied : ℕ
+  pub calls : ℕ
 
 abbrev pub nothing_done : Done
-nothing_done = record { edits = 0; receipts = []; emptied = 0 }
+nothing_done = record { edits = 0; receipts = []; emptied = 0; calls = 0 }
+
+-- one call more was made
+abbrev pub one_call_more : Done → Done
+one_call_more d = record d { calls = (d.calls + 1) % 2 ^ 64 }
 
 -- what lies under the lock
 pub record OfficeView : Type 0 where

@@ -1,5 +1,5 @@
--- What happens in a hold of the lock: calls of the image, claims that are handed out, and claims that are settled, one after the other.
-use Rattle.std.specs.Prelude.{◌≡◌, ℕ, ◌+◌, List, [], ◌∷◌, Result}
+-- What happens in a hold of the lock: a caller makes calls of the image; a worker settles claims, and is handed others.
+use Rattle.std.specs.Prelude.{◌≡◌, ℕ, ◌+◌, List, [], ◌∷◌, Bool, true, false, Result}
 use Rattle.st_classes.specs.declared.refusals.Refusal.{Refusal}
 use Rattle.st_classes.specs.declared.values.ActorId.{ActorId}
 use Rattle.st_turn.specs.Claims.{ClaimView}
@@ -23,12 +23,24 @@ Happens o (called c r) p = Does o.image c r p.image × (p.books ≡ booked o r)
 Happens o (handed a r) p = ChecksOut o.image a r p.image × (p.books ≡ o.books)
 Happens o (settled c r) p = Settles o.image c r p.image × (p.books ≡ record o.books { steps = o.books.steps + committed r })
 
--- events, one after the other
-abbrev pub Happen : OfficeView → List Event → OfficeView → Type 0
-Happen o [] p = p ≡ o
-Happen o (e ∷ es) p = (m : OfficeView) × Happens o e m × Happen m es p
+-- what happens in a hold of a caller
+abbrev pub of_caller : Event → Bool
+of_caller (called c r) = true
+of_caller (handed a r) = false
+of_caller (settled c r) = false
 
--- a hold is a list of events
-pub record IsHold (o p : OfficeView) : Type 0 where
+-- what happens in a hold of a worker
+abbrev pub of_worker : Event → Bool
+of_worker (called c r) = false
+of_worker (handed a r) = true
+of_worker (settled c r) = true
+
+-- events of a kind, one after the other
+abbrev pub Happen : (Event → Bool) → OfficeView → List Event → OfficeView → Type 0
+Happen kind o [] p = p ≡ o
+Happen kind o (e ∷ es) p = (kind e ≡ true) × ((m : OfficeView) × Happens o e m × Happen kind m es p)
+
+-- a hold is a list of events of its kind
+pub record IsHold (kind : Event → Bool) (o p : OfficeView) : Type 0 where
   pub events : List Event
-  pub happen : Happen o events p
+  pub happen : Happen kind o events p

@@ -259,11 +259,7 @@ impl<K: Naming> Books<K> {
         let cleared = self.cleared_left.split_off(1, 0);
         self.callers += 1;
         CallerShare {
-            account: Account {
-                edits: 0,
-                receipts: Vec::new(alloc),
-                emptied: 0,
-            },
+            account: Account::new(alloc),
             room: Vec::new(alloc),
             posted,
             edited,

@@ -12,7 +12,7 @@ ghost use Rattle.st_image.specs.Stats.{installed_own, method_stats, stats_rules}
 ghost use Rattle.st_calls.specs.Growth.{counted};
 ghost use Rattle.st_pool.specs.Calling.{CallsOnce, PostsOnce};
 ghost use Rattle.st_pool.specs.Checkpointed.{Checkpoints, with_checkpoint};
-ghost use Rattle.st_pool.specs.Done.{Finds, HasAtLeast, OfficeView};
+ghost use Rattle.st_pool.specs.Done.{Finds, HasAtLeast, OfficeView, one_call_more};
 
 use crate::answers::{closed, counts, created, position, version};
 use crate::holds::{Calling, Interning, Job};
@@ -34,10 +34,10 @@ use std::marker::Model;
 use std::sync::Wait;
 
 /// Who posts and edits, by one hold of the lock a call. Contracts see what it has done: how many of its edits were accepted, a receipt
-/// for each of its posts that was, and how many items of histories its checkpoints have emptied.
+/// for each of its posts that was, how many items of histories its checkpoints have emptied, and how many calls it has made.
 ///
 /// Each call answers as the image's call of its name does, in an image that has at least what this caller has done. A call that is
-/// refused leaves the caller as it was.
+/// refused leaves the caller as it was, but it is counted.
 #[derive(Drop)]
 pub struct Caller<'a, K: Naming, M: Mailbox> {
     shared: &'a Shared<K, M>,
@@ -98,7 +98,7 @@ impl<'a, K: Naming, M: Mailbox> Caller<'a, K, M> {
         alloc: Global,
         text: &[u8],
     ) -> Result<Selector, Refusal>
-        ensures same { self.new ≡ self.old }
+        ensures same { self.new ≡ one_call_more self.old }
         ensures answers { (o : OfficeView) × (j : ImageView) × Finds K.start K.first self.old o × Interns o.image text.now result j }
     {
         self.hold(rt, alloc, Interning { text })
@@ -147,7 +147,7 @@ impl<'a, K: Naming, M: Mailbox> Caller<'a, K, M> {
         parent: ClassId,
         slots: Seq<Seq<u8>>,
     ) -> Result<u32, Refusal>
-        ensures edits { self.new ≡ record self.old { edits = self.old.edits + counted (is_ok result) } }
+        ensures edits { self.new ≡ record (one_call_more self.old) { edits = self.old.edits + counted (is_ok result) } }
         ensures answers { (o : OfficeView) × (j : ImageView) × Finds K.start K.first self.old o × Defines o.image name parent slots result j }
     {
         let answer = self.call(
@@ -170,7 +170,7 @@ impl<'a, K: Naming, M: Mailbox> Caller<'a, K, M> {
         class: ClassId,
         source: Seq<u8>,
     ) -> Result<u32, Refusal>
-        ensures edits { self.new ≡ record self.old { edits = self.old.edits + counted (is_ok result) } }
+        ensures edits { self.new ≡ record (one_call_more self.old) { edits = self.old.edits + counted (is_ok result) } }
         ensures answers { (o : OfficeView) × (j : ImageView) × Finds K.start K.first self.old o × InstallsIn o.image class source result j }
     {
         let answer = self.call(rt, alloc, Call::Install { class, source });
@@ -185,7 +185,7 @@ impl<'a, K: Naming, M: Mailbox> Caller<'a, K, M> {
         class: ClassId,
         selector: Selector,
     ) -> Result<u32, Refusal>
-        ensures edits { self.new ≡ record self.old { edits = self.old.edits + counted (is_ok result) } }
+        ensures edits { self.new ≡ record (one_call_more self.old) { edits = self.old.edits + counted (is_ok result) } }
         ensures answers { (o : OfficeView) × (j : ImageView) × Finds K.start K.first self.old o × Removes o.image class selector result j }
     {
         let answer = self.call(rt, alloc, Call::Remove { class, selector });
@@ -200,7 +200,7 @@ impl<'a, K: Naming, M: Mailbox> Caller<'a, K, M> {
         class: ClassId,
         parent: ClassId,
     ) -> Result<u32, Refusal>
-        ensures edits { self.new ≡ record self.old { edits = self.old.edits + counted (is_ok result) } }
+        ensures edits { self.new ≡ record (one_call_more self.old) { edits = self.old.edits + counted (is_ok result) } }
         ensures answers { (o : OfficeView) × (j : ImageView) × Finds K.start K.first self.old o × Reparents o.image class parent result j }
     {
         let answer = self.call(rt, alloc, Call::Reparent { class, parent });
@@ -214,7 +214,7 @@ impl<'a, K: Naming, M: Mailbox> Caller<'a, K, M> {
         alloc: Global,
         class: ClassId,
     ) -> Result<ActorId, Refusal>
-        ensures same { self.new ≡ self.old }
+        ensures same { self.new ≡ one_call_more self.old }
         ensures answers { (o : OfficeView) × (j : ImageView) × Finds K.start K.first self.old o × Creates o.image class result j }
     {
         let answer = self.call(rt, alloc, Call::Create(class));
@@ -223,7 +223,7 @@ impl<'a, K: Naming, M: Mailbox> Caller<'a, K, M> {
 
     /// Closes a mailbox. The messages that wait in it are still run.
     pub fn close<R: Wait>(&mut self, rt: &R, alloc: Global, actor: ActorId) -> Result<(), Refusal>
-        ensures same { self.new ≡ self.old }
+        ensures same { self.new ≡ one_call_more self.old }
         ensures answers { (o : OfficeView) × (j : ImageView) × Finds K.start K.first self.old o × Closes o.image actor result j }
     {
         let answer = self.call(rt, alloc, Call::Close(actor));

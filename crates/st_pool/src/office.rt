@@ -1,10 +1,13 @@
-//! What lies under the lock: an image beside its books. Each call of a caller, and each hold of a worker, is one method here.
+//! What lies under the lock: an image beside its books. Each call of a caller, and each hold of a worker, is one method here, and
+//! nothing else changes the image.
 ghost use Rattle.std.specs.Prelude.{◌≡◌, IfOk};
 ghost use Rattle.std.specs.Option.{IfSome};
 ghost use Rattle.st_classes.specs.declared.refusals.Refusal.TheVariants as refusals;
 ghost use Rattle.st_classes.specs.declared.refusals.Limited.TheVariants as limits;
 ghost use Rattle.st_pool.specs.Done.{takes_more as takes_more_of};
 ghost use Rattle.st_pool.specs.Seen.{Ends, MayFollow};
+
+mod closing;
 
 use crate::books::{Blanks, Books, PARTS};
 use crate::front::{Front, Head, Opened, again, precedes};
@@ -43,8 +46,8 @@ pub(crate) enum Work<T> {
 /// What lies under the lock: an image, and what has happened to it since. Contracts see the image and the books.
 #[derive(Drop)]
 pub struct Office<K: Naming, M: Mailbox> {
-    pub(crate) image: Image<M>,
-    pub(crate) books: Books<K>,
+    image: Image<M>,
+    books: Books<K>,
     head: Head<K>,
     /// The images that were seen, if they are known. The last one is this image, or an earlier state of it.
     front: Option<Front<K>>,
@@ -115,7 +118,7 @@ impl<K: Naming, M: Mailbox> Office<K, M> {
     ghost use Rattle.st_calls.specs.declared.calls.Call.TheVariants as calls;
     ghost use Rattle.st_calls.specs.Does.{told};
     ghost use Rattle.st_pool.specs.Books.{no_books};
-    ghost use Rattle.st_pool.specs.Calling.{PoolCalls, is_plain};
+    ghost use Rattle.st_pool.specs.Calling.{Makes, PoolCalls, is_plain};
     ghost use Rattle.st_calls.specs.Growth.{amounts, committed};
     ghost use Rattle.st_pool.specs.Done.{HasAtLeast, Takes, TurnsOver, nothing_done};
 
@@ -191,7 +194,7 @@ impl<K: Naming, M: Mailbox> Office<K, M> {
         selector: Selector,
         args: Values,
     ) -> Result<Answer, Refusal>
-        ensures calls { PoolCalls self.old mine.old (calls.Post sender seq actor selector args) result self.new mine.new }
+        ensures calls { Makes self.old mine.old (calls.Post sender seq actor selector args) result self.new mine.new }
         ensures later { GoesOnIn self.old.image self.new.image }
     {
         let CallerShare {
@@ -237,7 +240,7 @@ impl<K: Naming, M: Mailbox> Office<K, M> {
     /// The present world becomes the base of the image, and its history is emptied.
     #[tactic(auto, using(st_calls::proofs::GoingThen::goes_by))]
     fn checkpoint(&mut self, alloc: Global, mine: &mut CallerShare<K>) -> Result<Answer, Refusal>
-        ensures calls { PoolCalls self.old mine.old calls.Checkpoint result self.new mine.new }
+        ensures calls { Makes self.old mine.old calls.Checkpoint result self.new mine.new }
         ensures later { GoesOnIn self.old.image self.new.image }
     {
         self.image.known();
@@ -266,6 +269,7 @@ impl<K: Naming, M: Mailbox> Office<K, M> {
         ensures calls { PoolCalls self.old mine.old (calls.Intern text.now) (told answers.Interned result) self.new mine.new }
         ensures later { GoesOnIn self.old.image self.new.image }
     {
+        mine.count_call();
         intern(alloc, &mut self.image, text)
     }
 
@@ -278,7 +282,7 @@ impl<K: Naming, M: Mailbox> Office<K, M> {
         call: Call,
     ) -> Result<Answer, Refusal>
         requires plain { is_plain call ≡ true }
-        ensures calls { PoolCalls self.old mine.old call result self.new mine.new }
+        ensures calls { Makes self.old mine.old call result self.new mine.new }
         ensures later { GoesOnIn self.old.image self.new.image }
     {
         let is_move = !matches!(call, Call::Intern(_));
@@ -290,7 +294,7 @@ impl<K: Naming, M: Mailbox> Office<K, M> {
         answer
     }
 
-    /// Makes a call of the image for a caller.
+    /// Makes a call of the image for a caller, and counts it.
     pub fn apply(
         &mut self,
         alloc: Global,
@@ -300,6 +304,7 @@ impl<K: Naming, M: Mailbox> Office<K, M> {
         ensures calls { PoolCalls self.old mine.old call result self.new mine.new }
         ensures later { GoesOnIn self.old.image self.new.image }
     {
+        mine.count_call();
         match call {
             Call::Post {
                 sender,

@@ -4,7 +4,7 @@
 //! more in its own hold. So each hold commits and checks out several: fewer holds have to be waited for, and what is read in them was
 //! less often written last by another processor. If a quantum is short, or while another worker sleeps or rests, the worker goes back
 //! to one.
-ghost use Rattle.st_pool.specs.Holds.{IsHold};
+ghost use Rattle.st_pool.specs.Holds.{IsHold, of_worker};
 
 use crate::crowding::is_short;
 use crate::hand::Hand;
@@ -60,7 +60,7 @@ impl<K: Naming> Seat<K> {
         office: &mut Office<K, M>,
         share: &mut WorkerShare<K>,
     ) -> Work<()>
-        ensures { IsHold office.old office.new }
+        ensures { IsHold of_worker office.old office.new }
     {
         let work = office.work(alloc, share, &mut self.leavings);
         self.put(work)
@@ -99,7 +99,7 @@ impl<K: Naming> Seat<K> {
         share: &mut WorkerShare<K>,
         goes_on: bool,
     ) -> Option<(Result<u32, Refusal>, Work<()>)>
-        ensures { IsHold office.old office.new }
+        ensures { IsHold of_worker office.old office.new }
     {
         let held = self.held.take()?;
         let (answer, work) = office.turn_over(
@@ -198,7 +198,7 @@ impl<K: Naming> Seats<K> {
         office: &mut Office<K, M>,
         share: &mut WorkerShare<K>,
     ) -> Work<()>
-        ensures { IsHold office.old office.new }
+        ensures { IsHold of_worker office.old office.new }
     {
         self.first.find(alloc, office, share)
     }
@@ -238,7 +238,7 @@ impl<K: Naming> Seats<K> {
         rests: bool,
         are_several: bool,
     ) -> Turned
-        ensures { IsHold office.old office.new }
+        ensures { IsHold of_worker office.old office.new }
     {
         let mut turned = Turned {
             committed: 0,
@@ -263,7 +263,7 @@ impl<K: Naming> Seats<K> {
         office: &mut Office<K, M>,
         share: &mut WorkerShare<K>,
     )
-        ensures { IsHold office.old office.new }
+        ensures { IsHold of_worker office.old office.new }
     {
         if self.first.held.is_none() {
             let _ = self.first.find(alloc, office, share);

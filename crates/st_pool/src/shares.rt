@@ -1,5 +1,6 @@
 //! What a caller and a worker have done, with their shares of the ledgers.
 ghost use Rattle.std.specs.Prelude.{◌≡◌, OnOk};
+ghost use Rattle.st_pool.specs.Done.{one_call_more};
 
 use crate::accounts::Account;
 use crate::naming::{Edits, Emptied, Naming, Posts, Steps};
@@ -49,6 +50,13 @@ impl<K: Naming> CallerShare<K> {
         self.account.receipts.reserve(1)?;
         self.room.clear();
         self.room.reserve(arguments)
+    }
+
+    /// Counts a call.
+    pub(crate) fn count_call(&mut self)
+        ensures { self.new ≡ one_call_more self.old }
+    {
+        self.account.count_call();
     }
 
     /// A receipt for each post that was accepted, in order.

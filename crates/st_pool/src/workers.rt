@@ -6,12 +6,13 @@
 ghost use Rattle.std.specs.Prelude.{◌≡◌, ◌≤◌, IfErr};
 ghost use Rattle.st_classes.specs.declared.refusals.Refusal.TheVariants as refusals;
 ghost use Rattle.st_classes.specs.declared.refusals.Limited.TheVariants as limits;
+ghost use Rattle.st_pool.specs.Holds.{IsHold, of_worker};
 
 use crate::crowding::Crowding;
 use crate::hand::Hand;
 use crate::naming::Naming;
-use crate::office::Work;
-use crate::seats::{Ran, Seats};
+use crate::office::{Office, Work};
+use crate::seats::{Ran, Seats, Turned};
 use crate::shared::Shared;
 use crate::shares::WorkerShare;
 use st_classes::refusals::Refusal;
@@ -95,6 +96,29 @@ fn next_work<K: Naming, M: Mailbox, R: Wait>(
     work
 }
 
+/// What a worker does in its hold behind its quanta: it commits its claims, and takes others. `rests` says that it is to take none.
+/// Where the lock was not free, it takes one more than it had, if its quanta were long and all were committed.
+#[tactic(auto, using(crate::proofs::Holding::hold_then))]
+fn settle_all<K: Naming, M: Mailbox>(
+    alloc: Global,
+    office: &mut Office<K, M>,
+    share: &mut WorkerShare<K>,
+    seats: &mut Seats<K>,
+    ran: Ran,
+    rests: bool,
+    was_free: bool,
+) -> Turned
+    ensures { IsHold of_worker office.old office.new }
+{
+    let are_long = !ran.has_short();
+    let turned = seats.turn_over(alloc, office, share, rests, are_long);
+    let is_well = turned.committed == ran.count && !ran.is_starved;
+    if turned.goes_on && is_well && are_long && !was_free && !office.has_idle() {
+        seats.take_more(alloc, office, share);
+    }
+    turned
+}
+
 /// Commits the steps of the worker's quanta, and answers what the worker does next, both in one hold. A commit readies at most one
 /// actor more than its seat takes next, so for each one other worker is woken if one sleeps and an actor is ready. One that rests is
 /// woken too, but not after short quanta whose worker goes on or rests.
@@ -115,12 +139,7 @@ fn turn_over<K: Naming, M: Mailbox, R: Wait>(
         None => shared.enter(rt),
     };
     let rests = crowding.asks_for_rest(!ran.is_starved && office.has_helpers());
-    let are_long = !ran.has_short();
-    let turned = seats.turn_over(alloc, &mut office, share, rests, are_long);
-    let is_well = turned.committed == ran.count && !ran.is_starved;
-    if turned.goes_on && is_well && are_long && !was_free && !office.has_idle() {
-        seats.take_more(alloc, &mut office, share);
-    }
+    let turned = settle_all(alloc, &mut office, share, seats, ran, rests, was_free);
     let wants_help = office.wants_help();
     let is_hurried = ran.long == 0 && (rests || turned.goes_on);
     let wants_more = !is_hurried && office.wants_more();

@@ -12,7 +12,7 @@ use Rattle.st_calls.specs.declared.calls.Call.TheVariants as call
 use Rattle.st_calls.specs.Does.{told}
 use Rattle.st_pool.specs.Calling.{PoolCalls}
 use Rattle.st_pool.specs.Done.{Done, OfficeView}
-use Rattle.st_pool.specs.Holds.{IsHold}
+use Rattle.st_pool.specs.Holds.{IsHold, of_caller}
 use Rattle.st_pool.proofs.Calling.{calls_hold}
 use Rattle.st_pool.proofs.Holding.{hold_none, hold_then}
 use Rattle.st_wire.specs.declared.commands.Argument.{Argument}
@@ -29,51 +29,51 @@ use Rattle.st_server.specs.Posting.{AllResolve, Nothing, PostsArguments, PostsNa
 abbrev image_in : OfficeView → ImageView
 image_in o = o.image
 
-replies_hold : (o p : OfficeView) (d e : Done) (c : Call) (r : Reply) → RepliesTo (PoolCalls o d c) r p e → IsHold o p
+replies_hold : (o p : OfficeView) (d e : Done) (c : Call) (r : Reply) → RepliesTo (PoolCalls o d c) r p e → IsHold of_caller o p
 replies_hold o p d e c r h = calls_hold o p d e c h.0 h.1
 
-resolves_hold : (o p : OfficeView) (d e : Done) (a : Argument) (r : Result Value Refusal) → Resolves image_in PoolCalls o d a r p e → IsHold o p
-resolves_hold o p d e (argument.Int z) r h = hold_none o p h.1.0
-resolves_hold o p d e (argument.Bool b) r h = hold_none o p h.1.0
-resolves_hold o p d e argument.Nil r h = hold_none o p h.1.0
+resolves_hold : (o p : OfficeView) (d e : Done) (a : Argument) (r : Result Value Refusal) → Resolves image_in PoolCalls o d a r p e → IsHold of_caller o p
+resolves_hold o p d e (argument.Int z) r h = hold_none of_caller o p h.1.0
+resolves_hold o p d e (argument.Bool b) r h = hold_none of_caller o p h.1.0
+resolves_hold o p d e argument.Nil r h = hold_none of_caller o p h.1.0
 resolves_hold o p d e (argument.Symbol text) r h = calls_hold o p d e (call.Intern text) (told answer.Interned h.0) h.1
-resolves_hold o p d e (argument.Class text) r h = hold_none o p h.1.0
-resolves_hold o p d e (argument.Actor a) r h = hold_none o p h.1.0
+resolves_hold o p d e (argument.Class text) r h = hold_none of_caller o p h.1.0
+resolves_hold o p d e (argument.Actor a) r h = hold_none of_caller o p h.1.0
 
 -- the arguments of a post
-all_hold : (o p : OfficeView) (d e : Done) (args : List Argument) (r : Result (List Value) Refusal) → AllResolve image_in PoolCalls o d args r p e → IsHold o p
-all_hold o p d e [] r h = hold_none o p h.1.0
+all_hold : (o p : OfficeView) (d e : Done) (args : List Argument) (r : Result (List Value) Refusal) → AllResolve image_in PoolCalls o d args r p e → IsHold of_caller o p
+all_hold o p d e [] r h = hold_none of_caller o p h.1.0
 all_hold o p d e (a ∷ args) r (first, m, n, one, more) =
-    let rest : IsHold m p = elim first as (λ x. MatchResult x (λ v. (rest : Result (List Value) Refusal) × AllResolve image_in PoolCalls m n args rest p e × (r ≡ with_first v rest)) (λ f. (r ≡ Err f) × Nothing m n p e) → IsHold m p) [
+    let rest : IsHold of_caller m p = elim first as (λ x. MatchResult x (λ v. (rest : Result (List Value) Refusal) × AllResolve image_in PoolCalls m n args rest p e × (r ≡ with_first v rest)) (λ f. (r ≡ Err f) × Nothing m n p e) → IsHold of_caller m p) [
       | Ok v ↦ λ h. all_hold m p n e args h.0 h.1
-      | Err f ↦ λ h. hold_none m p h.1.0
+      | Err f ↦ λ h. hold_none of_caller m p h.1.0
     ] more in
-    hold_then o m p (resolves_hold o m d n a first one) rest
+    hold_then of_caller o m p (resolves_hold o m d n a first one) rest
 
-posted_hold : (o p : OfficeView) (d e : Done) (a : ActorId) (s : Selector) (sender seq : ℕ) (vs : Result (List Value) Refusal) (r : Reply) → MatchResult vs (λ values. RepliesTo (PoolCalls o d (call.Post sender seq a s values)) r p e) (λ f. (r ≡ reply.Refused f) × Nothing o d p e) → IsHold o p
+posted_hold : (o p : OfficeView) (d e : Done) (a : ActorId) (s : Selector) (sender seq : ℕ) (vs : Result (List Value) Refusal) (r : Reply) → MatchResult vs (λ values. RepliesTo (PoolCalls o d (call.Post sender seq a s values)) r p e) (λ f. (r ≡ reply.Refused f) × Nothing o d p e) → IsHold of_caller o p
 posted_hold o p d e a s sender seq (Ok values) r h = replies_hold o p d e (call.Post sender seq a s values) r h
-posted_hold o p d e a s sender seq (Err f) r h = hold_none o p h.1.0
+posted_hold o p d e a s sender seq (Err f) r h = hold_none of_caller o p h.1.0
 
-arguments_hold : (o p : OfficeView) (d e : Done) (a : ActorId) (args : List Argument) (s : Selector) (sender seq : ℕ) (r : Reply) → PostsArguments image_in PoolCalls o d a args s sender seq r p e → IsHold o p
-arguments_hold o p d e a args s sender seq r (inl none) = hold_none o p none.1.0
-arguments_hold o p d e a args s sender seq r (inr (vs, m, n, all, more)) = hold_then o m p (all_hold o m d n args vs all) (posted_hold m p n e a s sender seq vs r more)
+arguments_hold : (o p : OfficeView) (d e : Done) (a : ActorId) (args : List Argument) (s : Selector) (sender seq : ℕ) (r : Reply) → PostsArguments image_in PoolCalls o d a args s sender seq r p e → IsHold of_caller o p
+arguments_hold o p d e a args s sender seq r (inl none) = hold_none of_caller o p none.1.0
+arguments_hold o p d e a args s sender seq r (inr (vs, m, n, all, more)) = hold_then of_caller o m p (all_hold o m d n args vs all) (posted_hold m p n e a s sender seq vs r more)
 
-named_hold : (o p : OfficeView) (d e : Done) (a : ActorId) (args : List Argument) (sender seq : ℕ) (s : Result Selector Refusal) (r : Reply) → MatchResult s (λ found. PostsArguments image_in PoolCalls o d a args found sender seq r p e) (λ f. (r ≡ reply.Refused f) × Nothing o d p e) → IsHold o p
+named_hold : (o p : OfficeView) (d e : Done) (a : ActorId) (args : List Argument) (sender seq : ℕ) (s : Result Selector Refusal) (r : Reply) → MatchResult s (λ found. PostsArguments image_in PoolCalls o d a args found sender seq r p e) (λ f. (r ≡ reply.Refused f) × Nothing o d p e) → IsHold of_caller o p
 named_hold o p d e a args sender seq (Ok s) r h = arguments_hold o p d e a args s sender seq r h
-named_hold o p d e a args sender seq (Err f) r h = hold_none o p h.1.0
+named_hold o p d e a args sender seq (Err f) r h = hold_none of_caller o p h.1.0
 
-posts_hold : (o p : OfficeView) (d e : Done) (a : ActorId) (args : List Argument) (text : List ℕ) (sender seq : ℕ) (r : Reply) → PostsNamed image_in PoolCalls o d a args text sender seq r p e → IsHold o p
-posts_hold o p d e a args text sender seq r (s, m, n, interned, more) = hold_then o m p (calls_hold o m d n (call.Intern text) (told answer.Interned s) interned) (named_hold m p n e a args sender seq s r more)
+posts_hold : (o p : OfficeView) (d e : Done) (a : ActorId) (args : List Argument) (text : List ℕ) (sender seq : ℕ) (r : Reply) → PostsNamed image_in PoolCalls o d a args text sender seq r p e → IsHold of_caller o p
+posts_hold o p d e a args text sender seq r (s, m, n, interned, more) = hold_then of_caller o m p (calls_hold o m d n (call.Intern text) (told answer.Interned s) interned) (named_hold m p n e a args sender seq s r more)
 
-made_hold : (o p : OfficeView) (d e : Done) (c : Result Call Refusal) (r : Reply) → MatchResult c (λ made. RepliesTo (PoolCalls o d made) r p e) (λ f. (r ≡ reply.Refused f) × (p ≡ o) × (e ≡ d)) → IsHold o p
+made_hold : (o p : OfficeView) (d e : Done) (c : Result Call Refusal) (r : Reply) → MatchResult c (λ made. RepliesTo (PoolCalls o d made) r p e) (λ f. (r ≡ reply.Refused f) × (p ≡ o) × (e ≡ d)) → IsHold of_caller o p
 made_hold o p d e (Ok c) r h = replies_hold o p d e c r h
-made_hold o p d e (Err f) r h = hold_none o p h.1
+made_hold o p d e (Err f) r h = hold_none of_caller o p h.1
 
-makes_hold : (o p : OfficeView) (d e : Done) (c : Command) (r : Reply) → Makes image_in PoolCalls o d c r p e → IsHold o p
+makes_hold : (o p : OfficeView) (d e : Done) (c : Command) (r : Reply) → Makes image_in PoolCalls o d c r p e → IsHold of_caller o p
 makes_hold o p d e c r h = made_hold o p d e (call_of o.image c) r h
 
-pub asks_hold : (o p : OfficeView) (d e : Done) (c : Command) (r : Reply) → Asks image_in PoolCalls o d c r p e → IsHold o p
+pub asks_hold : (o p : OfficeView) (d e : Done) (c : Command) (r : Reply) → Asks image_in PoolCalls o d c r p e → IsHold of_caller o p
 asks_hold o p d e (command.Post a args text sender seq) r h = posts_hold o p d e a args text sender seq r h
-asks_hold o p d e (command.Outcome a turn) r h = hold_none o p h.1.0
-asks_hold o p d e (command.Stats class text) r h = hold_none o p h.1.0
+asks_hold o p d e (command.Outcome a turn) r h = hold_none of_caller o p h.1.0
+asks_hold o p d e (command.Stats class text) r h = hold_none of_caller o p h.1.0
 asks_hold o p d e c r h = makes_hold o p d e c r h

@@ -25,6 +25,7 @@ from __future__ import annotations
 
 import contextlib
 import json
+import os
 import socket
 import subprocess
 import threading
@@ -523,13 +524,15 @@ def script(program: str, *options: str) -> Image:
     return Image(opened)
 
 
-def connect(path: str, seconds: float = 0.0, timeout: Optional[float] = None) -> Image:
+def connect(path: str, seconds: float = 0.0, timeout: Optional[float] = None, operator: bool = False) -> Image:
     """Connects to a server by the path of its Unix socket, and gives its image. Where no server takes a session, it is tried again
-    for so many seconds; then `Ended` is raised, or `TooMany` for one that has as many sessions as it may. A reply that does not come
-    for `timeout` seconds ends the session."""
+    for so many seconds; then `Ended` is raised, or `TooMany` for one that has as many sessions as it may. One place more is kept for
+    an `operator`. A reply that does not come for `timeout` seconds ends the session."""
 
     def opened() -> _Line:
         stream = socket.socket(socket.AF_UNIX)
+        if operator:
+            stream.bind(b"\0actorimage.operator." + os.urandom(8).hex().encode())
         replies, commands = (stream.makefile(mode, encoding="utf-8", newline="\n") for mode in "rw")
 
         def end() -> None:

@@ -80,6 +80,11 @@ def settings(quantum, capacity):
     return ("--quantum", quantum, "--capacity", capacity)
 
 
-def refusal(name):
+def named(name, words=""):
+    """What is said of a refusal: its name, and what it was about, where that is known."""
+    return "".join(f"{line}\n" for line in (f"actorimage: {name}", words) if line).encode()
+
+
+def refusal(name, words=""):
     """The end of a session that is refused, and writes no reply."""
-    return Ended(1, b"", f"actorimage: {name}\n".encode())
+    return Ended(1, b"", named(name, words))

@@ -5,11 +5,11 @@ import shutil
 
 from inspect_parts.try_common import good_files, read
 
-from .program import Ended, Program, same
+from .program import Ended, Program, named, same
 from .try_paths import DEFINE, NOBODY, leads_to
 from .try_served import not_begun
 
-UNWRITTEN = (1, b"actorimage: WriteFault\n")
+NO_FILE = "is there already, and is no file"
 
 
 def by_nobody(program):
@@ -26,30 +26,31 @@ def by_nobody(program):
         return None
 
 
-def cannot_write(program, about, path, **more):
-    """A script is not saved, and a server does not begin."""
+def cannot_write(program, about, path, why, **more):
+    """A script is not saved, and a server does not begin. It is said why."""
     ended = program.script(path, DEFINE, **more)
-    same(f"{about}: a script", (ended.status, ended.err), UNWRITTEN)
-    not_begun(program, about, path, "WriteFault", **more)
+    same(f"{about}: a script", (ended.status, ended.err), (1, named("WriteFault", why)))
+    not_begun(program, about, path, "WriteFault", why, **more)
 
 
 def unwritten(program):
     """No such folder, no name, and no file in place of the new one: the file and what is there stay, and no socket is made."""
-    cannot_write(program, "no such folder", program.at("none", "file"))
-    cannot_write(program, "no name", "", cwd=program.folder)
+    none = program.at("none", "file")
+    cannot_write(program, "no such folder", none, f"{none}.new: No such file or directory")
+    cannot_write(program, "no name", "", "", cwd=program.folder)
     same("files in the folder", os.listdir(program.folder), [])
     path, data = program.put("file", read(good_files()["message-waits"])), read(good_files()["message-waits"])
     beside = path + ".new"
     os.mkdir(beside)
-    cannot_write(program, "a folder in place of the new file", path)
+    cannot_write(program, "a folder in place of the new file", path, f"{beside} {NO_FILE}")
     os.rmdir(beside)
     os.mkfifo(beside)
-    cannot_write(program, "a pipe in place of the new file", path)
+    cannot_write(program, "a pipe in place of the new file", path, f"{beside} {NO_FILE}")
     os.remove(beside)
     program.put("other", b"of another")
     for way in ("other", "nowhere"):
         os.symlink(way, beside)
-        cannot_write(program, f"a link to {way} in place of the new file", path)
+        cannot_write(program, f"a link to {way} in place of the new file", path, f"{beside} {NO_FILE}")
         same(f"the link to {way}", leads_to(beside), way)
         os.remove(beside)
     same("the files", (read(path), read(program.at("other"))), (data, b"of another"))
@@ -66,10 +67,11 @@ def forbidden(program):
     os.mkdir(program.at("folder"))
     path, data = program.put("folder/file", read(good_files()["message-waits"])), read(good_files()["message-waits"])
     os.chmod(program.at("folder"), 0o555)
-    cannot_write(by_other, "a folder that may not be written", path, **somebody)
+    denied = f"{path}.new: Permission denied"
+    cannot_write(by_other, "a folder that may not be written", path, denied, **somebody)
     os.chmod(program.at("folder"), 0o777)
     os.chmod(program.put("folder/file.new", b"of another"), 0o444)
-    cannot_write(by_other, "a new file that may not be written", path, **somebody)
+    cannot_write(by_other, "a new file that may not be written", path, denied, **somebody)
     same("the files", (read(path), read(path + ".new")), (data, b"of another"))
     same("files in the folder", sorted(os.listdir(program.at("folder"))), ["file", "file.new"])
     same("no socket", os.path.exists(program.at("socket")), False)

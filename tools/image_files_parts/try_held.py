@@ -13,12 +13,12 @@ import time
 
 from inspect_parts.try_common import read
 
-from .program import SECONDS, Ended, refusal, same
+from .program import SECONDS, Ended, named, refusal, same
 from .try_served import ask, begun, connected, not_begun, serve
 
 FIRST, SECOND = (b'{"cmd":"define","name":"%s","slots":[],"super":"Object"}' % name for name in (b"First", b"Second"))
 ENDED = Ended(0, b'{"ok":{"posts":0,"steps":0}}\n', b"")
-UNSAVED = ENDED._replace(status=1, err=b"actorimage: WriteFault\n")
+HELD, NO_FILE = "is held by another process", "is there already, and is no file"
 TOOLS = os.path.dirname(os.path.dirname(os.path.realpath(__file__)))
 # So many bytes a file may have where a save is to be broken off, and how many servers begin at once.
 FEW, TOGETHER = 20, 4
@@ -41,6 +41,11 @@ def texts(program):
 
 def edit(end, lines):
     same("an edit", ask(end, lines, json.loads(SECOND)), {"ok": {"version": 2}})
+
+
+def unsaved(why):
+    """The end of a server whose image does not take its file's place."""
+    return ENDED._replace(status=1, err=named("WriteFault", why))
 
 
 def alone(program, *names):
@@ -77,9 +82,9 @@ def second_server(program):
     path, one, two = texts(program)
 
     def begin_two():
-        not_begun(program, "beside another", path, "WriteFault", "another")
+        not_begun(program, "beside another", path, "WriteFault", f"{path}.new {HELD}", "another")
         os.symlink("file", program.at("link"))
-        not_begun(program, "beside another, by a link", program.at("link"), "WriteFault", "another")
+        not_begun(program, "beside another, by a link", program.at("link"), "WriteFault", f"{path}.new {HELD}", "another")
         os.remove(program.at("link"))
 
     beside_server(program, path, one, two, begin_two)
@@ -99,7 +104,8 @@ def at_once(program):
             same("a class", ask(end, lines, json.loads(FIRST)), {"ok": {"version": 1}})
         for server in servers:
             out, err = server.communicate(timeout=SECONDS)
-            same("the end of a server", Ended(server.returncode, out, err), ENDED if server in going else refusal("WriteFault"))
+            wanted = ENDED if server in going else refusal("WriteFault", f"{path}.new {HELD}")
+            same("the end of a server", Ended(server.returncode, out, err), wanted)
     alone(program, "file")
     same("what is saved", read(path), text_of(program, FIRST))
     return f"{TOGETHER} servers"
@@ -110,7 +116,7 @@ def script_beside(program):
     path, one, two = texts(program)
 
     def run_script():
-        wanted = Ended(1, b'{"ok":{"version":2}}\n', b"actorimage: WriteFault\n")
+        wanted = Ended(1, b'{"ok":{"version":2}}\n', named("WriteFault", f"{path}.new {HELD}"))
         same("a script", program.script(path, SECOND.replace(b"Second", b"Third")), wanted)
 
     beside_server(program, path, one, two, run_script)
@@ -136,9 +142,10 @@ def change_beside(program):
 def of_another(program):
     """What another process holds is not written, neither at the start of a server nor at an end."""
     path, one, two = texts(program)
+    why = f"{path}.new {HELD}"
     with locked(path + ".new"):
-        not_begun(program, "a file that another process holds", path, "WriteFault")
-        same("a script", program.script(path, SECOND), Ended(1, b'{"ok":{"version":2}}\n', b"actorimage: WriteFault\n"))
+        not_begun(program, "a file that another process holds", path, "WriteFault", why)
+        same("a script", program.script(path, SECOND), Ended(1, b'{"ok":{"version":2}}\n', named("WriteFault", why)))
         alone(program, "file", "file.new")
     same("the file", read(path), one)
     same("a script afterwards", program.script(path, SECOND).status, 0)
@@ -156,21 +163,15 @@ def taken_away(program):
         edit(end, lines)
         os.remove(beside)
 
-    def moved(number, end, lines):
-        edit(end, lines)
-        os.rename(beside, path)
-
     def replaced(number, end, lines):
         taken(number, end, lines)
         os.mkdir(beside)
 
-    for talk in (taken, moved):
-        program.put("file", one)
-        same(f"{talk.__name__}: the server", serve(program, path, talk), ENDED)
-        same(f"{talk.__name__}: what is saved", read(path), two)
-        alone(program, "file")
+    same("the server", serve(program, path, taken), ENDED)
+    same("what is saved", read(path), two)
+    alone(program, "file")
     program.put("file", one)
-    same("a folder in its place: the server", serve(program, path, replaced), UNSAVED)
+    same("a folder in its place: the server", serve(program, path, replaced), unsaved(f"{beside} {NO_FILE}"))
     same("a folder in its place: the file", read(path), one)
     alone(program, "file", "file.new")
     os.rmdir(beside)
@@ -180,40 +181,15 @@ def taken_away(program):
             taken(number, end, lines)
             stack.enter_context(locked(beside))
 
-        same("another's in its place: the server", serve(program, path, held), UNSAVED)
+        same("another's in its place: the server", serve(program, path, held), unsaved(f"{beside} {HELD}"))
     same("another's in its place: the file", read(path), one)
     alone(program, "file", "file.new")
-    return "4 servers"
+    return "3 servers"
 
 
 def ended(server):
     out, err = server.communicate(timeout=SECONDS)
     return Ended(server.returncode, out, err)
-
-
-def two_at_once(program):
-    """Where the new file is taken away, or the file has two names by a hard link, two servers have the file at once. In the first case
-    what one of them did is lost, and in the second each name has an image of its own."""
-    path, one, two = texts(program)
-    third = text_of(program, FIRST, SECOND.replace(b"Second", b"Third"))
-    os.link(path, program.at("other"))
-    for other, is_removed, wanted in ((path, True, (two, one)), (program.at("other"), False, (two, third))):
-        with begun(program, path) as server, connected(server, program.at("socket")) as end, end.makefile("rb") as lines:
-            edit(end, lines)
-            if is_removed:
-                os.remove(path + ".new")
-            with begun(program, other, name="socket2") as later, connected(later, program.at("socket2")) as its, its.makefile("rb") as more:
-                same("the other's edit", ask(its, more, json.loads(SECOND.replace(b"Second", b"Third"))), {"ok": {"version": 2}})
-                its.shutdown(socket.SHUT_RDWR)
-                same("the end of the later server", ended(later), ENDED)
-            same("what the later one has saved", read(other), third)
-            end.shutdown(socket.SHUT_RDWR)
-            same("the end of the earlier server", ended(server), ENDED)
-        same("what there is then", (read(path), read(program.at("other"))), wanted)
-        program.put("file", one)
-        os.remove(program.at("other"))
-        os.link(path, program.at("other"))
-    return "4 servers"
 
 
 def killed_server(program):
@@ -250,4 +226,4 @@ def broken_off(program):
     return "3 scripts"
 
 
-TRIALS = (second_server, at_once, script_beside, change_beside, of_another, taken_away, two_at_once, killed_server, broken_off)
+TRIALS = (second_server, at_once, script_beside, change_beside, of_another, taken_away, killed_server, broken_off)

@@ -65,7 +65,8 @@ def not_there(program):
     same("check of a folder", program.check(program.folder), UNREAD)
     same("check of a file as a folder", program.check(os.path.join(program.put("file", before()), "none")), UNREAD)
     os.mkdir(program.at("folder"))
-    same("a folder as the file", program.script(program.at("folder"), DEFINE), refusal("ReadFault"))
+    wanted = refusal("ReadFault", f"{program.at('folder')} is a folder")
+    same("a folder as the file", program.script(program.at("folder"), DEFINE), wanted)
     same("the folder", os.listdir(program.at("folder")), [])
     alone(program, "file", "folder")
     return "4 paths"

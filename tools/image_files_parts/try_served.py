@@ -24,9 +24,10 @@ def words(program, file, sessions=1, name="socket"):
     return "serve", "--workers", "2", "--image", file, "--sessions", str(sessions), "--socket", program.at(name)
 
 
-def not_begun(program, about, file, name, socket_name="socket", **more):
-    """A server ends by a refusal of this name, and nobody is served."""
-    same(f"{about}: a server", program.run(*words(program, file, name=socket_name), timeout=SOON, **more), refusal(name))
+def not_begun(program, about, file, name, why="", socket_name="socket", **more):
+    """A server ends by a refusal of this name, with these words behind it, and nobody is served."""
+    ended = program.run(*words(program, file, name=socket_name), timeout=SOON, **more)
+    same(f"{about}: a server", ended, refusal(name, why))
 
 
 @contextlib.contextmanager
@@ -127,11 +128,11 @@ def not_served(program):
         not_begun(program, path, file, "BadImage")
         same(f"{path}: the file", read(file), data)
     os.mkdir(program.at("folder"))
-    not_begun(program, "a folder as the file", program.at("folder"), "ReadFault")
+    not_begun(program, "a folder as the file", program.at("folder"), "ReadFault", f"{program.at('folder')} is a folder")
     same("files in the folder", sorted(os.listdir(program.folder)), ["file", "folder"])
     data = read(good_files()["message-waits"])
     file = program.put("file", data)
-    not_begun(program, "a folder at the socket's path", file, "ReadFault", "folder")
+    not_begun(program, "a folder at the socket's path", file, "ReadFault", f"{program.at('folder')} is there already", "folder")
     same("a folder at the socket's path: the file", read(file), data)
     same("files in the folder", sorted(os.listdir(program.folder)), ["file", "folder"])
     return f"{len(bad_files()) + 2} files"

@@ -1,10 +1,9 @@
 """Trials of a session that fails while others post to the same actor: the posts are all told, those of the failed session too."""
 
-import contextlib
 import socket
 import threading
 
-from sockets_parts.resources import soon, threads
+from sockets_parts.resources import soon, threads, unread
 from sockets_parts.sessions import told
 
 # How many messages each session posts.
@@ -76,13 +75,6 @@ class Stage:
             thread.join()
         assert not self.errors, self.errors
         soon(lambda: len(threads(self.server)) == WORKERS + 2, "sessions whose clients have left go on")
-
-
-def unread(client):
-    """What has come to a client, who does not read it."""
-    with contextlib.suppress(BlockingIOError):
-        return client.socket.recv(1 << 16, socket.MSG_PEEK | socket.MSG_DONTWAIT)
-    return b""
 
 
 def play_with(server, post, has_checkpoints):

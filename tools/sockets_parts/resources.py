@@ -1,15 +1,19 @@
 """Trials of what a server takes: its threads, the processor while nothing is to be done, descriptors, and its places for sessions."""
 
 import contextlib
+import ctypes
 import json
 import os
-import resource
+import select
+import socket
 import subprocess
 import tempfile
 import time
 
 MAKING = "a ^3 + 4 * 2"
 ENDLESS = "spin [true] whileTrue: [nil]"
+# The descriptors that a server has where they are few, and the number of the system's call that copies one of a process.
+DESCRIPTORS, PIDFD_GETFD = 12, 438
 LONG = "count: n | i | i := 0. [i < n] whileTrue: [i := i + 1]. ^i"
 
 
@@ -139,36 +143,116 @@ def is_refused(server, clients):
     return False
 
 
-def limited():
-    """The process may have 12 descriptors."""
-    resource.setrlimit(resource.RLIMIT_NOFILE, (12, 12))
-
-
 def few_descriptors(program, Server, _post):
+    """Where descriptors run out a client waits, and is let in when others have left. It is said once, and the server goes on."""
+    with tempfile.TemporaryDirectory() as folder:
+        image = os.path.join(folder, "image")
+        server = Server(program, 31, 2, "--image", image)
+        server.words = ["prlimit", f"--nofile={DESCRIPTORS}", *server.words]
+        with server:
+            for _ in range(2):
+                with contextlib.ExitStack() as clients:
+                    first = clients.enter_context(server.client())
+                    assert first.ask(cmd="run") == {"error": "BadCommand"}
+                    more = [clients.enter_context(server.client()) for _ in range(DESCRIPTORS)]
+                    for client in more:
+                        client.send({"cmd": "run"})
+                    before = ticks(server)
+                    time.sleep(1)
+                    assert ticks(server) <= before + 5, "a server runs while it has no descriptors"
+                    assert unread(more[0]) and not unread(more[-1]), "the server has more descriptors than it may"
+                    assert first.ask(cmd="run") == {"error": "BadCommand"}
+                    first.leave()
+                    for client in more:
+                        assert client.reply() == {"error": "BadCommand"}
+                        client.leave()
+            with contextlib.ExitStack() as clients:
+                for number in range(5):
+                    clients.enter_context(server.client()).make(f"M{number}", [])
+            out, err = server.process.communicate(timeout=60)
+            said = "actorimage: nobody can be let in for now: Too many open files (os error 24)\n"
+            assert (server.process.returncode, out, err) == (0, '{"ok":{"posts":0,"steps":0}}\n', said), (out, err)
+        check = subprocess.run([program, "check", image], capture_output=True, text=True, timeout=60)
+        assert json.loads(check.stdout)["ok"] == {"actors": 0, "classes": 13, "edits": 5}, check
+
+
+def unread(client):
+    """What has come to a client, who does not read it."""
+    if select.select([client.socket], [], [], 0)[0]:
+        return client.socket.recv(1 << 16, socket.MSG_PEEK)
+    return b""
+
+
+def listener_of(server):
+    """A copy of the socket at which a server listens; None where that may not be had."""
+    process, descriptors = os.pidfd_open(server.process.pid), f"/proc/{server.process.pid}/fd"
+    try:
+        for name in os.listdir(descriptors):
+            if not os.readlink(f"{descriptors}/{name}").startswith("socket:"):
+                continue
+            copied = ctypes.CDLL(None).syscall(PIDFD_GETFD, process, int(name), 0)
+            if copied < 0:
+                return None
+            end = socket.socket(fileno=copied)
+            if end.getsockopt(socket.SOL_SOCKET, socket.SO_ACCEPTCONN):
+                return end
+            end.close()
+        return None
+    finally:
+        os.close(process)
+
+
+def a_listener_that_fails(program, Server, _post):
     """Where accepting fails nobody can connect any more, the image is saved once the sessions have ended, and the server is refused."""
     with tempfile.TemporaryDirectory() as folder:
         image = os.path.join(folder, "image")
-        with Server(program, 1000, 2) as server, contextlib.ExitStack() as all_of_them, contextlib.ExitStack() as clients:
-            # the server that was begun here makes the folder; another one is tried in its place
-            path = server.path + "2"
-            words = [program, "serve", "--workers", "2", "--sessions", "1000", "--image", image, "--socket", path]
-            process = subprocess.Popen(words, preexec_fn=limited, stdout=subprocess.PIPE, stderr=subprocess.PIPE, text=True)
-            all_of_them.callback(process.kill)
-            soon(lambda: os.path.exists(path) and os.stat(path).st_mode & 0o777 == 0o600, "no socket is made")
-            server.path = path
+        with Server(program, 1000, 2, "--image", image) as server, contextlib.ExitStack() as clients:
             first = clients.enter_context(server.client())
-            for number in range(8):
-                first.make(f"M{number}", [])
-            # all descriptors are taken in the end, and then it fails to accept the next of the clients
-            soon(lambda: is_refused(server, clients), "the server accepts more than it can")
+            first.make("M", [])
+            listener = listener_of(server)
+            if listener is None:
+                return
+            with listener:
+                listener.shutdown(socket.SHUT_RDWR)
+            soon(lambda: is_refused(server, clients), "clients can connect where accepting fails")
             assert first.ask(cmd="run") == {"error": "BadCommand"}
             clients.close()
-            out, err = process.communicate(timeout=60)
-            assert (process.returncode, err) == (1, "actorimage: ReadFault\n"), (process.returncode, out, err)
+            out, err = server.process.communicate(timeout=60)
+            assert (server.process.returncode, err) == (1, "actorimage: ReadFault\n"), (server.process.returncode, out, err)
             assert json.loads(out)["ok"] == {"posts": 0, "steps": 0}, out
-            assert not os.path.exists(path), "the socket's file is still there"
+            assert not os.path.exists(server.path), "the socket's file is still there"
         check = subprocess.run([program, "check", image], capture_output=True, text=True, timeout=60)
-        assert json.loads(check.stdout)["ok"] == {"actors": 0, "classes": 16, "edits": 8}, check
+        assert json.loads(check.stdout)["ok"] == {"actors": 0, "classes": 9, "edits": 1}, check
+
+
+def a_moved_socket_ends_the_server(program, Server, _post):
+    """A server whose socket's file is at its path no more lets in nobody, as it sees at the next client, and ends well. Its sessions go
+    on meanwhile."""
+    with Server(program, 1000, 2) as server, server.client() as client:
+        assert client.ask(cmd="run") == {"error": "BadCommand"}
+        path, server.path = server.path, server.path + "2"
+        os.rename(path, server.path)
+        with server.client() as late:
+            assert late.lines.read() == b"", "a client is let in at a socket that was moved"
+        with contextlib.ExitStack() as clients:
+            soon(lambda: is_refused(server, clients), "clients can connect behind the end")
+        assert client.ask(cmd="run") == {"error": "BadCommand"}
+        client.leave()
+        os.remove(server.path)
+        assert server.ended() == ({"posts": 0, "steps": 0}, [])
+
+
+def a_server_says_what_it_does(program, Server, _post):
+    """With --verbose standard error has what is served, and each session that ends by a refusal, as it ends."""
+    with Server(program, 3, 2, "--verbose") as server:
+        assert server.process.stderr.readline() == f"actorimage: serving {server.path}, 0 actors, 8 classes\n"
+        for data, name in ((b"\xff\n", "BadCommand"), (b" " * 8193, "TooLong")):
+            with server.client() as client:
+                client.socket.sendall(data)
+                assert server.process.stderr.readline() == f"actorimage: a session has ended: {name}\n"
+        with server.client():
+            pass
+        assert server.ended() == ({"posts": 0, "steps": 0}, ["BadCommand", "TooLong"])
 
 
 def another_servers_socket_stays(program, Server, _post):
@@ -195,7 +279,8 @@ def full_output(program, Server, _post):
         soon(lambda: os.path.exists(path) and os.stat(path).st_mode & 0o777 == 0o600, "no socket is made")
         other.path = path
         other.client().leave()
-        assert process.communicate(timeout=60)[1] == "actorimage: WriteFault\n" and process.returncode == 1
+        said = "actorimage: WriteFault\nstandard output: No space left on device\n"
+        assert (process.communicate(timeout=60)[1], process.returncode) == (said, 1)
         assert not os.path.exists(path), "the socket's file is still there"
 
 
@@ -209,6 +294,9 @@ TRIALS = (
     sessions_leave_nothing,
     what_comes_behind_a_bad_line_is_drained,
     few_descriptors,
+    a_listener_that_fails,
+    a_moved_socket_ends_the_server,
+    a_server_says_what_it_does,
     another_servers_socket_stays,
     full_output,
 )

@@ -8,8 +8,9 @@ import subprocess
 import tempfile
 import time
 
-from sockets_parts.resources import is_refused, soon
+from sockets_parts.resources import is_refused, soon, threads
 
+TOOLS = os.path.dirname(os.path.dirname(os.path.realpath(__file__)))
 CLOSE = b'{"actor":0,"cmd":"close"}'
 NO_ACTOR = b'{"error":"UnknownActor"}\n'
 TOO_MANY = b'{"error":"TooMany","what":"sessions"}\n'
@@ -92,6 +93,25 @@ def a_long_line_ends_its_session(program, Server, _post):
     assert found == (0, 0, 0, ["TooLong"]), found
 
 
+def one_place_is_kept_for_the_operator(program, Server, _post):
+    """While 64 sessions are open one of the operator's is let in, and no second one. So are a workspace and tools/top. Its end has a
+    name that begins so."""
+    names = (f"\0actorimage.operator.{number}.{os.getpid()}".encode() for number in range(2))
+    with Server(program, 1000, 2) as server, contextlib.ExitStack() as all_of_them:
+        for _ in range(64):
+            assert asked(all_of_them.enter_context(server.client()), CLOSE) == NO_ACTOR
+        with server.client(next(names)) as first:
+            assert asked(first, CLOSE) == NO_ACTOR
+            for late in (server.client(), server.client(next(names))):
+                with late:
+                    assert late.lines.readline() == TOO_MANY
+        soon(lambda: len(threads(server)) == 67, "the session of the operator goes on")
+        for words, given in ((["workspace", "--socket", server.path], "3 + 4\n"), (["top", "--once", server.path, "Object.isNil"], "")):
+            run = subprocess.run([os.path.join(TOOLS, words[0]), *words[1:]], input=given, capture_output=True, text=True, timeout=60)
+            assert run.returncode == 0, run
+            soon(lambda: len(threads(server)) == 67, f"the session of {words[0]} goes on")
+
+
 def one_of_65_sessions_is_turned_away(program, Server, _post):
     """The 65th session is told so, and is let go; once one has ended there is place for another, and once all have."""
 
@@ -151,6 +171,7 @@ TRIALS = (
     a_post_is_answered,
     a_long_line_ends_its_session,
     one_of_65_sessions_is_turned_away,
+    one_place_is_kept_for_the_operator,
     sessions_that_end_badly_leave_their_places,
     clients_behind_the_last_are_refused,
 )

@@ -101,7 +101,7 @@ def numbers(text):
 def watch(found):
     methods = [given(it) for it in found.methods] + [method for path in found.files for method in of_file(path)]
     actors = numbers(found.actors)
-    with actorimage.connect(found.socket) as image, opened(not found.once) as screen:
+    with actorimage.connect(found.socket, operator=True) as image, opened(not found.once) as screen:
         go_on(Watch(image, found.socket, list(dict.fromkeys(methods)), actors), screen, found)
 
 

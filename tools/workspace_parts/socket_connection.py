@@ -12,6 +12,8 @@ from .wrong import Died, Ended
 # A server takes no such command, since its workers run the actors. So this reply tells that a server is there.
 GREETING = {"cmd": "run"}
 ITS_REPLY = {"error": "BadCommand"}
+# A name for this end that begins so says that it is the operator's, for whom a server keeps one place more. It is no file.
+OPERATOR = b"\0actorimage.operator."
 # So long a server may take to greet: what listens may be something else, or accept no more sessions.
 SECONDS_TO_GREET = 30
 
@@ -22,6 +24,7 @@ class SocketConnection:
     def __init__(self, path, file=None):
         self.path, self.file = path, file
         self.socket = socket.socket(socket.AF_UNIX)
+        self.socket.bind(OPERATOR + os.urandom(8).hex().encode())
         self.replies = self.socket.makefile("rb")
         try:
             self.connect()

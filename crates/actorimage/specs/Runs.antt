@@ -22,6 +22,6 @@ BeginsWith (Ok None) first = IsNew first
 BeginsWith (Err e) first = first ≡ Err e
 
 -- where the image is saved after a run: at the given path, if any, and nowhere if the run was refused
-abbrev pub saved_at : {P T : Type 0} → Option P → Result T Refusal → Option P
+abbrev pub saved_at : {P T E : Type 0} → Option P → Result T E → Option P
 saved_at path (Ok _) = path
 saved_at path (Err e) = None

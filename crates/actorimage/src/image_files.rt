@@ -6,14 +6,16 @@ ghost use Rattle.st_wire.specs.Streams.{input_view};
 ghost use Rattle.st_file.specs.Files.{LoadsFile};
 ghost use Rattle.actorimage.specs.Runs as spec;
 
-use crate::new_files::hold;
+use crate::failures::Failure;
+use crate::new_files::HELD_BY_ANOTHER;
 use crate::runs::found_as;
+use crate::stamps::Stamp;
 use st_classes::refusals::Refusal;
 use st_file::files::load;
 use st_server::images::Image;
 use st_wire::streams::{Input, Reader};
 use std::alloc::Global;
-use std::fs::{File, Files};
+use std::fs::{File, Files, TryLockError};
 use std::io::{self, ErrorKind, Read};
 
 /// Stands for a file that cannot be opened: each read fails.
@@ -37,34 +39,86 @@ fn found_in<I: Input>(alloc: Global, input: &mut I) -> Result<Option<Image>, Ref
     found_as(loaded)
 }
 
-/// The image of a file, or none if no path is given or no file is there. `ReadFault` says that the file cannot be read, and
-/// `BadImage` that it holds no image.
-pub fn load_file<R: Files>(
-    rt: &R,
-    alloc: Global,
-    path: Option<&str>,
-) -> Result<Option<Image>, Refusal>
+/// The image of a file, or none if there is no file. `ReadFault` says that the file cannot be read, and `BadImage` that it holds no
+/// image.
+pub fn load_file(alloc: Global, file: Option<&File>) -> Result<Option<Image>, Refusal>
     ensures { IfOk result (λ found. IfSome found (λ i. i.history ≡ [])) }
 {
-    let Some(path) = path else {
-        return Ok(None);
-    };
-    let file = match File::open(rt, path) {
-        Ok(file) => file,
-        Err(error) if error.kind() == ErrorKind::NotFound => return Ok(None),
-        Err(_) => return Err(Refusal::ReadFault),
-    };
-    found_in(alloc, &mut Reader::new(file))
+    match file {
+        Some(file) => found_in(alloc, &mut Reader::new(file)),
+        None => Ok(None),
+    }
 }
 
-/// Saves an image to the file at a path, by a new file beside it that is held for that. `WriteFault` says that the new file cannot be
-/// written, or that another process holds it. After a refusal the file is as it was.
-pub fn save_file<R: Files<File = File>>(
+/// Where the image of a run is kept.
+#[derive(Clone, Copy)]
+pub struct Place<'a> {
+    /// The path of the image's file.
+    pub path: &'a str,
+    /// Whether the file is to be there when the run begins.
+    pub must_exist: bool,
+}
+
+/// What is at an image's place when a run begins: the file, if one is there, and what the system says of it.
+#[derive(Drop)]
+pub struct Opened {
+    pub file: Option<File>,
+    pub seen: Option<Stamp>,
+}
+
+impl Opened {
+    /// What is at a place where nothing is.
+    pub fn nothing() -> Opened {
+        Opened {
+            file: None,
+            seen: None,
+        }
+    }
+
+    /// Locks the file, so that no other server begins on it by whatever name. Where files cannot be locked nothing is done.
+    pub fn lock(&self, alloc: Global, path: &str) -> Result<(), Failure> {
+        let Some(file) = &self.file else {
+            return Ok(());
+        };
+        match file.try_lock() {
+            Err(TryLockError::WouldBlock) => {
+                Err(Failure::of(alloc, Refusal::WriteFault, path, HELD_BY_ANOTHER))
+            }
+            _ => Ok(()),
+        }
+    }
+}
+
+/// The refusal to read a path, since the system says so.
+fn unread(alloc: Global, path: &str, error: &io::Error) -> Failure {
+    Failure::at(alloc, Refusal::ReadFault, path, error)
+}
+
+/// Opens the file at an image's place. `ReadFault` says that it cannot be read, or is not there and must be.
+pub fn open_file<R: Files<File = File>>(
     rt: &R,
     alloc: Global,
-    path: &str,
-    image: &Image,
-) -> Result<(), Refusal> {
-    let new = hold(rt, alloc, path)?;
-    new.save(rt, alloc, image)
+    place: Place<'_>,
+) -> Result<Opened, Failure> {
+    let path = place.path;
+    let file = match File::open(rt, path) {
+        Ok(file) => file,
+        Err(error) if error.kind() == ErrorKind::NotFound && !place.must_exist => {
+            return Ok(Opened::nothing());
+        }
+        Err(error) => return Err(unread(alloc, path, &error)),
+    };
+    match file.metadata() {
+        Ok(found) if found.is_dir() => Err(Failure::of(
+            alloc,
+            Refusal::ReadFault,
+            path,
+            "is a folder",
+        )),
+        Ok(found) => Ok(Opened {
+            seen: Some(Stamp::of(&found)),
+            file: Some(file),
+        }),
+        Err(error) => Err(unread(alloc, path, &error)),
+    }
 }

@@ -3,24 +3,30 @@
 
 ghost use Rattle.std.specs.Prelude.{◌≡◌, [], IfOk};
 
+mod doors;
+mod failures;
 mod image_files;
 mod new_files;
 mod options;
 mod runs;
 mod socket_files;
+mod stamps;
 
-use crate::image_files::{Unreadable, load_file, save_file};
+use crate::doors::{Doorkeeper, Reporter};
+use crate::failures::Failure;
+use crate::image_files::{Opened, Place, Unreadable, load_file, open_file};
 use crate::new_files::{NewFile, hold};
 use crate::options::{Request, ScriptOptions, ServeOptions, invalid_utf8_error, parsed_request};
 use crate::runs::{begin_with, saved_at};
 use crate::socket_files::{SocketFile, bind};
+use crate::stamps::Stamp;
 use boxcar::Vec as Faults;
 use clap::Error;
 use st_classes::refusals::Refusal;
 use st_pool::totals::Totals;
 use st_server::checking::check_on;
 use st_server::images::Image;
-use st_server::porters::OpenDoor;
+use st_server::porters::FaultList;
 use st_server::scripts::script_on;
 use st_server::sockets::{Served, serve_image};
 use st_wire::names::refusal_name;
@@ -34,13 +40,13 @@ use std::os::unix::net::UnixListener;
 use std::process::ExitCode;
 use std::sync::Wait;
 use std::thread::Threads;
+use std::time::Clock;
 
-/// The image in a file, or a new image if no path is given or no file is there.
-fn first_image<R: Files + AllocGlobal>(rt: &R, path: Option<&str>) -> Result<Image, Refusal>
+/// The image in a file, or a new image if there is no file.
+fn first_image(alloc: Global, file: Option<&File>) -> Result<Image, Refusal>
     ensures { IfOk result (λ i. i.history ≡ []) }
 {
-    let alloc = rt.alloc();
-    let found = load_file(rt, alloc, path);
+    let found = load_file(alloc, file);
     begin_with(alloc, found)
 }
 
@@ -65,32 +71,37 @@ fn run_script<R: Input + Print + AllocGlobal>(
     }
 }
 
-/// Saves an image to the file at a path, if one is given.
+/// Saves an image at a place, if one is given, by a new file that is held for that. `seen` is what was at the place at the start.
 fn save_at<R: Files<File = File>>(
     rt: &R,
     alloc: Global,
-    path: Option<&str>,
+    place: Option<Place<'_>>,
+    seen: Option<Stamp>,
     image: Image,
-) -> Result<(), Refusal> {
-    let saved = match path {
-        Some(path) => save_file(rt, alloc, path, &image),
-        None => Ok(()),
-    };
-    drop(image);
-    saved
+) -> Result<(), Failure> {
+    let held = hold_at(rt, alloc, place)?;
+    save_held(rt, alloc, held.as_ref(), seen, image)
 }
 
 /// Runs a script on a new image or on the image of a file. That file then gets the image, unless the session is refused.
 fn script<R: Input + Print + Files<File = File> + AllocGlobal>(
     rt: &R,
     options: ScriptOptions<'_>,
-) -> Result<(), Refusal> {
-    let image = first_image(rt, options.image)?;
+) -> Result<(), Failure> {
+    let alloc = rt.alloc();
+    let opened = open_at(rt, alloc, options.image)?;
+    let image = first_image(alloc, opened.file.as_ref())?;
     let (image, ended) = run_script(rt, options, image);
-    save_at(rt, rt.alloc(), saved_at(options.image, &ended), image)?;
+    save_at(
+        rt,
+        alloc,
+        saved_at(options.image, &ended),
+        opened.seen,
+        image,
+    )?;
     match ended {
         Ok(_) => Ok(()),
-        Err(refusal) => Err(refusal),
+        Err(refusal) => Err(Failure::from(refusal)),
     }
 }
 
@@ -123,8 +134,9 @@ fn tell_end<R: Print + Eprint + AllocGlobal>(
     rt: &R,
     faults: &Faults<Refusal>,
     totals: Totals,
-) -> Result<(), Refusal> {
-    let names = sorted_names(rt.alloc(), faults)?;
+) -> Result<(), Failure> {
+    let alloc = rt.alloc();
+    let names = sorted_names(alloc, faults)?;
     for name in &names {
         let _ = eprintln!(rt; "session: {name}");
     }
@@ -132,12 +144,19 @@ fn tell_end<R: Print + Eprint + AllocGlobal>(
     let steps = totals.steps;
     match println!(rt; "{{\"ok\":{{\"posts\":{posts},\"steps\":{steps}}}}}") {
         Ok(()) => Ok(()),
-        Err(_) => Err(Refusal::WriteFault),
+        Err(error) => Err(Failure::at(alloc, Refusal::WriteFault, "standard output", &error)),
     }
 }
 
+/// Says on standard error what is served.
+fn tell_start<R: Eprint>(rt: &R, socket: &str, image: &Image) {
+    let actors = image.actors();
+    let classes = image.version().classes();
+    let _ = eprintln!(rt; "actorimage: serving {socket}, {actors} actors, {classes} classes");
+}
+
 /// Serves sessions over a socket, and removes its file at the end.
-fn serve_bound<R: Threads + Wait + Files + Sync>(
+fn serve_bound<R: Threads + Wait + Files + Eprint + Clock + Sync>(
     rt: &R,
     alloc: Global,
     options: ServeOptions<'_>,
@@ -145,12 +164,20 @@ fn serve_bound<R: Threads + Wait + Files + Sync>(
     faults: &Faults<Refusal>,
     image: Image,
 ) -> Result<Served, Refusal> {
+    if options.is_verbose {
+        tell_start(rt, options.socket, &image);
+    }
+    let keeper = Doorkeeper::new(file);
+    let reporter = Reporter {
+        list: FaultList::of(faults, options.sessions),
+        is_verbose: options.is_verbose,
+    };
     let result = serve_image(
         rt,
         alloc,
         listener,
-        faults,
-        &OpenDoor,
+        &keeper,
+        &reporter,
         options.workers,
         options.sessions,
         image,
@@ -161,45 +188,76 @@ fn serve_bound<R: Threads + Wait + Files + Sync>(
 
 /// Loads the image of a file, or makes a new one, and serves it over a socket, whose file is made for the owner alone. The refusals of
 /// sessions are added to `faults`.
-fn serve_loaded<R: Threads + Wait + Net + Files + AllocGlobal + Sync>(
+fn serve_loaded<R: Threads + Wait + Net + Files + Eprint + Clock + AllocGlobal + Sync>(
     rt: &R,
     options: ServeOptions<'_>,
+    file: Option<&File>,
     faults: &Faults<Refusal>,
-) -> Result<Served, Refusal> {
-    let image = first_image(rt, options.image)?;
-    match bind(rt, options.socket) {
-        Ok(bound) => serve_bound(rt, rt.alloc(), options, bound, faults, image),
-        Err(refusal) => {
+) -> Result<Served, Failure> {
+    let alloc = rt.alloc();
+    let image = first_image(alloc, file)?;
+    match bind(rt, alloc, options.socket) {
+        Ok(bound) => {
+            let served = serve_bound(rt, alloc, options, bound, faults, image)?;
+            Ok(served)
+        }
+        Err(failure) => {
             drop(image);
-            Err(refusal)
+            Err(failure)
         }
     }
 }
 
-/// Takes hold of the new file beside the file at a path, if one is given.
+/// Opens the file at an image's place, if one is given.
+fn open_at<R: Files<File = File>>(
+    rt: &R,
+    alloc: Global,
+    place: Option<Place<'_>>,
+) -> Result<Opened, Failure> {
+    match place {
+        Some(place) => open_file(rt, alloc, place),
+        None => Ok(Opened::nothing()),
+    }
+}
+
+/// The same, and locks the file.
+fn lock_at<R: Files<File = File>>(
+    rt: &R,
+    alloc: Global,
+    place: Option<Place<'_>>,
+) -> Result<Opened, Failure> {
+    let opened = open_at(rt, alloc, place)?;
+    if let Some(place) = place {
+        opened.lock(alloc, place.path)?;
+    }
+    Ok(opened)
+}
+
+/// Takes hold of the new file beside the file at a place, if one is given.
 fn hold_at<R: Files<File = File>>(
     rt: &R,
     alloc: Global,
-    path: Option<&str>,
-) -> Result<Option<NewFile>, Refusal> {
-    match path {
-        Some(path) => {
-            let new = hold(rt, alloc, path)?;
+    place: Option<Place<'_>>,
+) -> Result<Option<NewFile>, Failure> {
+    match place {
+        Some(place) => {
+            let new = hold(rt, alloc, place.path)?;
             Ok(Some(new))
         }
         None => Ok(None),
     }
 }
 
-/// Saves an image by a new file that is held, if one is.
+/// Saves an image by a new file that is held, if one is. `seen` is what was at its place at the start.
 fn save_held<R: Files<File = File>>(
     rt: &R,
     alloc: Global,
     held: Option<&NewFile>,
+    seen: Option<Stamp>,
     image: Image,
-) -> Result<(), Refusal> {
+) -> Result<(), Failure> {
     let saved = match held {
-        Some(new) => new.save(rt, alloc, &image),
+        Some(new) => new.save(rt, alloc, &image, seen),
         None => Ok(()),
     };
     drop(image);
@@ -211,9 +269,10 @@ fn save_held<R: Files<File = File>>(
 fn end_serving<R: Files<File = File> + Print + Eprint + AllocGlobal>(
     rt: &R,
     held: Option<&NewFile>,
+    seen: Option<Stamp>,
     faults: &Faults<Refusal>,
-    ended: Result<Served, Refusal>,
-) -> Result<(), Refusal> {
+    ended: Result<Served, Failure>,
+) -> Result<(), Failure> {
     let kept = saved_at(held, &ended);
     let Served {
         image,
@@ -222,42 +281,45 @@ fn end_serving<R: Files<File = File> + Print + Eprint + AllocGlobal>(
         ..
     } = match ended {
         Ok(served) => served,
-        Err(refusal) => {
+        Err(failure) => {
             if let Some(new) = held {
                 new.remove(rt);
             }
-            return Err(refusal);
+            return Err(failure);
         }
     };
-    let saved = save_held(rt, rt.alloc(), kept, image);
-    tell_end(rt, faults, totals)?;
+    let saved = save_held(rt, rt.alloc(), kept, seen, image);
+    let told = tell_end(rt, faults, totals);
     saved?;
+    told?;
     match fault {
-        Some(refusal) => Err(refusal),
+        Some(refusal) => Err(Failure::from(refusal)),
         None => Ok(()),
     }
 }
 
-/// Serves an image as `serve_loaded` does, and saves it. The new file beside the image's file is held from before the file is loaded:
+/// Serves an image as `serve_loaded` does, and saves it. The new file beside the image's file is held from before the file is opened:
 /// if that is refused, nothing is served.
-fn serve_with<R: Threads + Wait + Net + Files<File = File> + Print + Eprint + AllocGlobal + Sync>(
-    rt: &R,
-    options: ServeOptions<'_>,
-    faults: &Faults<Refusal>,
-) -> Result<(), Refusal> {
+fn serve_with<
+    R: Threads + Wait + Net + Files<File = File> + Print + Eprint + Clock + AllocGlobal + Sync,
+>(rt: &R, options: ServeOptions<'_>, faults: &Faults<Refusal>) -> Result<(), Failure> {
     let held = hold_at(rt, rt.alloc(), options.image)?;
-    let ended = serve_loaded(rt, options, faults);
-    end_serving(rt, held.as_ref(), faults, ended)
+    match lock_at(rt, rt.alloc(), options.image) {
+        Ok(opened) => {
+            let ended = serve_loaded(rt, options, opened.file.as_ref(), faults);
+            end_serving(rt, held.as_ref(), opened.seen, faults, ended)
+        }
+        Err(failure) => end_serving(rt, held.as_ref(), None, faults, Err(failure)),
+    }
 }
 
 /// Serves a new image or the image of a file. That file gets the image when all sessions have ended.
-fn serve<R: Threads + Wait + Net + Files<File = File> + Print + Eprint + AllocGlobal + Sync>(
-    rt: &R,
-    options: ServeOptions<'_>,
-) -> Result<(), Refusal> {
+fn serve<
+    R: Threads + Wait + Net + Files<File = File> + Print + Eprint + Clock + AllocGlobal + Sync,
+>(rt: &R, options: ServeOptions<'_>) -> Result<(), Failure> {
     match Faults::new(rt.alloc()) {
         Ok(faults) => serve_with(rt, options, &faults),
-        Err(_) => Err(Refusal::NoMemory),
+        Err(_) => Err(Failure::from(Refusal::NoMemory)),
     }
 }
 
@@ -267,10 +329,14 @@ fn words(rt: &HostRuntime) -> io::Result<Vec<String>> {
     Ok(words)
 }
 
-/// Writes the name of a refusal to standard error. If that fails, the exit status still tells of it.
-fn report_refusal(rt: &HostRuntime, refusal: Refusal) -> ExitCode {
-    let name = refusal_name(refusal);
+/// Writes the name of a refusal to standard error, and below it what it was about, if that is known. If that fails, the exit status
+/// still tells of it.
+fn report(rt: &HostRuntime, failure: &Failure) -> ExitCode {
+    let name = refusal_name(failure.refusal);
     let _ = eprintln!(rt; "actorimage: {name}");
+    if let Some(words) = &failure.words {
+        let _ = eprintln!(rt; "{words}");
+    }
     ExitCode::from(1)
 }
 
@@ -286,7 +352,7 @@ fn main(rt: HostRuntime) -> io::Result<ExitCode> {
     let words = match words(&rt) {
         Ok(words) => words,
         Err(error) if error.kind() == ErrorKind::OutOfMemory => {
-            return Ok(report_refusal(&rt, Refusal::NoMemory));
+            return Ok(report(&rt, &Failure::from(Refusal::NoMemory)));
         }
         Err(_) => {
             let error = invalid_utf8_error(rt.alloc()).unwrap_or_else(Error::from);
@@ -304,6 +370,6 @@ fn main(rt: HostRuntime) -> io::Result<ExitCode> {
     };
     match result {
         Ok(status) => Ok(ExitCode::from(status)),
-        Err(refusal) => Ok(report_refusal(&rt, refusal)),
+        Err(failure) => Ok(report(&rt, &failure)),
     }
 }

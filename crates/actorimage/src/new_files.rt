@@ -1,15 +1,26 @@
 //! The new file beside an image's file. It is held by a lock, gets the text, and takes the old file's place.
+use crate::failures::Failure;
+use crate::stamps::{Stamp, has_changed};
 use st_classes::refusals::Refusal;
 use st_file::saving::save;
 use st_server::images::Image;
 use st_wire::streams::Writer;
 use std::alloc::Global;
-use std::fs::{self, File, Files, TryLockError};
-use std::io::ErrorKind;
-use std::os::unix::fs::{MetadataExt, OpenOptionsExt, fchown};
+use std::fs::{self, File, Files, Permissions, TryLockError};
+use std::io::{self, ErrorKind, Write};
+use std::os::unix::fs::{MetadataExt, OpenOptionsExt, PermissionsExt, fchown};
 
 /// How often a new file is opened, at most, until it is the one at its path.
 const TRIES: u32 = 8;
+
+/// Below this number are those of the names that are tried for an image which cannot take its file's place.
+const MOST_KEPT: u32 = 1000;
+
+/// What is said of a file that another process has locked.
+pub const HELD_BY_ANOTHER: &str = "is held by another process";
+
+/// The permissions of an image's file that is made where none was: its owner can read and write.
+const OWNER_ALONE: u32 = 0o600;
 
 /// The new file beside an image's file, which this process holds: no other one can take hold of it.
 #[derive(Drop)]
@@ -55,6 +66,14 @@ fn is_free<R: Files>(rt: &R, path: &str) -> bool {
     }
 }
 
+/// Whether nothing is at a path.
+fn is_nothing<R: Files>(rt: &R, path: &str) -> bool {
+    match fs::symlink_metadata(rt, path) {
+        Ok(_) => false,
+        Err(error) => error.kind() == ErrorKind::NotFound,
+    }
+}
+
 /// Whether an open file is the one at a path, and not one to which a link there leads.
 fn is_at<R: Files>(rt: &R, file: &File, path: &str) -> bool {
     let Ok(own) = file.metadata() else {
@@ -70,56 +89,74 @@ fn is_at<R: Files>(rt: &R, file: &File, path: &str) -> bool {
 /// write it.
 fn mode_beside<R: Files>(rt: &R, place: &str) -> u32 {
     match fs::metadata(rt, place) {
-        Ok(old) => old.mode() & 0o777 | 0o600,
-        Err(_) => 0o666,
+        Ok(old) => old.mode() & 0o777 | OWNER_ALONE,
+        Err(_) => OWNER_ALONE,
     }
+}
+
+/// The refusal to write to a path, for what is so there.
+fn unwritten(alloc: Global, path: &str, what: &str) -> Failure {
+    Failure::of(alloc, Refusal::WriteFault, path, what)
 }
 
 /// Opens the file at a path to write to it, and locks it. It is made with these permissions if it is not there, and what is in it stays.
 /// Where files cannot be locked it is only opened.
-fn locked<R: Files<File = File>>(rt: &R, path: &str, mode: u32) -> Result<File, Refusal> {
+fn locked<R: Files<File = File>>(
+    rt: &R,
+    alloc: Global,
+    path: &str,
+    mode: u32,
+) -> Result<File, Failure> {
     if !is_free(rt, path) {
-        return Err(Refusal::WriteFault);
+        return Err(unwritten(alloc, path, "is there already, and is no file"));
     }
     let mut options = File::options();
-    let Ok(file) = options.write(true).create(true).mode(mode).open(rt, path) else {
-        return Err(Refusal::WriteFault);
+    let file = match options.write(true).create(true).mode(mode).open(rt, path) {
+        Ok(file) => file,
+        Err(error) => return Err(Failure::at(alloc, Refusal::WriteFault, path, &error)),
     };
     match file.try_lock() {
-        Err(TryLockError::WouldBlock) => Err(Refusal::WriteFault),
+        Err(TryLockError::WouldBlock) => Err(unwritten(alloc, path, HELD_BY_ANOTHER)),
         _ => Ok(file),
     }
 }
 
 /// Opens and locks the new file at a path, beside the one whose place it takes. If it was moved or taken away meanwhile, the one that
 /// is there then is tried.
-fn held<R: Files<File = File>>(rt: &R, path: &str, place: &str) -> Result<File, Refusal> {
+fn held<R: Files<File = File>>(
+    rt: &R,
+    alloc: Global,
+    path: &str,
+    place: &str,
+) -> Result<File, Failure> {
     let mode = mode_beside(rt, place);
     for _ in 0..TRIES {
-        let file = locked(rt, path, mode)?;
+        let file = locked(rt, alloc, path, mode)?;
         if is_at(rt, &file, path) {
             return Ok(file);
         }
     }
-    Err(Refusal::WriteFault)
+    Err(unwritten(alloc, path, "is taken away again and again"))
 }
 
 /// Takes hold of the new file beside the image's file at a path, which need not be there. If the path is a link, it is the one beside
 /// the file to which it leads. `WriteFault` says that it cannot be written, that another process holds it, or that the path is empty.
 /// Neither file is changed, but that the new one is made if it is not there.
-pub fn hold<R: Files<File = File>>(rt: &R, alloc: Global, path: &str) -> Result<NewFile, Refusal> {
+pub fn hold<R: Files<File = File>>(rt: &R, alloc: Global, path: &str) -> Result<NewFile, Failure> {
     if path.is_empty() {
-        return Err(Refusal::WriteFault);
+        return Err(Failure::from(Refusal::WriteFault));
     }
     let place = place_of(rt, alloc, path)?;
     let path = beside(alloc, place.as_str())?;
-    let file = held(rt, path.as_str(), place.as_str())?;
+    let file = held(rt, alloc, path.as_str(), place.as_str())?;
     Ok(NewFile { file, path, place })
 }
 
-/// Gives an open file the owner, the group and the permissions of the one at a path, as far as that works.
+/// Gives an open file the owner, the group and the permissions of the one at a path, as far as that works. If none is there, its owner
+/// alone can read and write it.
 fn take_rights<R: Files>(rt: &R, file: &File, place: &str) {
     let Ok(old) = fs::metadata(rt, place) else {
+        let _ = file.set_permissions(Permissions::from_mode(OWNER_ALONE));
         return;
     };
     let _ = fchown(file, None, Some(old.gid()));
@@ -127,12 +164,44 @@ fn take_rights<R: Files>(rt: &R, file: &File, place: &str) {
     let _ = file.set_permissions(old.permissions());
 }
 
-/// Writes an image to an open file and waits until it is on the disk.
-fn write_image(alloc: Global, file: &File, image: &Image) -> Result<(), Refusal> {
-    save(alloc, image, &mut Writer::new(file))?;
+/// A file to which is written, and the last error of that.
+#[derive(Drop)]
+struct Written<'a> {
+    file: &'a File,
+    error: Option<io::Error>,
+}
+
+impl<'a> Write for Written<'a> {
+    fn write(&mut self, bytes: &[u8]) -> io::Result<usize> {
+        let mut file = self.file;
+        match file.write(bytes) {
+            Ok(count) => Ok(count),
+            Err(error) => {
+                let kind = error.kind();
+                self.error = Some(error);
+                Err(io::Error::from(kind))
+            }
+        }
+    }
+
+    fn flush(&mut self) -> io::Result<()> {
+        Ok(())
+    }
+}
+
+/// Writes an image to an open file and waits until it is on the disk. A failure is said of the path.
+fn write_image(alloc: Global, file: &File, path: &str, image: &Image) -> Result<(), Failure> {
+    let mut written = Written { file, error: None };
+    let saved = save(alloc, image, &mut Writer::new(&mut written));
+    if let Err(refusal) = saved {
+        return Err(match &written.error {
+            Some(error) => Failure::at(alloc, refusal, path, error),
+            None => Failure::from(refusal),
+        });
+    }
     match file.sync_all() {
         Ok(()) => Ok(()),
-        Err(_) => Err(Refusal::WriteFault),
+        Err(error) => Err(Failure::at(alloc, Refusal::WriteFault, path, &error)),
     }
 }
 
@@ -168,62 +237,104 @@ impl NewFile {
         alloc: Global,
         file: &File,
         image: &Image,
-    ) -> Result<(), Refusal> {
-        if file.set_len(0).is_err() {
-            return Err(Refusal::WriteFault);
+    ) -> Result<(), Failure> {
+        let place = self.place.as_str();
+        if let Err(error) = file.set_len(0) {
+            return Err(Failure::at(alloc, Refusal::WriteFault, place, &error));
         }
-        take_rights(rt, file, self.place.as_str());
-        write_image(alloc, file, image)
+        take_rights(rt, file, place);
+        write_image(alloc, file, place, image)
     }
 
-    /// Fills the new file, which is open, and moves it into the old one's place.
-    fn fill_and_move<R: Files<File = File>>(
+    /// Moves the new file, which is filled, to a free name beside the old one. The answer is its path then.
+    fn moved_aside<R: Files>(&self, rt: &R, alloc: Global) -> Option<String> {
+        let place = self.place.as_str();
+        for number in 1..MOST_KEPT {
+            let path = format!(in alloc; "{place}.kept{number}").ok()?;
+            if !is_nothing(rt, path.as_str()) {
+                continue;
+            }
+            fs::rename(rt, self.path.as_str(), path.as_str()).ok()?;
+            return Some(path);
+        }
+        None
+    }
+
+    /// Keeps the new file, which is filled and cannot take the old one's place, beside it. The answer says why, and where it is.
+    fn kept<R: Files<File = File>>(&self, rt: &R, alloc: Global, why: &str) -> Failure {
+        let aside = self.moved_aside(rt, alloc);
+        let path = match &aside {
+            Some(path) => path.as_str(),
+            None => self.path.as_str(),
+        };
+        sync_folder(rt, path);
+        let place = self.place.as_str();
+        Failure {
+            refusal: Refusal::WriteFault,
+            words: format!(in alloc; "{place} {why}: this image is saved in {path}").ok(),
+        }
+    }
+
+    /// Moves the new file, which is open and filled, into the old one's place. If that has changed since it was seen, or cannot be
+    /// replaced, the new file is kept beside it.
+    fn take_place<R: Files<File = File>>(
         &self,
         rt: &R,
         alloc: Global,
         file: &File,
-        image: &Image,
-    ) -> Result<(), Refusal> {
-        self.fill(rt, alloc, file, image)?;
-        if !self.is_own(rt, file)
-            || fs::rename(rt, self.path.as_str(), self.place.as_str()).is_err()
-        {
-            return Err(Refusal::WriteFault);
+        seen: Option<Stamp>,
+    ) -> Result<(), Failure> {
+        let (path, place) = (self.path.as_str(), self.place.as_str());
+        if !self.is_own(rt, file) {
+            return Err(unwritten(alloc, path, "was taken away"));
         }
-        sync_folder(rt, self.place.as_str());
+        if has_changed(rt, place, seen) {
+            return Err(self.kept(
+                rt,
+                alloc,
+                "was changed by another process, and is NOT replaced",
+            ));
+        }
+        if fs::rename(rt, path, place).is_err() {
+            return Err(self.kept(rt, alloc, "can NOT be replaced"));
+        }
+        sync_folder(rt, place);
         Ok(())
     }
 
-    /// Saves an image by the new file, which is open and held. After a refusal it is gone.
+    /// Saves an image by the new file, which is open and held. If its text is not written whole, the new file is gone then.
     fn save_open<R: Files<File = File>>(
         &self,
         rt: &R,
         alloc: Global,
         file: &File,
         image: &Image,
-    ) -> Result<(), Refusal> {
-        let saved = self.fill_and_move(rt, alloc, file, image);
-        if saved.is_err() {
+        seen: Option<Stamp>,
+    ) -> Result<(), Failure> {
+        if let Err(failure) = self.fill(rt, alloc, file, image) {
             self.remove_open(rt, file);
+            return Err(failure);
         }
-        saved
+        self.take_place(rt, alloc, file, seen)
     }
 
     /// Saves an image: writes its text to the new file and moves that into the old one's place. So the file holds the old image or the
     /// new one, whenever the program is killed. If the new file was taken away or moved, another one is held in its stead.
-    /// `WriteFault` says that the text was not written whole or not moved. After a refusal the old file is as it was, and the new one
-    /// is gone.
+    ///
+    /// `WriteFault` says that the text was not written whole, and then the new file is gone; or that the old file has changed since it
+    /// was seen or cannot be replaced, and then the image is in a file beside it. After a refusal the old file is as it was.
     pub fn save<R: Files<File = File>>(
         &self,
         rt: &R,
         alloc: Global,
         image: &Image,
-    ) -> Result<(), Refusal> {
+        seen: Option<Stamp>,
+    ) -> Result<(), Failure> {
         if self.is_own(rt, &self.file) {
-            return self.save_open(rt, alloc, &self.file, image);
+            return self.save_open(rt, alloc, &self.file, image, seen);
         }
-        let file = held(rt, self.path.as_str(), self.place.as_str())?;
-        self.save_open(rt, alloc, &file, image)
+        let file = held(rt, alloc, self.path.as_str(), self.place.as_str())?;
+        self.save_open(rt, alloc, &file, image, seen)
     }
 
     /// Removes the new file, if it is still the one that is held.

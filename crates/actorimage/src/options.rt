@@ -1,18 +1,22 @@
 //! The command line.
 ghost use Rattle.std.specs.Prelude.{◌≡◌, unwrap_or};
 
+use crate::image_files::Place;
 use clap::error::ErrorKind;
-use clap::{Arg, ArgMatches, Command, Error, value_parser};
+use clap::{Arg, ArgAction, ArgMatches, Command, Error, value_parser};
 use st_server::settings::ScriptSettings;
 use std::alloc::{AllocError, Global};
+
+/// What `--version` prints behind the program's name.
+const VERSION: &str = "0.1";
 
 /// The options of a script.
 #[derive(Clone, Copy)]
 pub struct ScriptOptions<'a> {
     quantum: Option<u32>,
     capacity: Option<u32>,
-    /// The path of the image's file, if the image is kept in one.
-    pub image: Option<&'a str>,
+    /// Where the image is kept, if it is kept in a file.
+    pub image: Option<Place<'a>>,
 }
 
 impl<'a> ScriptOptions<'a> {
@@ -44,8 +48,10 @@ pub struct ServeOptions<'a> {
     pub workers: u32,
     /// The number of sessions after which the server ends, from 1 to 1,000,000, if it is to end.
     pub sessions: Option<u32>,
-    /// The path of the image's file, if the image is kept in one.
-    pub image: Option<&'a str>,
+    /// Where the image is kept, if it is kept in a file.
+    pub image: Option<Place<'a>>,
+    /// Whether standard error says what is served, and which sessions end badly.
+    pub is_verbose: bool,
 }
 
 /// What a command line asks for.
@@ -63,6 +69,24 @@ fn option<'a>(alloc: Global, name: &'a str, value: &'a str, help: &'a str) -> Ar
         .long(name)
         .value_name(value)
         .help(help)
+}
+
+/// An option without a value.
+fn flag<'a>(alloc: Global, name: &'a str, help: &'a str) -> Arg<'a> {
+    Arg::new(alloc, name)
+        .long(name)
+        .action(ArgAction::SetTrue)
+        .help(help)
+}
+
+/// The option by which the image's file has to be there.
+fn must_exist<'a>(alloc: Global) -> Result<Arg<'a>, AllocError> {
+    flag(
+        alloc,
+        "must-exist",
+        "Refuses an image file that is not there",
+    )
+    .requires_arg("image")
 }
 
 /// An option whose value is a number from 1 to the given one.
@@ -84,6 +108,7 @@ fn script_command<'a>(alloc: Global) -> Result<Command<'a>, AllocError> {
     Command::new(alloc, "script")
         .about("Runs the commands on standard input and writes a reply to each")
         .arg(option(alloc, "image", "FILE", image))?
+        .arg(must_exist(alloc)?)?
         .arg(number_option(alloc, "quantum", "N", quantum, 1024))?
         .arg(number_option(alloc, "capacity", "N", capacity, 1024))
 }
@@ -95,12 +120,15 @@ fn serve_command<'a>(alloc: Global) -> Result<Command<'a>, AllocError> {
         "Ends after so many sessions, 1 to 1000000: waits for their ends, saves, and tells what they did together";
     let image =
         "Keeps the image in a file: begins with it where it is there, and saves to it at the end, which --sessions or tools/stop brings";
+    let verbose = "Says on standard error what is served, and names each session that ends badly";
     Command::new(alloc, "serve")
         .about("Serves one image to sessions over a Unix socket")
         .arg(option(alloc, "socket", "PATH", socket).required(true))?
         .arg(number_option(alloc, "workers", "N", workers, 16).required(true))?
         .arg(number_option(alloc, "sessions", "K", sessions, 1_000_000))?
-        .arg(option(alloc, "image", "FILE", image))
+        .arg(option(alloc, "image", "FILE", image))?
+        .arg(must_exist(alloc)?)?
+        .arg(flag(alloc, "verbose", verbose))
 }
 
 fn check_command<'a>(alloc: Global) -> Result<Command<'a>, AllocError> {
@@ -132,6 +160,7 @@ fn with<'a>(
 fn program<'a>(alloc: Global) -> Result<Command<'a>, AllocError> {
     let program = Command::new(alloc, "actorimage")
         .about("A live-editable Smalltalk image of actors")
+        .version(VERSION)
         .subcommand_required(true)
         .arg_required_else_help(true);
     let program = with(program, script_command(alloc))?;
@@ -139,11 +168,22 @@ fn program<'a>(alloc: Global) -> Result<Command<'a>, AllocError> {
     with(program, check_command(alloc))
 }
 
+/// Where the image is kept, if it is kept in a file.
+fn image_place<'a>(matches: &ArgMatches<'a>) -> Option<Place<'a>> {
+    match matches.get_str("image") {
+        Some(path) => Some(Place {
+            path,
+            must_exist: matches.get_flag("must-exist"),
+        }),
+        None => None,
+    }
+}
+
 fn script_options<'a>(matches: &ArgMatches<'a>) -> ScriptOptions<'a> {
     ScriptOptions {
         quantum: matches.get_one::<u32>("quantum"),
         capacity: matches.get_one::<u32>("capacity"),
-        image: matches.get_str("image"),
+        image: image_place(matches),
     }
 }
 
@@ -152,7 +192,8 @@ fn serve_options<'a>(matches: &ArgMatches<'a>) -> ServeOptions<'a> {
         socket: matches.get_str("socket").unwrap_or(""),
         workers: matches.get_one::<u32>("workers").unwrap_or(1),
         sessions: matches.get_one::<u32>("sessions"),
-        image: matches.get_str("image"),
+        image: image_place(matches),
+        is_verbose: matches.get_flag("verbose"),
     }
 }
 

@@ -31,7 +31,7 @@ pub fn begin_with(alloc: Global, found: Result<Option<Image>, Refusal>) -> Resul
 }
 
 /// Where the image is saved after a run: at the given path, if any, and nowhere if the run was refused.
-pub fn saved_at<P: Copy, T>(path: Option<P>, ended: &Result<T, Refusal>) -> Option<P>
+pub fn saved_at<P: Copy, T, E>(path: Option<P>, ended: &Result<T, E>) -> Option<P>
     ensures { result ≡ spec.saved_at path ended.now }
 {
     match ended {

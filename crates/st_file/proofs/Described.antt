@@ -10,7 +10,7 @@ use Rattle.st_image.specs.Loading.{Reloads}
 use Rattle.st_image.specs.Parts.{part_of, rebase}
 use Rattle.st_image.specs.WorldInvariant.{AreClientsFrom}
 use Rattle.st_image.specs.declared.edit_text.EditText.{EditText}
-use Rattle.st_wire.specs.Fields.{texts_at}
+use Rattle.st_wire.specs.Fields.{texts_at, whole_at}
 use Rattle.st_wire.specs.Replies.{keys_rise}
 use Rattle.st_file.specs.declared.texts.ActorText.{ActorText}
 use Rattle.st_file.specs.declared.texts.ImageText.{ImageText}
@@ -63,12 +63,13 @@ told_names v t h =
     names_from actors edits counts names senders t h
 
 -- a value that says what tells an image, with its keys in order, is the image's document
-pub told_document : (v : Data) (i : ImageView) (t : ImageText) → image_in v ≡ Some t → keys_rise v ≡ true → TellsImage i t
+pub told_document : (v : Data) (i : ImageView) (t : ImageText) → (image_in v ≡ Some t) × (whole_at (codes "format") 1 2 v ≡ Some 2) → keys_rise v ≡ true → TellsImage i t
     → Describes v i.names (rebase (world i)) (counts_of i)
     → IsDocument v i
 told_document v i t shape ordered tells describes = record {
+  format = shape.1;
   describes = describes;
-  names = told_names v t shape ∙ ap Some tells.names;
+  names = told_names v t shape.0 ∙ ap Some tells.names;
   ordered = ordered;
 }
 

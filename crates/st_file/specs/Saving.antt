@@ -5,7 +5,7 @@ use Rattle.serde_json.specs.Data.{Data}
 use Rattle.serde_json.specs.Written.{compact_text}
 use Rattle.st_classes.specs.declared.refusals.Refusal.{Refusal}
 use Rattle.st_classes.specs.declared.refusals.Refusal.TheVariants.{NoMemory, WriteFault}
-use Rattle.st_wire.specs.Fields.{texts_at}
+use Rattle.st_wire.specs.Fields.{texts_at, whole_at}
 use Rattle.st_wire.specs.Replies.{keys_rise}
 use Rattle.st_wire.specs.Streams.{one_more}
 use Rattle.st_image.specs.Images.{ImageView, counts_of, world}
@@ -28,9 +28,10 @@ pub record TellsImage (i : ImageView) (t : ImageText) : Type 0 where
 
 -- ---- documents
 
--- a value is the document of an image: it describes the image, with its present world as one that another image can begin with; it lists
--- all names after the kernel's, by their numbers; and its keys are in byte order at every level
+-- a value is the document of an image, in the second format: it describes the image, with its present world as one that another image can
+-- begin with; it lists all names after the kernel's, by their numbers; and its keys are in byte order at every level
 pub record IsDocument (v : Data) (i : ImageView) : Type 0 where
+  pub format : whole_at (codes "format") 1 2 v ≡ Some 2
   pub describes : Describes v i.names (rebase (world i)) (counts_of i)
   pub names : texts_at (codes "names") v ≡ Some (drop 22 i.names)
   pub ordered : keys_rise v ≡ true

@@ -22,15 +22,35 @@ use st_mailbox::messages::Sender;
 use st_wire::names::fault_name;
 use std::alloc::{AllocError, Global};
 
-/// Makes the JSON value of a file's texts. It is read as these texts again. Fails only if memory runs out.
+/// Makes the JSON value of a file's texts, in the second format. It is read as these texts again. Fails only if memory runs out.
 pub fn image_data(alloc: Global, text: ImageText) -> Result<Value, AllocError>
     requires { ImageIsText text }
     ensures read { IfOk result (λ v. shapes.image_in (view v) ≡ Some text) }
+    ensures format { IfOk result (λ v. spec.whole_at (codes "format") 1 2 (view v) ≡ Some 2) }
     ensures shallow { IfOk result (λ v. depth (view v) ≤ 9) }
     ensures whole { IfOk result (λ v. has_float (view v) ≡ false) }
     ensures ordered { IfOk result (λ v. keys_rise (view v) ≡ true) }
 {
-    text.tell(alloc)
+    let ImageText {
+        actors,
+        counts,
+        edits,
+        names,
+        senders,
+    } = text;
+    let actors = list(alloc, actors)?;
+    let edits = list(alloc, edits)?;
+    let names = list(alloc, names)?;
+    let senders = list(alloc, senders)?;
+    image(
+        alloc,
+        actors,
+        edits,
+        names,
+        counts.posts,
+        senders,
+        counts.steps,
+    )
 }
 
 /// A type that can be written as a JSON value.
@@ -393,37 +413,6 @@ impl Telling for (u16, u64) {
     fn tell(self, alloc: Global) -> Result<Value, AllocError> {
         let (client, last) = self;
         json!(in alloc; [client, last])
-    }
-}
-
-impl Telling for ImageText {
-    ghost form = { shapes.image_in };
-
-    ghost deep = { 9 };
-
-    ghost is_text = { ImageIsText };
-
-    fn tell(self, alloc: Global) -> Result<Value, AllocError> {
-        let ImageText {
-            actors,
-            counts,
-            edits,
-            names,
-            senders,
-        } = self;
-        let actors = list(alloc, actors)?;
-        let edits = list(alloc, edits)?;
-        let names = list(alloc, names)?;
-        let senders = list(alloc, senders)?;
-        image(
-            alloc,
-            actors,
-            edits,
-            names,
-            counts.posts,
-            senders,
-            counts.steps,
-        )
     }
 }
 

@@ -61,7 +61,8 @@ States i class text r = MatchOption (class_named (world i).edits class)
 -- ---- a command that needs the image alone
 
 -- the reply to each command, whoever holds the image; a run needs a worker too, and is refused by BadCommand
-abbrev pub Asks : {H N : Type 0} → (H → ImageView) → (H → N → Call → Result Answer Refusal → H → N → Type 0) → H → N → Command → Reply → H → N → Type 0
+abbrev pub Asks : {H N : Type 0} → (H → ImageView) → (H → N → Call → Result Answer Refusal → H → N → Type 0)
+    → H → N → Command → Reply → H → N → Type 0
 Asks {H} {N} image Calls h n (command.Post a args text sender seq) r k m = PostsNamed image Calls h n a args text sender seq r k m
 Asks {H} {N} image Calls h n (command.Outcome a turn) r k m = Tells (image h) (image_outcome (image h) a turn) r × Nothing h n k m
 Asks {H} {N} image Calls h n (command.Stats class text) r k m = States (image h) class text r × Nothing h n k m

@@ -4,6 +4,7 @@
 //! line's command, asked of the image as the line before left it.
 #![tactic(auto)]
 
+mod accepting;
 mod asking;
 pub mod attending;
 mod calls_of;

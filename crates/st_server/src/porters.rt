@@ -1,9 +1,11 @@
-//! Who stands at a server's door.
+//! Who stands at a server's door, and who is told of its sessions' ends.
+use boxcar::Vec as Faults;
 use st_classes::refusals::Refusal;
 use std::io;
 use std::os::unix::net::UnixStream;
+use std::sync::Wait;
 
-/// Who stands at a server's door: is asked whether clients are let in, and told of the sessions that end badly. `R` is the runtime.
+/// Who stands at a server's door, and is asked whether clients are let in. `R` is the runtime. One thread asks.
 pub trait Porter<R> {
     /// Whether clients are let in still. It is asked each time that one has connected or accepting has failed.
     fn is_open(&self, rt: &R) -> bool;
@@ -13,7 +15,10 @@ pub trait Porter<R> {
 
     /// Whether a client is the operator, for whom one place more is kept. It is asked where all others are taken.
     fn is_operator(&self, rt: &R, client: &UnixStream) -> bool;
+}
 
+/// Who is told of sessions that end by a refusal. The threads of the sessions tell it.
+pub trait Witness<R> {
     /// A session has ended by a refusal.
     fn ended(&self, rt: &R, refusal: Refusal);
 }
@@ -33,6 +38,27 @@ impl<R> Porter<R> for OpenDoor {
     fn is_operator(&self, _rt: &R, _client: &UnixStream) -> bool {
         false
     }
+}
 
-    fn ended(&self, _rt: &R, _refusal: Refusal) {}
+/// Keeps the refusals in a list, if there is one and there is memory.
+#[derive(Clone, Copy)]
+pub struct FaultList<'a> {
+    list: Option<&'a Faults<Refusal>>,
+}
+
+impl<'a> FaultList<'a> {
+    /// Keeps the refusals in this list if the sessions are counted. Those of a server without end are kept nowhere.
+    pub fn of(list: &'a Faults<Refusal>, sessions: Option<u32>) -> FaultList<'a> {
+        FaultList {
+            list: sessions.is_some().then_some(list),
+        }
+    }
+}
+
+impl<'a, R: Wait> Witness<R> for FaultList<'a> {
+    fn ended(&self, rt: &R, refusal: Refusal) {
+        if let Some(faults) = self.list {
+            let _ = faults.push(rt, refusal);
+        }
+    }
 }

@@ -13,5 +13,5 @@ returns-clause-document g c =
     let base = c.can_be_base.ensures in
     let text = c.in_ok-text.text in
     let tells = c.in_ok-text.ensures.tells in
-    in_both_ways c.image_data.result _ _ _ (λ v said ordered. told_document (view v) i text said ordered tells (told_describes (view v) i text said tells reload base.actors base.senders))
-    c.image_data.ensures.read c.image_data.ensures.ordered
+    in_both_ways c.image_data.result _ _ _ (λ v said ordered. told_document (view v) i text said ordered tells (told_describes (view v) i text said.0 tells reload base.actors base.senders))
+    (in_both_ways c.image_data.result _ _ _ (λ v read format. (read, format)) c.image_data.ensures.read c.image_data.ensures.format) c.image_data.ensures.ordered

@@ -1,0 +1,91 @@
+//! Who stands at the door of the program's server, and who is told of its sessions' ends.
+use crate::socket_files::SocketFile;
+use st_classes::refusals::Refusal;
+use st_server::porters::{FaultList, Porter, Witness};
+use st_wire::names::refusal_name;
+use std::fs::Files;
+use std::io::Error;
+use std::os::unix::net::{SocketAddrExt, UnixStream};
+use std::sync::Wait;
+use std::sync::atomic::{AtomicBool, Ordering};
+use std::thread;
+use std::time::{Clock, Duration};
+
+/// The system's errors that pass when somebody lets something go: there is no memory (`ENOMEM`), the system or the process has as
+/// many open files as it may (`ENFILE`, `EMFILE`), or there are no buffers (`ENOBUFS`).
+const SHORTAGES: [i32; 4] = [12, 23, 24, 105];
+
+/// With this begins the name, in Linux's abstract namespace, to which an operator's end of a session is bound.
+const OPERATOR: &[u8] = b"actorimage.operator.";
+
+/// Milliseconds between two tries to accept while something is short.
+const PAUSE: u64 = 100;
+
+/// Lets clients in while the socket's file is at its path. It waits where the system is short of something.
+#[derive(Drop)]
+pub struct Doorkeeper<'a> {
+    file: SocketFile<'a>,
+    /// Whether it was said that something is short.
+    has_said: AtomicBool,
+}
+
+impl<'a> Doorkeeper<'a> {
+    pub fn new(file: SocketFile<'a>) -> Doorkeeper<'a> {
+        Doorkeeper {
+            file,
+            has_said: AtomicBool::new(false),
+        }
+    }
+}
+
+/// Keeps the refusals by which sessions end, and names them on standard error where that is asked for.
+#[derive(Clone, Copy)]
+pub struct Reporter<'a> {
+    pub list: FaultList<'a>,
+    pub is_verbose: bool,
+}
+
+impl<'a, R: Wait + Eprint> Witness<R> for Reporter<'a> {
+    fn ended(&self, rt: &R, refusal: Refusal) {
+        if self.is_verbose {
+            let name = refusal_name(refusal);
+            let _ = eprintln!(rt; "actorimage: a session has ended: {name}");
+        }
+        self.list.ended(rt, refusal);
+    }
+}
+
+/// Whether an error passes when somebody lets something go.
+fn is_shortage(error: &Error) -> bool {
+    match error.raw_os_error() {
+        Some(code) => SHORTAGES.contains(&code),
+        None => false,
+    }
+}
+
+impl<'a, R: Files + Eprint + Clock> Porter<R> for Doorkeeper<'a> {
+    fn is_open(&self, rt: &R) -> bool {
+        self.file.is_there(rt)
+    }
+
+    fn tries_again(&self, rt: &R, error: &Error) -> bool {
+        if !is_shortage(error) {
+            return false;
+        }
+        if !self.has_said.swap(true, Ordering::SeqCst) {
+            let _ = eprintln!(rt; "actorimage: nobody can be let in for now: {error}");
+        }
+        thread::sleep(rt, Duration::from_millis(PAUSE));
+        true
+    }
+
+    fn is_operator(&self, _rt: &R, client: &UnixStream) -> bool {
+        let Ok(address) = client.peer_addr() else {
+            return false;
+        };
+        match address.as_abstract_name() {
+            Some(name) => name.starts_with(OPERATOR),
+            None => false,
+        }
+    }
+}

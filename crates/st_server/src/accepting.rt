@@ -1,0 +1,240 @@
+//! Clients are let in: each gets a session in a thread of its own.
+ghost use Rattle.std.specs.Prelude.{◌≡◌, ◌⊎◌, ◌↔◌, IsTrue};
+ghost use Rattle.std.specs.declared.io.ErrorKind.TheVariants.{ConnectionAborted, Interrupted};
+
+use crate::attending::attend;
+use crate::images::Mailbox;
+use crate::polling::Polled;
+use crate::porters::{Porter, Witness};
+use st_classes::refusals::Refusal;
+use st_pool::accounts::Account;
+use st_pool::callers::Caller;
+use st_pool::naming::Naming;
+use st_pool::shared::Shared;
+use st_pool::shares::CallerShare;
+use st_wire::streams::{Reader, Writer};
+use std::alloc::Global;
+use std::io::{BufWriter, ErrorKind, Read, Write};
+use std::os::unix::net::{UnixListener, UnixStream};
+use std::sync::atomic::{AtomicU64, Ordering};
+use std::sync::{Mutex, Wait};
+use std::thread;
+use std::thread::{Scope, Threads};
+
+/// The most sessions at a time. One more may be the operator's.
+const MOST_SESSIONS: u64 = 64;
+
+/// Written to a client that comes while the most sessions are open.
+const TOO_MANY: &[u8] = b"{\"error\":\"TooMany\",\"what\":\"sessions\"}\n";
+
+/// Written to a client when there is no memory for its share or its output. A client whose session gets no thread is disconnected
+/// without a line.
+const NO_MEMORY: &[u8] = b"{\"error\":\"NoMemory\"}\n";
+
+/// Where sessions come from, how many are accepted, if they are counted, who is asked to let them in, and who is told of their ends.
+#[derive(Drop)]
+pub(crate) struct Door<'a, P, W> {
+    pub(crate) listener: UnixListener,
+    pub(crate) sessions: Option<u32>,
+    pub(crate) porter: &'a P,
+    pub(crate) witness: &'a W,
+}
+
+/// What the sessions share: the image, the shares of ended sessions, room for what these have done, the number of open sessions, and
+/// who is told of their ends.
+#[derive(Drop)]
+pub(crate) struct Room<'a, K: Naming, W> {
+    pub(crate) shared: &'a Shared<K, Mailbox>,
+    pub(crate) shares: &'a Mutex<Vec<CallerShare<K>>>,
+    pub(crate) accounts: &'a Mutex<Vec<Account>>,
+    pub(crate) active: &'a AtomicU64,
+    pub(crate) witness: &'a W,
+}
+
+/// Reads and drops input that nobody will read, at most 131,072 bytes. With it unread, the client would see a failure at the end of
+/// the replies.
+fn drain(mut stream: &UnixStream) {
+    if stream.set_nonblocking(true).is_err() {
+        return;
+    }
+    let mut piece = [0u8; 8192];
+    for _ in 0..16 {
+        match stream.read(&mut piece) {
+            Ok(count) if 0 < count => {}
+            _ => return,
+        }
+    }
+}
+
+/// Tells a client why it gets no session.
+fn turn_away(mut stream: &UnixStream, line: &[u8]) {
+    let _ = stream.write_all(line);
+    drain(stream);
+}
+
+/// Runs a session over a stream.
+fn converse<K: Naming, R: Wait>(
+    rt: &R,
+    alloc: Global,
+    caller: Caller<'_, K, Mailbox>,
+    stream: &UnixStream,
+) -> (CallerShare<K>, Result<u64, Refusal>) {
+    // If the stream stays in the mode in which reads block, the session goes on without looks.
+    let _ = stream.set_nonblocking(true);
+    let Ok(buffered) = BufWriter::new(alloc, Polled::new(stream)) else {
+        turn_away(stream, NO_MEMORY);
+        return (caller.end(), Err(Refusal::NoMemory));
+    };
+    let mut input = Reader::new(Polled::new(stream));
+    let mut output = Writer::new(buffered);
+    let (share, result) = attend(rt, alloc, caller, &mut input, &mut output);
+    match output.finish() {
+        Ok(_) => (share, result),
+        Err(_) => (share, Err(Refusal::WriteFault)),
+    }
+}
+
+/// Runs a session with its own caller, and adds the caller's share to those of ended sessions. Room for it was made before.
+fn talk<K: Naming, W, R: Wait>(
+    rt: &R,
+    alloc: Global,
+    room: &Room<'_, K, W>,
+    stream: &UnixStream,
+) -> Result<u64, Refusal> {
+    let caller = room.shared.caller(rt, alloc)?;
+    let (share, result) = converse(rt, alloc, caller, stream);
+    let _ = room.shares.lock(rt).push(share);
+    result
+}
+
+/// Runs a session in its thread.
+fn host<K: Naming, W: Witness<R>, R: Wait>(
+    rt: &R,
+    alloc: Global,
+    room: &Room<'_, K, W>,
+    stream: UnixStream,
+) {
+    if let Err(refusal) = talk(rt, alloc, room, &stream) {
+        drain(&stream);
+        room.witness.ended(rt, refusal);
+    }
+    // First the place is given back: whoever has read the end of this session finds it.
+    room.active.fetch_sub(1, Ordering::SeqCst);
+    drop(stream);
+}
+
+/// Makes room for the shares of as many sessions as can be open, and for the accounts of these and of all that have ended.
+fn make_room<K: Naming, W, R: Wait>(rt: &R, room: &Room<'_, K, W>) -> bool {
+    let mut shares = room.shares.lock(rt);
+    if shares.reserve(MOST_SESSIONS as usize + 1).is_err() {
+        return false;
+    }
+    let most = shares.capacity();
+    drop(shares);
+    room.accounts.lock(rt).reserve(most).is_ok()
+}
+
+/// Whether there is no place for a client.
+fn is_full<K: Naming, P: Porter<R>, W, R>(
+    rt: &R,
+    room: &Room<'_, K, W>,
+    porter: &P,
+    client: &UnixStream,
+) -> bool {
+    let active = room.active.load(Ordering::SeqCst);
+    active > MOST_SESSIONS || active == MOST_SESSIONS && !porter.is_operator(rt, client)
+}
+
+/// Whether there is a place for a client, and room for what its session does. If not, it is told so.
+fn has_place<K: Naming, P: Porter<R>, W, R: Wait>(
+    rt: &R,
+    room: &Room<'_, K, W>,
+    porter: &P,
+    client: &UnixStream,
+) -> bool {
+    if is_full(rt, room, porter, client) {
+        turn_away(client, TOO_MANY);
+        return false;
+    }
+    if !make_room(rt, room) {
+        turn_away(client, NO_MEMORY);
+        return false;
+    }
+    true
+}
+
+/// Whether the error concerns one connection and not the socket.
+fn is_passing(kind: ErrorKind) -> bool
+    ensures { IsTrue result ↔ ((kind ≡ Interrupted) ⊎ (kind ≡ ConnectionAborted)) }
+{
+    kind == ErrorKind::Interrupted || kind == ErrorKind::ConnectionAborted
+}
+
+/// Accepts sessions, each in its own thread of a scope, until their number is reached, the porter lets in nobody any more, or accepting
+/// fails. The answer is false if it fails.
+fn accept<
+    's,
+    E,
+    K: Naming + Send + Sync,
+    P: Porter<R>,
+    W: Witness<R> + Sync,
+    R: Threads + Wait + Sync,
+>(
+    scope: &Scope<'s, E>,
+    rt: &'s R,
+    alloc: Global,
+    door: &Door<'_, P, W>,
+    room: &'s Room<'_, K, W>,
+) -> bool {
+    let porter = door.porter;
+    let mut left = door.sessions;
+    for stream in door.listener.incoming() {
+        if !porter.is_open(rt) {
+            return true;
+        }
+        let stream = match stream {
+            Ok(stream) => stream,
+            Err(error) => {
+                if is_passing(error.kind()) || porter.tries_again(rt, &error) {
+                    continue;
+                }
+                return false;
+            }
+        };
+        if !has_place(rt, room, porter, &stream) {
+            continue;
+        }
+        room.active.fetch_add(1, Ordering::SeqCst);
+        if let Err(refused) = scope.spawn(move || host(rt, alloc, room, stream)) {
+            room.active.fetch_sub(1, Ordering::SeqCst);
+            drop(refused);
+            continue;
+        }
+        match left {
+            Some(count) if count <= 1 => return true,
+            Some(count) => left = Some(count - 1),
+            None => {}
+        }
+    }
+    false
+}
+
+/// Accepts sessions as `accept` does, and waits for their ends.
+pub(crate) fn accept_all<
+    K: Naming + Send + Sync,
+    P: Porter<R>,
+    W: Witness<R> + Sync,
+    R: Threads + Wait + Sync,
+>(
+    rt: &R,
+    alloc: Global,
+    door: Door<'_, P, W>,
+    room: &Room<'_, K, W>,
+) -> bool {
+    thread::scope(thread::scope_env(), rt, |scope| -> bool {
+        let is_well = accept(scope, rt, alloc, &door, room);
+        // The open sessions go on, and whoever connects from here on is refused by the system.
+        drop(door);
+        is_well
+    })
+}

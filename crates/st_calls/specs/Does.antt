@@ -11,8 +11,8 @@ use Rattle.st_calls.specs.declared.calls.Answer.TheVariants as answer
 use Rattle.st_calls.specs.declared.calls.Call.{Call}
 use Rattle.st_calls.specs.declared.calls.Call.TheVariants as call
 
--- what a call of the image answered, as the answer of a call
-abbrev pub told : {A : Type 0} → (A → Answer) → Result A Refusal → Result Answer Refusal
+-- what was answered, as an answer of another kind; a refusal stays
+abbrev pub told : {A B : Type 0} → (A → B) → Result A Refusal → Result B Refusal
 told tell (Ok value) = Ok (tell value)
 told tell (Err e) = Err e
 

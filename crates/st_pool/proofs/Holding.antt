@@ -13,13 +13,13 @@ use Rattle.st_pool.specs.Holds.{Event, handed, settled, Happen, Happens, IsHold,
 
 happen_then : (kind : Event → Bool) (o m p : OfficeView) (es fs : List Event) → Happen kind o es m → Happen kind m fs p → Happen kind o (es ++ fs) p
 happen_then kind o m p [] fs h k = subst (λ (x : OfficeView). Happen kind x fs p) h k
-happen_then kind o m p (e ∷ es) fs h k = (h.0, h.1.0, h.1.1, happen_then kind h.1.0 m p es fs h.1.2 k)
+happen_then kind o m p (e ∷ es) fs h k = (h.0, (h.1.0, h.1.1, happen_then kind h.1.0 m p es fs h.1.2 k))
 
 pub hold_none : (kind : Event → Bool) (o p : OfficeView) → p ≡ o → IsHold kind o p
 hold_none kind o p h = record { events = []; happen = h }
 
 pub hold_one : (kind : Event → Bool) (o p : OfficeView) (e : Event) → kind e ≡ true → Happens o e p → IsHold kind o p
-hold_one kind o p e is h = record { events = e ∷ []; happen = (is, p, h, refl) }
+hold_one kind o p e is h = record { events = e ∷ []; happen = (is, (p, h, refl)) }
 
 pub hold_then : (kind : Event → Bool) (o m p : OfficeView) → IsHold kind o m → IsHold kind m p → IsHold kind o p
 hold_then kind o m p h k = record { events = h.events ++ k.events; happen = happen_then kind o m p h.events k.events h.happen k.happen }

@@ -91,7 +91,7 @@ impl<'a, K: Naming, M: Mailbox> Caller<'a, K, M> {
     }
 
     /// Interns a text: the answer is its number. It is refused by `BadName` if the text is no selector, and by `TooMany` names if it
-    /// is new and there are 8,192. No worker is woken.
+    /// is new and there are 8,192. No worker is woken, unless memory or room in the history is wanting.
     pub fn intern<R: Wait>(
         &mut self,
         rt: &R,

@@ -92,6 +92,14 @@ fn has_steps(answer: &Result<u32, Refusal>) -> bool {
     }
 }
 
+/// Whether a commit found no memory or no room in the history.
+fn is_wanting(answer: &Result<u32, Refusal>) -> bool {
+    matches!(
+        answer,
+        Err(Refusal::HistoryFull) | Err(Refusal::NoMemory)
+    )
+}
+
 /// Whether a worker takes more work in the hold of its commit. It does not if its claim was handed back, nor if memory ran out in a
 /// quantum that was committed.
 fn takes_more(answer: &Result<u32, Refusal>, is_starved: bool) -> bool
@@ -258,7 +266,7 @@ impl<K: Naming, M: Mailbox> Office<K, M> {
         }
     }
 
-    /// Interns a text, which is not copied. It wakes no worker, so it is not counted as a move.
+    /// Interns a text, which is not copied. It is a move only while something is wanting.
     #[tactic(auto, using(st_calls::proofs::GoingThen::goes_by))]
     pub(crate) fn intern(
         &mut self,
@@ -270,10 +278,11 @@ impl<K: Naming, M: Mailbox> Office<K, M> {
         ensures later { GoesOnIn self.old.image self.new.image }
     {
         mine.count_call();
+        self.waiting.note_call();
         intern(alloc, &mut self.image, text)
     }
 
-    /// Makes a call that is neither a post nor a checkpoint. All but the interning of a text are counted as moves.
+    /// Makes a call that is neither a post nor a checkpoint. All but the interning of a text are moves.
     #[tactic(auto, using(st_calls::proofs::GoingThen::goes_by))]
     fn call(
         &mut self,
@@ -305,6 +314,7 @@ impl<K: Naming, M: Mailbox> Office<K, M> {
         ensures later { GoesOnIn self.old.image self.new.image }
     {
         mine.count_call();
+        self.waiting.note_call();
         match call {
             Call::Post {
                 sender,
@@ -377,12 +387,16 @@ impl<K: Naming, M: Mailbox> Office<K, M> {
         if self.waiting.is_stopped() {
             return Work::Stop;
         }
+        self.waiting.note_look();
         let Some(actor) = self.image.next_ready() else {
             return Work::Wait(self.waiting.moves());
         };
         match self.check_out(alloc, actor, leavings) {
             Ok(held) => Work::Turn(held),
-            Err(_) => Work::Wait(self.waiting.moves()),
+            Err(_) => {
+                self.waiting.note_want(true);
+                Work::Wait(self.waiting.moves())
+            }
         }
     }
 
@@ -406,6 +420,7 @@ impl<K: Naming, M: Mailbox> Office<K, M> {
         let answer = claims::settle(alloc, &mut self.image, claim, is_known, leavings);
         self.books.run(mine, &answer);
         self.waiting.note_commit(has_steps(&answer));
+        self.waiting.note_want(is_wanting(&answer));
         answer
     }
 
@@ -434,6 +449,13 @@ impl<K: Naming, M: Mailbox> Office<K, M> {
             self.waiting.note_hurried(has_steps(&answer));
         }
         (answer, work)
+    }
+
+    /// A worker found no memory in a quantum, if so.
+    pub(crate) fn note_want(&mut self, is_wanting: bool)
+        ensures { self.new ≡ self.old }
+    {
+        self.waiting.note_want(is_wanting);
     }
 
     /// How often something has moved.

@@ -1,7 +1,8 @@
 //! Workers that wait: how many there are, and the counts by which each knows whether to go on.
 //!
 //! A worker sleeps while nothing can be done, until something has moved. It rests while it would be in the way of others, until
-//! something other than short quanta has moved.
+//! something other than short quanta has moved. While memory or room in the history is wanting, each call of a caller is a move, since no
+//! clause says which of them gives some back.
 
 /// How many workers wait, and what has happened that they wait for.
 #[derive(Drop)]
@@ -14,6 +15,8 @@ pub(crate) struct Waiting {
     sleepers: u32,
     /// How many workers rest, or have been woken and not taken the lock since.
     resting: u32,
+    /// Whether memory or room in the history was wanting when a worker looked last.
+    is_short: bool,
     is_stopped: bool,
 }
 
@@ -25,6 +28,7 @@ impl Waiting {
             hurried: 0,
             sleepers: 0,
             resting: 0,
+            is_short: false,
             is_stopped: false,
         }
     }
@@ -45,6 +49,24 @@ impl Waiting {
     #[inline]
     pub(crate) fn note_if(&mut self, is_move: bool) {
         self.moves = self.moves.wrapping_add(is_move as u64);
+    }
+
+    /// A caller makes a call, whatever it will answer. That is a move if something is wanting.
+    #[inline]
+    pub(crate) fn note_call(&mut self) {
+        self.note_if(self.is_short);
+    }
+
+    /// A worker looks for work.
+    #[inline]
+    pub(crate) fn note_look(&mut self) {
+        self.is_short = false;
+    }
+
+    /// Memory or room in the history was wanting, if so.
+    #[inline]
+    pub(crate) fn note_want(&mut self, is_wanting: bool) {
+        self.is_short = self.is_short || is_wanting;
     }
 
     /// A quantum was committed. That is a move if it had steps.

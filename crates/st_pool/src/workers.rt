@@ -116,6 +116,7 @@ fn settle_all<K: Naming, M: Mailbox>(
     if turned.goes_on && is_well && are_long && !was_free && !office.has_idle() {
         seats.take_more(alloc, office, share);
     }
+    office.note_want(ran.is_starved);
     turned
 }
 
@@ -235,8 +236,8 @@ fn take_quanta_until_stop<G: Guard, K: Naming, M: Mailbox, T: Gate, R: Wait>(
 ///
 /// A claim that is refused by `Stale` or `Changed` is dropped, and the worker goes on. If nothing is ready, memory ran out or the
 /// history is full, it sleeps until another call may have changed that: an accepted post, an edit, a new actor or a close (refused
-/// ones too), a checkpoint, a commit of steps after which another actor is ready, or the stop. A refused post, `intern`, `outcome`,
-/// `stats` and `look` wake nobody.
+/// ones too), a checkpoint, a commit of steps after which another actor is ready, or the stop; and, if memory ran out or the history is
+/// full, any call that is made of the image, refused ones too. `outcome`, `stats` and `look` wake nobody.
 ///
 /// A worker whose quanta are short and that often finds the lock held rests while another worker is awake, although actors are ready.
 /// One whose quanta are long and that finds it held takes up to four claims at a time, lets one after the other take its quantum, and

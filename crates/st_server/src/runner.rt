@@ -2,14 +2,14 @@
 ghost use Rattle.std.specs.Prelude.{◌≡◌, ◌≤◌, false, Ok, Err, IfOk, IfErr, IfSome, MatchOption, MatchResult};
 ghost use Rattle.st_classes.specs.EditLists.{Begins};
 ghost use Rattle.st_turn.specs.Idle.{is_idle};
-ghost use Rattle.st_image.specs.Commits.{KnowsBody, Settles};
-ghost use Rattle.st_image.specs.Images.{world};
+ghost use Rattle.st_image.specs.GoingOn.{FitsClaim};
 ghost use Rattle.st_server.specs.CommandReplies.{AsksImage};
 ghost use Rattle.st_server.specs.Runners.{AreNew, NextAdvances, NoneReady, TakesQuantum, Works, quantum_answer};
 
 use crate::asking::ask;
 use crate::images::{Guard, Image, Worker};
 use crate::quantum::Quantum;
+use st_calls::claims;
 use st_classes::refusals::Refusal;
 use st_classes::values::ActorId;
 use st_guard::caches::Caches;
@@ -49,28 +49,6 @@ pub(crate) fn new_worker(alloc: Global) -> Result<Worker, AllocError>
     Ok(Worker::new(caches))
 }
 
-/// Commits a claim, and releases it if the commit hands it back. The claim's edits must be a prefix of the image's, and its stamp
-/// must identify the body with which it began.
-fn settle(
-    alloc: Global,
-    image: &mut Image,
-    claim: Claim,
-    leavings: &mut Leavings,
-) -> Result<u32, Refusal>
-    requires begins { Begins claim.edits (world image.old).edits }
-    requires body { KnowsBody image.old claim }
-    ensures { Settles image.old claim result image.new }
-{
-    match image.commit_leaving(alloc, claim, leavings) {
-        Ok(steps) => Ok(steps),
-        Err((refusal, Some(claim))) => {
-            image.release(claim);
-            Err(refusal)
-        }
-        Err((refusal, None)) => Err(refusal),
-    }
-}
-
 /// The answer of a quantum, from the results of its steps and of its commit.
 fn answer(ran: Result<Stop, AllocError>, settled: Result<u32, Refusal>) -> Result<u32, Refusal>
     ensures { result ≡ quantum_answer ran settled }
@@ -92,15 +70,14 @@ fn work(
     leavings: &mut Leavings,
 ) -> Result<u32, Refusal>
     requires follows { IfSome worker.old.kept (λ k. Begins k claim.edits) }
-    requires begins { Begins claim.edits (world image.old).edits }
-    requires body { KnowsBody image.old claim }
+    requires fits { FitsClaim image.old claim }
     ensures works { Works quantum (record { image = image.old; caches = worker.old }) claim result (record { image = image.new; caches = worker.new }) }
     ensures kept { IfSome worker.new.kept (λ k. k ≡ claim.edits) }
     ensures some { is_idle claim.before.phase ≡ false → IfOk result (λ n. 1 ≤ n) }
 {
     let ran = worker.run_unchecked(alloc, &mut claim, quantum.steps());
     claim.known();
-    let settled = settle(alloc, image, claim, leavings);
+    let settled = claims::settle(alloc, image, claim, true, leavings);
     answer(ran, settled)
 }
 
@@ -144,7 +121,7 @@ impl Runner {
         ensures some { IfOk result (λ n. 1 ≤ n) }
     {
         self.image.known();
-        let claim = self.image.checkout_in(alloc, actor, &mut self.leavings)?;
+        let claim = claims::check_out(alloc, &mut self.image, actor, &mut self.leavings)?;
         self.leavings.let_go();
         self.image.known();
         let result = work(

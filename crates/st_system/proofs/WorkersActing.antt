@@ -9,12 +9,12 @@ use Rattle.st_classes.specs.declared.refusals.Refusal.TheVariants.{BadArguments}
 use Rattle.st_image.specs.Images.{ImageView}
 use Rattle.st_calls.specs.declared.calls.Answer.{Answer as CallAnswer}
 use Rattle.st_calls.specs.declared.calls.Call.{Call}
-use Rattle.st_calls.specs.Does.{Does}
+use Rattle.st_calls.specs.Does.{Does, told}
 use Rattle.st_system.specs.declared.events.Answer.{Answer}
 use Rattle.st_system.specs.declared.events.Answer.TheVariants.{Called}
 use Rattle.st_system.specs.Schedules.{BareClaim, claim_of, schedule}
 use Rattle.st_system.specs.Seats.{SeatView, SystemView}
-use Rattle.st_system.specs.ImageEvents.{Calls, told}
+use Rattle.st_system.specs.ImageEvents.{Calls}
 use Rattle.st_system.specs.ClaimEvents.{AtWorker}
 use Rattle.st_system.specs.WorkerEvents.{AtSeat}
 

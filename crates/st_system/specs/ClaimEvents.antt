@@ -15,7 +15,7 @@ use Rattle.st_image.specs.Commits.{ChecksOut, Commits, IsReleased}
 use Rattle.st_system.specs.declared.events.Answer.{Answer}
 use Rattle.st_system.specs.declared.events.Answer.TheVariants.{Done, Stopped, Steps}
 use Rattle.st_system.specs.Schedules.{BareClaim, Schedule, bare, with_sends}
-use Rattle.st_system.specs.ImageEvents.{told}
+use Rattle.st_calls.specs.Does.{told}
 
 -- an event of a worker: refused if there is no such worker; otherwise it does this to the image and to the worker's claim, and every
 -- other worker keeps its own

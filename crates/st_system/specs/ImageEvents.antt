@@ -1,19 +1,14 @@
 -- Events that are calls of the image.
-use Rattle.std.specs.Prelude.{◌≡◌, ◌⊎◌, Bool, true, false, Result, Ok, Err}
+use Rattle.std.specs.Prelude.{◌≡◌, ◌⊎◌, Bool, true, false, Result, Err}
 use Rattle.st_classes.specs.declared.refusals.Refusal.{Refusal}
 use Rattle.st_classes.specs.declared.refusals.Refusal.TheVariants.{NoMemory}
 use Rattle.st_calls.specs.declared.calls.Answer.{Answer as CallAnswer}
 use Rattle.st_calls.specs.declared.calls.Call.{Call}
 use Rattle.st_calls.specs.declared.calls.Call.TheVariants as call
-use Rattle.st_calls.specs.Does.{Does}
+use Rattle.st_calls.specs.Does.{Does, told}
 use Rattle.st_system.specs.declared.events.Answer.{Answer}
 use Rattle.st_system.specs.declared.events.Answer.TheVariants.{Called}
 use Rattle.st_system.specs.Schedules.{Schedule}
-
--- what was answered, as the answer of an event
-abbrev pub told : {A : Type 0} → (A → Answer) → Result A Refusal → Result Answer Refusal
-told tell (Ok value) = Ok (tell value)
-told tell (Err e) = Err e
 
 -- an event that is a call of the image: each worker keeps its claim
 abbrev pub OfImage : Schedule → Call → Result Answer Refusal → Schedule → Type 0

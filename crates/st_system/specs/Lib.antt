@@ -8,3 +8,4 @@ pub mod Uncommitted
 pub mod Forgetting
 pub mod Others
 pub mod WorkerEvents
+pub mod Happening

@@ -15,7 +15,7 @@ use Rattle.st_system.specs.declared.events.Answer.{Answer}
 use Rattle.st_system.specs.declared.events.Answer.TheVariants.{Done, Stopped}
 use Rattle.st_system.specs.declared.events.Event.{Event}
 use Rattle.st_system.specs.declared.events.Event.TheVariants.{Checkout, Commit, Forget, Local, Release}
-use Rattle.st_system.specs.ImageEvents.{told}
+use Rattle.st_calls.specs.Does.{told}
 use Rattle.st_system.specs.ClaimEvents.{told_of_commit}
 use Rattle.st_system.specs.Seats.{SeatView, SystemView}
 

@@ -9,7 +9,7 @@ ghost use Rattle.st_image.specs.GoingOn.{GoesOnIn};
 ghost use Rattle.st_image.specs.KeptEdits.{KeepsBeginning};
 ghost use Rattle.st_system.specs.Seats.{AreValidWhereKept, FitsSeat, HaveNothing, TakesSeat};
 ghost use Rattle.st_system.specs.Schedules.{bare, claim_of};
-ghost use Rattle.st_system.specs.ImageEvents.{told};
+ghost use Rattle.st_calls.specs.Does.{told};
 ghost use Rattle.st_system.specs.ClaimEvents.{CommitsClaim, KeepsClaim, OfClaim, ReleasesClaim, StepsClaim, TakesClaim, TakesOne};
 ghost use Rattle.st_system.specs.WorkerEvents.{ChecksOutSeat, CommitsSeat, MovesAndSteps, StepsSeat};
 

@@ -8,6 +8,7 @@ ghost use Rattle.st_image.specs.RanTargets.{EachStepRan};
 ghost use Rattle.st_image.specs.WorldInvariant.{IsLawful};
 ghost use Rattle.st_system.specs.Acts.{Acts, Leads};
 ghost use Rattle.st_system.specs.Forgetting.{HasForgotten};
+ghost use Rattle.st_system.specs.Happening.{Happen};
 ghost use Rattle.st_system.specs.Others.{LeavesOthers};
 ghost use Rattle.st_system.specs.Schedules.{schedule};
 ghost use Rattle.st_system.specs.Seats.{AreValidWhereKept, TakesSeat};
@@ -151,13 +152,14 @@ impl<M: Mailbox, G: Guard> System<M, G> {
         self.image.sends_ran();
     }
 
-    /// Lets events happen in order. It goes on after a refused one.
+    /// Lets events happen in order. It goes on after a refused one. Each does what `apply` says.
     ///
     /// A checkpoint ends a segment, and the next one begins with the world where it ended. For every segment, also for the one that the
     /// system is in, the image at its end is the replay of the history since its beginning, its messages were delivered, and its sends ran
     /// what the walk finds.
     pub fn run(&mut self, alloc: Global, events: &[Event])
         ensures led { Leads (schedule self.old) events.now (schedule self.new) }
+        ensures happened { Happen G.count G.floor G.raises self.old events.now self.new }
         ensures segments { HasSegments self.old.image self.new.image }
         ensures replay { IsLawful self.new.image }
         ensures delivered { HasDelivered self.new.image }

@@ -11,6 +11,7 @@ use st_mailbox::mailboxes::Mailbox;
 impl<K: Naming, M: Mailbox> Office<K, M> {
     ghost use Rattle.std.specs.Prelude.{◌≡◌, ◌⊎◌, ◌≤◌, [], OnOk, IfOk, IfErr, vec_capacity, vec_len};
     ghost use Rattle.st_classes.specs.declared.refusals.Refusal.TheVariants as refusals;
+    ghost use Rattle.st_image.specs.GoingOn.{GoesOnIn};
     ghost use Rattle.st_pool.specs.Settled.{AreAll, AllStand, AreCounts, AreFew, AreSums, emptied_by};
 
     /// The image, and what all threads have done together. If there is room, it leaves there what each has done. It is refused by

@@ -1,9 +1,8 @@
 //! Events that are calls of the image.
 ghost use Rattle.std.specs.Prelude.{◌≡◌};
 ghost use Rattle.st_calls.specs.declared.calls.Answer.TheVariants as call_answers;
-ghost use Rattle.st_calls.specs.Does.{told as told_call};
 ghost use Rattle.st_system.specs.declared.events.Answer.TheVariants.{Called};
-ghost use Rattle.st_system.specs.ImageEvents.{told};
+ghost use Rattle.st_calls.specs.Does.{told};
 
 use crate::copies::copy_call;
 use crate::events::Answer;
@@ -18,7 +17,7 @@ use std::alloc::Global;
 
 /// The number of a text, as the answer of an event.
 fn called(answer: Result<Selector, Refusal>) -> Result<Answer, Refusal>
-    ensures { result ≡ told Called (told_call call_answers.Interned answer) }
+    ensures { result ≡ told Called (told call_answers.Interned answer) }
 {
     match answer {
         Ok(selector) => Ok(Answer::Called(CallAnswer::Interned(selector))),

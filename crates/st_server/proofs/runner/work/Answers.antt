@@ -9,22 +9,22 @@ use Rattle.st_server.specs.Runners.{Steps, floor_of}
 use Rattle.st_server.proofs.SomeSteps.{quantum_some}
 use Rattle.st_server.proofs.runner.work.Goals as goal
 
-pub settle-settled-requires-clause-body : goal.settle-settled-requires-clause-body
-settle-settled-requires-clause-body c =
+pub settle-settled-requires : goal.settle-settled-requires
+settle-settled-requires c = λ known.
     let steps : Steps c.args.quantum c.args.worker.now c.args.claim c.run_unchecked-ran.result c.run_unchecked-ran.new.self c.run_unchecked-ran.new.claim = rw (← c.steps.ensures.same) c.run_unchecked-ran.ensures.runs in
-    knows_as c.args.image.now c.args.claim c.run_unchecked-ran.new.claim (runs_began floor_of c.args.quantum steps.0 c.args.claim c.run_unchecked-ran.result c.run_unchecked-ran.new.self c.run_unchecked-ran.new.claim steps.2) c.requires.body
-
-pub settle-settled-requires-clause-begins : goal.settle-settled-requires-clause-begins
-settle-settled-requires-clause-begins c = subst (λ (es : List Edit). Begins es (world c.args.image.now).edits) (sym c.run_unchecked-ran.ensures.edits) c.requires.begins
+    record {
+      edits = subst (λ (es : List Edit). Begins es (world c.args.image.now).edits) (sym c.run_unchecked-ran.ensures.edits) c.requires.fits.edits;
+      body = knows_as c.args.image.now c.args.claim c.run_unchecked-ran.new.claim (runs_began floor_of c.args.quantum steps.0 c.args.claim c.run_unchecked-ran.result c.run_unchecked-ran.new.self c.run_unchecked-ran.new.claim steps.2) c.requires.fits.body;
+    }
 
 pub returns-clause-works : goal.returns-clause-works
 returns-clause-works c =
     let steps : Steps c.args.quantum c.args.worker.now c.args.claim c.run_unchecked-ran.result c.run_unchecked-ran.new.self c.run_unchecked-ran.new.claim = rw (← c.steps.ensures.same) c.run_unchecked-ran.ensures.runs in
-    (c.run_unchecked-ran.result, c.run_unchecked-ran.new.claim, c.settle-settled.result, steps, c.settle-settled.ensures, c.answer.ensures)
+    (c.run_unchecked-ran.result, c.run_unchecked-ran.new.claim, c.settle-settled.result, steps, c.settle-settled.ensures.settles, c.answer.ensures)
 
 pub returns-clause-kept : goal.returns-clause-kept
 returns-clause-kept c = subst (λ (es : List Edit). IfSome c.run_unchecked-ran.new.self.kept (λ k. k ≡ es)) c.run_unchecked-ran.ensures.edits c.run_unchecked-ran.ensures.stands.kept
 
 pub returns-clause-some : goal.returns-clause-some
 returns-clause-some c = λ busy.
-    quantum_some c.answer.result c.run_unchecked-ran.result c.settle-settled.result c.steps.result c.args.worker.now c.args.claim c.run_unchecked-ran.new.self c.run_unchecked-ran.new.claim c.args.image.now c.settle-settled.new.image c.steps.ensures.some busy c.known.ensures c.run_unchecked-ran.ensures.runs c.settle-settled.ensures c.answer.ensures
+    quantum_some c.answer.result c.run_unchecked-ran.result c.settle-settled.result c.steps.result c.args.worker.now c.args.claim c.run_unchecked-ran.new.self c.run_unchecked-ran.new.claim c.args.image.now c.settle-settled.new.image c.steps.ensures.some busy c.known.ensures c.run_unchecked-ran.ensures.runs c.settle-settled.ensures.settles c.answer.ensures

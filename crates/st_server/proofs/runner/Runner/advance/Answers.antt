@@ -1,28 +1,24 @@
 use Rattle.std.proofs.Common.{Ok, subst}
-use Rattle.st_image.proofs.KnownBodies.{checked_out_knows}
 use Rattle.st_server.specs.Runners.{RunnerView, TakesQuantum}
-use Rattle.st_server.proofs.Claims.{claim_begins, claim_follows, settled_keeps}
+use Rattle.st_server.proofs.Claims.{claim_follows, settled_keeps}
 use Rattle.st_server.proofs.SomeSteps.{checkout_busy}
 use Rattle.st_server.proofs.runner.Runner.advance.Goals as goal
 
 pub work-result-requires-clause-follows : goal.work-result-requires-clause-follows
-work-result-requires-clause-follows c = claim_follows c.self.inside.image c.checkout_in.new.self c.args.actor c.in_ok-claim.claim c.self.inside.worker c.self.invariant c.in_ok-claim.ensures.0.1
+work-result-requires-clause-follows c = claim_follows c.self.inside.image c.check_out.new.image c.args.actor c.in_ok-claim.claim c.self.inside.worker c.self.invariant c.in_ok-claim.ensures.takes.0.1
 
-pub work-result-requires-clause-begins : goal.work-result-requires-clause-begins
-work-result-requires-clause-begins c = claim_begins c.self.inside.image c.checkout_in.new.self c.args.actor c.in_ok-claim.claim c.known.ensures c.known-2.ensures c.in_ok-claim.ensures.0.1
-
-pub work-result-requires-clause-body : goal.work-result-requires-clause-body
-work-result-requires-clause-body c = checked_out_knows c.self.inside.image c.checkout_in.new.self c.args.actor c.in_ok-claim.claim c.in_ok-claim.ensures.0.1
+pub work-result-requires-clause-fits : goal.work-result-requires-clause-fits
+work-result-requires-clause-fits c = c.in_ok-claim.ensures.fits
 
 pub invariant_of-self-2 : goal.invariant_of-self-2
 invariant_of-self-2 c =
     let works = c.work-result.ensures.works in
-    settled_keeps c.self.inside.image c.checkout_in.new.self c.work-result.new.image c.args.actor c.in_ok-claim.claim works.1 works.2 c.work-result.new.worker c.known.ensures c.known-3.ensures c.in_ok-claim.ensures.0.1 c.work-result.ensures.kept works.4
+    settled_keeps c.self.inside.image c.check_out.new.image c.work-result.new.image c.args.actor c.in_ok-claim.claim works.1 works.2 c.work-result.new.worker c.known.ensures c.known-3.ensures c.in_ok-claim.ensures.takes.0.1 c.work-result.ensures.kept works.4
 
 pub returns-clause-takes : goal.returns-clause-takes
 returns-clause-takes c =
     let j : RunnerView = record { image = c.work-result.new.image; caches = c.work-result.new.worker } in
-    subst (λ (i : RunnerView). TakesQuantum c.args.quantum i c.args.actor c.work-result.result j) c.self.view_is (Ok c.in_ok-claim.claim, c.checkout_in.new.self, c.in_ok-claim.ensures, c.work-result.ensures.works)
+    subst (λ (i : RunnerView). TakesQuantum c.args.quantum i c.args.actor c.work-result.result j) c.self.view_is (Ok c.in_ok-claim.claim, c.check_out.new.image, c.in_ok-claim.ensures.takes, c.work-result.ensures.works)
 
 pub returns-clause-some : goal.returns-clause-some
-returns-clause-some c = c.work-result.ensures.some (checkout_busy c.self.inside.image c.checkout_in.new.self c.args.actor c.in_ok-claim.claim c.known.ensures c.in_ok-claim.ensures.0.0 c.in_ok-claim.ensures.0.1)
+returns-clause-some c = c.work-result.ensures.some (checkout_busy c.self.inside.image c.check_out.new.image c.args.actor c.in_ok-claim.claim c.known.ensures c.in_ok-claim.ensures.takes.0.0 c.in_ok-claim.ensures.takes.0.1)

@@ -8,7 +8,13 @@ use st_server::settings::ScriptSettings;
 use std::alloc::{AllocError, Global};
 
 /// What `--version` prints behind the program's name.
-const VERSION: &str = "0.1";
+const VERSION: &str = "0.1 (proved)";
+
+/// The same of a look: a program that was made of the same sources without proofs.
+const VERSION_OF_LOOK: &str = "0.1 (a look, made without proofs)";
+
+/// With this ends the name of a look's file.
+const LOOK: &str = "-look";
 
 /// The options of a script.
 #[derive(Clone, Copy)]
@@ -157,10 +163,18 @@ fn with<'a>(
     }
 }
 
-fn program<'a>(alloc: Global) -> Result<Command<'a>, AllocError> {
+/// The version of the program that has this name in its command line.
+fn version_of(words: &[String]) -> &'static str {
+    match words.first() {
+        Some(name) if name.as_str().ends_with(LOOK) => VERSION_OF_LOOK,
+        _ => VERSION,
+    }
+}
+
+fn program<'a>(alloc: Global, version: &'a str) -> Result<Command<'a>, AllocError> {
     let program = Command::new(alloc, "actorimage")
         .about("A live-editable Smalltalk image of actors")
-        .version(VERSION)
+        .version(version)
         .subcommand_required(true)
         .arg_required_else_help(true);
     let program = with(program, script_command(alloc))?;
@@ -213,13 +227,13 @@ fn request_of<'a>(matches: &ArgMatches<'a>) -> Request<'a> {
 
 /// What a command line asks for, or the error or the help to show.
 pub fn parsed_request<'a>(alloc: Global, words: &'a [String]) -> Result<Request<'a>, Error> {
-    let matches = program(alloc)?.try_get_matches_from(words)?;
+    let matches = program(alloc, version_of(words))?.try_get_matches_from(words)?;
     Ok(request_of(&matches))
 }
 
 /// The error to show if a word of the command line is not UTF-8.
 pub fn invalid_utf8_error(alloc: Global) -> Result<Error, AllocError> {
-    match program(alloc) {
+    match program(alloc, VERSION) {
         Ok(mut program) => program.error(
             ErrorKind::InvalidValue,
             "invalid UTF-8 was detected in one or more arguments",

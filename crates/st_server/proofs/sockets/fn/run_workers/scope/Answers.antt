@@ -1,0 +1,5 @@
+use denote.Param.Send.{sendable}
+use Rattle.st_server.proofs.sockets.fn.run_workers.scope.Goals as goal
+
+pub accept_all-are_accepted-requires-send-K : goal.accept_all-are_accepted-requires-send-K
+accept_all-are_accepted-requires-send-K g c κs within = search (sendable, c.requires.1.1.1.1.0)

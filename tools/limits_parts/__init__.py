@@ -1,0 +1,1 @@
+"""Trials of a built program at its limits: what there is at each, and one more."""

@@ -1,0 +1,119 @@
+"""The edits of a server, which all its sessions make together."""
+
+import os
+import socket
+import stat
+import subprocess
+import time
+
+from scripts_parts.commands import actor, answer, define, made, method, outcome, remove
+from scripts_parts.running import SECONDS, Ended, Wrong, compare
+from scripts_parts.script import compact
+
+from . import most
+from .session import Session, site
+
+SESSIONS = 2
+# The dispatch of a turn and its three instructions.
+STEPS = 4
+PENDING = b'{"error":"Pending"}\n'
+
+
+class Client:
+    """A session with a server."""
+
+    def __init__(self, path):
+        self.socket = socket.socket(socket.AF_UNIX)
+        self.socket.settimeout(SECONDS)
+        self.socket.connect(path)
+        self.lines = self.socket.makefile("rb")
+
+    def __enter__(self):
+        return self
+
+    def __exit__(self, *_):
+        self.lines.close()
+        self.socket.close()
+
+    def answers(self, lines):
+        self.socket.sendall("".join(line + "\n" for line in lines).encode())
+        return b"".join(self.lines.readline() for _ in lines)
+
+    def wait(self, command):
+        """Asks until the answer is not that a turn goes on."""
+        ends = time.monotonic() + SECONDS
+        while self.answers([compact(command)]) == PENDING and time.monotonic() < ends:
+            time.sleep(0.001)
+
+
+class Server:
+    """The program as a server that ends behind so many sessions. One script has what all of them ask, in its order."""
+
+    def __init__(self, program, script):
+        self.program, self.script, self.asked = program, script, 0
+        self.path = os.path.join(os.path.dirname(program.file), "socket")
+
+    def __enter__(self):
+        words = ["serve", "--socket", self.path, "--workers", "1", "--sessions", str(SESSIONS)]
+        self.process = subprocess.Popen([self.program.path, *words], stdout=subprocess.PIPE, stderr=subprocess.PIPE)
+        ends = time.monotonic() + SECONDS
+        # It gives the socket's file its rights last.
+        while not os.path.exists(self.path) or stat.S_IMODE(os.stat(self.path).st_mode) != 0o600:
+            if self.process.poll() is not None or time.monotonic() > ends:
+                raise Wrong("no socket is made")
+            time.sleep(0.01)
+        return self
+
+    def __exit__(self, *_):
+        self.process.kill()
+        self.process.communicate()
+
+    def ask(self, client):
+        """Has a client ask what nobody has asked yet."""
+        found = client.answers(self.script.lines[self.asked :])
+        wanted = "".join(reply + "\n" for reply in self.script.replies[self.asked :]).encode()
+        compare(self.script.name, Ended(0, found, b""), Ended(0, wanted, b""))
+        self.program.compared += len(self.script.lines) - self.asked
+        self.asked = len(self.script.lines)
+
+    def has_ended(self, posts, steps):
+        out, said = self.process.communicate(timeout=SECONDS)
+        totals = compact({"ok": {"posts": posts, "steps": steps}}) + "\n"
+        compare(self.script.name, Ended(self.process.returncode, out, said), Ended(0, totals.encode(), b""))
+
+
+def edits_in_turn(server, clients):
+    """The sessions make edits in turn, as many as a run may have."""
+    server.script.edit(define("M"))
+    server.script.ask(actor("M"), made(0))
+    for number in range(most.EDITS_OF_A_RUN - 1):
+        server.script.edit(method("M", f"a ^{number} isNil"))
+        server.ask(clients[number % SESSIONS])
+
+
+def has_no_room(server, client, found):
+    """None has room for an edit more. A worker runs a turn meanwhile."""
+    script = server.script
+    for command in (method("M", "a ^1"), define("N"), remove("M", "a")):
+        script.refuses_more(command, "edits")
+    script.refuses(define("M"), "ClassExists")
+    script.post("a")
+    server.ask(client)
+    ended = outcome(script.turns[0])
+    client.wait(ended)
+    script.ask(ended, answer(False))
+    script.sites("M", "a", [found])
+    server.ask(client)
+
+
+def edits_of_a_server(program):
+    with Server(program, Session("edits_of_a_server")) as server:
+        with Client(server.path) as one, Client(server.path) as other:
+            edits_in_turn(server, (one, other))
+            has_no_room(server, one, site("isNil", walk=1))
+            has_no_room(server, other, site("isNil", walk=1, by_site=1))
+        server.has_ended(SESSIONS, SESSIONS * STEPS)
+    return f"{most.EDITS_OF_A_RUN:,} edits of {SESSIONS} sessions"
+
+
+TRIALS = (edits_of_a_server,)

@@ -108,6 +108,13 @@ stats_in d =
 abbrev pub checkpoint_in : Data → Option Command
 checkpoint_in d = of_keys (codes "cmd" ∷ []) d (Some Checkpoint)
 
+-- a question: a command that only reads
+abbrev pub question_in : Data → List ℕ → Option Command
+question_in d cmd =
+    if bytes_eq cmd (codes "outcome") then outcome_in d
+    else (if bytes_eq cmd (codes "stats") then stats_in d
+    else None)
+
 -- the command of the form that `cmd` names
 abbrev pub form_in : Data → List ℕ → Option Command
 form_in d cmd =
@@ -119,10 +126,8 @@ form_in d cmd =
     else (if bytes_eq cmd (codes "post") then post_in d
     else (if bytes_eq cmd (codes "close") then close_in d
     else (if bytes_eq cmd (codes "run") then run_in d
-    else (if bytes_eq cmd (codes "outcome") then outcome_in d
-    else (if bytes_eq cmd (codes "stats") then stats_in d
     else (if bytes_eq cmd (codes "checkpoint") then checkpoint_in d
-    else None))))))))))
+    else question_in d cmd))))))))
 
 -- the command of an object, by its `cmd`
 abbrev pub command_in : Data → Option Command

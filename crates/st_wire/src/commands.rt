@@ -4,7 +4,7 @@ ghost use Rattle.serde_json.specs.View.{view};
 ghost use Rattle.st_classes.specs.Refusals.{Answers, first_of};
 ghost use Rattle.st_classes.specs.declared.refusals.Refusal.TheVariants.{BadCommand};
 ghost use Rattle.st_wire.specs.PartResults.{Reads};
-ghost use Rattle.st_wire.specs.Commands.{ReturnsMeanNothing, command_of, command_rules, has_just as has_just_keys, command_in, define_in, method_in, remove_in, reparent_in, new_actor_in, post_in, close_in, run_in, outcome_in, stats_in, checkpoint_in};
+ghost use Rattle.st_wire.specs.Commands.{ReturnsMeanNothing, command_of, command_rules, has_just as has_just_keys, command_in, define_in, method_in, remove_in, reparent_in, new_actor_in, post_in, close_in, run_in, outcome_in, stats_in, question_in, checkpoint_in};
 
 use crate::fields::{actor_at, list_at, quanta_at, sender_at, text_at, whole_at};
 use crate::keys::has_just;
@@ -118,9 +118,19 @@ fn read_object(alloc: Global, object: &Value) -> Result<Command, Refusal>
         Some("post") => post(alloc, object),
         Some("close") => close(object),
         Some("run") => run(object),
-        Some("outcome") => outcome(object),
-        Some("stats") => stats(alloc, object),
         Some("checkpoint") => checkpoint(object),
+        Some(name) => question(alloc, object, name),
+        None => Err(Refusal::BadCommand),
+    }
+}
+
+/// The command of a form that only reads, by its name.
+fn question(alloc: Global, object: &Value, name: &str) -> Result<Command, Refusal>
+    ensures { Reads (question_in (view object.now) name.now) result }
+{
+    match name {
+        "outcome" => outcome(object),
+        "stats" => stats(alloc, object),
         _ => Err(Refusal::BadCommand),
     }
 }

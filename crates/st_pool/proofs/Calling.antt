@@ -22,7 +22,7 @@ use Rattle.st_calls.specs.Growth.{Amounts, Grows, counted, edits_by, posts_by}
 use Rattle.st_pool.specs.Books.{BooksView, Kept}
 use Rattle.st_pool.specs.Checkpointed.{Checkpoints, HasCheckpointed, checkpoint_rules, with_checkpoint}
 use Rattle.st_pool.specs.Done.{Done, Finds, OfficeView, one_call_more, receipt}
-use Rattle.st_pool.specs.Calling.{Asked, CallsOnce, Makes, PoolCalls, PostsOnce, booked, closed_in, counts_in, created_in, done_by, is_plain, place_rules, position_in, version_in}
+use Rattle.st_pool.specs.Calling.{Asked, CallsOnce, MakesCounted, PoolCalls, PostsOnce, booked, closed_in, counts_in, created_in, done_by, is_plain, place_rules, position_in, version_in}
 use Rattle.st_pool.specs.Holds.{IsHold, called, of_caller}
 use Rattle.st_pool.proofs.Holding.{hold_none, hold_one, same_office}
 use Rattle.st_pool.proofs.Weights.{kept_on}
@@ -95,7 +95,7 @@ plain_told o d (call.Post sender seq a s args) r j p h = cc
 plain_told o d call.Checkpoint r j p h = cc
 
 -- such a call in a hold
-pub plain_calls : (o p : OfficeView) (d e : Done) (c : Call) (r : Result Answer Refusal) → is_plain c ≡ true → Asked o c r p → e ≡ done_by o c r d → Makes o d c r p e
+pub plain_calls : (o p : OfficeView) (d e : Done) (c : Call) (r : Result Answer Refusal) → is_plain c ≡ true → Asked o c r p → e ≡ done_by o c r d → MakesCounted o d c r p e
 plain_calls o p d e (call.Intern text) r is h done = (h, done)
 plain_calls o p d e (call.Define name parent slots) r is h done = (h, done)
 plain_calls o p d e (call.Install c source) r is h done = (h, done)

@@ -62,13 +62,13 @@ abbrev pub Asked : OfficeView → Call → Result Answer Refusal → OfficeView 
 Asked o c r p = ((is_post c ≡ true) × (r ≡ Err NoMemory) × (p ≡ o)) ⊎ (Does o.image c r p.image × (p.books ≡ booked o r))
 
 -- a call in a hold, of a caller for whom it is counted already
-abbrev pub Makes : OfficeView → Done → Call → Result Answer Refusal → OfficeView → Done → Type 0
-Makes o d c r p e = MatchOption (first_of (place_rules o c)) (Asked o c r p) (λ f. (r ≡ Err f) × (p ≡ o))
+abbrev pub MakesCounted : OfficeView → Done → Call → Result Answer Refusal → OfficeView → Done → Type 0
+MakesCounted o d c r p e = MatchOption (first_of (place_rules o c)) (Asked o c r p) (λ f. (r ≡ Err f) × (p ≡ o))
     × (e ≡ done_by o c r d)
 
 -- a call in a hold, which is counted whatever it answers
 abbrev pub PoolCalls : OfficeView → Done → Call → Result Answer Refusal → OfficeView → Done → Type 0
-PoolCalls o d c r p e = Makes o (one_call_more d) c r p e
+PoolCalls o d c r p e = MakesCounted o (one_call_more d) c r p e
 
 -- a call in a hold that finds an image with at least what its caller has done
 abbrev pub CallsOnce : Amounts → ImageView → Done → Call → Result Answer Refusal → Done → Type 0

@@ -109,7 +109,8 @@ impl<'a, K: Naming, M: Mailbox> Caller<'a, K, M> {
     /// hold.
     ///
     /// It is refused, with the first that applies, by `UnknownActor`, `BadArguments`, `Old`, `Closed`, `Full` and `HistoryFull`, and
-    /// by `NoMemory` if memory ran out. If it is accepted, one worker that sleeps is woken, and one that rests.
+    /// by `NoMemory` if memory ran out. If it is accepted, one worker that sleeps is woken, and one that rests; and also if it is refused
+    /// while memory or room in the history is wanting.
     pub fn post<R: Wait>(
         &mut self,
         rt: &R,

@@ -1,5 +1,5 @@
-//! What lies under the lock: an image beside its books. Each call of a caller, and each hold of a worker, is one method here, and
-//! nothing else changes the image.
+//! What lies under the lock: an image beside its books. Each call of a caller, and each claim that a worker settles or is handed,
+//! is one method here, and nothing else changes the image.
 ghost use Rattle.std.specs.Prelude.{◌≡◌, IfOk};
 ghost use Rattle.std.specs.Option.{IfSome};
 ghost use Rattle.st_classes.specs.declared.refusals.Refusal.TheVariants as refusals;
@@ -126,7 +126,7 @@ impl<K: Naming, M: Mailbox> Office<K, M> {
     ghost use Rattle.st_calls.specs.declared.calls.Call.TheVariants as calls;
     ghost use Rattle.st_calls.specs.Does.{told};
     ghost use Rattle.st_pool.specs.Books.{no_books};
-    ghost use Rattle.st_pool.specs.Calling.{Makes, PoolCalls, is_plain};
+    ghost use Rattle.st_pool.specs.Calling.{MakesCounted, PoolCalls, is_plain};
     ghost use Rattle.st_calls.specs.Growth.{amounts, committed};
     ghost use Rattle.st_pool.specs.Done.{HasAtLeast, Takes, TurnsOver, nothing_done};
 
@@ -202,7 +202,7 @@ impl<K: Naming, M: Mailbox> Office<K, M> {
         selector: Selector,
         args: Values,
     ) -> Result<Answer, Refusal>
-        ensures calls { Makes self.old mine.old (calls.Post sender seq actor selector args) result self.new mine.new }
+        ensures calls { MakesCounted self.old mine.old (calls.Post sender seq actor selector args) result self.new mine.new }
         ensures later { GoesOnIn self.old.image self.new.image }
     {
         let CallerShare {
@@ -248,7 +248,7 @@ impl<K: Naming, M: Mailbox> Office<K, M> {
     /// The present world becomes the base of the image, and its history is emptied.
     #[tactic(auto, using(st_calls::proofs::GoingThen::goes_by))]
     fn checkpoint(&mut self, alloc: Global, mine: &mut CallerShare<K>) -> Result<Answer, Refusal>
-        ensures calls { Makes self.old mine.old calls.Checkpoint result self.new mine.new }
+        ensures calls { MakesCounted self.old mine.old calls.Checkpoint result self.new mine.new }
         ensures later { GoesOnIn self.old.image self.new.image }
     {
         self.image.known();
@@ -282,7 +282,7 @@ impl<K: Naming, M: Mailbox> Office<K, M> {
         intern(alloc, &mut self.image, text)
     }
 
-    /// Makes a call that is neither a post nor a checkpoint. All but the interning of a text are moves.
+    /// MakesCounted a call that is neither a post nor a checkpoint. All but the interning of a text are moves.
     #[tactic(auto, using(st_calls::proofs::GoingThen::goes_by))]
     fn call(
         &mut self,
@@ -291,7 +291,7 @@ impl<K: Naming, M: Mailbox> Office<K, M> {
         call: Call,
     ) -> Result<Answer, Refusal>
         requires plain { is_plain call ≡ true }
-        ensures calls { Makes self.old mine.old call result self.new mine.new }
+        ensures calls { MakesCounted self.old mine.old call result self.new mine.new }
         ensures later { GoesOnIn self.old.image self.new.image }
     {
         let is_move = !matches!(call, Call::Intern(_));
@@ -303,7 +303,7 @@ impl<K: Naming, M: Mailbox> Office<K, M> {
         answer
     }
 
-    /// Makes a call of the image for a caller, and counts it.
+    /// MakesCounted a call of the image for a caller, and counts it.
     pub fn apply(
         &mut self,
         alloc: Global,

@@ -182,7 +182,7 @@ pub fn settle<K: Naming, M: Mailbox>(
     shares: Shares<K>,
 ) -> Result<Totals, Refusal>
     ensures sums { IfOk result (λ t. AreSums t shares.callers.items shares.workers.items) }
-    ensures history { IfOk result (λ t. (i : ImageView) × IsLawful i × AreCounts K.start i t × HaveStood i t.posts shares.callers.items) }
+    ensures history { IfOk result (λ t. (i : ImageView) × IsLawful i × GoesOnIn K.first i × AreCounts K.start i t × HaveStood i t.posts shares.callers.items) }
     ensures refused { IfErr result (λ e. (e ≡ refusals.BadArguments) ⊎ (e ≡ refusals.Changed)) }
 {
     let alloc = *shares.callers.allocator();

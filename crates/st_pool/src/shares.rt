@@ -10,8 +10,8 @@ use std::alloc::AllocError;
 use std::marker::Model;
 use std::sync::ledger::Share;
 
-/// What a caller has done: the edits and the posts that were accepted, with a receipt for each post, and the items of histories that
-/// its checkpoints have emptied.
+/// What a caller has done: the edits and the posts that were accepted, with a receipt for each post, the items of histories that its
+/// checkpoints have emptied, and how many calls it has made.
 #[derive(Drop)]
 pub struct CallerShare<K: Naming> {
     pub(crate) account: Account,

@@ -15,8 +15,8 @@ pub(crate) struct Waiting {
     sleepers: u32,
     /// How many workers rest, or have been woken and not taken the lock since.
     resting: u32,
-    /// Whether memory or room in the history was wanting when a worker looked last.
-    is_short: bool,
+    /// Whether memory or room in the history was wanting since a worker looked last.
+    is_wanting: bool,
     is_stopped: bool,
 }
 
@@ -28,7 +28,7 @@ impl Waiting {
             hurried: 0,
             sleepers: 0,
             resting: 0,
-            is_short: false,
+            is_wanting: false,
             is_stopped: false,
         }
     }
@@ -54,19 +54,19 @@ impl Waiting {
     /// A caller makes a call, whatever it will answer. That is a move if something is wanting.
     #[inline]
     pub(crate) fn note_call(&mut self) {
-        self.note_if(self.is_short);
+        self.note_if(self.is_wanting);
     }
 
     /// A worker looks for work.
     #[inline]
     pub(crate) fn note_look(&mut self) {
-        self.is_short = false;
+        self.is_wanting = false;
     }
 
-    /// Memory or room in the history was wanting, if so.
+    /// A checkout, a commit or a quantum found no memory, or no room in the history, if so.
     #[inline]
     pub(crate) fn note_want(&mut self, is_wanting: bool) {
-        self.is_short = self.is_short || is_wanting;
+        self.is_wanting = self.is_wanting || is_wanting;
     }
 
     /// A quantum was committed. That is a move if it had steps.

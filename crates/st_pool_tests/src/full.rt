@@ -3,8 +3,9 @@ use crate::calls::*;
 use crate::doors::{Marks, pause};
 use crate::plays::totals;
 use crate::scenes::Scene;
-use st_classes::kernel::OBJECT;
+use st_classes::kernel::{IS_NIL, OBJECT};
 use st_classes::refusals::Refusal;
+use st_classes::seq::Seq;
 use st_pool::totals::Totals;
 use std::alloc::Global;
 use std::sync::Wait;
@@ -27,7 +28,7 @@ pub fn at_checkout<C: Calls, R: Wait + Clock>(
         && marks.claims() == 0
 }
 
-/// Calls that wake a worker, though they are refused.
+/// Calls that wake a worker, though they are refused or, as interning a text, change nothing for it.
 #[derive(Clone, Copy, PartialEq, Eq, Debug)]
 enum Call {
     Define,
@@ -36,6 +37,8 @@ enum Call {
     Reparent,
     Create,
     Close,
+    Post,
+    Intern,
 }
 
 /// The calls one after the other, and how many quanta there were after each.
@@ -46,6 +49,8 @@ const CALLS: &[(Call, u64)] = &[
     (Call::Reparent, 5),
     (Call::Create, 6),
     (Call::Close, 7),
+    (Call::Post, 8),
+    (Call::Intern, 9),
 ];
 
 /// The table behind a function without a contract, so that the proof of a test carries none of it.
@@ -53,7 +58,7 @@ fn calls() -> &'static [(Call, u64)] {
     CALLS
 }
 
-/// Whether a call is refused, since the history is full.
+/// Whether a call is refused, since the history is full. That of a text which is there is not.
 fn is_refused<C: Calls, R: Wait + Clock>(
     rt: &R,
     alloc: Global,
@@ -67,6 +72,11 @@ fn is_refused<C: Calls, R: Wait + Clock>(
         Call::Reparent => caller.reparent(rt, alloc, A, OBJECT).err(),
         Call::Create => caller.create(rt, alloc, A).err(),
         Call::Close => caller.close(rt, alloc, FIRST).err(),
+        Call::Post => {
+            let none = Seq::from_vec(Vec::new(alloc));
+            caller.post(rt, alloc, 1, 2, FIRST, IS_NIL, none).err()
+        }
+        Call::Intern => return caller.intern(rt, alloc, b"isNil") == Ok(IS_NIL),
     };
     refused == Some(Refusal::HistoryFull)
 }

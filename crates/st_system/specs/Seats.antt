@@ -29,10 +29,6 @@ pub record FitsSeat {G : Type 0} (i : ImageView) (s : SeatView G) : Type 0 where
   pub claim : IfSome s.claim (FitsClaim i)
   pub kept : KeepsBeginning (world i).edits s.caches
 
--- each worker fits the image
-abbrev pub FitSeats : {G : Type 0} → SystemView G → Type 0
-FitSeats s = All (FitsSeat s.image) s.seats
-
 -- caches have no entry, and keep no list of edits
 pub record HaveNothing {G : Type 0} (v : CachesView G) : Type 0 where
   pub sites : NoSites v.sites

@@ -94,10 +94,6 @@ class Connection:
         self.process.stdin.flush()
         return True
 
-    def is_alive(self):
-        """Whether the program goes on."""
-        return self.process.poll() is None
-
     def close(self, seconds=None):
         """Ends the session of the program, which saves its image then. The status tells whether it did."""
         try:

@@ -1,13 +1,14 @@
-"""The hold on an image's file: while a workspace goes on, no other program saves to the file, and what changed it otherwise is kept.
+"""The hold on an image's file: while a workspace goes on, no other program saves to the file. Where the file was changed otherwise, the
+workspace's own program leaves it, and saves its image beside it.
 
-The hold is the lock on the new file beside it, which a server has too. The workspace's own program wants it when it saves, so it is
-given back before."""
+The hold is the lock on the new file beside it, which a server has too. The program wants it when it saves, so it is given back
+before."""
 
 import contextlib
 import errno
 import fcntl
+import glob
 import hashlib
-import itertools
 import os
 
 from inspect_parts.held import BESIDE, HOW, hold
@@ -18,18 +19,16 @@ TAKEN = (
 )
 # More files than a workspace has open.
 HIGH = 100
-CHANGED = "{} was changed by another program since it was loaded; what that wrote "
-KEPT = CHANGED + "is kept in {}"
-NOT_KEPT = CHANGED + "cannot be kept ({}), and is written over"
 
 
 class Hold:
-    """`file` is the new file while it is held, and `loaded` is a sum of what the image's file had when it was loaded."""
+    """`file` is the new file while it is held, `loaded` is a sum of what the image's file had when it was loaded, and `before` are the
+    images that were beside it before the program saves."""
 
     def __init__(self, name):
-        self.name = name
         self.place = os.path.realpath(name)
         self.file = self.loaded = None
+        self.before = set()
 
     def take(self):
         """Whether no other program has the file. Where it cannot be held for another reason, it cannot be saved either, which is told
@@ -62,24 +61,22 @@ class Hold:
         """Takes note of what the file has."""
         self.loaded = sum_of(self.read())
 
-    def keep_other(self):
-        """Copies the file to one of a new name, if it was changed since it was loaded: it is about to be written over. What there is to
-        say of that, or None."""
-        now = self.read()
-        if now is None or sum_of(now) == self.loaded:
-            return None
-        try:
-            return KEPT.format(self.name, self.write(now))
-        except OSError as error:
-            return NOT_KEPT.format(self.name, error.strerror)
+    def is_changed(self):
+        """Whether the file has something else than was loaded."""
+        return sum_of(self.read()) != self.loaded
 
-    def write(self, data):
-        """Writes to a file that is not there yet, and returns its name."""
-        for number in itertools.count(1):
-            name = f"{self.name}.other{number}"
-            with contextlib.suppress(FileExistsError), open(name, "xb") as file:
-                file.write(data)
-                return name
+    def about_to_save(self):
+        """Lets the program save."""
+        self.before = self.beside()
+        self.give_back()
+
+    def saved_beside(self):
+        """Where the program has saved its image beside the file; None if it has not."""
+        return next(iter(self.beside() - self.before), None)
+
+    def beside(self):
+        """The images beside the file that did not take its place."""
+        return set(glob.glob(glob.escape(self.place) + ".kept*"))
 
     def read(self):
         """What the file has; None if nothing is there."""

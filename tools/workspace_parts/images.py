@@ -24,7 +24,8 @@ class OwnImage:
     """A script of the workspace's own: nobody else edits it. `advice`, `in_general` and `commands` have sentences in place of those
     for a script, `not_there` says why there is no such command, and `help` has lines that `:help` says besides. `kept` is the name of
     the file in which the image is kept, if one was given, and `path` is that of the file with which the program works. `loaded` is
-    what was there when the program began. `hold` is that on the file which is kept."""
+    what was there when the program began. `hold` is that on the file which is kept. `is_beside` says whether the image was saved beside
+    the file that was named, and is kept there."""
 
     is_served = False
     advice, in_general, commands, not_there, help = {}, {}, {}, {}, HELP
@@ -35,7 +36,7 @@ class OwnImage:
         self.path = os.path.realpath(kept or os.path.join(self.folder.name, "image"))
         self.loaded = None
         self.hold = holding.Hold(kept) if kept else None
-        self.is_begun = False
+        self.is_begun = self.is_beside = False
 
     def connect(self, session):
         try:
@@ -63,11 +64,23 @@ class OwnImage:
             self.hold.give_back()
 
     def about_to_save(self):
-        """Lets the program save the file. What there is to say of what the file has by now, or None."""
-        try:
-            return self.hold.keep_other()
-        finally:
-            self.give_back()
+        """Lets the program save the file."""
+        if self.hold:
+            self.hold.about_to_save()
+
+    def is_changed(self):
+        """Whether the file has something else than the program has loaded."""
+        return self.hold and self.hold.is_changed()
+
+    def goes_beside(self):
+        """Whether the program has left the file and saved its image beside it. That is where the image is kept from now on."""
+        place = self.hold and self.hold.saved_beside()
+        if not place:
+            return False
+        near = self.kept + place.removeprefix(self.path)
+        self.kept = near if os.path.realpath(near) == place else place
+        self.path, self.hold, self.is_beside = place, holding.Hold(place), True
+        return True
 
     def turns(self, connection, breaks):
         return Turns(connection, breaks)
@@ -82,7 +95,8 @@ class ServedImage:
     """An image that a server keeps, which others edit as well. Messages are numbered as those of a sender."""
 
     is_served = True
-    kept = loaded = hold = None
+    is_beside = False
+    kept = loaded = None
     advice, in_general = served_advice.REFUSALS, served_advice.IN_GENERAL
     commands, not_there, help = served_advice.COMMANDS, served_advice.NOT_THERE, served_advice.HELP
 
@@ -91,6 +105,9 @@ class ServedImage:
 
     def connect(self, session):
         return SocketConnection(self.path)
+
+    def about_to_save(self):
+        """The server saves it."""
 
     def turns(self, connection, breaks):
         return ServedTurns(connection, breaks, self.sender)

@@ -10,7 +10,8 @@ many: `./actorimage serve --socket PATH --workers 4` starts one.
 The FILEs are loaded first. Then lines are read from standard input; at a terminal `:help` lists what can be typed. If
 standard input is no terminal, each line is printed after `> ` before what it gives, and a line that begins with two spaces
 or more goes on with the one before. The status is 1 then where something of a FILE was refused, or an answer was not as `:expect`
-says; a class that a served image had already is not refused.
+says; a class that a served image had already is not refused. It is 1 also where another process has changed the image's file meanwhile,
+so that the image is beside it, as IMAGE.kept1.
 """
 
 import argparse
@@ -116,10 +117,11 @@ def work(session, names):
     are_whole = [load(session, name) for name in names]
     if is_terminal:
         talk(session)
-        return
-    transcript(session)
-    saving.end(session)
-    if not (all(are_whole) and session.is_as_expected):
+    else:
+        transcript(session)
+        saving.end(session)
+    is_good = is_terminal or all(are_whole) and session.is_as_expected
+    if session.image.is_beside or not is_good:
         sys.exit(1)
 
 

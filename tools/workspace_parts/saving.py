@@ -15,6 +15,7 @@ NOT_SAVED = "{} could not be written, for the reason above; nothing is lost, sin
 NOT_KEPT = (
     "{} could not be written, for the reason above; end the workspace again once it can, or now to lose what the file has not"
 )
+BESIDE = "from now on the file of this workspace is {}"
 LOST = "{} could not be written, for the reason above, and has what was saved last"
 
 
@@ -52,10 +53,15 @@ def save(session, rest):
     if is_copy:
         check_target(name)
     image_file.check_room(image.path)
+    before = image.kept
     if not session.save():
         raise Wrong(NOT_SAVED.format(image.kept or name))
+    if image.kept != before:
+        session.say(BESIDE.format(image.kept))
     if is_copy:
         image_file.copy(image.path, name)
+    else:
+        name = image.kept
     session.say(f"{name}: {contents(image.loaded)}")
 
 

@@ -11,8 +11,9 @@ from .sources import marked
 from .statements import read_statements
 from .tokens import has_body, pattern
 from .values import show
-from .wrong import Faulted, Refused, Stopped, Wrong
+from .wrong import Died, Faulted, Refused, Stopped, Wrong
 
+CHANGED = "what was done since the image was saved last is lost, and {} has what another program wrote"
 OFFER = "a tenth of the history is left;  :checkpoint  empties it, and all goes on"
 
 
@@ -49,13 +50,19 @@ class Session:
 
     def save(self):
         """Whether the image was saved. The program saves it where its session ends, and another one goes on."""
-        self.about_to_save()
-        is_saved = self.log.connection.close() == 0
+        is_saved = self.end_saving()
         self.go_on(is_saved)
         return is_saved
 
+    def end_saving(self):
+        """Ends the program, and says whether it has saved the image: in its file, or beside it."""
+        self.image.about_to_save()
+        return self.log.connection.close() == 0 or self.image.goes_beside()
+
     def go_on(self, is_saved):
-        """Goes on with the image after the program has ended."""
+        """Goes on with the image after the program has ended. Nothing is done once more on what another program has written."""
+        if not is_saved and self.image.is_changed():
+            raise Died(CHANGED.format(self.image.kept))
         self.log.go_on(self.image.connect(self), is_saved)
         if is_saved:
             self.learn(self.known.names)
@@ -76,20 +83,11 @@ class Session:
         if self.image.is_served or not self.image.kept:
             self.end()
             return True
-        self.about_to_save()
-        return self.log.connection.close() == 0
+        return self.end_saving()
 
     def end(self):
-        try:
-            self.about_to_save()
-        finally:
-            self.log.connection.end()
-
-    def about_to_save(self):
-        """Lets go of the file in which the image is kept, and says if it was changed. A program that is no more does not save."""
-        if self.image.hold:
-            said = self.image.about_to_save() if self.log.connection.is_alive() else self.image.give_back()
-            self.tell([said] if said else [])
+        self.image.about_to_save()
+        self.log.connection.end()
 
     def do(self, text):
         """Does one entry, and returns the name of its kind, or `refused` where it was not done whole."""

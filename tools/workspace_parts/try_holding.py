@@ -6,23 +6,25 @@ import subprocess
 import sys
 import tempfile
 
-from .holding import KEPT, TAKEN
+from .holding import TAKEN
 from .pretend import Terminal
+from .saving import BESIDE
 from .serving import Server
+from .session import CHANGED
 from .try_common import WORKSPACE, same
 from .try_images import ADD, NAME, OPTIONS, content, typed
 
 REFUSED = ([], f"tools/workspace: {TAKEN.format(NAME)}\n", 1)
-OTHER = NAME + ".other1"
+KEPT = NAME + ".kept1"
 
 
 @contextlib.contextmanager
-def at_work(program, folder):
+def at_work(program, folder, status=0):
     """A workspace at a terminal, on the image."""
     terminal = Terminal([WORKSPACE, "--program", program, *OPTIONS], folder, folder)
     terminal.see("\n> ")
     yield terminal
-    same((terminal.end(), sorted(set(os.listdir(folder)) & {NAME, NAME + ".new"})), (0, [NAME]))
+    same((terminal.end(), sorted(set(os.listdir(folder)) & {NAME, NAME + ".new"})), (status, [NAME]))
 
 
 def one_at_a_time(program):
@@ -37,7 +39,8 @@ def one_at_a_time(program):
                 same(typed(program, folder, ["E : Object"]), REFUSED)
                 serving = [program, "serve", "--socket", "socket", "--workers", "1", *OPTIONS]
                 ended = subprocess.run(serving, cwd=folder, capture_output=True, timeout=60)
-                same((ended.stderr, ended.returncode), (b"actorimage: WriteFault\n", 1))
+                held = f"{os.path.join(os.path.realpath(folder), NAME)}.new is held by another process"
+                same((ended.stderr.decode(), ended.returncode), (f"actorimage: WriteFault\n{held}\n", 1))
                 ended = subprocess.run([sys.executable, ADD, NAME, "C", "c"], cwd=folder, capture_output=True, text=True)
                 same((ended.stderr, ended.returncode), (f"tools/add-variable: {NAME}: a server or another program has it\n", 1))
         same(typed(program, folder, [":classes"])[0][1:], ["C : Object", "D : Object"])
@@ -50,18 +53,67 @@ def of_a_server(program):
 
 
 def changed(program):
-    """A file that was changed is kept beside, at a save and at the end; one that is as it was is not."""
+    """A file that was changed stays, at a save and at the end. What the workspace did is beside it, and goes on there."""
     with tempfile.TemporaryDirectory() as folder:
         typed(program, folder, ["C : Object"])
-        other = content(folder).replace(b'"C"', b'"B"')
-        with at_work(program, folder) as terminal:
+        other = content(folder).replace(b'"C"', b'"BCD"')
+        said = said_of(os.path.realpath(folder))
+        with at_work(program, folder, 1) as terminal:
             same(terminal.ask("D : Object"), "class D, version 2\n")
             write(folder, other)
-            same(terminal.ask(":save"), f"{KEPT.format(NAME, OTHER)}\n{NAME}: 2 classes, 0 methods, 0 actors\n")
-            same(terminal.ask(":save"), f"{NAME}: 2 classes, 0 methods, 0 actors\n")
+            first = f"{BESIDE.format(KEPT)}\n{KEPT}: 2 classes, 0 methods, 0 actors\n"
+            same(terminal.ask(":save"), f"{said}{first}")
+            same(terminal.ask("E : C"), "class E, version 3\n")
+            # What was saved beside is held as the file was, and :restart goes back to it.
+            same(typed(program, folder, [], "--image", KEPT)[1], f"tools/workspace: {TAKEN.format(KEPT)}\n")
+            same(terminal.ask(":save"), f"{KEPT}: 3 classes, 0 methods, 0 actors\n")
+            terminal.ask("F : C")
+            same(terminal.ask(":restart"), f"{KEPT} as it was saved last: 3 classes, 0 methods, 0 actors\n")
+            same(terminal.ask("G : C"), "class G, version 4\n")
+        same(sorted(it for it in os.listdir(folder) if it.startswith(NAME)), [NAME, KEPT])
+        same(content(folder), other)
+        same(typed(program, folder, [":classes"], "--image", KEPT)[0][1:], ["C : Object", "D : Object", "E : C", "G : C"])
+
+
+def changed_at_the_end(program):
+    """A file that was changed stays also where nothing was saved before the end, and where the image is saved to another name."""
+    with tempfile.TemporaryDirectory() as folder:
+        typed(program, folder, ["C : Object"])
+        other = content(folder).replace(b'"C"', b'"BCD"')
+        with at_work(program, folder, 1) as terminal:
+            terminal.ask("D : Object")
             write(folder, other)
-        same((content(folder, OTHER), content(folder, NAME + ".other2")), (other, other))
-        same(typed(program, folder, [":classes"])[0][1:], ["C : Object", "D : Object"])
+        with at_work(program, folder, 1) as terminal:
+            terminal.ask("E : Object")
+            write(folder, content(folder, KEPT))
+            said = said_of(os.path.realpath(folder), KEPT[:-1] + "2") + BESIDE.format(KEPT[:-1] + "2")
+            same(terminal.ask(":save two.image"), f"{said}\ntwo.image: 2 classes, 0 methods, 0 actors\n")
+        same(content(folder), content(folder, KEPT))
+        for name, wanted in ((KEPT, ["C : Object", "D : Object"]), ("two.image", ["BCD : Object", "E : Object"])):
+            same(typed(program, folder, [":classes"], "--image", name)[0][1:], wanted)
+
+
+def changed_and_not_written(program):
+    """Where the image cannot be saved and another one is in the file, nothing is done once more on that."""
+    with tempfile.TemporaryDirectory() as folder:
+        typed(program, folder, ["C : Object"])
+        other = content(folder).replace(b'"C"', b'"BCD"')
+        terminal = Terminal([WORKSPACE, "--program", program, *OPTIONS], folder, folder)
+        terminal.see("\n> ")
+        terminal.ask("D : Object")
+        write(folder, other)
+        # The workspace holds the file beside it.
+        os.remove(os.path.join(folder, NAME + ".new"))
+        os.mkdir(os.path.join(folder, NAME + ".new"))
+        terminal.type(":save\n")
+        terminal.see(CHANGED.format(NAME) + "; the classes and methods of this session are in lost1.st, for  :load")
+        same((terminal.process.wait(60), content(folder)), (1, other))
+
+
+def said_of(folder, kept=KEPT):
+    """What the program says of a file that was changed."""
+    name, place = os.path.join(folder, NAME), os.path.join(folder, kept)
+    return f"actorimage: WriteFault\n{name} was changed by another process, and is NOT replaced: this image is saved in {place}\n"
 
 
 def write(folder, data):
@@ -87,4 +139,4 @@ def killed_program(program):
         same((content(folder), os.path.exists(os.path.join(folder, NAME + ".new"))), (before, False))
 
 
-TRIALS = (one_at_a_time, of_a_server, changed, killed_program)
+TRIALS = (one_at_a_time, of_a_server, changed, changed_at_the_end, changed_and_not_written, killed_program)

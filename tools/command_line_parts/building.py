@@ -178,16 +178,16 @@ def keeps_a_look(program):
 
 
 def says_what_it_is(program):
-    """A version is followed by how the program was made."""
+    """The program says itself how it was made, and nothing is added to that."""
     with Room(program) as room:
-        for place, words, how in (("out/actorimage", [], "proved"), ("look/actorimage-look", ["--look"], "a look, without proofs")):
+        for place, words in (("out/actorimage", []), ("look/actorimage-look", ["--look"])):
             name = f"{room.top}/crates/actorimage/{place}"
             os.mkdir(os.path.dirname(name))
             with open(name, "w", encoding="utf-8") as file:
-                file.write("#!/bin/sh\necho actorimage 7\n")
+                file.write('#!/bin/sh\necho "${0##*/} $*"\n')
             os.chmod(name, 0o755)
             out, _, status = room.run(*words, "--version")
-            assert (out, status) == (f"actorimage 7 ({how})\n", 0), (out, status)
+            assert (out, status) == (f"{os.path.basename(name)} --version\n", 0), (out, status)
 
 
 TRIALS = (along_the_graph, names_what_failed, ends_all_at_an_interrupt, keeps_a_look, says_what_it_is)

@@ -190,7 +190,7 @@ def _sent(value: Value) -> Any:
     if isinstance(value, ClassName):
         return {"class": value.name}
     if isinstance(value, Actor):
-        return {"ref": value.number}
+        return {"ref": _number(value)}
     if value is None or isinstance(value, int):
         if value is None or -(2**63) <= value < 2**63:
             return value
@@ -201,9 +201,9 @@ def _sent(value: Value) -> Any:
 
 def _bounded(number: int, most: int, what: str) -> int:
     """A number that the protocol has a place for."""
-    if 0 <= number <= most:
+    if isinstance(number, int) and not isinstance(number, bool) and 0 <= number <= most:
         return number
-    raise ValueError(f"{number} cannot be {what}: these are 0 to {most:,}")
+    raise ValueError(f"{number!r} cannot be {what}: these are whole numbers, 0 to {most:,}")
 
 
 def _number(actor: Actor) -> int:
@@ -320,6 +320,8 @@ class Image:
     def ask_all(self, commands: Iterable[Reply], window: int = 100) -> Iterator[Union[Reply, Refused]]:
         """Sends many commands, at most `window` of them before a reply that is not read yet, and gives each reply's `ok`, or its
         refusal, which is not raised. Other threads wait until all was given."""
+        if not isinstance(window, int) or window < 1:
+            raise ValueError(f"{window!r} cannot be a window: one command at least is sent before its reply is read")
         with self._lock:
             line = self._ready()
             try:
@@ -438,7 +440,8 @@ class Sender:
 
     @property
     def last(self) -> int:
-        """The number of the last message that was accepted. Behind a new connection the image is asked for it."""
+        """The last number that was used: that of the last message that was accepted, or that `post_all` sent later and that was refused.
+        Behind a new connection the image is asked for it, and tells the last that it accepted."""
         if self._connection != self.image.connections:
             self._learn(self.image.last_of(self.number))
         return self._last

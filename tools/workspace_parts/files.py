@@ -18,12 +18,14 @@ IMAGE = '{"actors":['
 
 @dataclass
 class Loading:
-    """A file that is being loaded, the line at which it is, and how many of its classes the served image had already."""
+    """A file that is being loaded, the line at which it is, how many of its classes the served image had already, and how many of its
+    faults were expected."""
 
     name: str
     real: str
     line: int = 0
     there: int = 0
+    expected: int = 0
 
     def __str__(self):
         return f"{self.name}, line {self.line}:"
@@ -53,6 +55,7 @@ def load(session, rest):
     finally:
         session.loading.pop()
     done["Definition"] -= loading.there
+    done["refused"] -= loading.expected
     said = [count(done[kind], thing) for kind, thing in (("Definition", "class"), ("Method", "method")) if done[kind]]
     if done["refused"]:
         said.append(f"{done['refused']} refused")
@@ -67,7 +70,7 @@ def load_lines(session, lines):
     done = Counter()
     for entry in classes_first(entries(lines), session.known):
         session.loading[-1].line = entry.line
-        if session.breaks.asked or session.is_over or done["refused"] == MOST_REFUSED:
+        if session.breaks.asked or session.is_over or done["refused"] - session.loading[-1].expected == MOST_REFUSED:
             session.say(f"{session.loading[-1]} not done from here on")
             break
         done[session.do(entry.text)] += 1

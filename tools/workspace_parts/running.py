@@ -75,12 +75,18 @@ def checkpoint(session, rest):
 
 
 def expect(session, rest):
-    """Wrong if the messages before have another answer, or none."""
+    """Wrong if the messages before have another answer, or none. A fault of a file that is met is not counted as refused."""
     if not rest:
-        raise Wrong("write the answer after it that the message before is to have, as in  :expect 5")
-    if session.answer != " ".join(rest.split()):
-        session.is_as_expected = False
-        raise Wrong(f"{rest} is expected, and the answer is {session.answer or 'none'}")
+        raise Wrong("write the answer after it that the message before is to have, as in  :expect 5  or  :expect fault zeroDivide")
+    faulted, session.faulted = session.faulted, None
+    if session.answer == " ".join(rest.split()):
+        if faulted:
+            faulted.expected += 1
+        return
+    session.is_as_expected = False
+    wrong = f"{rest} is expected, and the answer is {session.answer or 'none'}"
+    session.why = [wrong, *(session.why if (session.answer or "").startswith("fault ") else ())]
+    raise Wrong(wrong)
 
 
 def actor_of(session, text):

@@ -19,8 +19,8 @@ OFFER = "a tenth of the history is left;  :checkpoint  empties it, and all goes 
 
 class Session:
     """`say` takes each line that is told. `loading` are the files that are being loaded, `why` is what `:why` says, and `told`
-    is where in the log the last entry begins. `answer` is what the last entry showed, if it sent messages; `is_as_expected` is what
-    `:expect` found so far."""
+    is where in the log the last entry begins. `answer` is what the last entry showed, or the fault that ended it, if it sent messages;
+    `faulted` is the file in which that fault came, until `:expect` has looked at it, and `is_as_expected` is what `:expect` found so far."""
 
     command_names = tuple(commands.COMMANDS)
 
@@ -29,7 +29,7 @@ class Session:
         self.say = say
         self.is_over = False
         self.loading = []
-        self.answer, self.is_as_expected = None, True
+        self.answer, self.faulted, self.is_as_expected = None, None, True
         self.start()
 
     def start(self):
@@ -132,7 +132,7 @@ class Session:
         elif isinstance(found, Command):
             self.command(found)
         elif found:
-            self.answer = None
+            self.answer = self.faulted = None
             Sending(self).do(read_statements(text))
 
     def command(self, found):
@@ -221,6 +221,8 @@ class Session:
         elif isinstance(stopped, Refused):
             self.tell_refusal(stopped)
         elif isinstance(stopped, Faulted):
+            self.answer = f"fault {stopped.fault}"
+            self.faulted = self.loading[-1] if self.loading else None
             self.tell_fault(stopped.turn, stopped.fault)
         else:
             self.say(stopped.sentence)

@@ -46,18 +46,31 @@ def expected(program):
         for more, wrong, status in (
             ([], [], 0),
             (["c up", ":expect 4"], ["3", "c.st, line 12:", "4 is expected, and the answer is 3"], 1),
-            (["c foo", ":expect nil"], ["c.st, line 11:", FAULT, "c.st, line 12:", "nil is expected, and the answer is none"], 1),
+            (["c foo", ":expect nil"], ["c.st, line 11:", FAULT, "c.st, line 12:", IS_FAULT.format("nil")], 1),
+            (["c foo", ":expect fault  overflow"], ["c.st, line 11:", FAULT, "c.st, line 12:", IS_FAULT.format("fault  overflow")], 1),
+            (["c foo", *[":expect fault notUnderstood"] * 2], ["c.st, line 11:", FAULT], 0),
         ):
             with open(path, "w", encoding="utf-8") as file:
                 file.write("\n".join([*good, *more]))
             ended = piped(program, [], "c.st", cwd=folder)
-            refused = sum("line" in it for it in wrong)
+            refused = sum("line" in it for it in wrong) if status else 0
             said = ["actor 0", "2", "#c", *wrong, "c.st: 1 class, 2 methods" + (f", {refused} refused" if refused else "")]
             same((ended.stdout.decode().splitlines(), ended.returncode), (said, status))
     same([piped(program, [*lines, f":expect {number}"]).returncode for number in (2, 3)], [0, 1])
 
 
+def why_not_expected(program):
+    """`:why` behind a refused `:expect` is of that, and of the fault that came in place of an answer."""
+    lines = ["C : Object", "c := C actor", "c foo", "c isNil", ":expect true", ":why", "c foo", ":expect true", ":why"]
+    printed = piped(program, lines).stdout.decode().splitlines()
+    first = "true is expected, and the answer is false"
+    same([it for it in printed[printed.index("> :expect true") :] if not it.startswith("> ")][:2], [first, first])
+    printed = printed[len(printed) - printed[::-1].index("> :why") :]
+    same((printed[0], printed[1].partition(":")[0]), (IS_FAULT.format("true"), "notUnderstood"))
+
+
 FAULT = "fault notUnderstood in turn 4 of actor 0"
+IS_FAULT = "{} is expected, and the answer is fault notUnderstood"
 
 
 def helped(program):
@@ -141,4 +154,4 @@ def too_long(program):
     same(found.endswith("actor 0\n"), True)
 
 
-TRIALS = (endless, files, expected, helped, interrupted, log, no_program, no_file, lost_program, too_long)
+TRIALS = (endless, files, expected, why_not_expected, helped, interrupted, log, no_program, no_file, lost_program, too_long)

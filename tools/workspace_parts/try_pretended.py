@@ -66,9 +66,9 @@ def no_server_replies(program):
 
 
 def too_many(program):
-    """A server with as many sessions as it may have."""
+    """A server with as many sessions as it may have, and the operator's."""
     with tempfile.TemporaryDirectory() as folder, Server(program, folder, "--workers", "1") as server:
-        sessions = [SocketConnection(server.path) for _ in range(64)]
+        sessions = [SocketConnection(server.path) for _ in range(64 + 1)]
         wanted = f"the server at {server.path} has as many sessions as it may; try again later"
         same(sentence(Ended, SocketConnection, server.path), wanted)
         for it in sessions:

@@ -7,7 +7,7 @@ use std::fs::Files;
 use std::io::Error;
 use std::os::unix::net::{SocketAddrExt, UnixStream};
 use std::sync::Wait;
-use std::sync::atomic::{AtomicBool, Ordering};
+use std::sync::atomic::{AtomicBool, AtomicU64, Ordering};
 use std::thread;
 use std::time::{Clock, Duration};
 
@@ -38,20 +38,39 @@ impl<'a> Doorkeeper<'a> {
     }
 }
 
+/// How many sessions' ends are written at once, at most. Where nobody reads standard error they wait, and others are not named.
+const MOST_WRITTEN: u64 = 8;
+
 /// Keeps the refusals by which sessions end, and names them on standard error where that is asked for.
-#[derive(Clone, Copy)]
+#[derive(Drop)]
 pub struct Reporter<'a> {
-    pub list: FaultList<'a>,
-    pub is_verbose: bool,
+    list: FaultList<'a>,
+    is_verbose: bool,
+    /// How many are being written.
+    written: AtomicU64,
+}
+
+impl<'a> Reporter<'a> {
+    pub fn new(list: FaultList<'a>, is_verbose: bool) -> Reporter<'a> {
+        Reporter {
+            list,
+            is_verbose,
+            written: AtomicU64::new(0),
+        }
+    }
 }
 
 impl<'a, R: Wait + Eprint> Witness<R> for Reporter<'a> {
     fn ended(&self, rt: &R, refusal: Refusal) {
-        if self.is_verbose {
+        self.list.ended(rt, refusal);
+        if !self.is_verbose {
+            return;
+        }
+        if self.written.fetch_add(1, Ordering::SeqCst) < MOST_WRITTEN {
             let name = refusal_name(refusal);
             let _ = eprintln!(rt; "actorimage: a session has ended: {name}");
         }
-        self.list.ended(rt, refusal);
+        self.written.fetch_sub(1, Ordering::SeqCst);
     }
 }
 

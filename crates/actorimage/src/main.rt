@@ -168,10 +168,8 @@ fn serve_bound<R: Threads + Wait + Files + Eprint + Clock + Sync>(
         tell_start(rt, options.socket, &image);
     }
     let keeper = Doorkeeper::new(file);
-    let reporter = Reporter {
-        list: FaultList::of(faults, options.sessions),
-        is_verbose: options.is_verbose,
-    };
+    let list = FaultList::of(faults, options.sessions);
+    let reporter = Reporter::new(list, options.is_verbose);
     let result = serve_image(
         rt,
         alloc,

@@ -289,6 +289,7 @@ impl NewFile {
             return Err(unwritten(alloc, path, "was taken away"));
         }
         if has_changed(rt, place, seen) {
+            let _ = file.set_permissions(Permissions::from_mode(OWNER_ALONE));
             return Err(self.kept(
                 rt,
                 alloc,

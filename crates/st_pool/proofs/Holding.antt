@@ -1,15 +1,20 @@
 -- Holds, one after the other, are a hold.
-use Rattle.std.proofs.Common.{◌≡◌, ℕ, ◌+◌, List, [], ◌∷◌, ◌++◌, Bool, true, false, Result, Ok, refl, ap₂, subst}
+use Rattle.std.proofs.Common.{◌≡◌, ℕ, ◌+◌, List, [], ◌∷◌, ◌++◌, Bool, true, false, Result, Ok, Err, refl, ap₂, subst, sym}
 use Rattle.std.specs.Prelude.{MatchBool}
 use Rattle.st_classes.specs.declared.refusals.Refusal.{Refusal}
+use Rattle.st_classes.specs.declared.values.Selector.{Selector}
+use Rattle.st_calls.specs.declared.calls.Answer.TheVariants as answer
+use Rattle.st_calls.specs.declared.calls.Call.TheVariants as call
+use Rattle.st_calls.specs.Does.{Does, told}
 use Rattle.st_turn.specs.Claims.{ClaimView}
 use Rattle.st_image.specs.Images.{ImageView}
 use Rattle.st_calls.specs.Growth.{committed}
 use Rattle.st_pool.specs.declared.office.Work.{Work}
 use Rattle.st_pool.specs.declared.office.Work.TheVariants.{Stop, Wait, Turn}
-use Rattle.st_pool.specs.Books.{BooksView}
+use Rattle.st_pool.specs.Books.{BooksView, no_books}
+use Rattle.st_pool.specs.Calling.{booked}
 use Rattle.st_pool.specs.Done.{OfficeView, Takes, TurnsOver, takes_more}
-use Rattle.st_pool.specs.Holds.{Event, handed, settled, Happen, Happens, IsHold, of_worker}
+use Rattle.st_pool.specs.Holds.{Event, called, employed, given, handed, settled, any, Happen, Happens, IsHold, IsRun, of_worker, opened}
 
 happen_then : (kind : Event → Bool) (o m p : OfficeView) (es fs : List Event) → Happen kind o es m → Happen kind m fs p → Happen kind o (es ++ fs) p
 happen_then kind o m p [] fs h k = subst (λ (x : OfficeView). Happen kind x fs p) h k
@@ -42,3 +47,33 @@ pub turns_hold : (o p : OfficeView) (c : ClaimView) (starved : Bool) (r : Result
 turns_hold o p c starved r w h b =
     let m : OfficeView = record { image = h.between; books = record o.books { steps = o.books.steps + committed r } } in
     hold_then of_worker o m p (hold_one of_worker o m (settled c r) refl (h.settles, refl)) (after o m p (takes_more starved r) w h.next b)
+
+-- ---- all that has happened
+
+abbrev at : ImageView → BooksView → OfficeView
+at i b = record { image = i; books = b }
+
+-- nothing has
+pub run_begins : (first i : ImageView) (b : BooksView) → first ≡ i → b ≡ no_books → IsRun first (at i b)
+run_begins first i b is none = hold_none any (opened first) (at i b) (same_office (opened first) (at i b) (sym is) none)
+
+-- and one event more
+pub run_then : (first : ImageView) (o p : OfficeView) (e : Event) → IsRun first o → Happens o e p → IsRun first p
+run_then first o p e h k = hold_then any (opened first) o p h (hold_one any o p e refl k)
+
+pub run_same : (first i : ImageView) (b c : BooksView) → IsRun first (at i b) → c ≡ b → IsRun first (at i c)
+run_same first i b c h e = subst (λ (x : BooksView). IsRun first (at i x)) (sym e) h
+
+pub run_given : (first i : ImageView) (b c : BooksView) → IsRun first (at i b) → c ≡ record b { callers = b.callers + 1 } → IsRun first (at i c)
+run_given first i b c h e = run_then first (at i b) (at i c) given h (refl, e)
+
+pub run_employed : (first i : ImageView) (b c : BooksView) → IsRun first (at i b) → c ≡ record b { workers = b.workers + 1 } → IsRun first (at i c)
+run_employed first i b c h e = run_then first (at i b) (at i c) employed h (refl, e)
+
+interned_booked : (o : OfficeView) (x : Result Selector Refusal) → o.books ≡ booked o (told answer.Interned x)
+interned_booked o (Ok s) = refl
+interned_booked o (Err e) = refl
+
+-- a text was interned
+pub run_interned : (first i j : ImageView) (b : BooksView) (text : List ℕ) (x : Result Selector Refusal) → IsRun first (at i b) → Does i (call.Intern text) (told answer.Interned x) j → IsRun first (at j b)
+run_interned first i j b text x h does = run_then first (at i b) (at j b) (called (call.Intern text) (told answer.Interned x)) h (does, interned_booked (at i b) x)

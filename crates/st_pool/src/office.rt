@@ -59,6 +59,7 @@ impl<K: Naming, M: Mailbox> Model for Office<K, M> {
     ghost use Rattle.std.specs.Option.{IfSome};
     ghost use Rattle.st_pool.specs.Books.{Kept};
     ghost use Rattle.st_pool.specs.Done.{OfficeView};
+    ghost use Rattle.st_pool.specs.Holds.{IsRun};
     ghost use Rattle.st_pool.specs.Seen.{MayFollow};
 
     ghost Value = { OfficeView };
@@ -67,7 +68,8 @@ impl<K: Naming, M: Mailbox> Model for Office<K, M> {
 
     ghost use Rattle.st_image.specs.GoingOn.{GoesOnIn};
 
-    ghost invariant = { λ o. Kept K.start o.image o.books × IfSome o.front (λ l. MayFollow l o.image) × GoesOnIn K.first o.image };
+    ghost invariant = { λ o. Kept K.start o.image o.books × IfSome o.front (λ l. MayFollow l o.image) × GoesOnIn K.first o.image
+        × IsRun K.first (record { image = o.image; books = o.books }) };
 }
 
 /// Adds an image as the last of those that were seen, if they are known.
@@ -131,7 +133,7 @@ impl<K: Naming, M: Mailbox> Office<K, M> {
     ghost use Rattle.st_pool.specs.Done.{HasAtLeast, Takes, TurnsOver, nothing_done};
 
     /// The image with empty books.
-    #[tactic(auto, using(st_calls::proofs::GoingThen::goes_by))]
+    #[tactic(auto, using(st_calls::proofs::GoingThen::goes_by, crate::proofs::Holding::run_begins))]
     pub(crate) fn new(image: Image<M>, blanks: Blanks, opened: Opened) -> Office<K, M>
         requires posts { blanks.posts.name ≡ K.posts }
         requires edits { blanks.edits.name ≡ K.edits }
@@ -161,6 +163,7 @@ impl<K: Naming, M: Mailbox> Office<K, M> {
     }
 
     /// A share for one caller more.
+    #[tactic(auto, using(crate::proofs::Holding::run_given))]
     pub(crate) fn give(&mut self, alloc: Global) -> Result<CallerShare<K>, Refusal>
         ensures none { IfOk result (λ s. s ≡ nothing_done) }
         ensures ok { OnOk result (self.new ≡ record self.old { books = record self.old.books { callers = self.old.books.callers + 1 } }) }
@@ -176,6 +179,7 @@ impl<K: Naming, M: Mailbox> Office<K, M> {
     }
 
     /// A share for one worker more.
+    #[tactic(auto, using(crate::proofs::Holding::run_employed))]
     pub(crate) fn employ(&mut self) -> Result<WorkerShare<K>, Refusal>
         ensures none { IfOk result (λ s. s ≡ 0) }
         ensures ok { OnOk result (self.new ≡ record self.old { books = record self.old.books { workers = self.old.books.workers + 1 } }) }
@@ -329,6 +333,7 @@ impl<K: Naming, M: Mailbox> Office<K, M> {
     }
 
     /// The image has at least what a caller has done.
+    #[tactic(auto, using(crate::proofs::Holding::run_same))]
     pub(crate) fn audit(&mut self, mine: &mut CallerShare<K>)
         ensures same { self.new ≡ self.old }
         ensures share { mine.new ≡ mine.old }
@@ -371,6 +376,7 @@ impl<K: Naming, M: Mailbox> Office<K, M> {
     }
 
     /// What a worker does next.
+    #[tactic(auto, using(crate::proofs::Holding::run_same))]
     #[inline(always)]
     pub(crate) fn work(
         &mut self,

@@ -8,7 +8,9 @@ ghost use Rattle.st_image.specs.Counts.{posts_of, weigh};
 ghost use Rattle.st_image.specs.GoingOn.{GoesOnIn};
 ghost use Rattle.st_image.specs.Images.{ImageView};
 ghost use Rattle.st_image.specs.WorldInvariant.{IsLawful};
+ghost use Rattle.st_pool.specs.Books.{BooksView};
 ghost use Rattle.st_pool.specs.Done.{Done, StandsIn};
+ghost use Rattle.st_pool.specs.Holds.{IsRun};
 ghost use Rattle.st_pool.specs.Settled.{AreAll, AllStand, AreCounts, AreFew, AreSums, HaveStood};
 
 use crate::accounts::Accounts;
@@ -136,6 +138,7 @@ fn settle_in<K: Naming, M: Mailbox>(
     ensures sums { IfOk result (λ r. AreSums r.1 shares.callers.items shares.workers.items) }
     ensures history { IfOk result (λ r. AreCounts K.start r.0 r.1 × HaveStood r.0 r.1.posts shares.callers.items) }
     ensures later { IfOk result (λ r. GoesOnIn K.first r.0) }
+    ensures run { IfOk result (λ r. (b : BooksView) × IsRun K.first (record { image = r.0; books = b })) }
     ensures refused { IfErr result (λ e. (e ≡ refusals.BadArguments) ⊎ (e ≡ refusals.Changed)) }
 {
     let Shared { office, .. } = shared;
@@ -145,7 +148,8 @@ fn settle_in<K: Naming, M: Mailbox>(
 /// The image, what all threads have done together, once they have handed back their shares, and what each has done. The totals are the
 /// sums over these accounts, and what the image has counted since the pool was made. The message of each receipt is in the history at
 /// its place, posted to its actor, unless a checkpoint of these callers has emptied its item; and of the emptied items no more belong to
-/// receipts than are posts.
+/// receipts than are posts. The image is what a list of events has made of the one that was shared: calls, claims that were handed out
+/// and settled, and shares that were given out.
 ///
 /// What `room` has is dropped, and its room is taken for the accounts; memory is taken only if it is not enough.
 ///
@@ -161,6 +165,7 @@ pub fn settle_image<K: Naming, M: Mailbox>(
     ensures sums { IfOk result (λ r. AreSums r.1 r.2.callers.items r.2.workers.items) }
     ensures history { IfOk result (λ r. AreCounts K.start r.0 r.1 × HaveStood r.0 r.1.posts r.2.callers.items) }
     ensures later { IfOk result (λ r. GoesOnIn K.first r.0) }
+    ensures run { IfOk result (λ r. (b : BooksView) × IsRun K.first (record { image = r.0; books = b })) }
     ensures refused { IfErr result (λ e. (e ≡ refusals.NoMemory) ⊎ (e ≡ refusals.BadArguments) ⊎ (e ≡ refusals.Changed)) }
 {
     let Some(mut accounts) = emptied(room, shares.callers.len(), shares.workers.len()) else {

@@ -114,13 +114,16 @@ fn host<K: Naming, W: Witness<R>, R: Wait>(
     room: &Room<'_, K, W>,
     stream: UnixStream,
 ) {
-    if let Err(refusal) = talk(rt, alloc, room, &stream) {
+    let ended = talk(rt, alloc, room, &stream);
+    if ended.is_err() {
         drain(&stream);
-        room.witness.ended(rt, refusal);
     }
-    // First the place is given back: whoever has read the end of this session finds it.
+    // First the place is given back: whoever has read the end of this session finds it. Who is told of it may take his time.
     room.active.fetch_sub(1, Ordering::SeqCst);
     drop(stream);
+    if let Err(refusal) = ended {
+        room.witness.ended(rt, refusal);
+    }
 }
 
 /// Makes room for the shares of as many sessions as can be open, and for the accounts of these and of all that have ended.

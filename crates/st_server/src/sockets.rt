@@ -4,6 +4,8 @@ ghost use Rattle.std.specs.Option.{IfSome};
 ghost use Rattle.st_classes.specs.declared.refusals.Refusal.TheVariants as refusals;
 ghost use Rattle.st_image.specs.GoingOn.{GoesOnIn};
 ghost use Rattle.st_calls.specs.Growth.{amounts};
+ghost use Rattle.st_pool.specs.Books.{BooksView};
+ghost use Rattle.st_pool.specs.Holds.{IsRun};
 ghost use Rattle.st_pool.specs.Settled.{AreCounts, AreSums, HaveStood};
 ghost use Rattle.st_server.specs.Serving.{AreInRange, HaveServed};
 
@@ -193,6 +195,7 @@ fn serve<
     ensures stood { IfOk result (λ r. HaveStood r.image r.totals.posts r.accounts.callers.items) }
     ensures workers { IfOk result (λ r. vec_len r.accounts.workers ≡ vec_len workers) }
     ensures later { IfOk result (λ r. GoesOnIn image r.image) }
+    ensures run { IfOk result (λ r. (b : BooksView) × IsRun image (record { image = r.image; books = b })) }
     ensures fault { IfOk result (λ r. IfSome r.fault (λ e. e ≡ refusals.ReadFault)) }
     ensures refused { IfErr result (λ e. (e ≡ refusals.BadArguments) ⊎ (e ≡ refusals.NoMemory) ⊎ (e ≡ refusals.Changed)) }
 {
@@ -240,7 +243,7 @@ fn is_served(workers: u32, sessions: Option<u32>) -> bool
 ///
 /// `sessions` is how many sessions are accepted, from 1 to 1,000,000. Then the call waits for their ends, stops the workers, and
 /// answers the image, what each session and each worker has done, and the totals of that: what the image has counted beyond its counts
-/// at the start. With `None`, serving goes on.
+/// at the start. With `None`, serving goes on. The image is what a list of events has made of the one that was handed in (`IsRun`).
 ///
 /// The witness is told of each session that ends with a refusal. If the porter lets in nobody any more, the call ends as behind the
 /// last session. If accepting fails and the porter does not try again, it ends so too, and the fault is `ReadFault`.
@@ -267,6 +270,7 @@ pub fn serve_image<P: Porter<R>, W: Witness<R> + Sync, R: Threads + Wait + Sync>
     ensures stood { IfOk result (λ r. HaveStood r.image r.totals.posts r.accounts.callers.items) }
     ensures workers { IfOk result (λ r. vec_len r.accounts.workers ≡ workers) }
     ensures later { IfOk result (λ r. GoesOnIn image r.image) }
+    ensures run { IfOk result (λ r. (b : BooksView) × IsRun image (record { image = r.image; books = b })) }
     ensures fault { IfOk result (λ r. IfSome r.fault (λ e. e ≡ refusals.ReadFault)) }
     ensures refused { IfErr result (λ e. (e ≡ refusals.BadArguments) ⊎ (e ≡ refusals.NoMemory) ⊎ (e ≡ refusals.Changed)) }
 {

@@ -12,6 +12,7 @@ impl<K: Naming, M: Mailbox> Office<K, M> {
     ghost use Rattle.std.specs.Prelude.{◌≡◌, ◌⊎◌, ◌≤◌, [], OnOk, IfOk, IfErr, vec_capacity, vec_len};
     ghost use Rattle.st_classes.specs.declared.refusals.Refusal.TheVariants as refusals;
     ghost use Rattle.st_image.specs.GoingOn.{GoesOnIn};
+    ghost use Rattle.st_pool.specs.Holds.{IsRun};
     ghost use Rattle.st_pool.specs.Settled.{AreAll, AllStand, AreCounts, AreFew, AreSums, emptied_by};
 
     /// The image, and what all threads have done together. If there is room, it leaves there what each has done. It is refused by
@@ -27,6 +28,7 @@ impl<K: Naming, M: Mailbox> Office<K, M> {
         ensures workers { OnOk result (vec_len shares.workers ≤ vec_capacity accounts.old.workers → accounts.new.workers.items ≡ shares.workers.items) }
         ensures image { IfOk result (λ r. r.0 ≡ self.image) }
         ensures later { IfOk result (λ r. GoesOnIn K.first r.0) }
+        ensures run { IfOk result (λ r. IsRun K.first (record { image = r.0; books = self.books })) }
         ensures sums { IfOk result (λ r. AreSums r.1 shares.callers.items shares.workers.items) }
         ensures counts { IfOk result (λ r. AreCounts K.start r.0 r.1) }
         ensures all { OnOk result (AreAll self.books shares.callers.items shares.workers.items) }

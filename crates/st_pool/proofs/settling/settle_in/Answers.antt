@@ -2,7 +2,9 @@ use Rattle.std.proofs.Common.{◌≡◌, ℕ, List, Result, Ok, Err, IfOk, OnOk,
 use Rattle.st_classes.specs.declared.refusals.Refusal.{Refusal}
 use Rattle.st_image.specs.Images.{ImageView}
 use Rattle.st_calls.specs.Growth.{Amounts}
+use Rattle.st_pool.specs.Books.{BooksView}
 use Rattle.st_pool.specs.Done.{Done}
+use Rattle.st_pool.specs.Holds.{IsRun}
 use Rattle.st_pool.specs.Settled.{AllStand, AreCounts, AreFew, HaveStood, emptied_by}
 use Rattle.st_pool.specs.declared.totals.Totals.{Totals}
 use Rattle.st_pool.proofs.settling.settle_in.Goals as goal
@@ -23,3 +25,11 @@ returns-clause-history g c = stood g.K.Naming.start c.into_inner.result.books.em
 
 pub returns-clause-refused : goal.returns-clause-refused
 returns-clause-refused g c = c.settle.ensures.named
+
+ran : (first : ImageView) (b : BooksView) (r : Result (ImageView × Totals) Refusal) → IfOk r (λ v. IsRun first (record { image = v.0; books = b }))
+    → IfOk r (λ v. (c : BooksView) × IsRun first (record { image = v.0; books = c }))
+ran first b (Ok v) h = (b, h)
+ran first b (Err e) h = tt
+
+pub returns-clause-run : goal.returns-clause-run
+returns-clause-run g c = ran g.K.Naming.first c.into_inner.result.books c.settle.result c.settle.ensures.run

@@ -5,6 +5,8 @@ use Rattle.st_pool.specs.Done.{OfficeView, nothing_done}
 use Rattle.st_pool.proofs.Calling.{kept_booked, plain_told}
 use Rattle.st_calls.proofs.GoingThen.{goes_then}
 use Rattle.st_pool.proofs.Knowing.{front_later}
+use Rattle.st_pool.specs.Holds.{called}
+use Rattle.st_pool.proofs.Holding.{run_then}
 use Rattle.st_pool.proofs.office.Office.call.Goals as goal
 
 pub invariant_of-self : goal.invariant_of-self
@@ -16,4 +18,5 @@ invariant_of-self g c =
       subst (λ (b : BooksView). Kept g.K.Naming.start j b) (sym are) (kept_booked g.K.Naming.start o j c.apply-answer.result c.self.invariant.0 c.apply-answer.ensures.grows),
       front_later c.self.inside.front c.self.inside.image j c.apply-answer.ensures.later c.self.invariant.1,
       goes_then g.K.Naming.first c.self.inside.image j c.self.invariant.2 c.apply-answer.ensures.later,
+      run_then g.K.Naming.first o (record { image = j; books = c.edit.new.self }) (called c.args.call c.apply-answer.result) c.self.invariant.3 (c.apply-answer.ensures.does, are),
     )

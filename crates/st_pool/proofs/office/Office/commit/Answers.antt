@@ -2,6 +2,8 @@ use Rattle.st_calls.specs.Growth.{committed}
 use Rattle.st_pool.proofs.Weights.{kept_ran}
 use Rattle.st_calls.proofs.GoingThen.{goes_then}
 use Rattle.st_pool.proofs.Knowing.{claim_known, front_later}
+use Rattle.st_pool.specs.Holds.{settled}
+use Rattle.st_pool.proofs.Holding.{run_then}
 use Rattle.st_pool.proofs.office.Office.commit.Goals as goal
 
 pub settle-answer-requires : goal.settle-answer-requires
@@ -12,4 +14,5 @@ invariant_of-self g c = (
   kept_ran g.K.Naming.start c.self.inside.image c.settle-answer.new.image c.self.inside.books c.run.new.self (committed c.settle-answer.result) c.self.invariant.0 c.settle-answer.ensures.grows c.run.ensures.books,
   front_later c.self.inside.front c.self.inside.image c.settle-answer.new.image c.settle-answer.ensures.later c.self.invariant.1,
   goes_then g.K.Naming.first c.self.inside.image c.settle-answer.new.image c.self.invariant.2 c.settle-answer.ensures.later,
+  run_then g.K.Naming.first (record { image = c.self.inside.image; books = c.self.inside.books }) (record { image = c.settle-answer.new.image; books = c.run.new.self }) (settled c.held.inside.claim c.settle-answer.result) c.self.invariant.3 (c.settle-answer.ensures.settles, c.run.ensures.books),
 )

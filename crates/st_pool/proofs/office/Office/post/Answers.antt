@@ -6,6 +6,9 @@ use Rattle.st_pool.specs.Done.{OfficeView}
 use Rattle.st_pool.proofs.Calling.{kept_booked, post_booked}
 use Rattle.st_calls.proofs.GoingThen.{goes_then}
 use Rattle.st_pool.proofs.Knowing.{front_later}
+use Rattle.st_calls.specs.declared.calls.Call.TheVariants as call
+use Rattle.st_pool.specs.Holds.{called}
+use Rattle.st_pool.proofs.Holding.{run_then}
 use Rattle.st_pool.proofs.office.Office.post.Goals as goal
 
 pub invariant_of-self : goal.invariant_of-self
@@ -18,4 +21,5 @@ invariant_of-self g c =
       subst (λ (b : BooksView). Kept g.K.Naming.start c.apply-answer.new.image b) (sym are) (kept_booked g.K.Naming.start o c.apply-answer.new.image c.apply-answer.result c.self.invariant.0 c.apply-answer.ensures.grows),
       front_later c.self.inside.front c.self.inside.image c.apply-answer.new.image c.apply-answer.ensures.later c.self.invariant.1,
       goes_then g.K.Naming.first c.self.inside.image c.apply-answer.new.image c.self.invariant.2 c.apply-answer.ensures.later,
+      run_then g.K.Naming.first o (record { image = c.apply-answer.new.image; books = c.post.new.self }) (called (call.Post c.args.sender c.args.seq c.args.actor c.args.selector c.args.args) c.apply-answer.result) c.self.invariant.3 (c.apply-answer.ensures.does, are),
     )

@@ -3,6 +3,7 @@ use Rattle.std.specs.List.{sum_by}
 use Rattle.st_image.specs.declared.items.Item.{Item}
 use Rattle.st_image.specs.Counts.{posts_of, weigh}
 use Rattle.st_pool.specs.Done.{Done, OfficeView, StandsIn}
+use Rattle.st_pool.specs.Holds.{IsRun}
 use Rattle.st_pool.specs.Settled.{AllStand, gone}
 use Rattle.st_pool.proofs.office.Office.settle.Goals as goal
 
@@ -49,3 +50,6 @@ returns-clause-stand g c =
       subst (λ (o : OfficeView). All (λ (d : Done). All (StandsIn o.books.emptied c.self.inside.image.history) d.receipts) c.args.shares.callers.items) c.self.view_is here,
       omega (arith, are, left, c.if-saturating_sub-gone.false),
     )
+
+pub returns-clause-run : goal.returns-clause-run
+returns-clause-run g c = subst (λ (o : OfficeView). IsRun g.K.Naming.first (record { image = c.self.inside.image; books = o.books })) c.self.view_is c.self.invariant.3

@@ -255,6 +255,18 @@ def a_server_says_what_it_does(program, Server, _post):
         assert server.ended() == ({"posts": 0, "steps": 0}, ["BadCommand", "TooLong"])
 
 
+def errors_that_nobody_reads(program, Server, _post):
+    """With --verbose sessions come and go though nobody reads what standard error has of them, once there is room for no more."""
+    with Server(program, 1_000_000, 2, "--verbose") as server:
+        for _ in range(2000):
+            with server.client() as client:
+                client.socket.sendall(b"\xff\n")
+                assert client.lines.readline() == b'{"error":"BadCommand"}\n'
+        with server.client() as client:
+            assert client.ask(cmd="run") == {"error": "BadCommand"}
+        assert len(threads(server)) < 20, "sessions wait until somebody reads"
+
+
 def another_servers_socket_stays(program, Server, _post):
     """A server takes away the file that it made, and not one that another server has made at the same path since."""
     with Server(program, 1, 1) as first:
@@ -297,6 +309,7 @@ TRIALS = (
     a_listener_that_fails,
     a_moved_socket_ends_the_server,
     a_server_says_what_it_does,
+    errors_that_nobody_reads,
     another_servers_socket_stays,
     full_output,
 )

@@ -69,6 +69,7 @@ fn checkpoint<M: Mailbox>(alloc: Global, image: &mut Image<M>) -> Result<Answer,
 }
 
 /// Makes a call.
+#[inline(always)]
 fn perform<M: Mailbox>(alloc: Global, image: &mut Image<M>, call: Call) -> Result<Answer, Refusal>
     ensures { Does image.old call result image.new }
 {
@@ -124,7 +125,9 @@ pub fn intern<M: Mailbox>(
     answer
 }
 
-/// Makes a call. The image goes on in the new one, and has counted as many posts and edits more as the answer tells.
+/// Makes a call. The image goes on in the new one, and has counted as many posts and edits more as the answer tells. Where the kind of the
+/// call is known, what is made of it is that of the kind alone.
+#[inline(always)]
 pub fn apply<M: Mailbox>(alloc: Global, image: &mut Image<M>, call: Call) -> Result<Answer, Refusal>
     ensures does { Does image.old call result image.new }
     ensures later { GoesOnIn image.old image.new }

@@ -286,7 +286,7 @@ impl<K: Naming, M: Mailbox> Office<K, M> {
         intern(alloc, &mut self.image, text)
     }
 
-    /// MakesCounted a call that is neither a post nor a checkpoint. All but the interning of a text are moves.
+    /// Makes a call that is neither a post nor a checkpoint. All but the interning of a text are moves.
     #[tactic(auto, using(st_calls::proofs::GoingThen::goes_by))]
     fn call(
         &mut self,
@@ -307,7 +307,8 @@ impl<K: Naming, M: Mailbox> Office<K, M> {
         answer
     }
 
-    /// MakesCounted a call of the image for a caller, and counts it.
+    /// Makes a call of the image for a caller, and counts it.
+    #[inline(always)]
     pub fn apply(
         &mut self,
         alloc: Global,
@@ -512,6 +513,7 @@ impl<K: Naming, M: Mailbox> Holder<M> for Office<K, M> {
         Office::intern(self, alloc, mine, text)
     }
 
+    #[inline(always)]
     fn apply(
         &mut self,
         alloc: Global,

@@ -38,6 +38,7 @@ pub(crate) fn reply_of(answer: Result<Answer, Refusal>) -> Reply
 
 /// Makes a call.
 #[tactic(auto, using(st_calls::proofs::GoingThen::goes_then, st_calls::proofs::GoingThen::goes_by))]
+#[inline(always)]
 pub(crate) fn make<H: Holder<RingBox>>(
     alloc: Global,
     holder: &mut H,

@@ -96,10 +96,7 @@ fn has_steps(answer: &Result<u32, Refusal>) -> bool {
 
 /// Whether a commit found no memory or no room in the history.
 fn is_wanting(answer: &Result<u32, Refusal>) -> bool {
-    matches!(
-        answer,
-        Err(Refusal::HistoryFull) | Err(Refusal::NoMemory)
-    )
+    matches!(answer, Err(Refusal::HistoryFull) | Err(Refusal::NoMemory))
 }
 
 /// Whether a worker takes more work in the hold of its commit. It does not if its claim was handed back, nor if memory ran out in a

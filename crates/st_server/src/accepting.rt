@@ -228,12 +228,7 @@ pub(crate) fn accept_all<
     P: Porter<R>,
     W: Witness<R> + Sync,
     R: Threads + Wait + Sync,
->(
-    rt: &R,
-    alloc: Global,
-    door: Door<'_, P, W>,
-    room: &Room<'_, K, W>,
-) -> bool {
+>(rt: &R, alloc: Global, door: Door<'_, P, W>, room: &Room<'_, K, W>) -> bool {
     thread::scope(thread::scope_env(), rt, |scope| -> bool {
         let is_well = accept(scope, rt, alloc, &door, room);
         // The open sessions go on, and whoever connects from here on is refused by the system.

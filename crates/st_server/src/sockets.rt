@@ -132,12 +132,7 @@ fn run_workers<
 }
 
 /// The same, with the shares of all workers in place of their threads.
-fn work<
-    K: Naming + Send + Sync,
-    P: Porter<R>,
-    W: Witness<R> + Sync,
-    R: Threads + Wait + Sync,
->(
+fn work<K: Naming + Send + Sync, P: Porter<R>, W: Witness<R> + Sync, R: Threads + Wait + Sync>(
     rt: &R,
     alloc: Global,
     door: Door<'_, P, W>,
@@ -169,12 +164,7 @@ fn fault_of(are_accepted: bool) -> Option<Refusal>
 }
 
 /// Serves an image, and settles at the end.
-fn serve<
-    K: Naming + Send + Sync,
-    P: Porter<R>,
-    W: Witness<R> + Sync,
-    R: Threads + Wait + Sync,
->(
+fn serve<K: Naming + Send + Sync, P: Porter<R>, W: Witness<R> + Sync, R: Threads + Wait + Sync>(
     rt: &R,
     alloc: Global,
     image: Image,

@@ -25,13 +25,13 @@ use Rattle.st_file.proofs.AsciiNames.{class_name_is_text, selector_is_text}
 use Rattle.st_file.proofs.FoundAgain.{is_its_name}
 use Rattle.st_file.proofs.SpelledTexts.{spelled_is_ascii}
 
-all_there : {X : Type 0} (P : X → Type 0) (xs : List X) → ((k : ℕ) (x : X) → slice_get xs k ≡ Some x → P x) → All P xs
+pub all_there : {X : Type 0} (P : X → Type 0) (xs : List X) → ((k : ℕ) (x : X) → slice_get xs k ≡ Some x → P x) → All P xs
 all_there P xs f k d h = f k (get_or xs k d) (slice_get-get_or xs k d h)
 
 pub names_are_text : (names : List (List ℕ)) → AreNames names → All IsText (drop 22 names)
 names_are_text names are = All-drop IsText 22 names (all_there IsText names (λ k text at. selector_is_text text (are.selectors k text at)))
 
-empty_is_text : IsText []
+pub empty_is_text : IsText []
 empty_is_text = is_utf8-from_IsUtf8 [] IsUtf8-nil
 
 letter : (b : ℕ) → is_letter b ≡ true → b < 128
@@ -48,28 +48,31 @@ identifier_is_text (b ∷ bs) h =
     let rest = All-weaker (λ (c : ℕ). is_letter_or_digit c ≡ true) (λ (c : ℕ). c < 128) letter_or_digit bs (AllPass-from_list_all is_letter_or_digit bs inner.1) in
     is_utf8-from_IsUtf8 (b ∷ bs) (IsUtf8-from_ascii (b ∷ bs) (IsAscii-cons b bs (letter b inner.0) (IsAscii-from_all bs rest)))
 
-slot_is_text : (text : List ℕ) → is_slot_name text ≡ true → IsText text
+pub slot_is_text : (text : List ℕ) → is_slot_name text ≡ true → IsText text
 slot_is_text text h = identifier_is_text text (and_parts (is_identifier text) _ (and_parts (is_identifier text && _) _ h).0).0
 
-class_is_text : (edits : List Edit) (c : ClassId) → AreLawful edits → IsText (class_text edits c)
+pub class_is_text : (edits : List Edit) (c : ClassId) → AreLawful edits → IsText (class_text edits c)
 class_is_text edits c lawful = by (class_name edits c) refl
   where
     by : (o : Option (List ℕ)) → class_name edits c ≡ o → IsText (unwrap_or o [])
     by None e = empty_is_text
     by (Some text) e = class_name_is_text text (is_its_name edits c text lawful e)
 
-name_is_text : (names : List (List ℕ)) (s : Selector) → AreNames names → IsText (selector_text names s)
+pub name_is_text : (names : List (List ℕ)) (s : Selector) → AreNames names → IsText (selector_text names s)
 name_is_text names s are = by (slice_get names s.0) refl
   where
     by : (o : Option (List ℕ)) → slice_get names s.0 ≡ o → IsText (unwrap_or o [])
     by None e = empty_is_text
     by (Some text) e = selector_is_text text (are.selectors s.0 text e)
 
-edit_is_text : (names : List (List ℕ)) (edits : List Edit) → AreNames names → AreLawful edits → AllCompiled names edits → (place : ℕ) (e : Edit) → slice_get edits place ≡ Some e → EditIsText (edit_text names edits e)
-edit_is_text names edits are lawful compiled place (Define name parent slots) at =
+pub define_is_text : (edits : List Edit) → AreLawful edits → (place : ℕ) (name : List ℕ) (parent : ClassId) (slots : List (List ℕ)) → slice_get edits place ≡ Some (Define name parent slots) → IsText name × IsText (class_text edits parent) × All IsText slots
+define_is_text edits lawful place name parent slots at =
     let r : NoneApply (define_rules (take place edits) name parent slots) = none_apply (define_rules (take place edits) name parent slots) (lawful place (Define name parent slots) at) in
     let good = and_parts (is_class_name name) (list_all is_slot_name slots) (not-false (are_names name slots) r.1.0) in
     (class_name_is_text name good.0, class_is_text edits parent lawful, All-weaker (λ (t : List ℕ). is_slot_name t ≡ true) IsText slot_is_text slots (AllPass-from_list_all is_slot_name slots good.1))
+
+edit_is_text : (names : List (List ℕ)) (edits : List Edit) → AreNames names → AreLawful edits → AllCompiled names edits → (place : ℕ) (e : Edit) → slice_get edits place ≡ Some e → EditIsText (edit_text names edits e)
+edit_is_text names edits are lawful compiled place (Define name parent slots) at = define_is_text edits lawful place name parent slots at
 edit_is_text names edits are lawful compiled place (Install c m) at =
     let from = compiled place c m at in
     (class_is_text edits c lawful, spelled_is_ascii from.method m.source from.spelled)

@@ -10,7 +10,7 @@ use Rattle.st_mailbox.specs.declared.messages.Sender.{Sender}
 use Rattle.st_mailbox.specs.declared.messages.Sender.TheVariants as sender
 pub use Rattle.st_wire.specs.Fields.{list_at}
 use Rattle.st_wire.specs.Fields.{size, text_at, texts_at, each_of, within, whole_at, actor_at, number_at}
-use Rattle.st_wire.specs.Commands.{has_just}
+use Rattle.st_wire.specs.Keys.{of_keys}
 use Rattle.st_wire.specs.Names.{fault_name}
 use Rattle.st_file.specs.declared.texts.ValueText.{ValueText}
 use Rattle.st_file.specs.declared.texts.ValueText.TheVariants.{Int, Bool as Boolean, Nil, Symbol, Class, Actor, Local}
@@ -26,10 +26,6 @@ use Rattle.st_image.specs.declared.edit_text.EditText.{EditText}
 use Rattle.st_image.specs.declared.edit_text.EditText.TheVariants as edit
 use Rattle.st_image.specs.Counts.{most_counted}
 use Rattle.st_file.specs.declared.texts.ImageText.{ImageText}
-
--- what was found, if the object has exactly these keys
-abbrev pub of_keys : {T : Type 0} → List (List ℕ) → Data → Option T → Option T
-of_keys keys d found = if has_just keys d then found else None
 
 -- the items of an array, each read by f
 abbrev pub list_in : {T : Type 0} → (Data → Option T) → Data → Option (List T)

@@ -122,6 +122,13 @@ impl<M: Mailbox> Actor<M> {
         self.last
     }
 
+    /// How many messages its mailbox accepted.
+    pub(crate) fn accepted(&self) -> u64
+        ensures { result ≡ self.now.accepted }
+    {
+        self.accepted
+    }
+
     /// Whether no turn is going on.
     pub(crate) fn is_idle(&self) -> bool
         ensures { result ≡ idle self.now.body.phase }

@@ -329,6 +329,13 @@ impl<M: Mailbox> Image<M> {
         Some(self.actor(actor)?.last())
     }
 
+    /// How many messages the mailbox of an actor has accepted since the base; those that were pending there count too.
+    pub fn accepted(&self, actor: ActorId) -> Option<u64>
+        ensures { result ≡ option_map (λ b. length b.accepted) (slice_get (world self.now).actors actor.0) }
+    {
+        Some(self.actor(actor)?.accepted())
+    }
+
     /// The actor with this number, if there is one.
     fn actor(&self, actor: ActorId) -> Option<&Actor<M>>
         ensures { option_copied result ≡ option_map actor_view (slice_get (world self.now).actors actor.0) }

@@ -9,8 +9,8 @@ use Rattle.st_calls.specs.Does.{Does, told}
 use Rattle.st_turn.specs.Claims.{ClaimView}
 use Rattle.st_image.specs.Images.{ImageView}
 use Rattle.st_calls.specs.Growth.{committed}
-use Rattle.st_pool.specs.declared.office.Work.{Work}
-use Rattle.st_pool.specs.declared.office.Work.TheVariants.{Stop, Wait, Turn}
+use Rattle.st_pool.specs.declared.office.working.Work.{Work}
+use Rattle.st_pool.specs.declared.office.working.Work.TheVariants.{Stop, Wait, Turn}
 use Rattle.st_pool.specs.Books.{BooksView, no_books}
 use Rattle.st_pool.specs.Calling.{booked}
 use Rattle.st_pool.specs.Done.{OfficeView, Takes, TurnsOver, takes_more}

@@ -12,8 +12,8 @@ use Rattle.st_image.specs.Commits.{ChecksOut, Settles}
 use Rattle.st_image.specs.GoingOn.{GoesOnIn}
 use Rattle.st_image.specs.Scheduling.{IsNextReady, is_free_at}
 use Rattle.st_image.specs.WorldInvariant.{IsLawful}
-use Rattle.st_pool.specs.declared.office.Work.{Work}
-use Rattle.st_pool.specs.declared.office.Work.TheVariants.{Stop, Wait, Turn}
+use Rattle.st_pool.specs.declared.office.working.Work.{Work}
+use Rattle.st_pool.specs.declared.office.working.Work.TheVariants.{Stop, Wait, Turn}
 use Rattle.st_pool.specs.declared.receipts.Receipt.{Receipt}
 use Rattle.st_pool.specs.Books.{BooksView}
 use Rattle.st_calls.specs.Growth.{Amounts, amounts}

@@ -76,4 +76,5 @@ pub asks_hold : (o p : OfficeView) (d e : Done) (c : Command) (r : Reply) → As
 asks_hold o p d e (command.Post a args text sender seq) r h = posts_hold o p d e a args text sender seq r h
 asks_hold o p d e (command.Outcome a turn) r h = hold_none of_caller o p h.1.0
 asks_hold o p d e (command.Stats class text) r h = hold_none of_caller o p h.1.0
+asks_hold o p d e (command.Query q) r h = hold_none of_caller o p h.1.0
 asks_hold o p d e c r h = makes_hold o p d e c r h

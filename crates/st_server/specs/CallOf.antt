@@ -1,10 +1,11 @@
 -- The call that a command makes, and the reply to it.
-use Rattle.std.specs.Prelude.{◌≡◌, ℕ, List, Option, Some, None, Result, Ok, Err, MatchResult}
+use Rattle.std.specs.Prelude.{◌≡◌, ℕ, List, Result, Ok, Err, MatchResult, ok_or}
 use Rattle.st_classes.specs.declared.values.ClassId.{ClassId}
 use Rattle.st_classes.specs.declared.refusals.Refusal.{Refusal}
 use Rattle.st_classes.specs.declared.refusals.Refusal.TheVariants.{BadCommand, UnknownClass}
 use Rattle.st_classes.specs.Classes.{class_named}
 use Rattle.st_image.specs.Images.{ImageView, world}
+use Rattle.st_queries.specs.Resolving.{and_then}
 use Rattle.st_calls.specs.declared.calls.Answer.{Answer}
 use Rattle.st_calls.specs.declared.calls.Answer.TheVariants as answer
 use Rattle.st_calls.specs.declared.calls.Call.{Call}
@@ -15,27 +16,17 @@ use Rattle.st_wire.specs.declared.commands.Command.TheVariants as command
 use Rattle.st_wire.specs.declared.replies.Reply.{Reply}
 use Rattle.st_wire.specs.declared.replies.Reply.TheVariants as reply
 
--- a value, or this refusal
-abbrev pub or_refused : {T : Type 0} → Refusal → Option T → Result T Refusal
-or_refused e None = Err e
-or_refused e (Some v) = Ok v
-
--- what comes next of a value; a refusal stays
-abbrev pub then_by : {T U : Type 0} → (T → Result U Refusal) → Result T Refusal → Result U Refusal
-then_by f (Ok v) = f v
-then_by f (Err e) = Err e
-
 -- the class that a text names
 abbrev pub class_in : ImageView → List ℕ → Result ClassId Refusal
-class_in i text = or_refused UnknownClass (class_named (world i).edits text)
+class_in i text = ok_or (class_named (world i).edits text) UnknownClass
 
 -- the call of a command, with its names looked up in an image
 abbrev pub call_of : ImageView → Command → Result Call Refusal
-call_of i (command.Define name parent slots) = then_by (λ c. Ok (call.Define name c slots)) (class_in i parent)
-call_of i (command.Method class source) = then_by (λ c. Ok (call.Install c source)) (class_in i class)
-call_of i (command.Remove class text) = then_by (λ c. then_by (λ s. Ok (call.Remove c s)) (found_selector i.names text)) (class_in i class)
-call_of i (command.Reparent class parent) = then_by (λ c. then_by (λ p. Ok (call.Reparent c p)) (class_in i parent)) (class_in i class)
-call_of i (command.Actor class) = then_by (λ c. Ok (call.Create c)) (class_in i class)
+call_of i (command.Define name parent slots) = and_then (λ c. Ok (call.Define name c slots)) (class_in i parent)
+call_of i (command.Method class source) = and_then (λ c. Ok (call.Install c source)) (class_in i class)
+call_of i (command.Remove class text) = and_then (λ c. and_then (λ s. Ok (call.Remove c s)) (found_selector i.names text)) (class_in i class)
+call_of i (command.Reparent class parent) = and_then (λ c. and_then (λ p. Ok (call.Reparent c p)) (class_in i parent)) (class_in i class)
+call_of i (command.Actor class) = and_then (λ c. Ok (call.Create c)) (class_in i class)
 call_of i (command.Close a) = Ok (call.Close a)
 call_of i command.Checkpoint = Ok call.Checkpoint
 call_of i c = Err BadCommand

@@ -1,5 +1,8 @@
 -- The reply to a command, and the image that it leaves.
 use Rattle.std.specs.Prelude.{◌≡◌, ℕ, zero, suc, ◌+◌, ◌⊎◌, List, Bool, true, false, Result, Ok, Err, MatchOption, MatchResult}
+use Rattle.serde_json.specs.Data.{Data}
+use Rattle.serde_json.specs.View.{view}
+use Rattle.serde_json.specs.declared.value.Value.{Value}
 use Rattle.st_classes.specs.declared.refusals.Refusal.{Refusal}
 use Rattle.st_classes.specs.declared.refusals.Refusal.TheVariants.{NoMemory, UnknownClass}
 use Rattle.st_classes.specs.Classes.{class_named}
@@ -12,6 +15,9 @@ use Rattle.st_wire.specs.declared.commands.Command.TheVariants as command
 use Rattle.st_wire.specs.declared.replies.Reply.{Reply}
 use Rattle.st_wire.specs.declared.replies.Reply.TheVariants as reply
 use Rattle.st_wire.specs.declared.replies.SiteReport.{SiteReport}
+use Rattle.st_wire.specs.declared.queries.Query.{Query}
+use Rattle.st_wire.specs.Replies.{ok}
+use Rattle.st_queries.specs.Answers.{told}
 use Rattle.st_server.specs.SiteReports.{StatesNamed}
 use Rattle.st_server.specs.Runners.{RunnerView, NextAdvances, NoneReady}
 use Rattle.st_calls.specs.declared.calls.Answer.{Answer}
@@ -58,6 +64,17 @@ States i class text r = MatchOption (class_named (world i).edits class)
     (r ≡ reply.Refused UnknownClass)
     (λ c. (result : Result (List SiteReport) Refusal) × (r ≡ reply_by reply.Sites result) × StatesNamed i text c result)
 
+-- ---- queries
+
+-- the reply says this: a value at the key `ok`, or a refusal
+abbrev pub Says : Result Data Refusal → Reply → Type 0
+Says (Ok d) r = (v : Value) × (r ≡ reply.Told v) × (view v ≡ ok d)
+Says (Err e) r = r ≡ reply.Refused e
+
+-- the reply to a query says what is told of the image; or memory ran out
+abbrev pub Looks : ImageView → Query → Reply → Type 0
+Looks i q r = Says (told i q) r ⊎ (r ≡ reply.Refused NoMemory)
+
 -- ---- a command that needs the image alone
 
 -- the reply to each command, whoever holds the image; a run needs a worker too, and is refused by BadCommand
@@ -66,6 +83,7 @@ abbrev pub Asks : {H N : Type 0} → (H → ImageView) → (H → N → Call →
 Asks {H} {N} image Calls h n (command.Post a args text sender seq) r k m = PostsNamed image Calls h n a args text sender seq r k m
 Asks {H} {N} image Calls h n (command.Outcome a turn) r k m = Tells (image h) (image_outcome (image h) a turn) r × Nothing h n k m
 Asks {H} {N} image Calls h n (command.Stats class text) r k m = States (image h) class text r × Nothing h n k m
+Asks {H} {N} image Calls h n (command.Query q) r k m = Looks (image h) q r × Nothing h n k m
 Asks {H} {N} image Calls h n c r k m = Makes image Calls h n c r k m
 
 -- the same of an image that is held by itself

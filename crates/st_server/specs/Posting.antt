@@ -17,7 +17,8 @@ use Rattle.st_wire.specs.declared.commands.Argument.TheVariants as argument
 use Rattle.st_wire.specs.declared.replies.Reply.{Reply}
 use Rattle.st_wire.specs.declared.replies.Reply.TheVariants as reply
 use Rattle.st_server.specs.ArgumentValues.{with_first}
-use Rattle.st_server.specs.CallOf.{RepliesTo, class_in, then_by}
+use Rattle.st_queries.specs.Resolving.{and_then}
+use Rattle.st_server.specs.CallOf.{RepliesTo, class_in}
 
 -- nothing is done
 abbrev pub Nothing : {H N : Type 0} → H → N → H → N → Type 0
@@ -29,7 +30,7 @@ abbrev pub InternsBy : {H N : Type 0} → (H → N → Call → Result Answer Re
 InternsBy {H} {N} Calls h n text result k m = Calls h n (call.Intern text) (told answer.Interned result) k m
 
 abbrev pub sym_by : Result Selector Refusal → Result Value Refusal
-sym_by r = then_by (λ s. Ok (value.Sym s)) r
+sym_by r = and_then (λ s. Ok (value.Sym s)) r
 
 -- the symbol of a text, which is interned
 abbrev pub IsSymbol : {H N : Type 0} → (H → N → Call → Result Answer Refusal → H → N → Type 0)
@@ -44,7 +45,7 @@ Resolves {H} {N} image Calls h n (argument.Bool b) r k m = (r ≡ Ok (value.Bool
 Resolves {H} {N} image Calls h n argument.Nil r k m = (r ≡ Ok value.Nil) × Nothing h n k m
 Resolves {H} {N} image Calls h n (argument.Symbol text) r k m = IsSymbol Calls h n text r k m
 Resolves {H} {N} image Calls h n (argument.Class text) r k m =
-    (r ≡ then_by (λ c. Ok (value.Class c)) (class_in (image h) text)) × Nothing h n k m
+    (r ≡ and_then (λ c. Ok (value.Class c)) (class_in (image h) text)) × Nothing h n k m
 Resolves {H} {N} image Calls h n (argument.Actor a) r k m = (r ≡ Ok (value.Actor a)) × Nothing h n k m
 
 -- the values of arguments, resolved from the left up to the first that is refused

@@ -3,7 +3,7 @@ ghost use Rattle.std.specs.Prelude.{◌≡◌};
 ghost use Rattle.st_image.specs.GoingOn.{GoesOnIn};
 ghost use Rattle.st_server.specs.CallOf.{Makes, RepliesTo, answer_reply};
 ghost use Rattle.st_image.specs.Outcomes.{image_outcome};
-ghost use Rattle.st_server.specs.CommandReplies.{Asks, Tells};
+ghost use Rattle.st_server.specs.CommandReplies.{Asks, Looks, Tells};
 
 use crate::calls_of::call_of;
 use crate::images::Image;
@@ -16,8 +16,10 @@ use st_classes::refusals::Refusal;
 use st_classes::values::ActorId;
 use st_image::counts::Counts;
 use st_mailbox::ring_box::RingBox;
+use st_queries::answering::answer;
 use st_turn::body::Outcome;
 use st_wire::commands::Command;
+use st_wire::queries::Query;
 use st_wire::replies::Reply;
 use std::alloc::Global;
 
@@ -82,6 +84,19 @@ pub(crate) fn outcome(alloc: Global, image: &Image, actor: ActorId, turn: u64) -
     }
 }
 
+/// The reply to a query.
+fn look(alloc: Global, image: &Image, query: &Query) -> Reply
+    ensures { Looks image.now query.now result }
+{
+    match answer(alloc, image, query) {
+        Ok(told) => match told.ok(alloc) {
+            Ok(told) => Reply::Told(told),
+            Err(_) => Reply::Refused(Refusal::NoMemory),
+        },
+        Err(refusal) => Reply::Refused(refusal),
+    }
+}
+
 /// The reply to a command that needs the image alone. A run needs a worker, and is refused here by BadCommand.
 #[tactic(auto, using(st_calls::proofs::GoingThen::goes_then, st_calls::proofs::GoingThen::goes_by))]
 pub(crate) fn ask<H: Holder<RingBox>>(
@@ -113,6 +128,7 @@ pub(crate) fn ask<H: Holder<RingBox>>(
         Command::Stats { class, selector } => {
             stats(alloc, holder.image(), class.as_slice(), selector.as_slice())
         }
+        Command::Query(query) => look(alloc, holder.image(), &query),
         command => perform(alloc, holder, mine, command),
     }
 }

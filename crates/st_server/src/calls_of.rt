@@ -64,6 +64,7 @@ pub(crate) fn call_of(image: &Image<RingBox>, command: Command) -> Result<Call, 
         Command::Post { .. } => Err(Refusal::BadCommand),
         Command::Outcome { .. } => Err(Refusal::BadCommand),
         Command::Stats { .. } => Err(Refusal::BadCommand),
+        Command::Query(_) => Err(Refusal::BadCommand),
         Command::Run { .. } => Err(Refusal::BadCommand),
     }
 }

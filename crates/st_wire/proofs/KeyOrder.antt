@@ -53,14 +53,15 @@ in_refusal Cycle = refl
 in_refusal SlotsDiffer = refl
 
 pub keys_in_order : RepliesHaveKeysInOrder
-keys_in_order (reply.Version n) = refl
-keys_in_order (reply.Actor a) = refl
-keys_in_order (reply.Turn n) = refl
-keys_in_order reply.Closed = refl
-keys_in_order (reply.Ran quanta steps) = refl
-keys_in_order (reply.Counted posts steps) = refl
-keys_in_order (reply.Checked actors classes edits) = refl
-keys_in_order (reply.Answer value) = in_answer value
-keys_in_order (reply.Fault fault) = refl
-keys_in_order (reply.Sites sites) = rw (in_sites sites) refl
-keys_in_order (reply.Refused refusal) = in_refusal refusal
+keys_in_order (reply.Version n) in_parts = refl
+keys_in_order (reply.Actor a) in_parts = refl
+keys_in_order (reply.Turn n) in_parts = refl
+keys_in_order reply.Closed in_parts = refl
+keys_in_order (reply.Ran quanta steps) in_parts = refl
+keys_in_order (reply.Counted posts steps) in_parts = refl
+keys_in_order (reply.Checked actors classes edits) in_parts = refl
+keys_in_order (reply.Answer value) in_parts = in_answer value
+keys_in_order (reply.Fault fault) in_parts = refl
+keys_in_order (reply.Sites sites) in_parts = rw (in_sites sites) refl
+keys_in_order (reply.Told told) in_parts = absurd in_parts
+keys_in_order (reply.Refused refusal) in_parts = in_refusal refusal

@@ -10,3 +10,4 @@ pub mod Returns
 pub mod Fronts
 pub mod FoundParts
 pub mod NumberTexts
+pub mod Tidying

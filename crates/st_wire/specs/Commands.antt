@@ -1,29 +1,17 @@
 -- The command of a line.
-use Rattle.std.specs.Prelude.{◌≡◌, ◌++◌, ℕ, ◌==◌, ◌&&◌, Bool, true, List, [], ◌∷◌, length, codes, not, is_some, if◌then◌else◌, Option, Some, None, option_map, option_and_then}
+use Rattle.std.specs.Prelude.{◌≡◌, ◌++◌, ℕ, List, [], ◌∷◌, codes, not, is_some, if◌then◌else◌, Option, Some, None, option_map, option_and_then}
 use Rattle.std.specs.Str.{is_utf8, bytes_eq}
 use Rattle.serde_json.specs.Data.{Data}
-use Rattle.serde_json.specs.Find.{get}
 use Rattle.serde_json.specs.Read.{read}
 use Rattle.st_classes.specs.declared.refusals.Refusal.TheVariants.{BadCommand}
 use Rattle.st_classes.specs.declared.values.ActorId.{ActorId}
 use Rattle.st_classes.specs.Refusals.{Rule}
 use Rattle.st_wire.specs.declared.commands.Argument.{Argument}
 use Rattle.st_wire.specs.declared.commands.Command.{Command}
-use Rattle.st_wire.specs.declared.commands.Command.TheVariants.{Define, Method, Remove, Reparent, Actor, Post, Close, Run, Outcome, Stats, Checkpoint}
-use Rattle.st_wire.specs.Fields.{size, text_at, texts_at, actor_at, sender_at, number_at, quanta_at, arguments_at}
-
--- a value has all of these keys
-abbrev pub has_all : List (List ℕ) → Data → Bool
-has_all [] d = true
-has_all (key ∷ keys) d = is_some (get key d) && has_all keys d
-
--- a value is an object with exactly these keys, which differ: it has all of them, and as many keys as there are
-abbrev pub has_just : List (List ℕ) → Data → Bool
-has_just keys d = size d == length keys && has_all keys d
-
--- the command, if the object has exactly these keys
-abbrev pub of_keys : List (List ℕ) → Data → Option Command → Option Command
-of_keys keys d command = if has_just keys d then command else None
+use Rattle.st_wire.specs.declared.commands.Command.TheVariants.{Define, Method, Remove, Reparent, Actor, Post, Close, Run, Outcome, Stats, Checkpoint, Query}
+use Rattle.st_wire.specs.Fields.{text_at, texts_at, actor_at, sender_at, number_at, quanta_at, arguments_at}
+use Rattle.st_wire.specs.Keys.{has_just, of_keys}
+use Rattle.st_wire.specs.Queries.{query_in}
 
 abbrev pub define_from : Option (List ℕ) → Option (List ℕ) → Option (List (List ℕ)) → Option Command
 define_from (Some name) (Some parent) (Some slots) = Some (Define name parent slots)
@@ -108,12 +96,12 @@ stats_in d =
 abbrev pub checkpoint_in : Data → Option Command
 checkpoint_in d = of_keys (codes "cmd" ∷ []) d (Some Checkpoint)
 
--- a question: a command that only reads
+-- a command that only reads
 abbrev pub question_in : Data → List ℕ → Option Command
 question_in d cmd =
     if bytes_eq cmd (codes "outcome") then outcome_in d
     else (if bytes_eq cmd (codes "stats") then stats_in d
-    else None)
+    else option_map Query (query_in d cmd))
 
 -- the command of the form that `cmd` names
 abbrev pub form_in : Data → List ℕ → Option Command

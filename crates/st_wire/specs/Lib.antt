@@ -2,8 +2,12 @@ pub mod PartResults
 pub mod Fields
 pub mod Tokens
 pub mod Found
+pub mod Keys
+pub mod Queries
 pub mod Commands
 pub mod Names
+pub mod Json
+pub mod Told
 pub mod Replies
 pub mod Writing
 pub mod Streams

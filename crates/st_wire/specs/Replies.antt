@@ -1,10 +1,10 @@
 -- The line of a reply.
-use Rattle.std.specs.Prelude.{◌≡◌, ℕ, ◌&&◌, Bool, true, false, List, [], ◌∷◌, ◌++◌, codes}
-use Rattle.std.specs.Ordering.{nat_cmp, match_ordering}
-use Rattle.std.specs.Cmp.Lexicographic.{slice_cmp}
-use Rattle.serde_json.specs.Data.{Data, null, boolean, number, string, array, object, unsigned, Items, no_items, item, Members, no_members, member}
+use Rattle.std.specs.Prelude.{◌≡◌, ℕ, true, List, [], ◌∷◌, ◌++◌, codes}
+use Rattle.serde_json.specs.Data.{Data, null, boolean, number, string, array, object, Items, no_items, item, Members, no_members, member}
 use Rattle.serde_json.specs.Find.{of_integer}
+use Rattle.serde_json.specs.View.{view}
 use Rattle.serde_json.specs.Written.{compact_text}
+pub use Rattle.st_wire.specs.Json.{whole, only, ok, comes_first, keys_rise, keys_rise_in_items, keys_rise_in_members}
 use Rattle.st_classes.specs.declared.refusals.Refusal.{Refusal}
 use Rattle.st_classes.specs.declared.refusals.Refusal.TheVariants.{BadSource, Old, Stale, TooMany, BadImage}
 use Rattle.st_wire.specs.declared.replies.Answered.{Answered}
@@ -15,14 +15,6 @@ use Rattle.st_wire.specs.declared.replies.SiteReport.{SiteReport}
 use Rattle.st_wire.specs.declared.replies.Reply.{Reply}
 use Rattle.st_wire.specs.declared.replies.Reply.TheVariants as reply
 use Rattle.st_wire.specs.Names.{fault_name, kind_name, limited_name, place_name, refusal_name}
-
--- a whole number
-abbrev pub whole : ℕ → Data
-whole n = number (unsigned n)
-
--- an object with one key
-abbrev pub only : List ℕ → Data → Data
-only key d = object (member key d no_members)
 
 -- a value in an answer
 abbrev pub answered_data : Answered → Data
@@ -68,10 +60,6 @@ refusal_fields (TooMany what) = member (codes "what") (string (limited_name what
 refusal_fields (BadImage place) = member (codes "place") (string (place_name place)) no_members
 refusal_fields _ = no_members
 
--- a reply that is not a refusal
-abbrev pub ok : Data → Data
-ok = only (codes "ok")
-
 -- the value of a reply
 abbrev pub reply_data : Reply → Data
 reply_data (reply.Version n) = ok (only (codes "version") (whole n))
@@ -91,6 +79,7 @@ reply_data (reply.Checked actors classes edits) =
 reply_data (reply.Answer value) = ok (only (codes "answer") (answered_data value))
 reply_data (reply.Fault fault) = ok (only (codes "fault") (string (fault_name fault)))
 reply_data (reply.Sites sites) = ok (only (codes "sites") (array (site_items sites)))
+reply_data (reply.Told told) = view told
 reply_data (reply.Refused refusal) =
     object (member (codes "error") (string (refusal_name refusal)) (refusal_fields refusal))
 
@@ -100,29 +89,11 @@ line_of r = compact_text (reply_data r) ++ 10 ∷ []
 
 -- ---- keys in byte order
 
--- a key comes before the next one, if there is one
-abbrev pub comes_first : List ℕ → Members → Bool
-comes_first k no_members = true
-comes_first k (member l d ms) = match_ordering (slice_cmp nat_cmp k l) true false false
+-- a reply that is written part by part; any other is a value that was made part by part
+abbrev pub IsInParts : Reply → Type 0
+IsInParts (reply.Told told) = ⊥
+IsInParts _ = Unit {0}
 
--- in each object, at every level, the keys are in byte order
-abbrev mutual
-  pub keys_rise : Data → Bool
-  keys_rise null = true
-  keys_rise (boolean b) = true
-  keys_rise (number n) = true
-  keys_rise (string s) = true
-  keys_rise (array ds) = keys_rise_in_items ds
-  keys_rise (object ms) = keys_rise_in_members ms
-
-  pub keys_rise_in_items : Items → Bool
-  keys_rise_in_items no_items = true
-  keys_rise_in_items (item d ds) = keys_rise d && keys_rise_in_items ds
-
-  pub keys_rise_in_members : Members → Bool
-  keys_rise_in_members no_members = true
-  keys_rise_in_members (member k d ms) = keys_rise d && comes_first k ms && keys_rise_in_members ms
-
--- the keys of every reply are in byte order
+-- the keys of every reply that is written part by part are in byte order
 abbrev pub RepliesHaveKeysInOrder : Type 0
-RepliesHaveKeysInOrder = (r : Reply) → keys_rise (reply_data r) ≡ true
+RepliesHaveKeysInOrder = (r : Reply) → IsInParts r → keys_rise (reply_data r) ≡ true

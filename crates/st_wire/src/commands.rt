@@ -1,13 +1,13 @@
 //! Commands, and how they are read from lines.
-ghost use Rattle.std.specs.Prelude.{◌≡◌, Some, Ok, Err, map, if◌then◌else◌};
+ghost use Rattle.std.specs.Prelude.{◌≡◌, Some};
 ghost use Rattle.serde_json.specs.View.{view};
 ghost use Rattle.st_classes.specs.Refusals.{Answers, first_of};
-ghost use Rattle.st_classes.specs.declared.refusals.Refusal.TheVariants.{BadCommand};
 ghost use Rattle.st_wire.specs.PartResults.{Reads};
-ghost use Rattle.st_wire.specs.Commands.{ReturnsMeanNothing, command_of, command_rules, has_just as has_just_keys, command_in, define_in, method_in, remove_in, reparent_in, new_actor_in, post_in, close_in, run_in, outcome_in, stats_in, question_in, checkpoint_in};
+ghost use Rattle.st_wire.specs.Commands.{ReturnsMeanNothing, command_of, command_rules, command_in, define_in, method_in, remove_in, reparent_in, new_actor_in, post_in, close_in, run_in, outcome_in, stats_in, question_in, checkpoint_in};
 
 use crate::fields::{actor_at, list_at, quanta_at, sender_at, text_at, whole_at};
-use crate::keys::has_just;
+use crate::keys::{has_just, just_keys};
+use crate::queries::{Query, read_query};
 use serde_json::{Category, Value};
 use st_classes::refusals::Refusal;
 use st_classes::seq::Seq;
@@ -84,6 +84,8 @@ pub enum Command {
     },
     /// Begins a new history with the current world.
     Checkpoint,
+    /// Looks at the image.
+    Query(Query),
 }
 
 /// The command of a line. The refusal is BadCommand if the line is not UTF-8 or not JSON, its keys are not those of one form, or a
@@ -131,18 +133,7 @@ fn question(alloc: Global, object: &Value, name: &str) -> Result<Command, Refusa
     match name {
         "outcome" => outcome(object),
         "stats" => stats(alloc, object),
-        _ => Err(Refusal::BadCommand),
-    }
-}
-
-/// Refuses a value that is not an object with exactly these keys.
-fn just_keys(object: &Value, keys: &[&str]) -> Result<(), Refusal>
-    ensures { result ≡ (if has_just_keys (map (λ key. key.now) keys.now) (view object.now) then Ok tt else Err BadCommand) }
-{
-    if has_just(object, keys) {
-        Ok(())
-    } else {
-        Err(Refusal::BadCommand)
+        _ => Ok(Command::Query(read_query(alloc, object, name)?)),
     }
 }
 

@@ -1,8 +1,9 @@
 //! Lines: commands are read from them, and replies are written to them.
 //!
 //! A line is one JSON object. [`commands::read_command`] gives the command of a line, and [`replies::reply_text`] the line of a
-//! reply. [`line_readers::LineReader`] reads many lines. [`text`] has the texts in replies, and [`streams`] the devices from which
-//! lines are read and to which they are written. [`keys`] tells which keys a JSON object has.
+//! reply. [`line_readers::LineReader`] reads many lines. [`queries`] has the commands that only look, [`told`] what their replies
+//! hold, and [`text`] the texts in other replies. Lines are read from and written to the devices in [`streams`]. [`keys`] tells which
+//! keys a JSON object has.
 #![tactic(auto)]
 
 pub mod commands;
@@ -13,7 +14,9 @@ pub mod keys;
 pub mod line_readers;
 pub mod names;
 mod numerals;
+pub mod queries;
 pub mod replies;
 pub mod streams;
 pub mod text;
 mod tokens;
+pub mod told;

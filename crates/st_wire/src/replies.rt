@@ -3,11 +3,13 @@ ghost use Rattle.std.specs.Prelude.{◌≡◌, [], ◌∷◌, IfOk, codes, decim
 ghost use Rattle.json.specs.Token.{key, string, number, begin_object, end_object};
 ghost use Rattle.serde_json.specs.Data.{object, member, no_members};
 ghost use Rattle.st_wire.specs.declared.replies.Reply.TheVariants.{Closed as ClosedReply, Checked, Answer, Fault as FaultReply, Sites, Refused};
-ghost use Rattle.st_wire.specs.Replies.{line_of, reply_data, answered_data, state_name as name_of, site_data, site_items, refusal_fields, ok, only, whole, RepliesHaveKeysInOrder};
+ghost use Rattle.serde_json.specs.Written.{compact_text};
+ghost use Rattle.st_wire.specs.Replies.{IsInParts, line_of, reply_data, answered_data, state_name as name_of, site_data, site_items, refusal_fields, ok, only, whole, RepliesHaveKeysInOrder};
 ghost use Rattle.st_wire.specs.Writing.{Adds, data_tokens, items_tokens, members_tokens};
 
 use crate::names::{fault_name, kind_name, limited_name, place_name, refusal_name};
 use crate::text::Text;
+use crate::told::Told;
 use json::Writer;
 use st_classes::faults::Fault;
 use st_classes::refusals::Refusal;
@@ -83,6 +85,8 @@ pub enum Reply {
     Fault(Fault),
     /// The send sites of a method.
     Sites(Seq<SiteReport>),
+    /// What a query asked for.
+    Told(Told),
     /// Why a command was refused.
     Refused(Refusal),
 }
@@ -91,11 +95,22 @@ pub enum Reply {
 pub fn reply_text(alloc: Global, reply: &Reply) -> Result<Vec<u8>, AllocError>
     ensures { IfOk result (λ v. v.items ≡ line_of reply.now) }
 {
-    let mut writer = Writer::new(Vec::with_capacity(alloc, 128)?);
-    reply.write(&mut writer)?;
-    let mut line = writer.into_inner();
+    let mut line = match reply {
+        Reply::Told(told) => told.to_vec(alloc)?,
+        reply => written(alloc, reply)?,
+    };
     line.push(b'\n')?;
     Ok(line)
+}
+
+/// The compact text of a reply that is written part by part.
+fn written(alloc: Global, reply: &Reply) -> Result<Vec<u8>, AllocError>
+    requires { IsInParts reply.now }
+    ensures { IfOk result (λ v. v.items ≡ compact_text (reply_data reply.now)) }
+{
+    let mut writer = Writer::new(Vec::with_capacity(alloc, 128)?);
+    reply.write(&mut writer)?;
+    Ok(writer.into_inner())
 }
 
 /// In each object of a reply, the keys are in byte order.
@@ -105,6 +120,7 @@ pub fn key_order()
 
 impl Reply {
     fn write(&self, writer: &mut Writer) -> Result<(), AllocError>
+        requires { IsInParts self.now }
         ensures { Adds result writer.old writer.new (data_tokens (reply_data self.now)) }
     {
         match self {
@@ -126,6 +142,7 @@ impl Reply {
             Reply::Answer(value) => write_answer(writer, value),
             Reply::Fault(fault) => write_fault(writer, *fault),
             Reply::Sites(sites) => write_sites(writer, sites.as_slice()),
+            Reply::Told(_) => unreachable!(),
             Reply::Refused(refusal) => write_refusal(writer, *refusal),
         }
     }

@@ -6,6 +6,7 @@ use st_classes::seq::Seq;
 use st_classes::values::ActorId;
 use st_wire::commands::{Argument, Command, read_command};
 use st_wire::line_readers::LineReader;
+use st_wire::queries::Query;
 use std::alloc::{AllocError, Global};
 use std::test::*;
 
@@ -27,6 +28,8 @@ pub(crate) enum Wanted {
     Outcome(u32, u64),
     Stats(&'static str, &'static str),
     Checkpoint,
+    /// A query by its name, the class and the selector that it names, and its numbers.
+    Query(&'static str, &'static str, &'static str, u32, u32),
 }
 
 /// Lines, and the commands that they are: one of each kind, at the ends of their ranges, and such as are written in unusual ways.
@@ -70,6 +73,42 @@ const COMMANDS: &[(&str, Wanted)] = &[
         Wanted::Stats("M", "at:put:"),
     ),
     (r#"{"cmd":"checkpoint"}"#, Wanted::Checkpoint),
+    (
+        r#"{"cmd":"classes"}"#,
+        Wanted::Query("classes", "", "", 0, 0),
+    ),
+    (
+        r#"{"class":"M","cmd":"methods"}"#,
+        Wanted::Query("methods", "M", "", 0, 0),
+    ),
+    (
+        r#"{"class":"M","cmd":"source","selector":"at:put:"}"#,
+        Wanted::Query("source", "M", "at:put:", 0, 0),
+    ),
+    (
+        r#"{"class":"M","cmd":"versions","selector":"a"}"#,
+        Wanted::Query("versions", "M", "a", 0, 0),
+    ),
+    (
+        r#"{"cmd":"implementors","selector":"+"}"#,
+        Wanted::Query("implementors", "", "+", 0, 0),
+    ),
+    (
+        r#"{"cmd":"senders","selector":"a"}"#,
+        Wanted::Query("senders", "", "a", 0, 0),
+    ),
+    (
+        r#"{"cmd":"edits","from":4294967295}"#,
+        Wanted::Query("edits", "", "", u32::MAX, 0),
+    ),
+    (
+        r#"{"cmd":"actors","from":4294967295,"most":4096}"#,
+        Wanted::Query("actors", "", "", u32::MAX, 4_096),
+    ),
+    (
+        r#"{"cmd":"actors","from":0,"most":1}"#,
+        Wanted::Query("actors", "", "", 0, 1),
+    ),
     (
         r#"{"actor":0,"cmd":"outcome","turn":18446744073709551615}"#,
         Wanted::Outcome(0, u64::MAX),
@@ -155,11 +194,41 @@ fn is_wanted(command: &Command, wanted: &Wanted) -> bool {
             is(class, holder) && is(selector, name)
         },
         (Command::Checkpoint, Wanted::Checkpoint) => true,
+        (Command::Query(query), Wanted::Query(name, class, selector, first, second)) => {
+            is_query(query, name, class, selector, *first, *second)
+        },
         (Command::Post { args, .. }, Wanted::Arguments) => are_expected(args.as_slice()),
         (Command::Post { selector, .. }, Wanted::Letters(count)) => {
             selector.len() == *count && selector.as_slice().iter().all(|byte| *byte == b's')
         },
         _ => false,
+    }
+}
+
+/// Whether a query has this name, names this class and this selector, and has these numbers.
+fn is_query(
+    query: &Query,
+    name: &str,
+    holder: &str,
+    text: &str,
+    first: u32,
+    second: u32,
+) -> bool {
+    match query {
+        Query::Classes => name == "classes",
+        Query::Methods { class } => name == "methods" && is(class, holder),
+        Query::Source { class, selector } => {
+            name == "source" && is(class, holder) && is(selector, text)
+        },
+        Query::Versions { class, selector } => {
+            name == "versions" && is(class, holder) && is(selector, text)
+        },
+        Query::Implementors { selector } => name == "implementors" && is(selector, text),
+        Query::Senders { selector } => name == "senders" && is(selector, text),
+        Query::Edits { from } => name == "edits" && *from == first,
+        Query::Actors { from, most } => {
+            name == "actors" && *from == first && *most == second
+        },
     }
 }
 

@@ -1,6 +1,6 @@
 use Rattle.std.proofs.Common.{◌≡◌, map, drop}
 use Rattle.serde_json.specs.View.{view}
-use Rattle.st_wire.specs.Commands.{has_all}
+use Rattle.st_wire.specs.Keys.{has_all}
 use Rattle.st_wire.proofs.keys.has_all.Given as goal
 
 abbrev pub invariant-loop-key : goal.invariant-loop-key

@@ -1,9 +1,9 @@
-use Rattle.std.proofs.Common.{ap, ◌∙◌, [], ◌∷◌, ◌++◌}
+use Rattle.std.proofs.Common.{ap, ◌∙◌, ◌++◌}
 use Rattle.json.specs.Print.{print}
 use Rattle.serde_json.proofs.Texts.{print-outline}
 use Rattle.st_wire.specs.Replies.{reply_data}
 use Rattle.st_wire.specs.Writing.{data_tokens}
-use Rattle.st_wire.proofs.replies.reply_text.Goals as goal
+use Rattle.st_wire.proofs.replies.written.Goals as goal
 
 pub returns : goal.returns
 returns c =
@@ -11,5 +11,4 @@ returns c =
     let written = c.in_ok-write.ensures in
     let before = written.before ∙ c.new-writer.ensures.before ∙ c.in_ok-with_capacity.ensures.items in
     let tokens = written.tokens ∙ ap (λ ts. ts ++ data_tokens d) c.new-writer.ensures.tokens in
-    let text = c.into_inner-line.ensures.items ∙ ap (λ b. b ++ print c.write.new.writer.tokens) before ∙ ap print tokens ∙ print-outline d in
-    c.in_ok-push.ensures.items ∙ ap (λ line. line ++ 10 ∷ []) text
+    c.into_inner.ensures.items ∙ ap (λ b. b ++ print c.write.new.writer.tokens) before ∙ ap print tokens ∙ print-outline d

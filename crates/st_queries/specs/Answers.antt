@@ -1,0 +1,184 @@
+-- What a query answers: a plain function of the image.
+use Rattle.std.specs.Prelude.{◌≡◌, ◌⊎◌, ℕ, ◌+◌, ◌==◌, List, [], ◌∷◌, length, drop, Bool, true, false, Option, Some, None, option_map, is_some, codes, slice_get, ok_or, unwrap_or, if◌then◌else◌, Result, Ok, Err}
+use Rattle.std.specs.List.{list_any}
+use Rattle.serde_json.specs.Data.{Data, null, boolean, string, object, member, no_members}
+use Rattle.serde_json.specs.View.{view}
+use Rattle.serde_json.specs.declared.value.Value.{Value}
+use Rattle.st_classes.specs.declared.values.ClassId.{ClassId}
+use Rattle.st_classes.specs.declared.values.Selector.{Selector}
+use Rattle.st_classes.specs.declared.edits.Edit.{Edit}
+use Rattle.st_classes.specs.declared.edits.Edit.TheVariants.{Define, Install, Remove, Reparent}
+use Rattle.st_classes.specs.declared.instructions.Instruction.{Instruction}
+use Rattle.st_classes.specs.declared.instructions.Instruction.TheVariants.{Send, SuperSend}
+use Rattle.st_classes.specs.declared.methods.MethodParts.{MethodParts}
+use Rattle.st_classes.specs.declared.kernel.Found.{Found}
+use Rattle.st_classes.specs.declared.kernel.Found.TheVariants.{User, Kernel as FoundKernel}
+use Rattle.st_classes.specs.declared.refusals.Refusal.{Refusal}
+use Rattle.st_classes.specs.declared.refusals.Refusal.TheVariants.{NoMemory, NoSuchMethod}
+use Rattle.st_classes.specs.Classes.{chain, class_count, inherited, parent, slots}
+use Rattle.st_classes.specs.EditLists.{installed_method, method_at}
+use Rattle.st_classes.specs.Kernel.{class, selector}
+use Rattle.st_classes.specs.Walks.{is_at, own}
+use Rattle.st_image.specs.Images.{ImageView, world}
+use Rattle.st_image.specs.Loading.{class_text, selector_text}
+use Rattle.st_wire.specs.Replies.{only, whole}
+use Rattle.st_wire.specs.declared.queries.Query.{Query}
+use Rattle.st_wire.specs.declared.queries.Query.TheVariants as query
+use Rattle.st_queries.specs.Actors.{actors_told}
+use Rattle.st_queries.specs.Edits.{edits_asked}
+use Rattle.st_queries.specs.Listing.{listed, texts}
+use Rattle.st_queries.specs.OwnMethods.{method_count, standing}
+use Rattle.st_queries.specs.Resolving.{and_then, class_in, selector_in}
+
+-- ---- classes
+
+-- the superclass's name, or null
+abbrev pub parent_told : List Edit → Option ClassId → Data
+parent_told edits None = null
+parent_told edits (Some p) = string (class_text edits p)
+
+-- the instance variables that a class adds to the inherited ones
+abbrev pub added_slots : List Edit → ClassId → List (List ℕ)
+added_slots edits c = drop (length (inherited edits c)) (slots edits c)
+
+abbrev pub class_told : List Edit → ClassId → Data
+class_told edits c = object
+    (member (codes "methods") (whole (method_count edits c))
+    (member (codes "name") (string (class_text edits c))
+    (member (codes "slots") (texts (added_slots edits c))
+    (member (codes "super") (parent_told edits (parent edits c))
+    no_members))))
+
+-- all classes, by their numbers
+abbrev pub classes_told : List Edit → Data
+classes_told edits = only (codes "classes") (listed (λ n. Some (class_told edits (class n))) 0 (class_count edits))
+
+-- ---- methods
+
+-- the version at which an install or removal was accepted: its place in the edits plus one
+abbrev pub version_of : ℕ → Data
+version_of place = whole (place + 1)
+
+-- a method of a class's own
+abbrev pub method_told : List (List ℕ) → Selector → Found → Data
+method_told names s (User m) = object
+    (member (codes "selector") (string (selector_text names s))
+    (member (codes "version") (version_of m.0)
+    no_members))
+method_told names s (FoundKernel k) = object
+    (member (codes "kernel") (boolean true)
+    (member (codes "selector") (string (selector_text names s))
+    no_members))
+
+-- a class's own methods, by the numbers of their selectors
+abbrev pub methods_told : List (List ℕ) → List Edit → ClassId → Data
+methods_told names edits c = only (codes "methods")
+    (listed (λ n. option_map (method_told names (selector n)) (own edits c (selector n))) 0 (length names))
+
+-- ---- what a send runs
+
+-- the source of the method at a place
+abbrev pub source_at : List Edit → ℕ → List ℕ
+source_at edits place = source_in (option_map (λ m. m.source) (method_at edits (record { 0 = place })))
+  where
+    source_in : Option (List ℕ) → List ℕ
+    source_in o = unwrap_or o []
+
+-- a method, and the class that has it
+abbrev pub source_of : List Edit → ClassId × Found → Data
+source_of edits (c, User m) = object
+    (member (codes "class") (string (class_text edits c))
+    (member (codes "source") (string (source_at edits m.0))
+    (member (codes "version") (version_of m.0)
+    no_members)))
+source_of edits (c, FoundKernel k) = object
+    (member (codes "class") (string (class_text edits c))
+    (member (codes "kernel") (boolean true)
+    no_members))
+
+-- the first of these classes that has a method of its own, with that method
+abbrev pub holder_in : List Edit → Selector → List ClassId → Option (ClassId × Found)
+holder_in edits s [] = None
+holder_in edits s (c ∷ cs) = or_else_by (option_map (λ found. (c, found)) (own edits c s)) (holder_in edits s cs)
+  where
+    or_else_by : Option (ClassId × Found) → Option (ClassId × Found) → Option (ClassId × Found)
+    or_else_by None later = later
+    or_else_by (Some first) later = Some first
+
+-- what a send to an instance of a class runs: the method of the first class on its chain that has one
+abbrev pub source_told : List Edit → ClassId → Selector → Result Data Refusal
+source_told edits c s = ok_or (option_map (source_of edits) (holder_in edits s (chain edits c))) NoSuchMethod
+
+-- ---- versions
+
+abbrev pub install_told : List ℕ → ℕ → Data
+install_told source place = object
+    (member (codes "source") (string source)
+    (member (codes "version") (version_of place)
+    no_members))
+
+abbrev pub removal_told : ℕ → Data
+removal_told place = object
+    (member (codes "removed") (boolean true)
+    (member (codes "version") (version_of place)
+    no_members))
+
+-- an install or removal of a class's own method for a selector, if the edit at a place is one
+abbrev pub version_told : ClassId → Selector → ℕ → Option Edit → Option Data
+version_told c s place (Some (Install d m)) = if is_at d m.selector c s then Some (install_told m.source place) else None
+version_told c s place (Some (Remove d t)) = if is_at d t c s then Some (removal_told place) else None
+version_told c s place _ = None
+
+-- every install and removal there, the oldest first
+abbrev pub versions_told : List Edit → ClassId → Selector → Data
+versions_told edits c s = only (codes "versions") (listed (λ place. version_told c s place (slice_get edits place)) 0 (length edits))
+
+-- ---- implementors and senders
+
+-- the classes that have a method of their own for a selector, by their numbers
+abbrev pub implementors_told : List Edit → Selector → Data
+implementors_told edits s = only (codes "classes")
+    (listed (λ n. option_map (λ found. string (class_text edits (class n))) (own edits (class n) s)) 0 (class_count edits))
+
+-- an instruction sends a selector, or super sends it
+abbrev pub is_send_of : Selector → Instruction → Bool
+is_send_of s (Send t n) = t.0 == s.0
+is_send_of s (SuperSend t n) = t.0 == s.0
+is_send_of s _ = false
+
+-- a method, by its class and its selector
+abbrev pub sender_told : List (List ℕ) → List Edit → ClassId → Selector → Data
+sender_told names edits c s = object
+    (member (codes "class") (string (class_text edits c))
+    (member (codes "selector") (string (selector_text names s))
+    no_members))
+
+-- the method of an install that stands, if it sends the selector
+abbrev pub sender_at : List (List ℕ) → List Edit → Selector → Option ClassId → Option MethodParts → Option Data
+sender_at names edits s (Some c) (Some m) = if list_any (is_send_of s) m.code then Some (sender_told names edits c m.selector) else None
+sender_at names edits s _ _ = None
+
+-- the installed methods that send a selector, by their versions
+abbrev pub senders_told : List (List ℕ) → List Edit → Selector → Data
+senders_told names edits s = only (codes "methods")
+    (listed (λ place. sender_at names edits s (standing edits place) (method_at edits (record { 0 = place }))) 0 (length edits))
+
+-- ---- all queries
+
+-- what a query answers; names are looked up and not interned, and a class before a selector
+abbrev pub told : ImageView → Query → Result Data Refusal
+told i query.Classes = Ok (classes_told (world i).edits)
+told i (query.Methods class) = and_then (λ c. Ok (methods_told i.names (world i).edits c)) (class_in (world i).edits class)
+told i (query.Source class text) =
+    and_then (λ c. and_then (source_told (world i).edits c) (selector_in i.names text)) (class_in (world i).edits class)
+told i (query.Versions class text) =
+    and_then (λ c. and_then (λ s. Ok (versions_told (world i).edits c s)) (selector_in i.names text)) (class_in (world i).edits class)
+told i (query.Implementors text) = and_then (λ s. Ok (implementors_told (world i).edits s)) (selector_in i.names text)
+told i (query.Senders text) = and_then (λ s. Ok (senders_told i.names (world i).edits s)) (selector_in i.names text)
+told i (query.Edits from) = edits_asked i.names (world i).edits from
+told i (query.Actors from most) = Ok (actors_told i from most)
+
+-- the answer is that; or memory ran out
+abbrev pub IsAnswer : Result Data Refusal → Result Value Refusal → Type 0
+IsAnswer said (Ok v) = said ≡ Ok (view v)
+IsAnswer said (Err e) = (said ≡ Err e) ⊎ (e ≡ NoMemory)

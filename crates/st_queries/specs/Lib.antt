@@ -1,0 +1,8 @@
+pub mod Resolving
+pub mod Listing
+pub mod OwnMethods
+pub mod Values
+pub mod Actors
+pub mod EditTexts
+pub mod Edits
+pub mod Answers

@@ -1,0 +1,19 @@
+-- What is told of values.
+use Rattle.std.specs.Prelude.{ℕ, List, codes}
+use Rattle.serde_json.specs.Data.{Data, null, boolean, number, string}
+use Rattle.serde_json.specs.Find.{of_integer}
+use Rattle.st_classes.specs.declared.values.Value.{Value}
+use Rattle.st_classes.specs.declared.values.Value.TheVariants as value
+use Rattle.st_classes.specs.declared.edits.Edit.{Edit}
+use Rattle.st_image.specs.Loading.{class_text, selector_text}
+use Rattle.st_wire.specs.Replies.{only, whole}
+
+-- a value, as answers and image files have it
+abbrev pub value_told : List (List ℕ) → List Edit → Value → Data
+value_told names edits (value.Int z) = number (of_integer z)
+value_told names edits (value.Bool b) = boolean b
+value_told names edits value.Nil = null
+value_told names edits (value.Sym s) = only (codes "sym") (string (selector_text names s))
+value_told names edits (value.Class c) = only (codes "class") (string (class_text edits c))
+value_told names edits (value.Actor a) = only (codes "ref") (whole a.0)
+value_told names edits (value.Local n) = only (codes "local") (whole n)

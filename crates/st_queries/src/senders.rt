@@ -1,0 +1,103 @@
+//! The installed methods that send a selector.
+ghost use Rattle.std.specs.Prelude.{◌≡◌, IfOk};
+ghost use Rattle.std.specs.List.{list_any};
+ghost use Rattle.serde_json.specs.View.{view};
+ghost use Rattle.st_queries.specs.OwnMethods.{standing as standing_in};
+ghost use Rattle.st_classes.specs.EditLists.{method_at};
+ghost use Rattle.st_queries.specs.Answers.{is_send_of as sends_it, sender_at, sender_told, senders_told};
+
+use crate::listing::{Rows, list, only};
+use crate::own_methods::standing;
+use crate::texts::{class_text, selector_text};
+use st_classes::instructions::Instruction;
+use st_classes::names::Names;
+use st_classes::values::{ClassId, MethodId, Selector};
+use st_classes::version::Version;
+use st_wire::told::{Members, Told};
+use std::alloc::{AllocError, Global};
+
+/// Whether an instruction sends a selector, or super sends it.
+fn is_send_of(selector: Selector, instruction: Instruction) -> bool
+    ensures { result ≡ sends_it selector instruction }
+{
+    match instruction {
+        Instruction::Send { selector: sent, .. } => sent == selector,
+        Instruction::SuperSend { selector: sent, .. } => sent == selector,
+        _ => false,
+    }
+}
+
+/// Whether a code sends a selector.
+fn sends(selector: Selector, code: &[Instruction]) -> bool
+    ensures { result ≡ list_any (sends_it selector) code.now }
+{
+    for instruction in code {
+        if is_send_of(selector, *instruction) {
+            return true;
+        }
+    }
+    false
+}
+
+/// A method that sends it, by its class and its own selector.
+fn sender(
+    alloc: Global,
+    names: &Names,
+    version: &Version,
+    class: ClassId,
+    selector: Selector,
+) -> Result<Told, AllocError>
+    ensures { IfOk result (λ told. view told ≡ sender_told names.now version.now class selector) }
+{
+    let mut members = Members::new(alloc);
+    members.put(alloc, "class", class_text(alloc, version, class)?)?;
+    members.put(alloc, "selector", selector_text(alloc, names, selector)?)?;
+    Ok(members.told())
+}
+
+/// The rows of the methods that send it, by the places of their installs.
+struct Senders<'a> {
+    names: &'a Names,
+    version: &'a Version,
+    selector: Selector,
+}
+
+impl<'a> Rows for Senders<'a> {
+    ghost is_row = { λ s n. Unit {0} };
+
+    ghost row_of = { λ s n. sender_at s.names.now s.version.now s.selector (standing_in s.version.now n) (method_at s.version.now (record { 0 = n })) };
+
+    fn row(&self, alloc: Global, number: u32) -> Result<Option<Told>, AllocError> {
+        let Some(class) = standing(self.version, number) else {
+            return Ok(None);
+        };
+        match self.version.method(MethodId(number)) {
+            Some(method) if sends(self.selector, method.code()) => Ok(Some(sender(
+                alloc,
+                self.names,
+                self.version,
+                class,
+                method.selector(),
+            )?)),
+            _ => Ok(None),
+        }
+    }
+}
+
+/// What is told of the installed methods that send a selector.
+pub(crate) fn senders(
+    alloc: Global,
+    names: &Names,
+    version: &Version,
+    selector: Selector,
+) -> Result<Told, AllocError>
+    ensures { IfOk result (λ told. view told ≡ senders_told names.now version.now selector) }
+{
+    let rows = Senders {
+        names,
+        version,
+        selector,
+    };
+    let told = list(alloc, &rows, 0, version.edits())?;
+    only(alloc, "methods", told)
+}

@@ -3,6 +3,7 @@ pub mod ClaimsSeen
 pub mod WorkersActing
 pub mod EventRuns
 pub mod Happening
-pub mod Segmenting
 pub mod Uncommitting
+pub mod Keeping
+pub mod Segmenting
 pub mod OtherSeats

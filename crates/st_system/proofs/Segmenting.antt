@@ -3,11 +3,9 @@ use Rattle.std.proofs.Common.{◌≡◌, ℕ, [], ◌∷◌, ◌++◌, List, Opt
 use Rattle.std.proofs.lemmas.List.Elements.{All-nil, All-push}
 use Rattle.st_classes.specs.declared.values.ActorId.{ActorId}
 use Rattle.st_classes.specs.declared.refusals.Refusal.{Refusal}
-use Rattle.st_image.specs.declared.items.Item.{Item}
-use Rattle.st_image.specs.Worlds.{World}
-use Rattle.st_image.specs.Parts.{rebase}
 use Rattle.st_image.specs.Delivery.{IsPrefixOf}
-use Rattle.st_image.specs.Images.{ImageView, world}
+use Rattle.st_image.specs.Images.{ImageView}
+use Rattle.st_image.specs.WorldInvariant.{settings_of}
 use Rattle.st_image.specs.Checkpoints.{BeginsAnew}
 use Rattle.st_image.proofs.GrowingEdits.{GoesOn, goes_from}
 use Rattle.st_image.proofs.CallsGoOn.{checks_out_goes, commits_goes, out_goes}
@@ -18,7 +16,8 @@ use Rattle.st_system.specs.declared.events.Event.TheVariants.{Call, Checkout, Lo
 use Rattle.st_system.specs.Schedules.{BareClaim, Schedule, with_sends}
 use Rattle.st_system.specs.ClaimEvents.{AtWorker, CommitsClaim, KeepsClaim, OfClaim, ReleasesClaim, StepsClaim, TakesClaim}
 use Rattle.st_system.specs.Acts.{Acts}
-use Rattle.st_system.specs.Segments.{Follow, HasSegments, IsSegment}
+use Rattle.st_system.specs.Segments.{Follow, GoesOnTo, HasSegments, IsSegment, begun_anew}
+use Rattle.st_system.proofs.Keeping.{Keeps, event_keeps}
 
 -- ---- one event
 
@@ -63,25 +62,41 @@ event_moves S T (Forget w) r h = forget_moves S T w r (slice_get S.claims w) h
 
 -- ---- segments
 
-longer : (before h k items : List Item) → k ≡ h ++ items → IsPrefixOf before h → IsPrefixOf before k
-longer before h k items e (rest, is) = (rest ++ items, e ∙ ap (λ (xs : List Item). xs ++ items) is ∙ append_assoc before rest items)
+longer : {X : Type 0} (before h k items : List X) → k ≡ h ++ items → IsPrefixOf before h → IsPrefixOf before k
+longer {X} before h k items e (rest, is) = (rest ++ items, e ∙ ap (λ (xs : List X). xs ++ items) is ∙ append_assoc before rest items)
+
+goes_further : (i j k : ImageView) → GoesOn j k → Keeps j k → GoesOnTo i j → GoesOnTo i k
+goes_further i j k g n f = record {
+  base = g.base ∙ f.base;
+  settings = n.settings ∙ f.settings;
+  history = longer i.history j.history k.history g.items g.history f.history;
+  names = longer i.names j.names k.names n.names.0 n.names.1 f.names;
+}
+
+goes_anew : (j k : ImageView) → BeginsAnew j k → GoesOnTo (begun_anew j) k
+goes_anew j k h = record {
+  base = ap (λ (x : ImageView). x.base) h.image;
+  settings = ap settings_of h.image;
+  history = (k.history, refl);
+  names = ([], ap (λ (x : ImageView). x.names) h.image ∙ sym (append-nil j.names));
+}
 
 -- the last segment goes on
-follow_on : (base : World) (before : List Item) (es : List ImageView) (j k : ImageView) → GoesOn j k → Follow base before es j → Follow base before es k
-follow_on base before [] j k g f = (g.base ∙ f.0, longer before j.history k.history g.items g.history f.1)
-follow_on base before (e ∷ es) j k g f = (f.0, f.1, follow_on (rebase (world e)) [] es j k g f.2)
+follow_on : (i : ImageView) (es : List ImageView) (j k : ImageView) → GoesOn j k → Keeps j k → Follow i es j → Follow i es k
+follow_on i [] j k g n f = goes_further i j k g n f
+follow_on i (e ∷ es) j k g n f = (f.0, follow_on (begun_anew e) es j k g n f.1)
 
 -- the last segment ends, and another begins
-follow_anew : (base : World) (before : List Item) (es : List ImageView) (j k : ImageView) → BeginsAnew j k → Follow base before es j → Follow base before (es ++ j ∷ []) k
-follow_anew base before [] j k h f = (f.0, f.1, (ap (λ (x : ImageView). x.base) h.image, (k.history, refl)))
-follow_anew base before (e ∷ es) j k h f = (f.0, f.1, follow_anew (rebase (world e)) [] es j k h f.2)
+follow_anew : (i : ImageView) (es : List ImageView) (j k : ImageView) → BeginsAnew j k → Follow i es j → Follow i (es ++ j ∷ []) k
+follow_anew i [] j k h f = (f, goes_anew j k h)
+follow_anew i (e ∷ es) j k h f = (f.0, follow_anew (begun_anew e) es j k h f.1)
 
-segments_by : (i j k : ImageView) → IsSegment k → Moves j k → HasSegments i j → HasSegments i k
-segments_by i j k known (inl g) s = record { ended = s.ended; each = s.each; last = known; follow = follow_on i.base i.history s.ended j k g s.follow }
-segments_by i j k known (inr h) s = record { ended = s.ended ++ j ∷ []; each = All-push IsSegment s.ended j s.each s.last; last = known; follow = follow_anew i.base i.history s.ended j k h s.follow }
+segments_by : (i j k : ImageView) → IsSegment k → Moves j k → Keeps j k → HasSegments i j → HasSegments i k
+segments_by i j k known (inl g) n s = record { ended = s.ended; each = s.each; last = known; follow = follow_on i s.ended j k g n s.follow }
+segments_by i j k known (inr h) n s = record { ended = s.ended ++ j ∷ []; each = All-push IsSegment s.ended j s.each s.last; last = known; follow = follow_anew i s.ended j k h s.follow }
 
 pub segments_more : (i : ImageView) (S T : Schedule) (e : Event) (r : Result Answer Refusal) → IsSegment T.image → Acts S e r T → HasSegments i S.image → HasSegments i T.image
-segments_more i S T e r known h s = segments_by i S.image T.image known (event_moves S T e r h) s
+segments_more i S T e r known h s = segments_by i S.image T.image known (event_moves S T e r h) (event_keeps S T e r h) s
 
 pub one_segment : (i : ImageView) → IsSegment i → HasSegments i i
-one_segment i known = record { ended = []; each = All-nil IsSegment; last = known; follow = (refl, ([], sym (append-nil i.history))) }
+one_segment i known = record { ended = []; each = All-nil IsSegment; last = known; follow = record { base = refl; settings = refl; history = ([], sym (append-nil i.history)); names = ([], sym (append-nil i.names)) } }

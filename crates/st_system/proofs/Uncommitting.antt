@@ -116,7 +116,7 @@ checkout_begins S T w a r None h = none_begun 1 S.image T.image (stays S.image T
 checkout_begins S T w a r (Some (Some c)) h = none_begun 1 S.image T.image (stays S.image T.image h.1.1)
 checkout_begins S T w a r (Some None) h = checks_out_begins S.image T.image a h.1.0 h.1.2
 
-one_uncommitted : (S T : Schedule) (e : Event) (r : Result Answer Refusal) → is_uncommitted e ≡ true → Acts S e r T → OnlyBegins (checkouts (e ∷ [])) S.image T.image
+pub one_uncommitted : (S T : Schedule) (e : Event) (r : Result Answer Refusal) → is_uncommitted e ≡ true → Acts S e r T → OnlyBegins (checkouts (e ∷ [])) S.image T.image
 one_uncommitted S T (Checkout w a) r p h = checkout_begins S T w a r (slice_get S.claims w) h
 one_uncommitted S T (Local w) r p h = none_begun 0 S.image T.image (one_apart S T (Local w) r refl h)
 one_uncommitted S T (Release w) r p h = none_begun 0 S.image T.image (one_apart S T (Release w) r refl h)

@@ -1,10 +1,8 @@
 -- The segments of a run: a checkpoint ends one, and the next begins with the world where it ended.
 use Rattle.std.specs.Prelude.{◌≡◌, List, [], ◌∷◌, All}
-use Rattle.st_image.specs.declared.items.Item.{Item}
-use Rattle.st_image.specs.Worlds.{World}
 use Rattle.st_image.specs.Parts.{rebase}
 use Rattle.st_image.specs.Images.{ImageView, world}
-use Rattle.st_image.specs.WorldInvariant.{IsLawful}
+use Rattle.st_image.specs.WorldInvariant.{IsLawful, settings_of}
 use Rattle.st_image.specs.Delivery.{HasDelivered, IsPrefixOf}
 use Rattle.st_image.specs.RanTargets.{EachStepRan}
 
@@ -15,16 +13,28 @@ pub record IsSegment (i : ImageView) : Type 0 where
   pub delivered : HasDelivered i
   pub sent : EachStepRan i
 
--- Segments follow one another up to an image. The first one began with this base and has this history already. Each later one begins
--- with the world where the one before it ended, as a base, and with no history. The list has the segments that ended, in order; the
--- last segment ends with the image.
-abbrev pub Follow : World → List Item → List ImageView → ImageView → Type 0
-Follow base before [] j = (j.base ≡ base) × IsPrefixOf before j.history
-Follow base before (e ∷ es) j = (e.base ≡ base) × IsPrefixOf before e.history × Follow (rebase (world e)) [] es j
+-- an image goes on to another: the base and the settings stay, and its history and its names begin those of the other
+pub record GoesOnTo (i j : ImageView) : Type 0 where
+  pub base : j.base ≡ i.base
+  pub settings : settings_of j ≡ settings_of i
+  pub history : IsPrefixOf i.history j.history
+  pub names : IsPrefixOf i.names j.names
+
+-- what the next segment begins with: the world where this one ended is the base, the history is empty, and settings and names stay
+abbrev pub begun_anew : ImageView → ImageView
+begun_anew e = record e { base = rebase (world e); history = [] }
+
+-- Segments follow one another from one image to another. The first begins with the first image, each later one with what the end of
+-- the one before it leaves (`begun_anew`), and each goes on to its own end. The list has the ends of all but the last, in order; the
+-- last one ends with the other image. So all have the settings of the first image, and the names of each begin those of all later
+-- ones.
+abbrev pub Follow : ImageView → List ImageView → ImageView → Type 0
+Follow i [] j = GoesOnTo i j
+Follow i (e ∷ es) j = GoesOnTo i e × Follow (begun_anew e) es j
 
 -- a run leads from one image to another by segments
 pub record HasSegments (i j : ImageView) : Type 0 where
   pub ended : List ImageView
   pub each : All IsSegment ended
   pub last : IsSegment j
-  pub follow : Follow i.base i.history ended j
+  pub follow : Follow i ended j

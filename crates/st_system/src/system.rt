@@ -156,7 +156,7 @@ impl<M: Mailbox, G: Guard> System<M, G> {
     ///
     /// A checkpoint ends a segment, and the next one begins with the world where it ended. For every segment, also for the one that the
     /// system is in, the image at its end is the replay of the history since its beginning, its messages were delivered, and its sends ran
-    /// what the walk finds.
+    /// what the walk finds. The settings are the same in all of them, and the names of each begin those of all later ones.
     pub fn run(&mut self, alloc: Global, events: &[Event])
         ensures led { Leads (schedule self.old) events.now (schedule self.new) }
         ensures happened { Happen G.count G.floor G.raises self.old events.now self.new }

@@ -3,7 +3,7 @@ use Rattle.std.specs.Prelude.{ℕ, ◌^◌, ◌-◌, List, [], ◌∷◌, codes,
 use Rattle.std.specs.Str.{bytes_eq}
 use Rattle.serde_json.specs.Data.{Data}
 use Rattle.st_wire.specs.declared.queries.Query.{Query}
-use Rattle.st_wire.specs.declared.queries.Query.TheVariants.{Classes, Methods, Source, Versions, Implementors, Senders, Edits, Actors}
+use Rattle.st_wire.specs.declared.queries.Query.TheVariants.{Classes, Methods, Source, Versions, Implementors, Senders, Actors}
 use Rattle.st_wire.specs.Fields.{text_at, whole_at}
 use Rattle.st_wire.specs.Keys.{of_keys}
 
@@ -24,9 +24,6 @@ abbrev pub of_place : (List ℕ → List ℕ → Query) → Data → Option Quer
 of_place query d = of_keys (codes "class" ∷ codes "cmd" ∷ codes "selector" ∷ []) d
     (place_from query (text_at (codes "class") d) (text_at (codes "selector") d))
 
-abbrev pub edits_in : Data → Option Query
-edits_in d = of_keys (codes "cmd" ∷ codes "from" ∷ []) d (option_map Edits (whole_at (codes "from") 0 (2 ^ 32 - 1) d))
-
 abbrev pub actors_from : Option ℕ → Option ℕ → Option Query
 actors_from (Some from) (Some most) = Some (Actors from most)
 actors_from _ _ = None
@@ -44,6 +41,5 @@ query_in d cmd =
     else (if bytes_eq cmd (codes "versions") then of_place Versions d
     else (if bytes_eq cmd (codes "implementors") then of_selector Implementors d
     else (if bytes_eq cmd (codes "senders") then of_selector Senders d
-    else (if bytes_eq cmd (codes "edits") then edits_in d
     else (if bytes_eq cmd (codes "actors") then actors_in d
-    else None)))))))
+    else None))))))

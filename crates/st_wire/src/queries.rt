@@ -5,7 +5,7 @@ ghost use Rattle.st_wire.specs.PartResults.{Reads};
 ghost use Rattle.st_wire.specs.Fields.{text_at as text_in};
 ghost use Rattle.st_wire.specs.Keys.{of_keys};
 ghost use Rattle.st_wire.specs.declared.queries.Query.TheVariants as forms;
-ghost use Rattle.st_wire.specs.Queries.{actors_in, edits_in, of_place, query_in};
+ghost use Rattle.st_wire.specs.Queries.{actors_in, of_place, query_in};
 
 use crate::fields::{text_at, whole_at};
 use crate::keys::just_keys;
@@ -29,8 +29,6 @@ pub enum Query {
     Implementors { selector: Seq<u8> },
     /// The methods that send a selector.
     Senders { selector: Seq<u8> },
-    /// The edits after the first ones.
-    Edits { from: u32 },
     /// The actors from a number on, at most this many: 1 to 4,096.
     Actors { from: u32, most: u32 },
 }
@@ -71,15 +69,6 @@ fn versions(alloc: Global, object: &Value) -> Result<Query, Refusal>
     })
 }
 
-fn edits(object: &Value) -> Result<Query, Refusal>
-    ensures { Reads (edits_in (view object.now)) result }
-{
-    just_keys(object, &["cmd", "from"])?;
-    Ok(Query::Edits {
-        from: whole_at(object, "from", 0, 4_294_967_295)? as u32,
-    })
-}
-
 fn actors(object: &Value) -> Result<Query, Refusal>
     ensures { Reads (actors_in (view object.now)) result }
 {
@@ -110,7 +99,6 @@ pub(crate) fn read_query(alloc: Global, object: &Value, name: &str) -> Result<Qu
         "senders" => Ok(Query::Senders {
             selector: selector_of(alloc, object)?,
         }),
-        "edits" => edits(object),
         "actors" => actors(object),
         _ => Err(Refusal::BadCommand),
     }

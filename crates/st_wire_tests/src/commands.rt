@@ -98,10 +98,6 @@ const COMMANDS: &[(&str, Wanted)] = &[
         Wanted::Query("senders", "", "a", 0, 0),
     ),
     (
-        r#"{"cmd":"edits","from":4294967295}"#,
-        Wanted::Query("edits", "", "", u32::MAX, 0),
-    ),
-    (
         r#"{"cmd":"actors","from":4294967295,"most":4096}"#,
         Wanted::Query("actors", "", "", u32::MAX, 4_096),
     ),
@@ -225,7 +221,6 @@ fn is_query(
         },
         Query::Implementors { selector } => name == "implementors" && is(selector, text),
         Query::Senders { selector } => name == "senders" && is(selector, text),
-        Query::Edits { from } => name == "edits" && *from == first,
         Query::Actors { from, most } => {
             name == "actors" && *from == first && *most == second
         },

@@ -18,7 +18,7 @@ OFFER = "a tenth of the history is left;  :checkpoint  empties it, and all goes 
 
 
 class Session:
-    """`say` takes each line that is told. `loading` are the files that are being loaded, `why` is what `:why` says, and `told`
+    """`say` takes each line that is told. `loading` are the files that are being loaded, `why` gives what `:why` says, if there is anything, and `told`
     is where in the log the last entry begins. `answer` is what the last entry showed, or the fault that ended it, if it sent messages;
     `faulted` is the file in which that fault came, until `:expect` has looked at it, and `is_as_expected` is what `:expect` found so far."""
 
@@ -37,7 +37,7 @@ class Session:
         self.log = Log(self.image.connect(self))
         self.told = 0
         self.is_offered = False
-        self.why = []
+        self.why = None
         self.learn({})
 
     def learn(self, names):
@@ -243,10 +243,10 @@ class Session:
             self.say(f"{turn} has ended, and its answer is no longer kept")
 
     def tell_fault(self, turn, fault):
-        places = fault_places.lines(turn, fault, self.known, self.turns, self.image.is_served)
-        self.why = [f"{fault}: {advice.explain(fault)}", *places]
+        self.why = lambda: [f"{fault}: {advice.explain(fault)}", *fault_places.lines(self, turn, fault)]
         self.say(f"fault {fault} in {turn}")
 
     def tell_refusal(self, refused):
-        self.why = refused_lines(refused.command, refused.reply, self.known, self.turns, self.image)
-        self.tell(self.why)
+        lines = refused_lines(refused.command, refused.reply, self.known, self.turns, self.image)
+        self.why = lambda: lines
+        self.tell(lines)

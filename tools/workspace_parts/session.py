@@ -1,6 +1,6 @@
 """A session: each entry is done, and what it gives is said."""
 
-from . import advice, commands, fault_places, shown
+from . import advice, commands, fault_places, looks, shown
 from .entries import Command, Definition, Method, form
 from .known import Known
 from .learning import learn
@@ -154,7 +154,12 @@ class Session:
         try:
             version = self.turns.ask(command)["version"]
         except Refused as refused:
-            if not self.loading or refused.reply["error"] != "ClassExists":
+            if refused.reply["error"] != "ClassExists":
+                raise
+            if not self.loading and self.is_moved_of_others(found):
+                self.move(found)
+                return
+            if not self.loading:
                 raise
             if self.is_as_before(found):
                 return
@@ -170,6 +175,13 @@ class Session:
         """Whether a definition is that of a class which was defined before, but for the class above it."""
         old = self.known.classes.get(found.name)
         return old and old.parent and old.parent != found.parent and old.slots == found.slots
+
+    def is_moved_of_others(self, found):
+        """The same, where another session may have defined the class: the image is asked."""
+        if not self.image.is_served:
+            return False
+        looks.classes(self)
+        return self.is_moved(found)
 
     def move(self, found):
         command = {"cmd": "reparent", "class": found.name, "super": found.parent}

@@ -40,6 +40,10 @@ class Stage:
                 assert reply == {"error": "NoSuchMethod"}, reply
             before = rows
 
+    def threads(self, part):
+        """Sessions that do a part, one for each method."""
+        return [threading.Thread(target=self.run, args=(part, selector)) for selector in self.done]
+
     def run(self, part, selector):
         try:
             with self.server.client() as client:
@@ -56,7 +60,7 @@ def looks_while_others_edit(program, Server, _post):
         with server.client() as first:
             first.make("A", [])
             first.done(cmd="define", name="B", super="A", slots=[])
-            looking, editing = ([threading.Thread(target=stage.run, args=(part, it)) for it in stage.done] for part in (stage.looks, stage.edits))
+            looking, editing = stage.threads(stage.looks), stage.threads(stage.edits)
             for thread in looking + editing:
                 thread.start()
             for thread in editing:

@@ -39,7 +39,8 @@ This image is served to many, and the server's workers run the actors: a message
 A session asks the image for its classes and methods, whoever wrote them (:classes, :methods, :versions, :senders, :implementors), how
 a turn of any actor ended (:turn 3 of actor 0), how many actors there are (:actors), and how often a method's sends were done (:stats).
 :names, :sources and Tab have what this session typed, and what it was told of classes and methods; :methods alone tells of all.
-It cannot see who else is connected, what others named, which messages wait, or when a turn ends that it does not ask for. Edits of others take effect here at the next send, and are not told. c := actor 0 names any actor by its number.
+It cannot see who else is connected, what others named, which messages wait, or when a turn ends that it does not ask for. Edits of
+others take effect here at the next send, and are not told. c := actor 0 names any actor by its number.
 Where the connection breaks, the next entry at a terminal connects again, asks for the last message of this sender that the image
 has, and goes on behind it. The server saves its image when tools/stop ends it, if it was started with --image FILE.
 """.splitlines()

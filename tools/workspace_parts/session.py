@@ -18,9 +18,10 @@ OFFER = "a tenth of the history is left;  :checkpoint  empties it, and all goes 
 
 
 class Session:
-    """`say` takes each line that is told. `loading` are the files that are being loaded, `why` gives what `:why` says, if there is anything, and `told`
-    is where in the log the last entry begins. `answer` is what the last entry showed, or the fault that ended it, if it sent messages;
-    `faulted` is the file in which that fault came, until `:expect` has looked at it, and `is_as_expected` is what `:expect` found so far."""
+    """`say` takes each line that is told. `loading` are the files that are being loaded, `why` gives what `:why` says, if there is
+    anything, and `told` is where in the log the last entry begins. `answer` is what the last entry showed, or the fault that ended it, if
+    it sent messages; `faulted` is the file in which that fault came, until `:expect` has looked at it, and `is_as_expected` is what
+    `:expect` found so far."""
 
     command_names = tuple(commands.COMMANDS)
 

@@ -86,6 +86,37 @@ class Counted:
     steps: int
 
 
+@dataclass(frozen=True)
+class Class:
+    """A class: the one above it, `None` above Object, and how many methods and which instance variables it has of its own."""
+    name: str
+    superclass: Optional[str]
+    methods: int
+    slots: tuple[str, ...]
+
+
+@dataclass(frozen=True)
+class Method:
+    """A method that a class has of its own, with the version that its install gave; `None` of a method of the kernel."""
+    selector: str
+    version: Optional[int]
+
+
+@dataclass(frozen=True)
+class Source:
+    """The method that a message runs, and the class that has it. A method of the kernel has neither source nor version."""
+    class_name: str
+    source: Optional[str]
+    version: Optional[int]
+
+
+@dataclass(frozen=True)
+class Version:
+    """What was installed for a selector by an edit, and the version that this gave; `None` where the method was removed."""
+    version: int
+    source: Optional[str]
+
+
 Value = Union[int, bool, None, Symbol, ClassName, Actor, Local]
 Reply = dict[str, Any]
 
@@ -137,7 +168,7 @@ class SlotClash(Refused, stands="An instance variable is named twice, here or in
 class TooDeep(Refused, stands="The chain of superclasses would be over 64 long: take one nearer to Object."): ...
 class Cycle(Refused, stands="The superclass would be the class itself or one below it: take another."): ...
 class SlotsDiffer(Refused, stands="The superclass has other instance variables than the old one, inherited ones counted."): ...
-class NoSuchMethod(Refused, stands="The class has no such method of its own."): ...
+class NoSuchMethod(Refused, stands="The class has no such method of its own; for `source`, neither has one above it."): ...
 class UnknownActor(Refused, stands="No actor has this number."): ...
 class BadArguments(Refused, stands="The selector takes other arguments, or one of them names nothing. Not accepted."): ...
 class Closed(Refused, stands="The mailbox accepts nothing more. What it held may still be begun."): ...
@@ -372,6 +403,34 @@ class Image:
         actor the turn that stands there is turn 0, and its pending messages are turns 1 and on."""
         counted = self.ask({"cmd": "checkpoint"})
         return Counted(counted["posts"], counted["steps"])
+
+    # ---- looks, which change nothing
+
+    def classes(self) -> list[Class]:
+        """All classes, by their numbers, the kernel's first."""
+        return [Class(it["name"], it["super"], it["methods"], tuple(it["slots"])) for it in self.ask({"cmd": "classes"})["classes"]]
+
+    def methods(self, class_name: str) -> list[Method]:
+        """The methods that a class has of its own, by the numbers of their selectors."""
+        return [Method(it["selector"], it.get("version")) for it in self.ask({"cmd": "methods", "class": class_name})["methods"]]
+
+    def source(self, class_name: str, selector: str) -> Source:
+        """What a message to an object of the class runs. `NoSuchMethod` is raised where no class up the chain has a method for it."""
+        it = self.ask({"cmd": "source", "class": class_name, "selector": selector})
+        return Source(it["class"], it.get("source"), it.get("version"))
+
+    def versions(self, class_name: str, selector: str) -> list[Version]:
+        """Each install and removal of a class's own method for a selector, the oldest first."""
+        told = self.ask({"cmd": "versions", "class": class_name, "selector": selector})["versions"]
+        return [Version(it["version"], it.get("source")) for it in told]
+
+    def implementors(self, selector: str) -> list[str]:
+        """The names of the classes that have a method of their own for a selector, by the numbers of the classes."""
+        return self.ask({"cmd": "implementors", "selector": selector})["classes"]
+
+    def senders(self, selector: str) -> list[tuple[str, str]]:
+        """The methods that are installed and send a selector, each as its class and its own selector, by their versions."""
+        return [(it["class"], it["selector"]) for it in self.ask({"cmd": "senders", "selector": selector})["methods"]]
 
     # ---- actors
 

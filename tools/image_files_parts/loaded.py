@@ -13,6 +13,7 @@ class Loaded(Written):
     def __init__(self, file, quantum=256, capacity=64):
         super().__init__(quantum, capacity)
         self.methods, self.capacities = {}, {}
+        self.classes.names.add(file["names"])
         for place, edit in enumerate(file["edits"]):
             self.edit(place, edit)
         self.names = file["names"] + [name for name in self.names if name not in set(file["names"])]

@@ -23,6 +23,13 @@ COMMANDS = (
     {"actor": 0, "cmd": "outcome", "turn": 0},
     {"class": "M", "cmd": "stats", "selector": "a"},
     {"cmd": "checkpoint"},
+    {"cmd": "classes"},
+    {"class": "M", "cmd": "methods"},
+    {"class": "M", "cmd": "source", "selector": "a"},
+    {"class": "M", "cmd": "versions", "selector": "a"},
+    {"cmd": "implementors", "selector": "a"},
+    {"cmd": "senders", "selector": "+"},
+    {"cmd": "senders", "selector": "neverNamed"},
     {"cmd": "run", "quanta": 1},
     # these are refused
     {"actor": 0, "args": [], "cmd": "post", "selector": "a", "sender": 1, "seq": 1},
@@ -30,6 +37,7 @@ COMMANDS = (
     {"actor": 1, "cmd": "close"},
     {"class": "M", "cmd": "method", "source": "a ^"},
     {"class": "M", "cmd": "remove", "selector": "c"},
+    {"class": "M", "cmd": "source", "selector": "neverNamed"},
 )
 # Of these the second implementation leaves nothing behind, and it does not reply to them.
 READ = {"stats": "ok", "checkpoint": "ok", "run": "error"}

@@ -27,6 +27,13 @@ LINES = [
     ({"actor": 0, "args": [], "cmd": "post", "selector": "make", "sender": 1, "seq": 2}, {"ok": {"turn": 2}}),
     ({"actor": 0, "cmd": "outcome", "turn": 2}, {"ok": {"answer": {"ref": 1}}}),
     ({"class": "A", "cmd": "remove", "selector": "go"}, {"ok": {"version": 5}}),
+    (
+        {"class": "A", "cmd": "versions", "selector": "go"},
+        {"ok": {"versions": [{"source": "go ^3 tag", "version": 2}, {"removed": True, "version": 5}]}},
+    ),
+    ({"class": "A", "cmd": "methods"}, {"ok": {"methods": [{"selector": "make", "version": 4}]}}),
+    ({"class": "A", "cmd": "source", "selector": "make"}, {"ok": {"class": "A", "source": "make ^A newActor", "version": 4}}),
+    ({"cmd": "senders", "selector": "newActor"}, {"ok": {"methods": [{"class": "A", "selector": "make"}]}}),
     ({"class": "A", "cmd": "reparent", "super": "Object"}, {"ok": {"version": 6}}),
     ({"actor": 1, "cmd": "close"}, {"ok": {}}),
     ({"actor": 1, "args": [], "cmd": "post", "selector": "go", "sender": 1, "seq": 3}, {"error": "Closed"}),

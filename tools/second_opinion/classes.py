@@ -5,16 +5,20 @@ from dataclasses import dataclass, field
 from .checks import read_method
 from .compiler import compile_method
 from .language import KERNEL_CLASSES, KERNEL_SELECTORS, is_selector
+from .names import Names, names_in
 
 LONGEST_CHAIN = 64
 
 
 @dataclass
 class Class:
+    """`slots` are its instance variables, inherited ones first, and `own` those that it does not inherit."""
+
     name: str
     parent: object
     slots: list
     methods: dict = field(default_factory=dict)
+    own: list = field(default_factory=list)
 
 
 class Refused(Exception):
@@ -26,17 +30,20 @@ class Refused(Exception):
 
 
 class Classes:
-    """`edits` counts the definitions, installs, removes and reparents."""
+    """`edits` counts the definitions, installs, removes and reparents. `past` has all installs and removes at a class's number and a
+    selector: the version that each made, and the source, or None."""
 
     def __init__(self):
         self.all = [Class(name, None if number == 0 else 0, []) for number, name in enumerate(KERNEL_CLASSES)]
         self.numbers = {name: number for number, name in enumerate(KERNEL_CLASSES)}
         self.edits = 0
+        self.past = {}
+        self.names = Names()
 
     def define(self, name, parent, slots):
         above = self.numbers[parent]
         self.numbers[name] = len(self.all)
-        self.all.append(Class(name, above, self.all[above].slots + slots))
+        self.all.append(Class(name, above, self.all[above].slots + slots, own=slots))
         self.edits += 1
 
     def install(self, class_name, source):
@@ -46,8 +53,10 @@ class Classes:
         if tree.selector in KERNEL_SELECTORS.get(class_name, ()):
             raise Refused("KernelMethod")
         method = compile_method(tree, holder.slots, self.numbers)
+        self.names.add(names_in(method))
         holder.methods[method.selector] = method
         self.edits += 1
+        self.note(class_name, method.selector, source.decode())
         return method
 
     def remove(self, class_name, selector):
@@ -63,6 +72,15 @@ class Classes:
             raise Refused("NoSuchMethod")
         del methods[selector]
         self.edits += 1
+        self.note(class_name, selector, None)
+
+    def note(self, class_name, selector, text):
+        """Keeps what the last edit was for the class and the selector."""
+        self.past.setdefault((self.numbers[class_name], selector), []).append((self.edits, text))
+
+    def version(self, number, selector):
+        """The version that the last edit made which was for the class and the selector."""
+        return self.past[number, selector][-1][0]
 
     def reparent(self, class_name, parent):
         """Puts a class under another one."""

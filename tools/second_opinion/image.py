@@ -4,6 +4,7 @@ from collections import Counter
 
 from .classes import Classes, Refused
 from .language import BadSource, MOST_ACTORS, MOST_COUNTED, MOST_RESULTS, arguments_of, is_selector
+from .looking import LOOKS, look
 from .machine import Actor
 from .values import NIL, Value, boolean
 
@@ -38,6 +39,8 @@ class Image:
     def reply(self, command):
         """The reply to a command of those that the scripts here have: a definition, a method and an actor name a class that is
         there."""
+        if command["cmd"] in LOOKS:
+            return look(self.classes, command)
         return getattr(self, command["cmd"])(command)
 
     def define(self, command):
@@ -115,14 +118,17 @@ class Image:
         return was_open
 
     def unread(self, selector, arguments):
-        """What is wrong with the first text that says nothing; None where all are read."""
+        """What is wrong with the first text that says nothing; None where all are read. The names before it have their numbers then."""
         if not is_selector(selector):
             return "BadName"
+        self.classes.names.add([selector])
         for argument in arguments:
             if isinstance(argument, dict) and not is_selector(argument.get("sym", selector)):
                 return "BadName"
             if isinstance(argument, dict) and "class" in argument and argument["class"] not in self.classes.numbers:
                 return "UnknownClass"
+            if isinstance(argument, dict) and "sym" in argument:
+                self.classes.names.add([argument["sym"]])
         return None
 
     def names_something(self, argument):

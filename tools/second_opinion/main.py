@@ -3,13 +3,14 @@
     tools/second-opinion PROGRAM [--sources N] [--minutes N] [--seed N] [--briefly]
     tools/second-opinion PROGRAM --sharp
 
-PROGRAM is `crates/actorimage/out/actorimage`. Compared are the replies to each command of scripts: which sources are refused,
-with which kind and at which byte; which methods are removed, and which classes moved; which messages mailboxes take; how turns end, in how many
-quanta and steps; and how often each call site sent. How sends are found is not compared, but they have to be found in all three ways. Some scripts are picked by hand; the replies that are said in these are asked of the second reader first,
-and where it gives others, the status is 3. Where it and the program differ, the status is 1, and the shortest source and
-script that show it are printed; with --briefly only that they do. With --minutes it ends with the first script that is compared after
-so many minutes. --sharp puts wrong rules into the second reader, one at a
-time, and says which of them no source tells apart from the right ones.
+PROGRAM is `crates/actorimage/out/actorimage`. Compared are the replies to each command of scripts: which sources are refused, with which
+kind and at which byte; which methods are removed, and which classes moved; what looks at the classes show; which messages mailboxes take;
+how turns end, in how many quanta and steps; and how often each call site sent.
+How sends are found is not compared, but they have to be found in all three ways. Some scripts are picked by hand; the replies that are
+said in these are asked of the second reader first, and where it gives others, the status is 3. Where it and the program differ, the status
+is 1, and the shortest source and script that show it are printed; with --briefly only that they do. With --minutes it ends with the first
+script that is compared after so many minutes. --sharp puts wrong rules into the second reader, one at a time, and says which of them no
+source tells apart from the right ones.
 """
 
 import argparse

@@ -1,4 +1,5 @@
-"""Scripts picked by hand, for messages to super, removes, doesNotUnderstand:, classes that move, and the objects and actors that methods make.
+"""Scripts picked by hand, for messages to super, removes, doesNotUnderstand:, classes that move, the objects and actors that methods make,
+and looks at the classes.
 
 Each is a text: a command a line, and behind a `>` the reply to the last command, where it is said. These replies come from the
 rules, and the second reader is held to them before it is compared with anything.
@@ -9,12 +10,13 @@ rules, and the second reader is held to them before it is compared with anything
     send 2 7 0 at:put: 1 2                the same post by client 2, with the number 7
     outcome 0 1           how turn 1 of actor 0 ended; without the 1, the last message that it got
     turn 0 at:put: 1 2    posts, runs all there is, and asks how that turn ended
+    look classes          look methods C          look senders at:put:    look source C at:put:
 """
 
 import json
 from dataclasses import dataclass
 
-from . import picked_actors, picked_lookup, picked_mailboxes, picked_moves, picked_objects
+from . import picked_actors, picked_looking, picked_lookup, picked_mailboxes, picked_moves, picked_objects
 from .language import LONGEST_WORD
 
 
@@ -37,6 +39,7 @@ def all_picked():
         picked_actors.POSTING,
         picked_mailboxes.CLOSING,
         picked_mailboxes.NUMBERS,
+        picked_looking.LOOKING,
     ):
         for says, text in texts.items():
             yield Picked(says, text)
@@ -86,6 +89,11 @@ class Taker:
     def take_move(self, rest):
         class_name, above = rest.split()
         self.script.add({"class": class_name, "cmd": "reparent", "super": above})
+
+    def take_look(self, rest):
+        kind, *words = rest.split()
+        keys = {"methods": ["class"], "implementors": ["selector"], "senders": ["selector"]}.get(kind, ["class", "selector"])
+        self.script.add({"cmd": kind, **dict(zip(keys, words))})
 
     def take_actor(self, rest):
         self.script.add({"class": rest, "cmd": "actor"})

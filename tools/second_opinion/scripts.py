@@ -5,6 +5,8 @@ import random
 
 from .image import Image, TooManySteps
 from .language import KERNEL_SELECTORS, arguments_of
+from .looks import Looks
+from .names import names_in
 from .picked import Taker, all_picked
 from .short import short_sources
 from .sources import Sources
@@ -46,17 +48,6 @@ OTHER_CLASSES = "Object Object SmallInteger SmallInteger True False Symbol Undef
 
 def compact(reply):
     return json.dumps(reply, separators=(",", ":"), sort_keys=True, ensure_ascii=False)
-
-
-def names_in(method):
-    """The selectors and symbols of a method: what it puts into the table of names."""
-    names = {method.selector}
-    for instruction in method.code:
-        if instruction.name in ("Send", "SuperSend"):
-            names.add(instruction.operand)
-        elif instruction.name == "PushLit" and instruction.operand.kind == "symbol":
-            names.add(instruction.operand.content)
-    return names
 
 
 class Script:
@@ -177,9 +168,18 @@ def random_arguments(rng, count):
     return [rng.choice(ARGUMENTS) for _ in range(count)]
 
 
+def drawn_apart(rng):
+    """What draws as another does from here on, and takes nothing from it."""
+    apart = random.Random()
+    apart.setstate(rng.getstate())
+    return apart
+
+
 def random_script(rng, sources, size):
-    """Random sources, each accepted one run at once."""
+    """Random sources, each accepted one run at once. Behind edits the classes are looked at."""
     script = Script(rng.choice([256, 256, 256, 256, 1, 2, 5, 16, 255, 1024]))
+    apart = drawn_apart(rng)
+    looks = Looks(apart, script)
     while script.sources < size and script.has_room():
         class_name = rng.choice(["A"] * 10 + ["B"] * 4 + ["C"] * 3 + [rng.choice(OTHER_CLASSES)] * 3)
         source = sources.next(class_name)
@@ -187,34 +187,38 @@ def random_script(rng, sources, size):
         if method is None:
             continue
         sources.keep(source)
+        if apart.random() < 0.2:
+            looks.ask(class_name, method.selector)
         if class_name in ("A", "B", "C", "Object") or rng.random() < 0.2:
             for _ in range(rng.choice([1, 1, 2])):
                 number = {"B": rng.choice([1, 2]), "C": 2}.get(class_name, rng.choice([0, 1, 2]))
                 script.run_turn(number, method.selector, random_arguments(rng, method.arguments))
         if rng.random() < 0.1:
             script.remove(rng, class_name)
+            looks.ask(class_name, script.commands[-1]["selector"])
         if rng.random() < 0.1:
             script.reparent(rng)
+            looks.ask(script.commands[-1]["class"])
     return script
 
 
 class CutTurns:
-    """A script in which turns of several actors are cut by quanta, with edits between them. What is drawn apart, further definitions and,
-    where they are asked for, questions for sends, changes nothing of the rest; `further` are the lines of this, and those of a run that is
-    asked for quantum by quantum."""
+    """A script in which turns of several actors are cut by quanta, with edits between them. What is drawn apart changes nothing of the
+    rest: it is what `aside` names, which may be further definitions, questions for sends and looks at the classes. `further` are the lines
+    of this, and those of a run that is asked for quantum by quantum."""
 
     SELECTORS = "foo bar m m1 who + = foo: class".split()
 
-    def __init__(self, rng, sources, asks_sends=False):
+    def __init__(self, rng, sources, aside=("define",)):
         self.rng = rng
         self.sources = sources
-        self.aside = [self.define, self.ask_sends] if asks_sends else [self.define]
+        self.aside = aside
         quantum = rng.choice([1, 2, 3, 5, 8, 16, 33, 256])
         self.script = Script(quantum, rng.choice([64, 64, 1, 2, 5]))
         self.runs = [1, 1, 2, 3, 5, 10, 30] if quantum < 100 else [1, 2, 5]
         self.selectors = list(self.SELECTORS)
-        self.apart = random.Random()
-        self.apart.setstate(rng.getstate())
+        self.apart = drawn_apart(rng)
+        self.looks = Looks(self.apart, self.script)
         self.defined = list("ABCDE") + ["Object"]
         self.further = 0
 
@@ -223,7 +227,7 @@ class CutTurns:
             self.command(self.rng.random())
             if self.apart.random() < 0.1:
                 self.further += 1
-                self.apart.choice(self.aside)()
+                getattr(self, self.apart.choice(self.aside))()
         return self.script
 
     def define(self):
@@ -231,6 +235,15 @@ class CutTurns:
         name = f"K{len(self.defined)}"
         self.script.add({"cmd": "define", "name": name, "slots": [], "super": self.apart.choice(self.defined)})
         self.defined.append(name)
+
+    def look(self):
+        self.looks.ask()
+
+    def look_behind(self, edit, selector=None):
+        """Often, where classes are looked at, a look at what was edited."""
+        if "look" in self.aside and self.apart.random() < 0.3:
+            self.further += 1
+            self.looks.ask(edit["class"], selector)
 
     def ask_sends(self):
         """Mostly of a method that is there."""
@@ -267,8 +280,10 @@ class CutTurns:
             self.install()
         elif kind < 0.35:
             self.script.remove(self.rng, self.rng.choice(CLASSES_TO_EDIT))
+            self.look_behind(self.script.commands[-1], self.script.commands[-1]["selector"])
         elif kind < 0.4:
             self.script.reparent(self.rng)
+            self.look_behind(self.script.commands[-1])
         elif kind < 0.6:
             self.post()
         elif kind < 0.8:
@@ -283,11 +298,12 @@ class CutTurns:
     def install(self):
         """Where sends are asked for, often before a method is replaced: its own are told no more then."""
         class_name = self.rng.choice(CLASSES_TO_EDIT)
-        if len(self.aside) > 1 and self.apart.random() < 0.4:
+        if "ask_sends" in self.aside and self.apart.random() < 0.4:
             self.further += self.sends_of(class_name)
         method = self.script.install(class_name, self.sources.next_to_run(class_name))
         if method:
             self.selectors.append(method.selector)
+            self.look_behind(self.script.commands[-1], method.selector)
 
     def post(self):
         """A few have an argument too many. Some clients reuse a number, or leave some out."""
@@ -310,7 +326,7 @@ class CutTurns:
 
 
 def cut_turns(rng, sources):
-    turns = CutTurns(rng, sources, asks_sends=True)
+    turns = CutTurns(rng, sources, aside=("define", "ask_sends", "look"))
     turns.grow(900)
     return turns.asked_in_the_end()
 

@@ -7,6 +7,7 @@ import sys
 import tempfile
 
 from .wrong_acting import WRONG_ACTING
+from .wrong_looking import WRONG_LOOKING
 from .wrong_mailboxes import WRONG_MAILBOXES
 from .wrong_reading import WRONG_READING
 from .wrong_running import WRONG_RUNNING
@@ -40,7 +41,7 @@ def trial(rule, program, room):
 
 def try_wrong_rules(program):
     """The status: 0 where each wrong rule is told apart."""
-    rules = WRONG_READING + WRONG_RUNNING + WRONG_ACTING + WRONG_MAILBOXES
+    rules = WRONG_READING + WRONG_RUNNING + WRONG_ACTING + WRONG_MAILBOXES + WRONG_LOOKING
     missed = 0
     with tempfile.TemporaryDirectory(prefix="second-opinion-") as room:
         for rule in rules:

@@ -1,69 +1,57 @@
-"""The commands that list what is known, and those on single methods."""
+"""The commands that list what the image has and what is known, and those on single methods."""
 
-import os
 import re
 
 from second_opinion.language import KERNEL_SELECTORS
 
-from . import image_file, learning
-from .known import near
+from . import looks, shown
 from .values import count, show, table
 from .wrong import Wrong
 
 
-# What is said below a list of a served image.
-OF_SESSION = "this is what this session typed{}; no command lists what others did"
-
-
-def tell_list(session, lines, none):
-    """Tells lines, or the sentence that there is none. Of a served image, others may have more of them."""
-    if not session.image.is_served:
-        session.tell(lines or [none])
-    else:
-        learned = "".join(f", and what {name} has" for name in session.known.learned)
-        session.tell([*lines, OF_SESSION.format(learned)] if lines else [f"in this session {none}"])
-
-
 def classes(session, rest):
-    lines = [known.written() for known in session.known.user_classes()]
-    tell_list(session, lines, "no class was defined yet; define one as in  Counter : Object | count |")
+    lines = [known.written() for known in looks.user_classes(session)]
+    session.tell(lines or ["no class was defined yet; define one as in  Counter : Object | count |"])
 
 
 def methods(session, rest):
-    known = session.known.classes
     if METHOD.fullmatch(rest):
-        session.tell(method(known, *method_of(session, rest)))
+        session.tell(shown.method(session, *method_of(session, rest)))
         return
-    if rest and rest not in known and session.image.is_served:
-        raise Wrong(f"no method of {rest} was written in this session, and no command lists what others did{near(rest, known)}")
-    if rest and rest not in known:
-        raise Wrong(f"no class is named {rest} here{near(rest, known)}; :classes lists them")
-    found = [known[rest]] if rest else known.values()
-    lines = [line for it in found for line in it.method_lines() if line.strip()]
-    tell_list(session, lines, "no method was written yet" + (f" in {rest}" if rest else ""))
+    names = [rest] if rest else [it["name"] for it in looks.classes(session)]
+    lines = [line for name in names for source in looks.own_sources(session, name) for line in f"{name} >> {source}".split("\n")]
+    session.tell([line for line in lines if line.strip()] or ["no method was written yet" + (f" in {rest}" if rest else "")])
     if rest in KERNEL_SELECTORS:
         session.say(f"{rest} has of the kernel:  {' '.join(KERNEL_SELECTORS[rest])}")
 
 
-def learn(session, rest):
-    if not session.image.is_served:
-        raise Wrong("this workspace knows its image, which is its own; :methods lists what is in it")
+def versions(session, rest):
+    name, selector = method_of(session, rest)
+    found = looks.versions(session, name, selector)
+    for it in found:
+        text = "removed" if "removed" in it else f"{name} >> {it['source']}"
+        session.tell(f"version {it['version']}: {text}".split("\n"))
+    if not found:
+        session.say(f"no method {selector} was written in {name}; :implementors {selector}  lists the classes that have one")
+
+
+def implementors(session, rest):
+    selector = selector_of(rest)
+    names = looks.implementors(session, selector)
+    session.tell([f"{name} >> {selector}" for name in names] or [f"no class has a method {selector}"])
+
+
+def senders(session, rest):
+    selector = selector_of(rest)
+    found = looks.senders(session, selector)
+    session.tell([f"{it['class']} >> {it['selector']}" for it in found] or [f"no method sends {selector}"])
+
+
+def selector_of(rest):
+    """The selector that is written after a command, as a symbol or without its sign."""
     if not rest:
-        raise Wrong("write the name of the server's image file after it, as in  :learn shop.image")
-    image = image_file.read(os.path.expanduser(rest))
-    if not image:
-        raise Wrong(f"{rest} is not there; a server writes its image's file when it ends")
-    learning.add(image, session.known)
-    session.known.learned.append(rest)
-    session.say(f"{rest}: {learning.contents(image)}, as they were saved last")
-
-
-def method(known, class_name, selector):
-    """The lines of one method."""
-    source = known[class_name].methods.get(selector) if class_name in known else None
-    if not source:
-        raise Wrong(f"no method {selector} of {class_name} is known here; :methods lists those that are")
-    return f"{class_name} >> {source}".split("\n")
+        raise Wrong("write the name of a message after it, as in  bump  or  at:put:")
+    return rest.removeprefix("#")
 
 
 def remove(session, rest):

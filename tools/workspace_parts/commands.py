@@ -43,7 +43,7 @@ def why(session, rest):
     if rest:
         explain(session, rest)
     elif session.why:
-        session.tell(session.why)
+        session.tell(session.why())
     else:
         raise Wrong("nothing was refused yet, and no turn ended with a fault")
 
@@ -89,10 +89,12 @@ COMMANDS = {
         Described(":remove Counter bump", "removes a method", browsing.remove),
         Described(":classes", "lists the classes that were defined", browsing.classes),
         Described(":methods Counter", "lists the methods of a class; alone, all methods; as  :methods Counter bump  one", browsing.methods),
+        Described(":versions Counter bump", "lists what was installed and removed for a method of a class", browsing.versions),
+        Described(":implementors bump", "lists the classes that have a method of their own", browsing.implementors),
+        Described(":senders bump", "lists the methods that send a message", browsing.senders),
         Described(":actors", "lists the actors that were seen", browsing.actors),
         Described(":names", "lists what was named", browsing.names),
         Described(":stats Counter bump", "shows how the caches answered the sends of a method", browsing.stats),
-        Described(":learn FILE", "is for a served image", browsing.learn),
         Described(":expect 5", "is refused where the messages before have another answer, so that a file can check", running.expect),
         Described(":load FILE", "does what a file has: definitions, messages, comments", files.load),
         Described(":save FILE", "writes the image to a file now; alone, to that of --image", saving.save),

@@ -4,8 +4,6 @@ were given."""
 import difflib
 from dataclasses import dataclass, field
 
-from second_opinion.language import KERNEL_SELECTORS
-
 KERNEL = ("Object", "SmallInteger", "True", "False", "UndefinedObject", "Symbol", "ActorRef", "Class")
 
 
@@ -36,17 +34,23 @@ class KnownActor:
 
 
 class Known:
-    """`learned` are the image files that were read to know more of a served image."""
-
     def __init__(self):
         self.classes = {name: KnownClass(name, "Object", []) for name in KERNEL}
         self.classes["Object"].parent = None
         self.actors = {}
         self.names = {}
-        self.learned = []
 
     def define(self, name, parent, slots):
         self.classes[name] = KnownClass(name, parent, slots)
+
+    def note_classes(self, rows):
+        """Takes note of the classes that the image tells of, in their order. What is known besides stays: a server may have begun a new
+        image."""
+        old, self.classes = self.classes, {}
+        for row in rows:
+            methods = old[row["name"]].methods if row["name"] in old else {}
+            self.classes[row["name"]] = KnownClass(row["name"], row["super"], row["slots"], methods)
+        self.classes.update((name, it) for name, it in old.items() if name not in self.classes)
 
     def move(self, name, parent):
         self.classes[name].parent = parent
@@ -81,11 +85,6 @@ class Known:
         """The selectors of the methods of a class and those above it; of all classes if it is not known."""
         classes = list(self.chain(name)) or list(self.classes.values())
         return sorted({selector for known in classes for selector in known.methods})
-
-    def understood(self, name):
-        """The messages that an actor of a class understands, as far as that is known, but for doesNotUnderstand:."""
-        own = {selector for known in self.chain(name) for selector in known.methods}
-        return [it for it in (*sorted(own), *KERNEL_SELECTORS["Object"]) if it != "doesNotUnderstand:"]
 
     def actor(self, number):
         return self.actors.setdefault(number, KnownActor())

@@ -25,19 +25,6 @@ def learn_classes(classes, known):
             known.install(name, selector, method.source)
 
 
-def add(image, known):
-    """Takes note of what an image file has of a served image; what was typed since stays."""
-    for name, it in image.classes.all.items():
-        old = known.classes.get(name)
-        if not it.is_kernel and not (old and old.parent):
-            known.define(name, it.parent.name, it.own_slots)
-            known.classes[name].methods.update(old.methods if old else {})
-        for selector, method in it.methods.items():
-            known.classes[name].methods.setdefault(selector, method.source)
-    for number, actor in enumerate(image.actors):
-        known.actor(number).class_name = actor["class"]
-
-
 def turns_of(number, actor, sender, classes):
     """The turns of an actor whose ends are to be told, with the selectors of their messages: the one that goes on, whose number is
     0, and those of the messages that the sender has posted and that are pending, which are numbered from 1."""

@@ -85,7 +85,8 @@ def expect(session, rest):
         return
     session.is_as_expected = False
     wrong = f"{rest} is expected, and the answer is {session.answer or 'none'}"
-    session.why = [wrong, *(session.why if (session.answer or "").startswith("fault ") else ())]
+    before = session.why if (session.answer or "").startswith("fault ") else list
+    session.why = lambda: [wrong, *before()]
     raise Wrong(wrong)
 
 

@@ -1,7 +1,7 @@
 """Typed statements are done here: names are looked up, and messages are sent one after the other."""
 
+from . import looks
 from .known import near
-from .shown import has_method
 from .statements import Actor, Literal, Name, Send
 from .values import show
 from .wrong import BrokenOff, Faulted, Stopped, Wrong
@@ -100,7 +100,7 @@ class Sending:
     def ask_for_class(self, name):
         """Refused if there is no such class: the program is asked for one that another session may have defined."""
         if name not in self.known.classes:
-            has_method(self.session, name, "class")
+            looks.methods(self.session, name)
 
     def send(self, receiver, selector, arguments, place):
         if isinstance(receiver, dict) and "class" in receiver:

@@ -1,8 +1,8 @@
 """What is said of a served image in place of what advice.py says of a script, and what `:help` says besides."""
 
 REFUSALS = {
-    "ClassExists": "there is a class {class} already, perhaps of another session, and its variables stay; :learn FILE tells what the "
-    "server's image file has of it; replace its methods, or take another name",
+    "ClassExists": "there is a class {class} already, perhaps of another session, and its variables stay; :classes tells which; "
+    "replace its methods, or take another name",
     "Full": "the mailbox of {actor} is full; send it again when the actor has come further",
     "HistoryFull": "the history of the server is full, often of the quanta of an endless turn, and nothing more is accepted; "
     ":checkpoint empties it",
@@ -36,11 +36,11 @@ IN_GENERAL = {
 HELP = """\
 This image is served to many, and the server's workers run the actors: a message that is typed waits until its turn has ended.
 :post does not wait; its turn is told of with a later answer, and :turn asks for it. Ctrl-C stops the waiting, and the turn goes on.
-A session can see what it typed itself (:classes, :methods, :names, :sources, Tab), and can ask the image how a turn of any actor
-ended (:turn 3 of actor 0), how many actors there are (:actors), and how often a method's sends were done (:stats Counter bump).
-:learn FILE takes note of what the server's image file has, for :classes, :methods and Tab.
-It cannot see who else is connected, what classes, methods and names others typed, which messages wait, or when a turn ends that it
-does not ask for. Edits of others take effect here at the next send, and are not told. c := actor 0 names any actor by its number.
+A session asks the image for its classes and methods, whoever wrote them (:classes, :methods, :versions, :senders, :implementors), how
+a turn of any actor ended (:turn 3 of actor 0), how many actors there are (:actors), and how often a method's sends were done (:stats).
+:names, :sources and Tab have what this session typed, and what it was told of classes and methods; :methods alone tells of all.
+It cannot see who else is connected, what others named, which messages wait, or when a turn ends that it does not ask for. Edits of
+others take effect here at the next send, and are not told. c := actor 0 names any actor by its number.
 Where the connection breaks, the next entry at a terminal connects again, asks for the last message of this sender that the image
 has, and goes on behind it. The server saves its image when tools/stop ends it, if it was started with --image FILE.
 """.splitlines()
@@ -48,7 +48,7 @@ has, and goes on behind it. The server saves its image when tools/stop ends it, 
 # Commands that one might look for, and why they are not there.
 NOT_THERE = {
     "who": "no command tells who else is connected; :help lists what a session can see and what not",
-    "browse": "no command lists what others typed; :methods lists what this session did",
+    "browse": "there is no browser; :classes and :methods list what is there, and :senders and :implementors find methods",
 }
 
 FOR_SCRIPT = "is for a script; here the server's workers run the actors"
@@ -58,13 +58,10 @@ COMMANDS = {
     "checkpoint": "empties the history of the server; turns are numbered anew for everybody",
     "step": FOR_SCRIPT,
     "run": FOR_SCRIPT,
-    "classes": "lists the classes that this session defined",
-    "methods": "lists the methods of a class that this session wrote; alone, all of them; as  :methods Counter bump  one",
     "actors": "lists the actors that this session saw, and tells how many there are",
     "names": "lists what this session named",
-    "learn": "takes note of the classes and methods of the server's image file, as they were saved last",
     "save": "is for a script; here the server saves its image at its end",
-    "sources": "writes the classes and methods of this session to a file, for :load",
+    "sources": "writes the classes and methods that this session knows to a file, for :load",
     "restart": "is for a script; here the image is the server's",
     "quit": "ends the workspace; the image goes on",
 }

@@ -1,6 +1,6 @@
 """A session: each entry is done, and what it gives is said."""
 
-from . import advice, commands, fault_places, shown
+from . import advice, commands, fault_places, looks, shown
 from .entries import Command, Definition, Method, form
 from .known import Known
 from .learning import learn
@@ -18,9 +18,10 @@ OFFER = "a tenth of the history is left;  :checkpoint  empties it, and all goes 
 
 
 class Session:
-    """`say` takes each line that is told. `loading` are the files that are being loaded, `why` is what `:why` says, and `told`
-    is where in the log the last entry begins. `answer` is what the last entry showed, or the fault that ended it, if it sent messages;
-    `faulted` is the file in which that fault came, until `:expect` has looked at it, and `is_as_expected` is what `:expect` found so far."""
+    """`say` takes each line that is told. `loading` are the files that are being loaded, `why` gives what `:why` says, if there is
+    anything, and `told` is where in the log the last entry begins. `answer` is what the last entry showed, or the fault that ended it, if
+    it sent messages; `faulted` is the file in which that fault came, until `:expect` has looked at it, and `is_as_expected` is what
+    `:expect` found so far."""
 
     command_names = tuple(commands.COMMANDS)
 
@@ -37,7 +38,7 @@ class Session:
         self.log = Log(self.image.connect(self))
         self.told = 0
         self.is_offered = False
-        self.why = []
+        self.why = None
         self.learn({})
 
     def learn(self, names):
@@ -154,7 +155,12 @@ class Session:
         try:
             version = self.turns.ask(command)["version"]
         except Refused as refused:
-            if not self.loading or refused.reply["error"] != "ClassExists":
+            if refused.reply["error"] != "ClassExists":
+                raise
+            if not self.loading and self.is_moved_of_others(found):
+                self.move(found)
+                return
+            if not self.loading:
                 raise
             if self.is_as_before(found):
                 return
@@ -170,6 +176,13 @@ class Session:
         """Whether a definition is that of a class which was defined before, but for the class above it."""
         old = self.known.classes.get(found.name)
         return old and old.parent and old.parent != found.parent and old.slots == found.slots
+
+    def is_moved_of_others(self, found):
+        """The same, where another session may have defined the class: the image is asked."""
+        if not self.image.is_served:
+            return False
+        looks.classes(self)
+        return self.is_moved(found)
 
     def move(self, found):
         command = {"cmd": "reparent", "class": found.name, "super": found.parent}
@@ -243,10 +256,10 @@ class Session:
             self.say(f"{turn} has ended, and its answer is no longer kept")
 
     def tell_fault(self, turn, fault):
-        places = fault_places.lines(turn, fault, self.known, self.turns, self.image.is_served)
-        self.why = [f"{fault}: {advice.explain(fault)}", *places]
+        self.why = lambda: [f"{fault}: {advice.explain(fault)}", *fault_places.lines(self, turn, fault)]
         self.say(f"fault {fault} in {turn}")
 
     def tell_refusal(self, refused):
-        self.why = refused_lines(refused.command, refused.reply, self.known, self.turns, self.image)
-        self.tell(self.why)
+        lines = refused_lines(refused.command, refused.reply, self.known, self.turns, self.image)
+        self.why = lambda: lines
+        self.tell(lines)

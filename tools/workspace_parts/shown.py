@@ -1,9 +1,8 @@
-"""What is said where a method's pattern alone is typed. That is a question: it writes nothing."""
+"""What is said where a method's pattern alone is typed. That is a question to the image: it writes nothing."""
 
-from second_opinion.language import KERNEL_SELECTORS
-
-from .known import KnownClass, near
-from .wrong import Refused, Wrong
+from . import looks
+from .known import near
+from .wrong import Wrong
 
 NO_BODY = "a method without a body is not written; one that does nothing is  {}  ^self"
 # What is said where more than the pattern was typed: elsewhere an empty line often stands behind a comment.
@@ -23,56 +22,37 @@ def shown(session, found, selector, head):
 
 
 def answer(session, name, selector, head):
-    holder, lines = method_of(session, name, selector)
-    typed = f"{name} >> {head}"
-    if holder is None:
-        return [f"no method {selector} of {name} is known{near(selector, session.known.selectors(name))}", NO_BODY.format(typed)]
-    if selector in KERNEL_SELECTORS.get(name, ()):
+    found, typed = looks.source(session, name, selector), f"{name} >> {head}"
+    if found is None:
+        return [missing(session, name, selector), NO_BODY.format(typed)]
+    lines = lines_of(found, selector)
+    if "kernel" in found and found["class"] == name:
         return lines
-    this = f"this method{of_session(session, holder, selector)}"
-    stays = f"{this} stays" if holder == name else f"{name} has {this} from {holder}"
-    return [*lines, f"{stays}; one that does nothing is written  {typed}  ^self"]
+    return [*lines, f"{stays(name, found['class'])}; one that does nothing is written  {typed}  ^self"]
 
 
-def of_session(session, holder, selector):
-    """In a served image another session may have replaced what this one knows."""
-    is_known = holder in session.known.classes and selector in session.known.classes[holder].methods
-    return ", as this session knows it," if session.image.is_served and is_known else ""
+def stays(name, holder):
+    return "this method stays" if holder == name else inherited(name, holder)
 
 
-def method_of(session, name, selector):
-    """The first class from this one on that has the method, and the lines that show it; None if no class is known to have it."""
-    for it in classes_from(session.known, name):
-        lines = own_method(session, it, selector)
-        if lines:
-            return it.name, lines
-    return None, []
+def inherited(name, holder):
+    return f"{name} has this method from {holder}"
 
 
-def classes_from(known, name):
-    """The classes from this one on that are known, and the next one, which another session has defined."""
-    found = list(known.chain(name))
-    above = found[-1].parent if found else name
-    return [*found, KnownClass(above, None, [])] if above else found
+def method(session, name, selector):
+    """The lines for what a message to an object of the class runs."""
+    found = looks.source(session, name, selector)
+    if found is None:
+        raise Wrong(missing(session, name, selector))
+    return lines_of(found, selector) + ([] if found["class"] == name else [inherited(name, found["class"])])
 
 
-def own_method(session, known, selector):
-    """The lines for the method that a class has of its own; none if it has none. In a served image others write and remove methods too."""
-    typed, source = f"{known.name} >> {selector}", known.methods.get(selector)
-    if selector in KERNEL_SELECTORS.get(known.name, ()):
-        return [f"{typed}  is a method of the kernel, which has no source"]
-    is_certain = known.name in session.known.classes and not session.image.is_served
-    if not (source if is_certain else has_method(session, known.name, selector)):
-        return []
-    return f"{known.name} >> {source}".split("\n") if source else [f"{typed}  was written in another session, and no command shows it"]
+def missing(session, name, selector):
+    return f"{name} has no method {selector}, and no class above it has one{near(selector, looks.understood(session, name))}"
 
 
-def has_method(session, name, selector):
-    """Whether a class has a method of its own, whoever wrote it. Refused if there is no such class."""
-    try:
-        session.turns.ask({"cmd": "stats", "class": name, "selector": selector})
-    except Refused as refused:
-        if refused.reply["error"] != "NoSuchMethod":
-            raise
-        return False
-    return True
+def lines_of(found, selector):
+    """The lines of a method as it is typed."""
+    if "kernel" in found:
+        return [f"{found['class']} >> {selector}  is a method of the kernel, which has no source"]
+    return f"{found['class']} >> {found['source']}".split("\n")

@@ -163,10 +163,12 @@ def words(known, before, text):
 
 
 def command_words(known, name, given, text):
-    if name in ("learn", "load", "save", "sources", "log"):
+    if name in ("load", "save", "sources", "log"):
         return files(text)
-    if name in ("methods", "stats", "remove"):
+    if name in ("methods", "stats", "remove", "versions"):
         return [*known.classes] if not given else own_selectors(known, given[0])
+    if name in ("implementors", "senders"):
+        return known.selectors(None)
     if name == "help":
         return [f":{it}" for it in COMMANDS]
     return message_words(known, " ".join(given)) if name == "post" and given else [*known.names]

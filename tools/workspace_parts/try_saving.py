@@ -12,7 +12,6 @@ from .try_served import typed as typed_to_server
 BUMPED = [*COUNTER, "c := Counter actor", "c start. c bump"]
 FULL = f"{NAME} could not be written, for the reason above"
 ONE = "1 class, 2 methods, 1 actor"
-NO_NAME = "write the name of the server's image file after it, as in  :learn shop.image"
 
 
 def saved(program):
@@ -143,14 +142,9 @@ def of_server(program):
         same(told[:3], ["actor 0", "turn 0 of actor 0 answers 2", "3"])
         same(told[-1], "the image has 1 actor, numbered from 0")
         new = "Counter >> bump  ^0"
-        asked = [":learn", ":learn c.st", ":learn two.image"]
-        told = served(program, folder, [new, f":learn {NAME}", ":classes", ":methods", ":sources c.st", *asked])
-        last = f"this is what this session typed, and what {NAME} has; no command lists what others did"
-        same(told[:3], [f"{NAME}: {ONE}, as they were saved last", "Counter : Object | count |", last])
-        same(told[3:6], [new, "Counter >> start  count := 0", last])
-        same(told[6:8], ["c.st: 1 class, 2 methods that this session knows", NO_NAME])
-        same(told[8].startswith("c.st is refused, and stays as it is; place json"), True)
-        same(told[9], "two.image is not there; a server writes its image's file when it ends")
+        told = served(program, folder, [new, ":classes", ":methods", ":sources c.st"])
+        same(told[:3], ["Counter : Object | count |", "Counter >> start  count := 0", new])
+        same(told[3:], ["c.st: 1 class, 2 methods that this session knows"])
 
 
 def endless_on_server(program):

@@ -14,6 +14,8 @@ SLICE = 64
 # whether it began a message.
 HISTORY = 1_000_000
 ITEMS_OF_QUANTUM = 2
+# The commands that are an item each.
+CALLS = ("define", "method", "remove", "reparent", "actor", "post", "close")
 GOES_ON = ":run or :step goes on where it was"
 ENDS_IT = (
     "an edit of a method that it sends ends it, and :close ends posts without end; a loop that sends nothing goes on until :restart; "
@@ -68,7 +70,7 @@ class Turns:
         reply = self.connection.ask(command)
         if "error" in reply:
             raise Refused(command, reply)
-        self.items += command["cmd"] not in ("run", "outcome", "stats", "checkpoint")
+        self.items += command["cmd"] in CALLS
         return reply["ok"]
 
     def post(self, actor, selector, arguments):

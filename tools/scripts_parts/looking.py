@@ -1,0 +1,66 @@
+"""What the commands that look answer where there is as much as there may be."""
+
+from .commands import define, method, remove, version
+from .limits import name
+from .running import run as run_script
+from .script import Script
+
+# The kernel's classes, and how many methods each has of its own.
+KERNEL = {"Object": 5, "SmallInteger": 9, "True": 2, "False": 2, "UndefinedObject": 0, "Symbol": 0, "ActorRef": 4, "Class": 2}
+SESSION_EDITS, ALL_CLASSES = 2048, 1024
+
+
+def row(name, methods=0, above="Object"):
+    return {"methods": methods, "name": name, "slots": [], "super": above}
+
+
+def all_classes_listed(program):
+    """1,024 classes, the kernel's 8 among them. The last of them have a method each, all for one selector."""
+    script = Script("all_classes_listed")
+    names = [name("C", number) for number in range(ALL_CLASSES - len(KERNEL))]
+    for number, it in enumerate(names, 1):
+        script.ask(define(it), version(number))
+    for number, it in enumerate(names[500:], len(names) + 1):
+        script.ask(method(it, "a ^self b"), version(number))
+    kernel = [row(it, methods, None if it == "Object" else "Object") for it, methods in KERNEL.items()]
+    script.ask({"cmd": "classes"}, {"ok": {"classes": kernel + [row(it, int(place >= 500)) for place, it in enumerate(names)]}})
+    script.ask({"cmd": "implementors", "selector": "a"}, {"ok": {"classes": names[500:]}})
+    script.ask({"cmd": "senders", "selector": "b"}, {"ok": {"methods": [{"class": it, "selector": "a"} for it in names[500:]]}})
+    run_script(program, script)
+
+
+def all_methods_listed(program):
+    """As many methods as a session may install behind a definition, in one class."""
+    script = Script("all_methods_listed")
+    script.ask(define("A"), version(1))
+    names = [name("m", number) for number in range(SESSION_EDITS - 1)]
+    for number, it in enumerate(names, 2):
+        script.ask(method("A", f"{it} ^self + 1"), version(number))
+    rows = [{"selector": it, "version": number} for number, it in enumerate(names, 2)]
+    script.ask({"class": "A", "cmd": "methods"}, {"ok": {"methods": rows}})
+    script.ask({"cmd": "senders", "selector": "+"}, {"ok": {"methods": [{"class": "A", "selector": it} for it in names]}})
+    run_script(program, script)
+
+
+def all_versions_listed(program):
+    """One method that is installed and removed in turn as often as a session may, with long sources."""
+    script = Script("all_versions_listed")
+    script.ask(define("A"), version(1))
+    rows = []
+    for number in range(2, SESSION_EDITS + 1):
+        if number % 3:
+            source = f'a "{number}\t{"x" * 3900}\n" ^{number}'
+            script.ask(method("A", source), version(number))
+            rows.append({"source": source, "version": number})
+        elif number % 6:
+            script.ask(remove("A", "a"), version(number))
+            rows.append({"removed": True, "version": number})
+        else:
+            script.ask(method("A", "a"), version(number))
+            rows.append({"source": "a", "version": number})
+    script.ask({"class": "A", "cmd": "versions", "selector": "a"}, {"ok": {"versions": rows}})
+    script.ask({"class": "A", "cmd": "source", "selector": "a"}, {"ok": {"class": "A", **rows[-1]}})
+    run_script(program, script)
+
+
+TRIALS = (all_classes_listed, all_methods_listed, all_versions_listed)

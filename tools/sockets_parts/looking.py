@@ -1,0 +1,79 @@
+"""Trials of looks at classes that other sessions edit meanwhile."""
+
+import threading
+
+EDITS = 400
+REMOVES = 7
+
+
+class Stage:
+    """A server with a class, of which two methods are edited. `done` has what each edit was and the version that it made, by selectors."""
+
+    def __init__(self, server):
+        self.server = server
+        self.done = {"a": [], "b": []}
+        self.errors = []
+        self.is_over = threading.Event()
+
+    def edits(self, client, selector):
+        """Installs the method again and again, and removes it now and then."""
+        for number in range(1, EDITS + 1):
+            if number % REMOVES:
+                source = f"{selector} ^{number}"
+                told = client.done(cmd="method", **{"class": "A"}, source=source)
+                self.done[selector].append({"source": source, "version": told["version"]})
+            else:
+                told = client.done(cmd="remove", **{"class": "A"}, selector=selector)
+                self.done[selector].append({"removed": True, "version": told["version"]})
+
+    def looks(self, client, selector):
+        """Versions are those of before with more behind them, and what runs is the last of them or a later one."""
+        before = []
+        while not self.is_over.is_set():
+            rows = client.done(cmd="versions", **{"class": "A"}, selector=selector)["versions"]
+            assert rows[: len(before)] == before, (before, rows)
+            last = rows[-1]["version"] if rows else 0
+            reply = client.ask(cmd="source", **{"class": "B"}, selector=selector)
+            if "ok" in reply:
+                assert reply["ok"]["version"] > last or reply["ok"] == {"class": "A", **rows[-1]}, (reply, rows)
+            else:
+                assert reply == {"error": "NoSuchMethod"}, reply
+            before = rows
+
+    def threads(self, part):
+        """Sessions that do a part, one for each method."""
+        return [threading.Thread(target=self.run, args=(part, selector)) for selector in self.done]
+
+    def run(self, part, selector):
+        try:
+            with self.server.client() as client:
+                part(client, selector)
+        except BaseException as error:
+            self.errors.append(f"{part.__name__} {selector}: {error!r}")
+            raise
+
+
+def looks_while_others_edit(program, Server, _post):
+    """Two sessions edit, and two look. In the end all edits are told, each as its own session made it."""
+    with Server(program, 5, 2) as server:
+        stage = Stage(server)
+        with server.client() as first:
+            first.make("A", [])
+            first.done(cmd="define", name="B", super="A", slots=[])
+            looking, editing = stage.threads(stage.looks), stage.threads(stage.edits)
+            for thread in looking + editing:
+                thread.start()
+            for thread in editing:
+                thread.join()
+            stage.is_over.set()
+            for thread in looking:
+                thread.join()
+            assert not stage.errors, stage.errors
+            for selector, rows in stage.done.items():
+                assert first.done(cmd="versions", **{"class": "A"}, selector=selector)["versions"] == rows, selector
+            versions = sorted(row["version"] for rows in stage.done.values() for row in rows)
+            assert versions == list(range(3, 3 + 2 * EDITS)), versions
+        assert server.ended() == ({"posts": 0, "steps": 0}, [])
+
+
+TRIALS = (looks_while_others_edit,)

@@ -5,3 +5,4 @@ pub mod Counting
 pub mod Kernels
 pub mod SlotTexts
 pub mod Found
+pub mod InstalledTexts

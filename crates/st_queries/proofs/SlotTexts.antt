@@ -1,7 +1,7 @@
 -- The names of instance variables are UTF-8.
-use Rattle.std.proofs.Common.{◌≡◌, ℕ, zero, suc, List, [], ◌∷◌, ◌++◌, drop, length, reverse, Option, Some, None, slice_get, All, refl}
+use Rattle.std.proofs.Common.{◌≡◌, ℕ, zero, suc, List, [], ◌∷◌, reverse, Option, Some, None, slice_get, All, refl}
 use Rattle.std.specs.List.{flat_map}
-use Rattle.std.proofs.lemmas.List.Elements.{All-append, All-cons, All-drop, All-head, All-nil, All-push, All-tail}
+use Rattle.std.proofs.lemmas.List.Elements.{All-append, All-cons, All-from_recursion, All-head, All-nil, All-push, All-tail}
 use Rattle.st_classes.specs.declared.values.ClassId.{ClassId}
 use Rattle.st_classes.specs.declared.edits.Edit.{Edit}
 use Rattle.st_classes.specs.declared.edits.Edit.TheVariants.{Define, Install, Remove, Reparent}
@@ -41,11 +41,10 @@ from : (cs : List ClassDef) (es : List Edit) → All HasTexts cs → All AddsTex
 from cs [] h a = h
 from cs (e ∷ es) h a = from (classes_after cs e) es (after cs e h (All-head AddsTexts e es a)) (All-tail AddsTexts e es a)
 
-bare : (d : ClassDef) (cs : List ClassDef) → d.slots ≡ [] → All HasTexts cs → All HasTexts (d ∷ cs)
-bare d cs e h = All-cons HasTexts d cs (rw e (All-nil IsText)) h
-
 of_kernel : All HasTexts kernel_classes
-of_kernel = bare _ _ refl (bare _ _ refl (bare _ _ refl (bare _ _ refl (bare _ _ refl (bare _ _ refl (bare _ _ refl (bare _ _ refl (All-nil HasTexts))))))))
+of_kernel =
+    let none = All-nil IsText in
+    All-from_recursion HasTexts kernel_classes (none, (none, (none, (none, (none, (none, (none, (none, tt))))))))
 
 there : (cs : List ClassDef) (n : ℕ) (d : ClassDef) → slice_get cs n ≡ Some d → All HasTexts cs → HasTexts d
 there [] n d e h = cc

@@ -1,5 +1,5 @@
 -- What is told of actors.
-use Rattle.std.specs.Prelude.{ℕ, ◌+◌, ◌-◌, List, length, Option, Some, None, codes, min, option_map, slice_get}
+use Rattle.std.specs.Prelude.{ℕ, ◌-◌, List, length, Option, Some, None, codes, min, option_map, slice_get}
 use Rattle.serde_json.specs.Data.{Data, null, boolean, string, object, member, no_members}
 use Rattle.st_classes.specs.declared.edits.Edit.{Edit}
 use Rattle.st_classes.specs.declared.methods.MethodParts.{MethodParts}

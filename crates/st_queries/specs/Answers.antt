@@ -1,5 +1,5 @@
 -- What a query answers: a plain function of the image.
-use Rattle.std.specs.Prelude.{◌≡◌, ◌⊎◌, ℕ, ◌+◌, ◌==◌, List, [], ◌∷◌, length, drop, Bool, true, false, Option, Some, None, option_map, is_some, codes, slice_get, ok_or, unwrap_or, if◌then◌else◌, Result, Ok, Err}
+use Rattle.std.specs.Prelude.{◌≡◌, ◌⊎◌, ℕ, ◌+◌, ◌==◌, List, [], ◌∷◌, length, drop, Bool, true, false, Option, Some, None, option_map, codes, slice_get, ok_or, unwrap_or, if◌then◌else◌, Result, Ok, Err}
 use Rattle.std.specs.List.{list_any}
 use Rattle.serde_json.specs.Data.{Data, null, boolean, string, object, member, no_members}
 use Rattle.serde_json.specs.View.{view}
@@ -7,7 +7,7 @@ use Rattle.serde_json.specs.declared.value.Value.{Value}
 use Rattle.st_classes.specs.declared.values.ClassId.{ClassId}
 use Rattle.st_classes.specs.declared.values.Selector.{Selector}
 use Rattle.st_classes.specs.declared.edits.Edit.{Edit}
-use Rattle.st_classes.specs.declared.edits.Edit.TheVariants.{Define, Install, Remove, Reparent}
+use Rattle.st_classes.specs.declared.edits.Edit.TheVariants.{Install, Remove}
 use Rattle.st_classes.specs.declared.instructions.Instruction.{Instruction}
 use Rattle.st_classes.specs.declared.instructions.Instruction.TheVariants.{Send, SuperSend}
 use Rattle.st_classes.specs.declared.methods.MethodParts.{MethodParts}
@@ -16,7 +16,7 @@ use Rattle.st_classes.specs.declared.kernel.Found.TheVariants.{User, Kernel as F
 use Rattle.st_classes.specs.declared.refusals.Refusal.{Refusal}
 use Rattle.st_classes.specs.declared.refusals.Refusal.TheVariants.{NoMemory, NoSuchMethod}
 use Rattle.st_classes.specs.Classes.{chain, class_count, inherited, parent, slots}
-use Rattle.st_classes.specs.EditLists.{installed_method, method_at}
+use Rattle.st_classes.specs.EditLists.{method_at}
 use Rattle.st_classes.specs.Kernel.{class, selector}
 use Rattle.st_classes.specs.Walks.{is_at, own}
 use Rattle.st_image.specs.Images.{ImageView, world}
@@ -25,7 +25,6 @@ use Rattle.st_wire.specs.Replies.{only, whole}
 use Rattle.st_wire.specs.declared.queries.Query.{Query}
 use Rattle.st_wire.specs.declared.queries.Query.TheVariants as query
 use Rattle.st_queries.specs.Actors.{actors_told}
-use Rattle.st_queries.specs.Edits.{edits_asked}
 use Rattle.st_queries.specs.Listing.{listed, texts}
 use Rattle.st_queries.specs.OwnMethods.{method_count, standing}
 use Rattle.st_queries.specs.Resolving.{and_then, class_in, selector_in}
@@ -175,7 +174,6 @@ told i (query.Versions class text) =
     and_then (λ c. and_then (λ s. Ok (versions_told (world i).edits c s)) (selector_in i.names text)) (class_in (world i).edits class)
 told i (query.Implementors text) = and_then (λ s. Ok (implementors_told (world i).edits s)) (selector_in i.names text)
 told i (query.Senders text) = and_then (λ s. Ok (senders_told i.names (world i).edits s)) (selector_in i.names text)
-told i (query.Edits from) = edits_asked i.names (world i).edits from
 told i (query.Actors from most) = Ok (actors_told i from most)
 
 -- the answer is that; or memory ran out

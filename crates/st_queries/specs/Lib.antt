@@ -3,6 +3,4 @@ pub mod Listing
 pub mod OwnMethods
 pub mod Values
 pub mod Actors
-pub mod EditTexts
-pub mod Edits
 pub mod Answers

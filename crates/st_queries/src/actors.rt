@@ -19,12 +19,7 @@ use st_wire::told::{Members, Told};
 use std::alloc::{AllocError, Global};
 
 /// The phase of a turn.
-fn phase(
-    alloc: Global,
-    names: &Names,
-    version: &Version,
-    phase: &Phase,
-) -> Result<Told, AllocError>
+fn phase(alloc: Global, names: &Names, version: &Version, phase: &Phase) -> Result<Told, AllocError>
     ensures { IfOk result (λ told. view told ≡ phase_told names.now version.now phase.now) }
 {
     match phase {
@@ -54,7 +49,11 @@ fn method(
     };
     let mut members = Members::new(alloc);
     members.put(alloc, "class", class_text(alloc, version, method.holder())?)?;
-    members.put(alloc, "selector", selector_text(alloc, names, method.selector())?)?;
+    members.put(
+        alloc,
+        "selector",
+        selector_text(alloc, names, method.selector())?,
+    )?;
     Ok(members.told())
 }
 
@@ -74,11 +73,12 @@ fn running(
 }
 
 /// The rows of the actors.
-struct Actors<'a, M: Mailbox> {
+#[derive(Drop)]
+struct ActorRows<'a, M: Mailbox> {
     image: &'a Image<M>,
 }
 
-impl<'a, M: Mailbox> Rows for Actors<'a, M> {
+impl<'a, M: Mailbox> Rows for ActorRows<'a, M> {
     ghost is_row = { λ a n. n < length (world a.image.now).actors };
 
     ghost row_of = { λ a n. option_map (actor_told a.image.now.names (world a.image.now).edits n) (slice_get (world a.image.now).actors n) };
@@ -91,9 +91,10 @@ impl<'a, M: Mailbox> Rows for Actors<'a, M> {
         let (Some(class), Some(body)) = (self.image.class(actor), self.image.body(actor)) else {
             return Ok(None);
         };
-        let (Some(accepted), Some(mailbox)) =
-            (self.image.accepted(actor), self.image.mailbox(actor))
-        else {
+        let (Some(accepted), Some(mailbox)) = (
+            self.image.accepted(actor),
+            self.image.mailbox(actor),
+        ) else {
             return Ok(None);
         };
         let begun = accepted - u64::from(mailbox.len());
@@ -104,7 +105,11 @@ impl<'a, M: Mailbox> Rows for Actors<'a, M> {
         members.put(alloc, "class", class_text(alloc, version, class)?)?;
         members.put(alloc, "open", Told::truth(mailbox.is_open()))?;
         members.put(alloc, "phase", phase(alloc, names, version, &body.phase)?)?;
-        members.put(alloc, "running", running(alloc, names, version, &body.phase)?)?;
+        members.put(
+            alloc,
+            "running",
+            running(alloc, names, version, &body.phase)?,
+        )?;
         Ok(Some(members.told()))
     }
 }
@@ -119,7 +124,7 @@ pub(crate) fn actors<M: Mailbox>(
     ensures { IfOk result (λ told. view told ≡ actors_told image.now from most) }
 {
     let count = image.actors();
-    let rows = Actors { image };
+    let rows = ActorRows { image };
     let until = from.saturating_add(most.min(count.saturating_sub(from)));
     let mut members = Members::new(alloc);
     members.put(alloc, "actors", list(alloc, &rows, from, until)?)?;

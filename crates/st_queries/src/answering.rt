@@ -3,7 +3,6 @@ ghost use Rattle.st_queries.specs.Answers.{IsAnswer, told};
 
 use crate::actors::actors;
 use crate::classes::classes;
-use crate::edits::edits;
 use crate::implementors::implementors;
 use crate::methods::methods;
 use crate::resolving::{class_of, selector_of};
@@ -21,12 +20,8 @@ use std::alloc::Global;
 ///
 /// `UnknownClass` says that no class has a name, and `BadName` that a text is no selector; a class is looked up before a selector.
 /// `NoSuchMethod` says that an instance of the class does not understand the selector. A selector that was never interned is one that
-/// no class has. `BadArguments` says that there are fewer edits than were to be left out.
-pub fn answer<M: Mailbox>(
-    alloc: Global,
-    image: &Image<M>,
-    query: &Query,
-) -> Result<Told, Refusal>
+/// no class has.
+pub fn answer<M: Mailbox>(alloc: Global, image: &Image<M>, query: &Query) -> Result<Told, Refusal>
     ensures { IsAnswer (told image.now query.now) result }
 {
     image.known();
@@ -57,7 +52,6 @@ pub fn answer<M: Mailbox>(
             let selector = selector_of(names, selector.as_slice())?;
             Ok(senders(alloc, names, version, selector)?)
         }
-        Query::Edits { from } => edits(alloc, names, version, *from),
         Query::Actors { from, most } => Ok(actors(alloc, image, *from, *most)?),
     }
 }

@@ -1,10 +1,10 @@
 //! All classes of an image.
-ghost use Rattle.std.specs.Prelude.{◌≡◌, ℕ, Some, IfOk, map, length};
+ghost use Rattle.std.specs.Prelude.{◌≡◌, ℕ, true, Some, IfOk, map, length};
 ghost use Rattle.std.specs.List.{range_with_len};
 ghost use Rattle.serde_json.specs.View.{view};
-ghost use Rattle.st_classes.specs.Classes.{class_count, is_class, parent as parent_of};
+ghost use Rattle.st_classes.specs.Classes.{class_count, inherited as inherited_by, is_class, parent as parent_of};
 ghost use Rattle.st_classes.specs.Kernel.{class as class_at};
-ghost use Rattle.st_queries.specs.OwnMethods.{installs_in};
+ghost use Rattle.st_queries.specs.OwnMethods.{installs_in, method_count as count_of};
 ghost use Rattle.st_queries.specs.Answers.{added_slots as added_of, class_told, classes_told, parent_told};
 ghost use Rattle.st_queries.specs.Listing as listing;
 
@@ -26,31 +26,46 @@ fn parent(alloc: Global, version: &Version, class: ClassId) -> Result<Told, Allo
     }
 }
 
+/// How many instance variables a class inherits.
+fn inherited(version: &Version, class: ClassId) -> usize
+    requires { is_class version.now class ≡ true }
+    ensures { result ≡ length (inherited_by version.now class) }
+{
+    version.known();
+    match version.parent(class) {
+        Some(parent) => version.slots(parent).len(),
+        None => 0,
+    }
+}
+
 /// The instance variables that a class adds to the inherited ones.
 fn added_slots(alloc: Global, version: &Version, class: ClassId) -> Result<Told, AllocError>
     requires { is_class version.now class ≡ true }
     ensures { IfOk result (λ told. view told ≡ listing.texts (added_of version.now class)) }
 {
     version.known();
-    let inherited = match version.parent(class) {
-        Some(parent) => version.slots(parent).len(),
-        None => 0,
-    };
-    let slots = version.slots(class);
-    match slots.get(inherited..) {
-        Some(added) => texts(alloc, added),
-        None => texts(alloc, &[]),
-    }
+    texts(alloc, version.slots(class), inherited(version, class))
+}
+
+/// How many methods a class has of its own, by how many installs stand in each class.
+fn method_count(version: &Version, installs: &[u16], class: ClassId) -> u64
+    requires class { is_class version.now class ≡ true }
+    requires installs { installs.now ≡ map (λ m. installs_in version.now (class_at m) (length version.now)) (range_with_len 0 (class_count version.now)) }
+    ensures { result ≡ count_of version.now class }
+{
+    version.known();
+    u64::from(installs[usize::from(class.0)]) + u64::from(kernel_methods(class))
 }
 
 /// The rows of the classes.
-struct Classes<'a> {
+#[derive(Drop)]
+struct ClassRows<'a> {
     version: &'a Version,
     /// How many installs stand in each class.
     installs: &'a [u16],
 }
 
-impl<'a> Rows for Classes<'a> {
+impl<'a> Rows for ClassRows<'a> {
     ghost is_row = { λ c n. (is_class c.version.now (class_at n) ≡ true)
         × (c.installs.now ≡ map (λ m. installs_in c.version.now (class_at m) (length c.version.now)) (range_with_len 0 (class_count c.version.now))) };
 
@@ -59,9 +74,9 @@ impl<'a> Rows for Classes<'a> {
     fn row(&self, alloc: Global, number: u32) -> Result<Option<Told>, AllocError> {
         self.version.known();
         let class = ClassId(number as u16);
-        let methods = self.installs[number as usize] + kernel_methods(class);
+        let methods = method_count(self.version, self.installs, class);
         let mut members = Members::new(alloc);
-        members.put(alloc, "methods", Told::whole(methods.into()))?;
+        members.put(alloc, "methods", Told::whole(methods))?;
         members.put(alloc, "name", class_text(alloc, self.version, class)?)?;
         members.put(alloc, "slots", added_slots(alloc, self.version, class)?)?;
         members.put(alloc, "super", parent(alloc, self.version, class)?)?;
@@ -74,7 +89,7 @@ pub(crate) fn classes(alloc: Global, version: &Version) -> Result<Told, AllocErr
     ensures { IfOk result (λ told. view told ≡ classes_told version.now) }
 {
     let installs = installs(alloc, version)?;
-    let rows = Classes {
+    let rows = ClassRows {
         version,
         installs: installs.as_slice(),
     };

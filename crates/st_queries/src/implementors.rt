@@ -17,12 +17,13 @@ use st_wire::told::Told;
 use std::alloc::{AllocError, Global};
 
 /// The rows of the classes that have one.
-struct Implementors<'a> {
+#[derive(Drop)]
+struct ImplementorRows<'a> {
     version: &'a Version,
     selector: Selector,
 }
 
-impl<'a> Rows for Implementors<'a> {
+impl<'a> Rows for ImplementorRows<'a> {
     ghost is_row = { λ i n. is_class i.version.now (class_at n) ≡ true };
 
     ghost row_of = { λ i n. option_map (λ found. string (spec.class_text i.version.now (class_at n))) (own_in i.version.now (class_at n) i.selector) };
@@ -46,7 +47,7 @@ pub(crate) fn implementors(
     ensures { IfOk result (λ told. view told ≡ implementors_told version.now selector) }
 {
     version.known();
-    let rows = Implementors { version, selector };
+    let rows = ImplementorRows { version, selector };
     let told = list(alloc, &rows, 0, version.classes())?;
     only(alloc, "classes", told)
 }

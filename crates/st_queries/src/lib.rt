@@ -7,7 +7,6 @@
 mod actors;
 pub mod answering;
 mod classes;
-mod edits;
 mod implementors;
 mod listing;
 mod methods;

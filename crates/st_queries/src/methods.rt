@@ -47,13 +47,14 @@ fn method(
 }
 
 /// The rows of a class's methods, by the numbers of their selectors.
-struct Methods<'a> {
+#[derive(Drop)]
+struct MethodRows<'a> {
     names: &'a Names,
     version: &'a Version,
     class: ClassId,
 }
 
-impl<'a> Rows for Methods<'a> {
+impl<'a> Rows for MethodRows<'a> {
     ghost is_row = { λ m n. (is_class m.version.now m.class ≡ true) × (n < length m.names.now) };
 
     ghost row_of = { λ m n. option_map (method_told m.names.now (selector_at n)) (own_in m.version.now m.class (selector_at n)) };
@@ -78,7 +79,7 @@ pub(crate) fn methods(
     requires { is_class version.now class ≡ true }
     ensures { IfOk result (λ told. view told ≡ methods_told names.now version.now class) }
 {
-    let rows = Methods {
+    let rows = MethodRows {
         names,
         version,
         class,

@@ -21,8 +21,8 @@ fn is_send_of(selector: Selector, instruction: Instruction) -> bool
     ensures { result ≡ sends_it selector instruction }
 {
     match instruction {
-        Instruction::Send { selector: sent, .. } => sent == selector,
-        Instruction::SuperSend { selector: sent, .. } => sent == selector,
+        Instruction::Send(sent, _) => sent == selector,
+        Instruction::SuperSend(sent, _) => sent == selector,
         _ => false,
     }
 }
@@ -31,12 +31,8 @@ fn is_send_of(selector: Selector, instruction: Instruction) -> bool
 fn sends(selector: Selector, code: &[Instruction]) -> bool
     ensures { result ≡ list_any (sends_it selector) code.now }
 {
-    for instruction in code {
-        if is_send_of(selector, *instruction) {
-            return true;
-        }
-    }
-    false
+    code.iter()
+        .any(|instruction| is_send_of(selector, *instruction))
 }
 
 /// A method that sends it, by its class and its own selector.
@@ -56,13 +52,14 @@ fn sender(
 }
 
 /// The rows of the methods that send it, by the places of their installs.
-struct Senders<'a> {
+#[derive(Drop)]
+struct SenderRows<'a> {
     names: &'a Names,
     version: &'a Version,
     selector: Selector,
 }
 
-impl<'a> Rows for Senders<'a> {
+impl<'a> Rows for SenderRows<'a> {
     ghost is_row = { λ s n. Unit {0} };
 
     ghost row_of = { λ s n. sender_at s.names.now s.version.now s.selector (standing_in s.version.now n) (method_at s.version.now (record { 0 = n })) };
@@ -93,7 +90,7 @@ pub(crate) fn senders(
 ) -> Result<Told, AllocError>
     ensures { IfOk result (λ told. view told ≡ senders_told names.now version.now selector) }
 {
-    let rows = Senders {
+    let rows = SenderRows {
         names,
         version,
         selector,

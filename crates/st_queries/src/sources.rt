@@ -18,6 +18,7 @@ use st_wire::told::{Members, Told};
 use std::alloc::{AllocError, Global};
 
 /// The source of the method at a place. It is empty if nothing was installed there.
+#[tactic(auto, using(st_file::proofs::TableTexts::empty_is_text))]
 fn source_at(
     alloc: Global,
     names: &Names,

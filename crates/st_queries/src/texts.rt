@@ -16,6 +16,7 @@ use st_wire::told::{Items, Told};
 use std::alloc::{AllocError, Global};
 
 /// The name of a class. It is empty if no class has this number.
+#[tactic(auto, using(st_file::proofs::TableTexts::class_is_text, st_file::proofs::TableTexts::empty_is_text))]
 pub(crate) fn class_text(
     alloc: Global,
     version: &Version,
@@ -31,6 +32,7 @@ pub(crate) fn class_text(
 }
 
 /// The text of a selector. It is empty if no name has this number.
+#[tactic(auto, using(st_file::proofs::AsciiNames::selector_is_text, st_file::proofs::TableTexts::empty_is_text))]
 pub(crate) fn selector_text(
     alloc: Global,
     names: &Names,
@@ -45,14 +47,14 @@ pub(crate) fn selector_text(
     }
 }
 
-/// The list of these texts.
-pub(crate) fn texts(alloc: Global, list: &[Seq<u8>]) -> Result<Told, AllocError>
+/// The list of these texts, but for the first ones.
+pub(crate) fn texts(alloc: Global, list: &[Seq<u8>], first: usize) -> Result<Told, AllocError>
     requires { All IsText list.now }
-    ensures { IfOk result (λ told. view told ≡ listing.texts list.now) }
+    ensures { IfOk result (λ told. view told ≡ listing.texts (drop first list.now)) }
 {
     let mut items = Items::new(alloc);
-    for text in list {
-        items.push(Told::text(alloc, text.as_slice())?)?;
+    for place in first..list.len() {
+        items.push(Told::text(alloc, list[place].as_slice())?)?;
     }
     Ok(items.told())
 }

@@ -14,7 +14,8 @@ use st_wire::told::{Members, Told};
 use std::alloc::{AllocError, Global};
 
 /// The rows of the installs and removals of a class's own method for a selector, by their places.
-struct Versions<'a> {
+#[derive(Drop)]
+struct VersionRows<'a> {
     names: &'a Names,
     version: &'a Version,
     class: ClassId,
@@ -42,7 +43,7 @@ fn removal(alloc: Global, place: u32) -> Result<Told, AllocError>
     Ok(members.told())
 }
 
-impl<'a> Rows for Versions<'a> {
+impl<'a> Rows for VersionRows<'a> {
     ghost is_row = { λ v n. AllCompiled v.names.now v.version.now };
 
     ghost row_of = { λ v n. version_told v.class v.selector n (slice_get v.version.now n) };
@@ -50,13 +51,11 @@ impl<'a> Rows for Versions<'a> {
     fn row(&self, alloc: Global, number: u32) -> Result<Option<Told>, AllocError> {
         match self.version.edit(number) {
             Some(Edit::Install { class, method })
-                if *class == self.class && method.selector() == self.selector =>
-            {
+                if *class == self.class && method.selector() == self.selector => {
                 Ok(Some(install(alloc, method.source(), number)?))
             }
             Some(Edit::Remove { class, selector })
-                if *class == self.class && *selector == self.selector =>
-            {
+                if *class == self.class && *selector == self.selector => {
                 Ok(Some(removal(alloc, number)?))
             }
             _ => Ok(None),
@@ -75,7 +74,7 @@ pub(crate) fn versions(
     requires { AllCompiled names.now version.now }
     ensures { IfOk result (λ told. view told ≡ versions_told version.now class selector) }
 {
-    let rows = Versions {
+    let rows = VersionRows {
         names,
         version,
         class,

@@ -1,4 +1,4 @@
-use Rattle.std.proofs.Common.{◌≡◌, ◌+◌, ◌-◌, ◌≤◌, ◌∙◌, sym, ap, subst, arith, refl, map, Some, None, option_map}
+use Rattle.std.proofs.Common.{◌≡◌, ◌+◌, ◌-◌, ◌∙◌, sym, ap, arith, refl, map, option_map}
 use Rattle.std.specs.List.{filter_map, range_with_len}
 use Rattle.serde_json.specs.Data.{array}
 use Rattle.serde_json.specs.View.{items_of, view}
@@ -19,11 +19,13 @@ loop-number-preserved g c =
     let so_far = c.loop-number.invariant in
     let place : first + (n - first) ≡ n = omega (arith, so_far.0) in
     let more : n + 1 - first ≡ n - first + 1 = omega (arith, so_far.0) in
-    let items = c.loop-number.items in
-    (omega (arith, so_far.0), rw more (elim c.match-branch-2.branch [
-      | in-Some+in_ok-push w ↦ ap (map view) (w.items-is ∙ w.in_ok-push.ensures) ∙ one_row row first (n - first) n items w.in-Some.told place (sym c.in_ok-told.ensures ∙ ap (option_map view) w.in-Some.is) so_far.1
-      | in_default w ↦ ap (map view) w.items-is ∙ no_row row first (n - first) n items place (sym c.in_ok-told.ensures ∙ ap (option_map view) w.in_default.is) so_far.1
-    ]))
+    let items = c.loop-number.items in (
+      omega (arith, so_far.0),
+      rw more (elim c.match-branch-2.branch [
+        | in-Some+in_ok-push w ↦ ap (map view) (w.items-is ∙ w.in_ok-push.ensures) ∙ one_row row first (n - first) n items w.in-Some.told place (sym c.in_ok-told.ensures ∙ ap (option_map view) w.in-Some.is) so_far.1
+        | in_default w ↦ ap (map view) w.items-is ∙ no_row row first (n - first) n items place (sym c.in_ok-told.ensures ∙ ap (option_map view) w.in_default.is) so_far.1
+      ]),
+    )
 
 pub returns : goal.returns
 returns g c =

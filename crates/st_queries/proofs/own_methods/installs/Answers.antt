@@ -1,10 +1,6 @@
-use Rattle.std.proofs.Common.{◌≡◌, ◌∙◌, ◌+◌, ◌<◌, sym, subst, arith, length, ap, map, slice_index_or, slice_set, true, Vec, Global, ℕ}
-use Rattle.std.proofs.lemmas.Bool.Decides.{nat_tests}
-use Rattle.std.specs.List.{range_with_len}
-use Rattle.st_classes.specs.Classes.{class_count, is_class}
-use Rattle.st_classes.specs.Kernel.{class}
-use Rattle.st_queries.specs.OwnMethods.{installs_in}
-use Rattle.st_queries.proofs.Counting.{at_class, counts, filled, installs_few, length_counts, none_more, none_yet, one_more, within}
+use Rattle.std.proofs.Common.{◌≡◌, ◌∙◌, ◌+◌, sym, arith, length, ap, slice_index_or, slice_set, Vec, Global, ℕ}
+use Rattle.st_classes.specs.Classes.{class_count}
+use Rattle.st_queries.proofs.Counting.{at_class, counts, filled, installs_few, length_counts, none_more, one_more, within}
 use Rattle.st_queries.proofs.own_methods.installs.Goals as goal
 use Rattle.st_queries.proofs.own_methods.installs.Goals.{in-Some, in_default}
 
@@ -32,8 +28,8 @@ loop-place-preserved c =
     let classes = class_count edits in
     elim c.match-standing.branch [
       | in-Some w ↦ ap (λ (v : Vec ℕ Global). v.items) w.counts-is ∙ w.raise.ensures ∙ ap (λ k. slice_set c.loop-place.counts.items k (slice_index_or c.loop-place.counts.items k 0 + 1)) w.from.ensures
-        ∙ ap (λ ns. slice_set ns w.in-Some.class.0 (slice_index_or ns w.in-Some.class.0 0 + 1)) c.loop-place.invariant
-        ∙ one_more edits classes place w.in-Some.class (sym w.in-Some.ensures.standing) (within edits w.in-Some.class w.in-Some.ensures.class)
+          ∙ ap (λ ns. slice_set ns w.in-Some.class.0 (slice_index_or ns w.in-Some.class.0 0 + 1)) c.loop-place.invariant
+          ∙ one_more edits classes place w.in-Some.class (sym w.in-Some.ensures.standing) (within edits w.in-Some.class w.in-Some.ensures.class)
       | in_default w ↦ ap (λ (v : Vec ℕ Global). v.items) w.counts-is ∙ c.loop-place.invariant ∙ none_more edits classes place (sym w.in_default.ensures.standing)
     ]
 

@@ -1,4 +1,4 @@
-use Rattle.std.proofs.Common.{◌≡◌, ◌∙◌, sym, ap, arith, true, false, is_some, ◌+◌}
+use Rattle.std.proofs.Common.{◌∙◌, sym, ap, arith, true, false, is_some, ◌+◌}
 use Rattle.st_queries.proofs.Kernels.{kernel_few, kernel_more}
 use Rattle.st_queries.proofs.own_methods.kernel_methods.Goals as goal
 use Rattle.st_queries.proofs.own_methods.kernel_methods.Goals.{then-is_some, else-is_some}

@@ -41,7 +41,12 @@ pub fn overlap_of_four<C: Calls, R: Wait + Clock>(rt: &R, alloc: Global, caller:
             return false;
         }
     }
-    (0..4).all(|number| answers(rt, caller, ActorId(number), 1, 14))
+    for number in 0..4 {
+        if !answers(rt, caller, ActorId(number), 1, 14) {
+            return false;
+        }
+    }
+    true
 }
 
 /// Two actors get a message each, whose turn takes three quanta. Each of these waits for one of the other actor's, so no worker may rest.

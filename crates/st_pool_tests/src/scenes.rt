@@ -82,11 +82,7 @@ pub enum Way {
 impl Scene {
     pub fn workers(self) -> u32 {
         match self {
-            Scene::Overlap
-            | Scene::Pace
-            | Scene::Rest
-            | Scene::WakingByCommit
-            | Scene::Rally => 2,
+            Scene::Overlap | Scene::Pace | Scene::Rest | Scene::WakingByCommit | Scene::Rally => 2,
             Scene::OverlapOfFour => 4,
             Scene::Refused => 0,
             _ => 1,

@@ -68,12 +68,15 @@ fn written(
     last: Last,
 ) -> Result<(Vec<u8>, Result<u64, Refusal>), Refusal> {
     let mut taken = Vec::new(alloc);
-    let mut output = Writer::new(Taking {
-        taken: &mut taken,
-        writes,
-        last,
-    });
-    let end = end_on(alloc, SCRIPT, &mut output)?;
+    let end = end_on(
+        alloc,
+        SCRIPT,
+        &mut Writer::new(Taking {
+            taken: &mut taken,
+            writes,
+            last,
+        }),
+    )?;
     Ok((taken, end))
 }
 

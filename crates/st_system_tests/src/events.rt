@@ -399,7 +399,10 @@ pub(crate) fn is_well<M: Mailbox, G: Guard>(
 fn scenes_of_two_workers(rt: HostRuntime) -> Result<(), Fail> {
     for (place, scene) in scenes().iter().enumerate() {
         let workers = two_workers(rt.alloc())?;
-        assert!(rt; is_well::<ListBox, GlobalGuard>(rt.alloc(), workers, *scene)?, "scene {place}");
+        assert!(rt;
+            is_well::<ListBox, GlobalGuard>(rt.alloc(), workers, *scene)?,
+            "scene {place}"
+        );
     }
     Ok(())
 }

@@ -78,9 +78,11 @@ fn go<G: Guard>(alloc: Global, caches: &mut Caches<G>, keeps: bool) -> Result<bo
     let first = looked(alloc, caches, &version);
     let second = looked(alloc, caches, &later);
     let third = looked(alloc, caches, &later);
-    Ok(goes_as_moved(Moved::Followed, &first, false)
-        && goes_as_moved(first.0, &second, keeps)
-        && goes_as_moved(second.0, &third, true))
+    Ok(
+        goes_as_moved(Moved::Followed, &first, false)
+            && goes_as_moved(first.0, &second, keeps)
+            && goes_as_moved(second.0, &third, true),
+    )
 }
 
 fn global_guard_goes(alloc: Global) -> Result<bool, Refusal> {

@@ -7,8 +7,8 @@ from scripts_parts.running import Wrong
 from .session import Session, site
 
 FEW, MANY = 20, 520
-# The bytes that a method may take, with its source, its code and its places. A place for each of 1,024 instructions would take twice that.
-METHOD = 16 * 1024
+# The bytes that a method may take, with its source, its code and its places. Some thousand places would take more.
+METHOD = 64 * 1024
 
 
 def methods(count):

@@ -57,10 +57,10 @@ class Served:
             raise Wrong(f"turn {turn} ends with {compact(found)}, not {compact(wanted)}")
 
     def end(self):
-        """The session ends, and the server with it. The answer is what was said on standard error."""
+        """The session ends, and the server with it. The answer is what was written."""
         self.lines.close()
         self.socket.close()
-        _, said = self.process.communicate(timeout=SECONDS)
+        said, _ = self.process.communicate(timeout=SECONDS)
         if self.process.returncode != 0:
             raise Wrong(f"the server ends with status {self.process.returncode}")
         return said

@@ -18,6 +18,8 @@ FULL = most.HISTORY // (ITEMS * most.OUTCOMES)
 SOURCE = "a: n ^n"
 # The bytes that an outcome may take.
 PLACE = 32
+# Of each of these actors one turn ends. What it then has for that may have room for some more, but not for all that are kept.
+ENDED, ROOM = 4000, 16
 
 
 def sent(number, turn):
@@ -63,14 +65,13 @@ def outcomes_kept(program):
     return f"{most.OUTCOMES} of {FULL:,} actors, beside {ACTORS - FULL:,} others"
 
 
-def turns_of(name, chosen):
-    """Ten thousand actors, and for each of them as many turns as a history then has room for: all of them its own, or those of another."""
+def turns_of(name, count, each, chosen):
+    """So many actors, and for each of them so many turns: all of them its own, or those of another."""
     session = Session(name)
     session.edit(method("Object", SOURCE))
-    for number in range(ACTORS):
+    for number in range(count):
         session.ask(actor(), made(number))
-    each = (most.HISTORY - ACTORS - 1) // (ACTORS * (ITEMS + POSTED))
-    for part in range(ACTORS):
+    for part in range(count):
         to = chosen(part)
         for _ in range(each):
             session.post("a:", 1, to=to)
@@ -79,14 +80,28 @@ def turns_of(name, chosen):
     return session
 
 
+def taken_by_each(program, count, each):
+    """The bytes for each of so many actors that so many of its turns have ended: the same turns of one of them take so much less."""
+    of_all = program.measured(turns_of("turns of all", count, each, lambda part: part))
+    of_one = program.measured(turns_of("turns of one", count, each, lambda part: 0))
+    return (of_all - of_one) / count
+
+
 def memory_of_outcomes(program):
-    """The same turns of ten thousand actors and of one. The difference is what the outcomes take, and has a bound for each actor."""
-    of_all = program.measured(turns_of("turns of all", lambda part: part))
-    of_one = program.measured(turns_of("turns of one", lambda part: 0))
-    each = (of_all - of_one) / ACTORS
+    """Ten thousand actors, of which each ends as many turns as a history then has room for."""
+    turns = (most.HISTORY - ACTORS - 1) // (ACTORS * (ITEMS + POSTED))
+    each = taken_by_each(program, ACTORS, turns)
     if each > most.OUTCOMES * PLACE:
         raise Wrong(f"the outcomes of an actor take {each:,.0f} bytes, over {most.OUTCOMES} times {PLACE}")
-    return f"{each:,.0f} bytes for each of {ACTORS:,} actors, of {of_all / 1e6:,.0f} MB"
+    return f"{each:,.0f} bytes for each of {ACTORS:,} actors"
 
 
-TRIALS = (outcomes_kept, memory_of_outcomes)
+def memory_of_first_outcomes(program):
+    """Actors that end a turn each."""
+    each = taken_by_each(program, ENDED, 1)
+    if each > ROOM * PLACE:
+        raise Wrong(f"the first outcome of an actor takes {each:,.0f} bytes, over {ROOM} times {PLACE}")
+    return f"{each:,.0f} bytes for each of {ENDED:,} actors"
+
+
+TRIALS = (outcomes_kept, memory_of_outcomes, memory_of_first_outcomes)

@@ -31,7 +31,7 @@ const A: ClassId = ClassId(8);
 
 const B: ClassId = ClassId(9);
 
-const C: ClassId = ClassId(10);
+pub(crate) const C: ClassId = ClassId(10);
 
 pub(crate) const WHO: Selector = Selector(22);
 
@@ -110,7 +110,7 @@ pub(crate) fn three_classes(alloc: Global) -> Result<Box<Version>, Refusal> {
 }
 
 /// The site of `missing` in the method `who` of C.
-const SITE: SiteId = SiteId {
+pub(crate) const SITE: SiteId = SiteId {
     method: MethodId(5),
     place: 1,
 };
@@ -165,7 +165,7 @@ fn walked(version: &Version, key: Key) -> Option<Target> {
 }
 
 /// How a lookup goes and how many rows it reads, where it may be asked and finds what the plain walk finds.
-fn look<G: Guard>(
+pub(crate) fn look<G: Guard>(
     caches: &mut Caches<G>,
     version: &Version,
     site: Option<SiteId>,
@@ -186,7 +186,7 @@ fn look<G: Guard>(
 }
 
 /// A send to an instance of C, or a super send in a method of a holder.
-fn key(holder: Option<ClassId>, selector: Selector) -> Key {
+pub(crate) fn key(holder: Option<ClassId>, selector: Selector) -> Key {
     Key {
         holder,
         class: C,
@@ -228,13 +228,14 @@ fn forgets<G: Guard>(caches: &mut Caches<G>, alloc: Global, version: &Version) -
     caches.forget();
     let state = caches.state(SITE);
     again[0] == Some((How::Global, 0))
+        && again[1] == Some((How::Global, 0))
         && again[2] == Some((How::Site, 0))
         && state == SiteState::Empty
         && looks(caches, alloc, version) == FIRST
 }
 
 /// New caches on the heap, in which each edit ends all that was found.
-fn new_caches(alloc: Global) -> Result<Box<Caches<GlobalGuard>>, AllocError> {
+pub(crate) fn new_caches(alloc: Global) -> Result<Box<Caches<GlobalGuard>>, AllocError> {
     Ok(Box::new(alloc, Caches::new(alloc, GlobalGuard::new())?)?)
 }
 

@@ -3,6 +3,9 @@
 //! that fails, as `tools/refused-growth` has it for each in turn.
 ghost use Rattle.std.specs.Prelude.{◌+◌, ◌<◌, ◌^◌};
 
+mod caches;
+mod tokens;
+
 use crate::lookups::{MISSING, WHO, next_edit, three_classes};
 use st_classes::edits::Edit;
 use st_classes::names::Names;

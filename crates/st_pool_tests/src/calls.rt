@@ -6,10 +6,12 @@ use st_classes::kernel::OBJECT;
 use st_classes::refusals::Refusal;
 use st_classes::seq::Seq;
 use st_classes::values::{ActorId, ClassId, Selector, Value, Values};
+use st_file::saving::save;
 use st_image::items::Item;
 use st_image::tallies::SiteStats;
 use st_pool::naming::Naming;
 use st_turn::body::Outcome;
+use st_wire::streams::MemoryOutput;
 use std::alloc::{AllocError, Global};
 use std::sync::Wait;
 use std::time::Clock;
@@ -104,6 +106,9 @@ pub trait Calls {
     /// How many items, edits and actors the caller sees.
     fn seen<R: Wait>(&mut self, rt: &R) -> (usize, u32, u32);
 
+    /// The text of the document of the image that the caller sees.
+    fn document<R: Wait>(&mut self, rt: &R, alloc: Global) -> Result<MemoryOutput, Refusal>;
+
     /// Whether the caller sees the messages of all four senders of a crowd in their orders.
     fn sees_order<R: Wait>(&mut self, rt: &R) -> bool;
 }
@@ -137,6 +142,13 @@ fn counts(image: &Image) -> (usize, u32, u32) {
         image.version().edits(),
         image.actors(),
     )
+}
+
+/// The text of an image's document, as its file has it.
+fn document_of(alloc: Global, image: &Image) -> Result<MemoryOutput, Refusal> {
+    let mut output = MemoryOutput::new(alloc);
+    save(alloc, image, &mut output)?;
+    Ok(output)
 }
 
 impl<K: Naming> Calls for Caller<'_, K> {
@@ -241,6 +253,10 @@ impl<K: Naming> Calls for Caller<'_, K> {
 
     fn seen<R: Wait>(&mut self, rt: &R) -> (usize, u32, u32) {
         self.look(rt, |image| counts(image))
+    }
+
+    fn document<R: Wait>(&mut self, rt: &R, alloc: Global) -> Result<MemoryOutput, Refusal> {
+        self.look(rt, |image| document_of(alloc, image))
     }
 
     fn sees_order<R: Wait>(&mut self, rt: &R) -> bool {

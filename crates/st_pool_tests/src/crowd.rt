@@ -1,6 +1,7 @@
 //! Four callers, each on a thread, post to one actor. A fifth may make checkpoints meanwhile.
 use crate::calls::*;
 use crate::doors::pause;
+use crate::failing_session::{TALKING, talk_and_fail};
 use crate::plays::totals;
 use crate::pools::{Image, Stage};
 use crate::scenes::Scene;
@@ -17,7 +18,7 @@ use std::thread::Threads;
 use std::time::Clock;
 
 /// How many messages each caller posts.
-const EACH: u64 = 100;
+pub const EACH: u64 = 100;
 
 /// The thread that makes checkpoints is the fifth.
 const FIFTH: u16 = 5;
@@ -54,8 +55,8 @@ fn make_checkpoints<C: Calls, R: Wait + Clock>(rt: &R, alloc: Global, caller: &m
     true
 }
 
-/// Whether the receipts are those of all messages of a sender, in their order.
-fn has_receipts<K: Naming>(share: &CallerShare<K>, sender: u16) -> bool {
+/// Whether the receipts are those of the first messages of a sender, this many, in their order.
+pub fn has_receipts<K: Naming>(share: &CallerShare<K>, sender: u16, count: u64) -> bool {
     let mut number = 0;
     for receipt in share.receipts() {
         number = 1u64.wrapping_add(number);
@@ -63,7 +64,7 @@ fn has_receipts<K: Naming>(share: &CallerShare<K>, sender: u16) -> bool {
             return false;
         }
     }
-    number == EACH
+    number == count
 }
 
 /// What the thread of a caller does, and whether it sees what it must.
@@ -92,9 +93,13 @@ fn call_on_thread<K: Naming, R: Wait + Clock>(
         stage.marks.note_wrong();
         return;
     };
+    if stage.scene == Scene::FailingSession && sender == TALKING {
+        talk_and_fail(rt, alloc, stage, caller);
+        return;
+    }
     let is_done = has_done(rt, alloc, stage.scene, &mut caller, sender);
     let share = caller.end();
-    if !is_done || sender != FIFTH && !has_receipts(&share, sender) {
+    if !is_done || sender != FIFTH && !has_receipts(&share, sender, EACH) {
         stage.marks.note_wrong();
     }
     hand_back(rt, stage, share);
@@ -111,7 +116,7 @@ pub fn hand_back<K: Naming, R: Wait>(rt: &R, stage: &Stage<K>, share: CallerShar
 }
 
 /// Lets callers call, and waits for them.
-fn call_together<K: Naming + Send + Sync, R: Threads + Wait + Clock + Sync>(
+pub fn call_together<K: Naming + Send + Sync, R: Threads + Wait + Clock + Sync>(
     rt: &R,
     alloc: Global,
     stage: &Stage<K>,

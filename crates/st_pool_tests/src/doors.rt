@@ -8,10 +8,13 @@ use std::time::{Clock, Duration};
 
 pub const TURNS: u32 = 20_000;
 
+/// The turns for which one of two workers waits for the other's first claim, which is there at once.
+const MEETING: u32 = 100_000;
+
 /// What threads of a test tell one another.
 #[derive(Drop)]
 pub struct Marks {
-    /// How many claims each of two workers got.
+    /// How many claims the first worker got, and all others.
     first: AtomicU64,
     second: AtomicU64,
     /// How many quanta were over.
@@ -99,7 +102,12 @@ pub fn pause<R: Clock>(rt: &R, millis: u64) {
 
 /// Whether a number is soon as large as wanted.
 fn reaches<R: Clock>(rt: &R, number: &AtomicU64, wanted: u64) -> bool {
-    for _ in 0..TURNS {
+    reaches_in(rt, number, wanted, TURNS)
+}
+
+/// Whether it is so in this many turns.
+fn reaches_in<R: Clock>(rt: &R, number: &AtomicU64, wanted: u64, turns: u32) -> bool {
+    for _ in 0..turns {
         if number.load(Ordering::SeqCst) >= wanted {
             return true;
         }
@@ -118,14 +126,17 @@ pub struct Door<'a, R: Clock> {
 }
 
 impl<'a, R: Clock> Door<'a, R> {
-    /// Whether the worker may soon take its steps, where both had this many claims before.
-    fn opens(&self, of_both: u64) -> bool {
+    /// Whether the worker may soon take its steps with this claim of its own, where both had so many claims before.
+    fn opens(&self, mine: u64, of_both: u64) -> bool {
         let marks = self.marks;
         match self.way {
             Way::Free | Way::Held => true,
             Way::Told => reaches(self.rt, &marks.told, 1),
-            Way::Met if self.number == 0 => reaches(self.rt, &marks.second, 1),
-            Way::Met => reaches(self.rt, &marks.first, 1),
+            Way::Met if self.number == 0 => reaches_in(self.rt, &marks.second, 1, MEETING),
+            Way::Met => reaches_in(self.rt, &marks.first, 1, MEETING),
+            Way::AllMet => marks.await_claims(self.rt, 4),
+            Way::Paced if self.number == 0 => reaches(self.rt, &marks.second, mine),
+            Way::Paced => reaches(self.rt, &marks.first, mine),
             Way::Third if of_both == 0 => {
                 // the other worker waits by then
                 pause(self.rt, 100);
@@ -144,8 +155,8 @@ impl<'a, R: Clock> Gate for Door<'a, R> {
         } else {
             &self.marks.second
         };
-        mine.fetch_add(1, Ordering::SeqCst);
-        if worker != self.number || claim.steps() != 0 || !self.opens(of_both) {
+        let count = mine.fetch_add(1, Ordering::SeqCst).wrapping_add(1);
+        if worker != self.number || claim.steps() != 0 || !self.opens(count, of_both) {
             self.marks.note_wrong();
         }
     }

@@ -13,6 +13,8 @@ mod doors;
 #[cfg(test)]
 mod edits;
 #[cfg(test)]
+mod failing_session;
+#[cfg(test)]
 mod full;
 #[cfg(test)]
 mod many;

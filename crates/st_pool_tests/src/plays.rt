@@ -7,9 +7,10 @@ use crate::calls::{Calls, FIRST};
 use crate::crowd::{among_checkpoints, crowd, hand_back};
 use crate::doors::{Door, Marks, TURNS, pause};
 use crate::edits::{reparented, unused_selector, used_selector};
+use crate::failing_session::among_sessions;
 use crate::full::{at_checkout, at_commit, late_wait, room_again};
 use crate::many::many_callers;
-use crate::overlap::overlap;
+use crate::overlap::{overlap, overlap_of_four, pace};
 use crate::pools::{Caller, Image, Shared, Stage, new_image, new_worker, no_shares};
 use crate::refused::calls_alone;
 use crate::scenes::Scene;
@@ -91,6 +92,8 @@ fn act_alone<C: Calls, R: Wait + Clock>(
 ) -> bool {
     match scene {
         Scene::Overlap => overlap(rt, alloc, caller),
+        Scene::OverlapOfFour => overlap_of_four(rt, alloc, caller),
+        Scene::Pace => pace(rt, alloc, caller),
         Scene::NotUnderstood => not_understood(rt, alloc, caller),
         Scene::Closing => closing(rt, alloc, caller, marks),
         Scene::Numbers => numbers(rt, alloc, caller, marks),
@@ -110,7 +113,7 @@ fn act_alone<C: Calls, R: Wait + Clock>(
         Scene::WakingByCommit => waking_by_commit(rt, alloc, caller, marks),
         Scene::Rally => rally(rt, alloc, caller),
         Scene::Refused => calls_alone(rt, alloc, caller),
-        Scene::ManyCallers | Scene::Crowd | Scene::Checkpoints => false,
+        Scene::ManyCallers | Scene::Crowd | Scene::Checkpoints | Scene::FailingSession => false,
     }
 }
 
@@ -125,6 +128,7 @@ fn act<C: Calls, K: Naming + Send + Sync, R: Threads + Wait + Clock + Sync>(
         Scene::ManyCallers => many_callers(rt, alloc, stage),
         Scene::Crowd => crowd(rt, alloc, stage, caller),
         Scene::Checkpoints => among_checkpoints(rt, alloc, stage, caller),
+        Scene::FailingSession => among_sessions(rt, alloc, stage, caller),
         scene => act_alone(rt, alloc, scene, caller, &stage.marks),
     }
 }

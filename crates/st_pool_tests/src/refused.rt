@@ -1,5 +1,5 @@
-//! Calls of a caller for which memory is refused: each that finds none leaves what all see, and answers when it is asked again as it does
-//! with ample memory; and the shares are those of what was answered. No worker runs. Memory is refused where this runs with an
+//! Calls of a caller for which memory is refused: each that finds none leaves the image's document and what else all see, and answers when
+//! it is asked again as it does with ample memory; and the shares are those of what was answered. No worker runs. Memory is refused where this runs with an
 //! allocation that fails, as `tools/refused-growth` has it for each in turn.
 use crate::calls::*;
 use crate::plays::totals;
@@ -7,16 +7,20 @@ use crate::scenes::Scene;
 use st_classes::kernel::{OBJECT, SMALL_INTEGER};
 use st_classes::refusals::Refusal;
 use st_pool::totals::Totals;
+use st_wire::streams::MemoryOutput;
 use std::alloc::{AllocError, Global};
 use std::sync::Wait;
 use std::test::*;
 
-/// The calls behind a function without a contract. In each line what the call answers comes first.
+/// The calls behind a function without a contract. In each line what the call answers comes first. The names of all methods are there before
+/// them, so that a call which finds no memory leaves no name.
 fn lines() -> &'static str {
     LINES
 }
 
-const LINES: &str = r"Ok(1) = define A
+const LINES: &str = r"Ok(22) = intern go
+Ok(23) = intern tag
+Ok(1) = define A
 Err(ClassExists) = define A
 Ok(2) = install go ^3 tag + 1
 Err(BadSource { kind: BadToken, offset: 4 }) = install a ^(
@@ -122,7 +126,19 @@ fn ask<C: Calls, R: Wait>(
     }
 }
 
-/// The same, asked again where there was no memory; and `Changed` where something was changed then.
+/// The text of the document that a caller sees, made anew where memory is refused for it.
+fn document_again<C: Calls, R: Wait>(
+    rt: &R,
+    alloc: Global,
+    caller: &mut C,
+) -> Result<MemoryOutput, Refusal> {
+    match caller.document(rt, alloc) {
+        Err(Refusal::NoMemory) => caller.document(rt, alloc),
+        answer => answer,
+    }
+}
+
+/// The same as `ask`, asked again where there was no memory; and `Changed` where something was changed then.
 fn ask_again<C: Calls, R: Wait>(
     rt: &R,
     alloc: Global,
@@ -130,11 +146,13 @@ fn ask_again<C: Calls, R: Wait>(
     call: &str,
 ) -> Result<u64, Refusal> {
     let before = caller.seen(rt);
+    let document = document_again(rt, alloc, caller)?;
     let first = ask(rt, alloc, caller, call);
     if first != Err(Refusal::NoMemory) {
         return first;
     }
-    if caller.seen(rt) != before {
+    let stands = document_again(rt, alloc, caller)?.as_slice() == document.as_slice();
+    if !stands || caller.seen(rt) != before {
         return Err(Refusal::Changed);
     }
     ask(rt, alloc, caller, call)

@@ -8,6 +8,10 @@ use st_image::settings::Settings;
 pub enum Scene {
     /// Two actors are asked, whose quanta overlap.
     Overlap,
+    /// Four actors are asked, whose quanta all overlap.
+    OverlapOfFour,
+    /// Two actors take short quanta, each of which overlaps with one of the other's.
+    Pace,
     /// A message that is not understood, is understood, and is not.
     NotUnderstood,
     /// A mailbox is closed in which two messages wait.
@@ -50,6 +54,8 @@ pub enum Scene {
     Crowd,
     /// The same, and a fifth makes checkpoints meanwhile.
     Checkpoints,
+    /// Four callers post to one actor, and one of them is that of a session whose output fails.
+    FailingSession,
     /// Calls of a caller alone, each of which may find no memory.
     Refused,
 }
@@ -63,6 +69,10 @@ pub enum Way {
     Told,
     /// Once the other worker has a claim too.
     Met,
+    /// Once there were four claims.
+    AllMet,
+    /// Once the other worker got as many claims.
+    Paced,
     /// Once there were three claims, but for the first.
     Third,
     /// At once, and it does not go on after its commit before the caller has said so.
@@ -72,7 +82,8 @@ pub enum Way {
 impl Scene {
     pub fn workers(self) -> u32 {
         match self {
-            Scene::Overlap | Scene::Rest | Scene::WakingByCommit | Scene::Rally => 2,
+            Scene::Overlap | Scene::Pace | Scene::Rest | Scene::WakingByCommit | Scene::Rally => 2,
+            Scene::OverlapOfFour => 4,
             Scene::Refused => 0,
             _ => 1,
         }
@@ -81,6 +92,8 @@ impl Scene {
     pub fn way(self) -> Way {
         match self {
             Scene::Overlap => Way::Met,
+            Scene::OverlapOfFour => Way::AllMet,
+            Scene::Pace => Way::Paced,
             Scene::Closing
             | Scene::UsedSelector
             | Scene::UnusedSelector
@@ -97,7 +110,7 @@ impl Scene {
         ensures { (1 ≤ result) × (result ≤ 1024) }
     {
         match self {
-            Scene::Numbers => 3,
+            Scene::Numbers | Scene::Pace => 3,
             Scene::LongTurn | Scene::Hurried => 1024,
             _ => 256,
         }
@@ -105,7 +118,7 @@ impl Scene {
 
     pub fn settings(self) -> Settings {
         let capacity = match self {
-            Scene::Crowd | Scene::Checkpoints => 1024,
+            Scene::Crowd | Scene::Checkpoints | Scene::FailingSession => 1024,
             _ => 64,
         };
         let history = match self {

@@ -41,7 +41,30 @@ pub fn endless<C: Calls, R: Wait + Clock>(
         && marks.await_claims(rt, 1)
 }
 
-/// A turn of 3,012 steps has three quanta of at most 1,024.
+/// How the sends of the two sites of the first actor's method were found: at their site, by the lookup cache, and by walks.
+fn has_found<C: Calls, R: Wait>(
+    rt: &R,
+    alloc: Global,
+    caller: &mut C,
+    wanted: &[(u64, u64, u64)],
+) -> bool {
+    let Ok(selector) = caller.intern(rt, alloc, b"a") else {
+        return false;
+    };
+    let Ok(sites) = caller.stats(rt, alloc, A, selector) else {
+        return false;
+    };
+    for (site, wanted) in sites.iter().zip(wanted) {
+        let tally = site.tally;
+        if (tally.by_site, tally.by_global, tally.by_walk) != *wanted {
+            return false;
+        }
+    }
+    sites.len() == wanted.len()
+}
+
+/// A turn of 3,012 steps has three quanta of at most 1,024. Its worker keeps from one to the next what it found: of 301 comparisons and 300
+/// sums the first ones alone are walks.
 pub fn long_turn<C: Calls, R: Wait + Clock>(
     rt: &R,
     alloc: Global,
@@ -53,6 +76,7 @@ pub fn long_turn<C: Calls, R: Wait + Clock>(
         && post(rt, alloc, caller, 1, FIRST, "a") == Ok(1)
         && answers(rt, caller, FIRST, 1, 300)
         && marks.claims() == 3
+        && has_found(rt, alloc, caller, &[(300, 0, 1), (299, 0, 1)])
 }
 
 /// Looks at the image without a pause until a turn has ended, so that the worker often finds the lock held.

@@ -36,7 +36,7 @@ fn end_over<I: Input, O: Output>(
 }
 
 /// How the script of a text ends that a new image answers on a device.
-fn end_on<O: Output>(
+pub(crate) fn end_on<O: Output>(
     alloc: Global,
     text: &[u8],
     output: &mut O,

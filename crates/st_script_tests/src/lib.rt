@@ -21,3 +21,5 @@ mod sessions;
 mod sessions_in_memory;
 #[cfg(test)]
 mod steps;
+#[cfg(test)]
+mod writes;

@@ -2,6 +2,7 @@
 use boxcar::Vec as Faults;
 use st_classes::refusals::Refusal;
 use st_pool::totals::Totals;
+use st_server::porters::{FaultList, Witness};
 use st_server::sockets::serve_on;
 use std::alloc::Global;
 use std::fs::Files;
@@ -132,5 +133,19 @@ fn a_post_is_answered(rt: HostRuntime) -> Result<(), Fail> {
         steps: 7,
     };
     assert!(rt; told(&rt, rt.alloc()) == Some((wanted, 0)));
+    Ok(())
+}
+
+/// How many refusals are kept of a session that ends by one, where a server accepts so many sessions.
+fn kept<R: Wait>(rt: &R, alloc: Global, sessions: Option<u32>) -> Option<usize> {
+    let faults: Faults<Refusal> = Faults::new(alloc).ok()?;
+    FaultList::of(&faults, sessions).ended(rt, Refusal::TooLong);
+    Some(faults.count())
+}
+
+#[test]
+fn faults_of_an_endless_server_are_let_go(rt: HostRuntime) -> Result<(), Fail> {
+    assert!(rt; kept(&rt, rt.alloc(), Some(2)) == Some(1));
+    assert!(rt; kept(&rt, rt.alloc(), None) == Some(0));
     Ok(())
 }

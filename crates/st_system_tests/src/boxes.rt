@@ -1,5 +1,5 @@
-//! A list of events on two systems with mailboxes and guards of other kinds: each event answers the same, and the images show the same
-//! after it.
+//! A list of events on two systems with mailboxes and guards of other kinds: each event answers the same, and after it the images show
+//! the same and have documents of the same text.
 use crate::beside::is_same_message;
 use crate::rounds::{BUSY, events_of_rounds};
 use crate::workers::*;
@@ -155,6 +155,9 @@ fn first_difference<M: Mailbox, G: Guard, N: Mailbox, H: Guard>(
         }
         if let Some(difference) = difference(alloc, image(one), image(other)) {
             return Some((place, difference));
+        }
+        if has_same_document(alloc, image(one), image(other)) != Ok(true) {
+            return Some((place, "documents"));
         }
     }
     None

@@ -1,6 +1,6 @@
 //! Events of a system of two workers, and what they answer: scenes in tables, which one function plays.
 use crate::lists::text;
-use crate::workers::{Answered, apply, system_of};
+use crate::workers::{Answered, apply, history, image, system_of};
 use st_calls::calls::{Answer as Called, Call};
 use st_classes::kernel::{OBJECT, SMALL_INTEGER};
 use st_classes::refusals::Refusal;
@@ -8,10 +8,12 @@ use st_classes::seq::Seq;
 use st_classes::values::{ActorId, ClassId, Selector};
 use st_guard::caches::Caches;
 use st_guard::global_guard::GlobalGuard;
+use st_guard::guard::Guard;
 use st_image::image::Image;
 use st_image::items::Item;
 use st_image::settings::Settings;
 use st_mailbox::list_box::ListBox;
+use st_mailbox::mailboxes::Mailbox;
 use st_system::events::{Answer, Event};
 use st_system::system::System;
 use st_turn::body::Stop;
@@ -36,7 +38,7 @@ const NOWHERE: ClassId = ClassId(40);
 
 /// What a scene does: an event of a worker, of the only actor; or another event.
 #[derive(Clone, Copy)]
-enum Work {
+pub(crate) enum Work {
     Checkout(u32),
     Local(u32),
     Commit(u32),
@@ -55,11 +57,11 @@ enum Work {
 }
 
 /// What is done, each with what it has to answer.
-type Rows = &'static [(Work, Answered)];
+pub(crate) type Rows = &'static [(Work, Answered)];
 
 /// How a history ends.
 #[derive(Clone, Copy, PartialEq, Eq)]
-enum End {
+pub(crate) enum End {
     /// With the beginning of a turn.
     Begun,
     /// With the beginning of a turn, and this many steps of it in one item.
@@ -69,15 +71,15 @@ enum End {
 }
 
 /// The most items of the history, what is done, how many items there are then, and how the history ends.
-type Scene = (u32, &'static [Rows], usize, End);
+pub(crate) type Scene = (u32, &'static [Rows], usize, End);
 
 /// The most items of a history where nothing is said.
-const MOST: u32 = 1_000_000;
+pub(crate) const MOST: u32 = 1_000_000;
 
-const DONE: Answered = Ok(Answer::Done);
+pub(crate) const DONE: Answered = Ok(Answer::Done);
 
 /// A step was taken.
-const STEPPED: Answered = Ok(Answer::Stopped(Stop::More));
+pub(crate) const STEPPED: Answered = Ok(Answer::Stopped(Stop::More));
 
 const UNKNOWN: Answered = Err(Refusal::BadArguments);
 
@@ -87,7 +89,7 @@ const STALE: Answered = Err(Refusal::Stale { version: 4 });
 
 const FULL: Answered = Err(Refusal::HistoryFull);
 
-const THREE: Answered = Ok(Answer::Steps(3));
+pub(crate) const THREE: Answered = Ok(Answer::Steps(3));
 
 const NONE: Answered = Ok(Answer::Steps(0));
 
@@ -95,7 +97,7 @@ const FOURTH: Answered = Ok(Answer::Called(Called::Version(4)));
 
 /// A class A with a method `go` that sends `tag` to a number, the number's method, and an actor of A to which `go` was sent. The
 /// history has five items then.
-const POSTED: Rows = &[
+pub(crate) const POSTED: Rows = &[
     (Work::Define, Ok(Answer::Called(Called::Version(1)))),
     (
         Work::Install(A, "go ^3 tag + 1"),
@@ -150,7 +152,7 @@ const NO_STEPS: Rows = &[
 ];
 
 /// A claim of three steps.
-const THREE_STEPS: Rows = &[
+pub(crate) const THREE_STEPS: Rows = &[
     (Work::Checkout(0), DONE),
     (Work::Local(0), STEPPED),
     (Work::Local(0), STEPPED),
@@ -158,22 +160,22 @@ const THREE_STEPS: Rows = &[
 ];
 
 /// An edit of a message that the steps sent.
-const TAG_EDITED: Rows = &[(Work::Install(SMALL_INTEGER, "tag ^2"), FOURTH)];
+pub(crate) const TAG_EDITED: Rows = &[(Work::Install(SMALL_INTEGER, "tag ^2"), FOURTH)];
 
 /// An edit of the message for messages that are not understood.
 const UNHEARD_EDITED: Rows = &[(Work::Install(A, "doesNotUnderstand: s ^s"), FOURTH)];
 
 /// An edit of a message that nobody sends.
-const OTHER_EDITED: Rows = &[(Work::Install(A, "bump ^0"), FOURTH)];
+pub(crate) const OTHER_EDITED: Rows = &[(Work::Install(A, "bump ^0"), FOURTH)];
 
 /// Class A gets the superclass again that it has: that touches every selector.
 const MOVED: Rows = &[(Work::Reparent(A, OBJECT), FOURTH)];
 
 /// A claim that does not survive an edit is refused, and spent.
-const STALE_CLAIM: Rows = &[(Work::Commit(0), STALE), (Work::Commit(0), NOTHING)];
+pub(crate) const STALE_CLAIM: Rows = &[(Work::Commit(0), STALE), (Work::Commit(0), NOTHING)];
 
 /// One that survives it is committed.
-const SURVIVING_CLAIM: Rows = &[(Work::Commit(0), THREE), (Work::Commit(0), NOTHING)];
+pub(crate) const SURVIVING_CLAIM: Rows = &[(Work::Commit(0), THREE), (Work::Commit(0), NOTHING)];
 
 /// Reparents that are refused: another superclass of Object, and a superclass that is the kernel's, are none.
 const REPARENTS: Rows = &[
@@ -332,18 +334,30 @@ fn two_workers(alloc: Global) -> Result<Vec<Worker<GlobalGuard>>, AllocError> {
     Ok(workers)
 }
 
-/// A new image with a history of at most this many items, and two workers without claims.
-fn new_system(alloc: Global, history: u32) -> Result<Box<TwoWorkers>, Refusal> {
+/// A new image with a history of at most this many items, and workers without claims.
+fn new_system<M: Mailbox, G: Guard>(
+    alloc: Global,
+    history: u32,
+    workers: Vec<Worker<G>>,
+) -> Result<Box<System<M, G>>, Refusal> {
     let settings = Settings {
         capacity: 64,
         history,
     };
-    let workers = two_workers(alloc)?;
     Ok(system_of(alloc, Image::new(alloc, settings)?, workers)?)
 }
 
+/// The same with queues for mailboxes and two workers.
+fn new_pair(alloc: Global) -> Result<Box<TwoWorkers>, Refusal> {
+    new_system(alloc, MOST, two_workers(alloc)?)
+}
+
 /// Whether each event of some rows answers as it has to.
-fn is_played(alloc: Global, system: &mut TwoWorkers, rows: Rows) -> Result<bool, AllocError> {
+fn is_played<M: Mailbox, G: Guard>(
+    alloc: Global,
+    system: &mut System<M, G>,
+    rows: Rows,
+) -> Result<bool, AllocError> {
     for (work, wanted) in rows {
         let event = event(alloc, *work)?;
         if apply(alloc, system, &event) != *wanted {
@@ -354,8 +368,8 @@ fn is_played(alloc: Global, system: &mut TwoWorkers, rows: Rows) -> Result<bool,
 }
 
 /// How many items the history has, and how it ends.
-fn items_and_end(system: &TwoWorkers) -> (usize, End) {
-    let history = system.image().history();
+fn items_and_end<M: Mailbox, G: Guard>(system: &System<M, G>) -> (usize, End) {
+    let history = history(image(system));
     let end = match history {
         [.., Item::Begun(begun), Item::Ran { actor, steps }]
             if *begun == FIRST && *actor == FIRST => End::Ran(*steps),
@@ -365,10 +379,14 @@ fn items_and_end(system: &TwoWorkers) -> (usize, End) {
     (history.len(), end)
 }
 
-/// Whether a scene goes as it has to.
-fn is_well(alloc: Global, scene: Scene) -> Result<bool, Refusal> {
+/// Whether a scene goes as it has to, in a new image with these workers.
+pub(crate) fn is_well<M: Mailbox, G: Guard>(
+    alloc: Global,
+    workers: Vec<Worker<G>>,
+    scene: Scene,
+) -> Result<bool, Refusal> {
     let (history, parts, items, end) = scene;
-    let mut system = new_system(alloc, history)?;
+    let mut system: Box<System<M, G>> = new_system(alloc, history, workers)?;
     for rows in parts {
         if !is_played(alloc, &mut system, *rows)? {
             return Ok(false);
@@ -380,7 +398,11 @@ fn is_well(alloc: Global, scene: Scene) -> Result<bool, Refusal> {
 #[test]
 fn scenes_of_two_workers(rt: HostRuntime) -> Result<(), Fail> {
     for (place, scene) in scenes().iter().enumerate() {
-        assert!(rt; is_well(rt.alloc(), *scene)?, "scene {place}");
+        let workers = two_workers(rt.alloc())?;
+        assert!(rt;
+            is_well::<ListBox, GlobalGuard>(rt.alloc(), workers, *scene)?,
+            "scene {place}"
+        );
     }
     Ok(())
 }
@@ -398,7 +420,7 @@ fn run(alloc: Global, system: &mut TwoWorkers, rows: Rows) -> Result<(), AllocEr
 
 /// A run goes on after a refused event: whether there are two workers then, and two steps were taken.
 fn goes_on(alloc: Global) -> Result<bool, Refusal> {
-    let mut system = new_system(alloc, MOST)?;
+    let mut system = new_pair(alloc)?;
     let is_posted = is_played(alloc, &mut system, posted())?;
     run(alloc, &mut system, run_of_five())?;
     Ok(is_posted && system.workers() == 2 && items_and_end(&system) == (7, End::Ran(2)))
@@ -419,7 +441,7 @@ fn first_site_of_go(alloc: Global, system: &TwoWorkers) -> Result<(u64, u64, u64
 
 /// How the first sends of two turns were found, where the message is posted again between them.
 fn after_two_turns(alloc: Global) -> Result<(u64, u64, u64), Refusal> {
-    let mut system = new_system(alloc, MOST)?;
+    let mut system = new_pair(alloc)?;
     let is_posted = is_played(alloc, &mut system, posted())?;
     run(alloc, &mut system, turn())?;
     if !is_posted || !is_played(alloc, &mut system, posted_again())? {

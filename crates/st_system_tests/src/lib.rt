@@ -7,6 +7,8 @@ mod beside;
 #[cfg(test)]
 mod boxes;
 #[cfg(test)]
+mod by_events;
+#[cfg(test)]
 mod dice;
 #[cfg(test)]
 mod events;

@@ -4,6 +4,7 @@ use crate::lists::names;
 use st_classes::edits::Edit;
 use st_classes::refusals::Refusal;
 use st_classes::values::{ActorId, ClassId, Selector};
+use st_file::saving::save;
 use st_guard::caches::Caches;
 use st_guard::global_guard::GlobalGuard;
 use st_guard::guard::Guard;
@@ -19,24 +20,31 @@ use st_system::events::{Answer, Event};
 use st_system::system::System;
 use st_turn::body::{Body, Outcome};
 use st_turn::worker::Worker;
+use st_wire::streams::MemoryOutput;
 use std::alloc::{AllocError, Global};
 
 /// What an event answers.
 pub(crate) type Answered = Result<Answer, Refusal>;
 
 /// Workers whose caches are emptied by every edit.
-fn global_workers(alloc: Global) -> Result<Vec<Worker<GlobalGuard>>, AllocError> {
+pub(crate) fn global_workers(
+    alloc: Global,
+    count: u32,
+) -> Result<Vec<Worker<GlobalGuard>>, AllocError> {
     let mut workers = Vec::new(alloc);
-    for _ in 0..3 {
+    for _ in 0..count {
         workers.push(Worker::new(Caches::new(alloc, GlobalGuard::new())?))?;
     }
     Ok(workers)
 }
 
 /// Workers whose caches keep, over an edit, what it does not touch.
-fn switch_workers(alloc: Global) -> Result<Vec<Worker<SwitchGuard>>, AllocError> {
+pub(crate) fn switch_workers(
+    alloc: Global,
+    count: u32,
+) -> Result<Vec<Worker<SwitchGuard>>, AllocError> {
     let mut workers = Vec::new(alloc);
-    for _ in 0..3 {
+    for _ in 0..count {
         workers.push(Worker::new(Caches::new(alloc, SwitchGuard::new(alloc))?))?;
     }
     Ok(workers)
@@ -83,12 +91,12 @@ fn new_system<M: Mailbox, G: Guard>(
 
 /// A new system whose mailboxes are queues for three messages.
 pub(crate) fn new_queues(alloc: Global) -> Result<Box<System<ListBox, GlobalGuard>>, Refusal> {
-    new_system(alloc, 3, global_workers(alloc)?)
+    new_system(alloc, 3, global_workers(alloc, 3)?)
 }
 
 /// A new system whose mailboxes are rings for three messages.
 pub(crate) fn new_rings(alloc: Global) -> Result<Box<System<RingBox, SwitchGuard>>, Refusal> {
-    new_system(alloc, 3, switch_workers(alloc)?)
+    new_system(alloc, 3, switch_workers(alloc, 3)?)
 }
 
 pub(crate) fn apply<M: Mailbox, G: Guard>(
@@ -183,6 +191,24 @@ pub(crate) fn has_same_clients<M: Mailbox, N: Mailbox>(
         (Ok(one), Ok(other)) => one.as_slice() == other.as_slice(),
         _ => false,
     }
+}
+
+/// The text of an image's document, as its file has it.
+fn document<M: Mailbox>(alloc: Global, image: &Image<M>) -> Result<MemoryOutput, Refusal> {
+    let mut output = MemoryOutput::new(alloc);
+    save(alloc, image, &mut output)?;
+    Ok(output)
+}
+
+/// Whether the documents of two images have the same text.
+pub(crate) fn has_same_document<M: Mailbox, N: Mailbox>(
+    alloc: Global,
+    one: &Image<M>,
+    other: &Image<N>,
+) -> Result<bool, Refusal> {
+    let one = document(alloc, one)?;
+    let other = document(alloc, other)?;
+    Ok(one.as_slice() == other.as_slice())
 }
 
 /// The actor that is to be checked out next.

@@ -6,8 +6,6 @@ ghost use Rattle.st_classes.specs.declared.refusals.Limited.TheVariants as limit
 mod closing;
 mod working;
 
-pub(crate) use working::{Work, goes_on};
-
 use crate::books::{Blanks, Books, PARTS};
 use crate::front::{Front, Head, Opened};
 use crate::naming::Naming;
@@ -27,6 +25,7 @@ use st_mailbox::messages::{Message, Sender};
 use std::alloc::Global;
 use std::marker::Model;
 use std::mem::replace;
+pub(crate) use working::{Work, goes_on};
 
 /// What lies under the lock: an image, and what has happened to it since. Contracts see the image and the books.
 #[derive(Drop)]
@@ -289,7 +288,6 @@ impl<K: Naming, M: Mailbox> Office<K, M> {
     {
         self.waiting.stop();
     }
-
 }
 
 impl<K: Naming, M: Mailbox> Holder<M> for Office<K, M> {

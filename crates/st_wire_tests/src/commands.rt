@@ -202,14 +202,7 @@ fn is_wanted(command: &Command, wanted: &Wanted) -> bool {
 }
 
 /// Whether a query has this name, names this class and this selector, and has these numbers.
-fn is_query(
-    query: &Query,
-    name: &str,
-    holder: &str,
-    text: &str,
-    first: u32,
-    second: u32,
-) -> bool {
+fn is_query(query: &Query, name: &str, holder: &str, text: &str, first: u32, second: u32) -> bool {
     match query {
         Query::Classes => name == "classes",
         Query::Methods { class } => name == "methods" && is(class, holder),
@@ -221,9 +214,7 @@ fn is_query(
         },
         Query::Implementors { selector } => name == "implementors" && is(selector, text),
         Query::Senders { selector } => name == "senders" && is(selector, text),
-        Query::Actors { from, most } => {
-            name == "actors" && *from == first && *most == second
-        },
+        Query::Actors { from, most } => { name == "actors" && *from == first && *most == second },
     }
 }
 

@@ -30,6 +30,7 @@ COMMANDS = (
     {"cmd": "implementors", "selector": "a"},
     {"cmd": "senders", "selector": "+"},
     {"cmd": "senders", "selector": "neverNamed"},
+    {"cmd": "actors", "from": 0, "most": 2},
     {"cmd": "run", "quanta": 1},
     # these are refused
     {"actor": 0, "args": [], "cmd": "post", "selector": "a", "sender": 1, "seq": 1},

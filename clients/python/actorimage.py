@@ -121,6 +121,28 @@ Value = Union[int, bool, None, Symbol, ClassName, Actor, Local]
 Reply = dict[str, Any]
 
 
+@dataclass(frozen=True)
+class Standing:
+    """How an actor stands: its class, how many messages its mailbox accepted and how many of these it began, both counted as turns
+    are, and whether the mailbox is open. `phase` is "fresh" before the first turn, "start" or "frames" in a turn, and "answer" or
+    "fault" behind the last one. `answer` is the value behind an answer, `fault` the name of a fault, and `running` the class and the
+    selector of the method that runs; each is `None` elsewhere."""
+    actor: Actor
+    class_name: str
+    accepted: int
+    begun: int
+    is_open: bool
+    phase: str
+    answer: Value
+    fault: Optional[str]
+    running: Optional[tuple[str, str]]
+
+    @property
+    def waiting(self) -> int:
+        """How many messages the mailbox holds."""
+        return self.accepted - self.begun
+
+
 class ActorImageError(Exception):
     """All errors of this module."""
 
@@ -241,6 +263,22 @@ def _number(actor: Actor) -> int:
     if not isinstance(actor, Actor):
         raise TypeError(f"{actor!r} is no actor; write Actor(0) for actor 0")
     return _bounded(actor.number, 2**32 - 1, "the number of an actor")
+
+
+def _standing(told: Reply) -> Standing:
+    phase, running = told["phase"], told["running"]
+    ended = phase if isinstance(phase, dict) else {}
+    return Standing(
+        Actor(told["actor"]),
+        told["class"],
+        told["accepted"],
+        told["begun"],
+        told["open"],
+        next(iter(ended), phase),
+        _received(ended.get("answer")),
+        ended.get("fault"),
+        running and (running["class"], running["selector"]),
+    )
 
 
 def _received(value: Any) -> Value:
@@ -431,6 +469,10 @@ class Image:
     def senders(self, selector: str) -> list[tuple[str, str]]:
         """The methods that are installed and send a selector, each as its class and its own selector, by their versions."""
         return [(it["class"], it["selector"]) for it in self.ask({"cmd": "senders", "selector": selector})["methods"]]
+
+    def actors(self, first: int = 0, most: int = 4_096) -> list[Standing]:
+        """How the actors stand from a number on, so many of them at most: 1 to 4,096. Fewer are given where there are no more."""
+        return [_standing(it) for it in self.ask({"cmd": "actors", "from": first, "most": most})["actors"]]
 
     # ---- actors
 

@@ -139,6 +139,13 @@ class Cut:
         reply = self.image.take(command, whole)
         if command["cmd"] == "post" and "ok" in reply:
             reply = {"ok": {"turn": reply["ok"]["turn"] - self.image.earlier(command["actor"])}}
+        if command["cmd"] == "actors" and "ok" in reply:
+            reply = {"ok": {**reply["ok"], "actors": [self.counted(row) for row in reply["ok"]["actors"]]}}
         if command["cmd"] == "stats" and "ok" in reply:
             reply = {"ok": {"sites": [{**site, **UNCOUNTED} for site in reply["ok"]["sites"]]}}
         return compact(reply).encode().rstrip(b"\n")
+
+    def counted(self, row):
+        """What is told of an actor, with its messages counted from the session on."""
+        before = self.image.earlier(row["actor"])
+        return {**row, "accepted": row["accepted"] - before, "begun": row["begun"] - before}

@@ -1,4 +1,4 @@
-"""Trials on what each command leaves in the file of a served image."""
+"""Trials on what each command leaves in the file of a served image, and on what is told of the actors of a file."""
 
 import json
 
@@ -6,7 +6,7 @@ from inspect_parts.try_common import good_files, read
 from inspect_parts.written import compact
 
 from .loaded import Loaded
-from .program import same
+from .program import same, settings
 from .try_served import ask, serve, wait
 
 # Commands of each kind for an image with class M, whose method `a` answers 14, and actor 0 of it, for which one message waits.
@@ -30,6 +30,7 @@ COMMANDS = (
     {"cmd": "implementors", "selector": "a"},
     {"cmd": "senders", "selector": "+"},
     {"cmd": "senders", "selector": "neverNamed"},
+    {"cmd": "actors", "from": 0, "most": 2},
     {"cmd": "run", "quanta": 1},
     # these are refused
     {"actor": 0, "args": [], "cmd": "post", "selector": "a", "sender": 1, "seq": 1},
@@ -67,4 +68,25 @@ def each_command(program):
     return f"{len(COMMANDS)} servers"
 
 
-TRIALS = (each_command,)
+ACTORS, ONE_STEP = {"cmd": "actors", "from": 0, "most": 4096}, {"cmd": "run", "quanta": 1}
+
+
+def actors_told(program):
+    """What is told of the actors of each file, and again behind each of three steps. A file may have a message that was begun and no
+    more, which no run leaves."""
+    phases = set()
+    for name, path in good_files().items():
+        data = read(path)
+        image = Loaded(json.loads(data), quantum=1)
+        commands = [ACTORS] + [ONE_STEP, ACTORS] * 3
+        lines = [json.dumps(command).encode() for command in commands]
+        replies = program.replies(name, program.put("file", data), lines, settings(1, 64))
+        for command, reply in zip(commands, replies, strict=True):
+            same(f"{name}: {command}", json.loads(reply), image.reply(command))
+        for row in json.loads(replies[0])["ok"]["actors"]:
+            phases.update([row["phase"]] if isinstance(row["phase"], str) else row["phase"])
+    same("the phases", sorted(phases), ["answer", "fault", "frames", "fresh", "start"])
+    return f"{len(good_files())} files"
+
+
+TRIALS = (each_command, actors_told)

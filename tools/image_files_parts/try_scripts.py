@@ -92,8 +92,8 @@ def renumbered(lines, whole, quantum, capacity):
 
 def with_checkpoints(program):
     """A checkpoint behind each line leaves the file that is saved as it is without, and the replies but for what it forgets: how
-    turns ended, their numbers, and counts of call sites. Where the second implementation runs the script too, it says which numbers
-    the turns have, how those ended that are kept, and what each checkpoint has counted."""
+    turns ended, their numbers, and counts of messages and call sites. Where the second implementation runs the script too, it says
+    which numbers the turns have, how those ended that are kept, and what each checkpoint has counted."""
     count = made = 0
     for name, lines, quantum, capacity in chain(all_scripts(), worked_scripts()):
         count += 1
@@ -124,7 +124,7 @@ def steps_of(replies):
 
 def kept(line, reply):
     """A reply without what a checkpoint forgets."""
-    if command_of(line)["cmd"] == "outcome":
+    if command_of(line)["cmd"] in ("outcome", "actors"):
         return None
     reply = json.loads(reply)
     return list(reply["ok"]) if "ok" in reply and command_of(line)["cmd"] in ("post", "stats") else reply

@@ -15,6 +15,13 @@ NO_MEMORY = {"error": "NoMemory"}
 PENDING = {"error": "Pending"}
 SECONDS = 20
 
+
+def told(number, begun, is_open, phase):
+    """What is told of an actor that has begun all its messages."""
+    counts = {"accepted": begun, "actor": number, "begun": begun}
+    return {**counts, "class": "A", "open": is_open, "phase": phase, "running": None}
+
+
 # Lines, and the replies to them with ample memory. An outcome is asked for until it is there.
 LINES = [
     ({"cmd": "define", "name": "A", "slots": [], "super": "Object"}, {"ok": {"version": 1}}),
@@ -37,6 +44,10 @@ LINES = [
     ({"class": "A", "cmd": "reparent", "super": "Object"}, {"ok": {"version": 6}}),
     ({"actor": 1, "cmd": "close"}, {"ok": {}}),
     ({"actor": 1, "args": [], "cmd": "post", "selector": "go", "sender": 1, "seq": 3}, {"error": "Closed"}),
+    (
+        {"cmd": "actors", "from": 0, "most": 2},
+        {"ok": {"actors": [told(0, 2, True, {"answer": {"ref": 1}}), told(1, 0, False, "fresh")], "count": 2}},
+    ),
 ]
 # A worker that finds no memory rests until a call wakes it; this one is refused, and wakes it.
 WAKING = {"class": "Symbol", "cmd": "actor"}

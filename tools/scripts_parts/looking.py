@@ -7,7 +7,7 @@ from .script import Script
 
 # The kernel's classes, and how many methods each has of its own.
 KERNEL = {"Object": 5, "SmallInteger": 9, "True": 2, "False": 2, "UndefinedObject": 0, "Symbol": 0, "ActorRef": 4, "Class": 2}
-SESSION_EDITS, ALL_CLASSES = 2048, 1024
+SESSION_EDITS, ALL_CLASSES, MOST_TOLD = 2048, 1024, 4096
 
 
 def row(name, methods=0, above="Object"):
@@ -63,4 +63,18 @@ def all_versions_listed(program):
     run_script(program, script)
 
 
-TRIALS = (all_classes_listed, all_methods_listed, all_versions_listed)
+def most_actors_listed(program):
+    """More actors than are told at once."""
+    script = Script("most_actors_listed")
+    script.ask(define("A"), version(1))
+    rest = {"accepted": 0, "begun": 0, "class": "A", "open": True, "phase": "fresh", "running": None}
+    rows = [{**rest, "actor": number} for number in range(MOST_TOLD + 2)]
+    for number in range(len(rows)):
+        script.ask({"class": "A", "cmd": "actor"}, {"ok": {"actor": number}})
+    for first in (0, 1, 2, 3, MOST_TOLD, MOST_TOLD + 1, MOST_TOLD + 2):
+        told = rows[first : first + MOST_TOLD]
+        script.ask({"cmd": "actors", "from": first, "most": MOST_TOLD}, {"ok": {"actors": told, "count": len(rows)}})
+    run_script(program, script)
+
+
+TRIALS = (all_classes_listed, all_methods_listed, all_versions_listed, most_actors_listed)

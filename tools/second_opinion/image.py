@@ -4,7 +4,7 @@ from collections import Counter
 
 from .classes import Classes, Refused
 from .language import BadSource, MOST_ACTORS, MOST_COUNTED, MOST_RESULTS, arguments_of, is_selector
-from .looking import LOOKS, look
+from .looking import LOOKS, actors, look
 from .machine import Actor
 from .values import NIL, Value, boolean
 
@@ -41,6 +41,8 @@ class Image:
         there."""
         if command["cmd"] in LOOKS:
             return look(self.classes, command)
+        if command["cmd"] == "actors":
+            return {"ok": actors(self, command)}
         return getattr(self, command["cmd"])(command)
 
     def define(self, command):

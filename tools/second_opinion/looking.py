@@ -1,7 +1,8 @@
-"""What the commands that look answer. They ask the class table alone, and change nothing."""
+"""What the commands that look answer. They change nothing. Six ask the class table alone, and one the actors."""
 
 from .classes import Refused
 from .language import KERNEL_SELECTORS, is_selector
+from .values import Value
 
 
 def number_of(table, command):
@@ -101,3 +102,41 @@ def look(table, command):
         return {"ok": LOOKS[command["cmd"]](table, command)}
     except Refused as refused:
         return {"error": refused.name}
+
+
+def phase(image, actor):
+    """Where the actor's turn stands."""
+    if actor.message is not None:
+        return "start"
+    if actor.frames:
+        return "frames"
+    if not actor.results:
+        return "fresh"
+    result = actor.results[-1]
+    return {"answer": image.json(result)} if isinstance(result, Value) else {"fault": result}
+
+
+def running(image, actor):
+    """The method of the frame that runs: the class that had it when the frame was made, and its selector."""
+    if not actor.frames:
+        return None
+    frame = actor.frames[-1]
+    return {"class": image.classes.all[frame.holder].name, "selector": frame.method.selector}
+
+
+def told(image, actor):
+    return {
+        "accepted": actor.accepted,
+        "actor": actor.number,
+        "begun": actor.accepted - len(actor.pending),
+        "class": image.classes.all[actor.objects[0].class_number].name,
+        "open": actor.is_open,
+        "phase": phase(image, actor),
+        "running": running(image, actor),
+    }
+
+
+def actors(image, command):
+    """The actors from a number on, at most so many, and how many there are in all."""
+    first, most = command["from"], command["most"]
+    return {"actors": [told(image, it) for it in image.actors[first : first + most]], "count": len(image.actors)}

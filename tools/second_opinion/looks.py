@@ -1,10 +1,12 @@
-"""Questions at random of the commands that look: about classes and selectors that are there, and about some that are not."""
+"""Questions at random of the commands that look: about classes, selectors and actors that are there, and about some that are not."""
 
 from .language import KERNEL_CLASSES, KERNEL_SELECTORS
 from .words import KEYWORDS, UNARY, long_word
 
 # Mostly the commands that name a class and a selector.
-KINDS = "source source source versions versions methods senders senders implementors classes".split()
+KINDS = "source source source versions versions methods senders senders implementors classes actors actors".split()
+# Of so many actors it is asked, at most.
+MOST = [1, 1, 2, 3, 8, 60, 4096]
 NO_CLASSES = ["Nowhere", "a", "object", "", "A b"]
 NO_SELECTORS = ["", "a:b", "3", "+-", "foo bar", "a::", "@"]
 # Kernel methods, and some that only few classes have.
@@ -20,12 +22,20 @@ class Looks:
     def ask(self, class_name=None, selector=None):
         """A question, where they are given often about this class and this selector."""
         kind = self.rng.choice(KINDS)
+        if kind == "actors":
+            return self.ask_actors()
         command = {"cmd": kind}
         if kind in ("methods", "source", "versions"):
             command["class"] = class_name if class_name and self.rng.random() < 0.5 else self.class_name()
         if kind in ("source", "versions", "implementors", "senders"):
             command["selector"] = selector if selector and self.rng.random() < 0.5 else self.selector()
-        self.script.add(command)
+        return self.script.add(command)
+
+    def ask_actors(self):
+        """Mostly of all, or of all from one on that is there."""
+        kind, count = self.rng.random(), len(self.script.image.actors)
+        first = 0 if kind < 0.5 else 2**32 - 1 if kind < 0.51 else self.rng.randrange(count + 2)
+        return self.script.add({"cmd": "actors", "from": first, "most": self.rng.choice(MOST)})
 
     def class_name(self):
         kind = self.rng.random()

@@ -1,5 +1,5 @@
 """Scripts picked by hand, for messages to super, removes, doesNotUnderstand:, classes that move, the objects and actors that methods make,
-and looks at the classes.
+and looks at classes and actors.
 
 Each is a text: a command a line, and behind a `>` the reply to the last command, where it is said. These replies come from the
 rules, and the second reader is held to them before it is compared with anything.
@@ -11,6 +11,7 @@ rules, and the second reader is held to them before it is compared with anything
     outcome 0 1           how turn 1 of actor 0 ended; without the 1, the last message that it got
     turn 0 at:put: 1 2    posts, runs all there is, and asks how that turn ended
     look classes          look methods C          look senders at:put:    look source C at:put:
+    look actors 0 4096    the actors from 0 on, at most so many             checkpoint
 """
 
 import json
@@ -43,7 +44,7 @@ def all_picked():
     ):
         for says, text in texts.items():
             yield Picked(says, text)
-    for texts in (picked_lookup.WHILE_RUNNING, picked_moves.WHILE_RUNNING):
+    for texts in (picked_lookup.WHILE_RUNNING, picked_moves.WHILE_RUNNING, picked_looking.WHILE_RUNNING):
         for says, text in texts.items():
             yield Picked(says, text, quantum=1)
     for texts in (picked_actors.FULL, picked_mailboxes.NARROW):
@@ -92,8 +93,15 @@ class Taker:
 
     def take_look(self, rest):
         kind, *words = rest.split()
+        if kind == "actors":
+            first, most = map(int, words)
+            self.script.add({"cmd": kind, "from": first, "most": most})
+            return
         keys = {"methods": ["class"], "implementors": ["selector"], "senders": ["selector"]}.get(kind, ["class", "selector"])
         self.script.add({"cmd": kind, **dict(zip(keys, words))})
+
+    def take_checkpoint(self, rest):
+        self.script.add({"cmd": "checkpoint"})
 
     def take_actor(self, rest):
         self.script.add({"class": rest, "cmd": "actor"})

@@ -283,3 +283,191 @@ LOOKING = {
 {"selector":"third:","version":6},{"selector":"fifth","version":5},{"selector":"sixth","version":4}]}}
     """,
 }
+
+
+def row(number, class_name, counts, phase, running="null", is_open="true"):
+    """The text of an actor; `counts` are how many messages it accepted and began."""
+    accepted, begun = counts.split()
+    counted = f'"accepted":{accepted},"actor":{number},"begun":{begun}'
+    return f'{{{counted},"class":"{class_name}","open":{is_open},"phase":{phase},"running":{running}}}'
+
+
+def rows(count, *told):
+    return f'> {{"ok":{{"actors":[{",".join(told)}],"count":{count}}}}}'
+
+
+def runs(class_name, selector):
+    return f'{{"class":"{class_name}","selector":"{selector}"}}'
+
+
+FRESH, FRAMES, MISSING = '"fresh"', '"frames"', '{"fault":"notUnderstood"}'
+
+LOOKING["actors show how their last turns ended, and whether their mailboxes are open"] = f"""
+    look actors 0 4096
+    {rows(0)}
+    class A Object n
+    class B A
+    method A hold n := B new. ^n
+    method A it: x ^x
+    method A make ^B newActor
+    method A shut ^thisActor close
+    method A none ^n foo
+    actor A
+    actor B
+    look actors 0 4096
+    {rows(2, row(0, "A", "0 0", FRESH), row(1, "B", "0 0", FRESH))}
+    turn 0 hold
+    look actors 0 1
+    {rows(2, row(0, "A", "1 1", '{"answer":{"local":1}}'))}
+    turn 0 it: {{"sym":"at:put:"}}
+    look actors 0 1
+    {rows(2, row(0, "A", "2 2", '{"answer":{"sym":"at:put:"}}'))}
+    turn 0 it: {{"class":"B"}}
+    look actors 0 1
+    {rows(2, row(0, "A", "3 3", '{"answer":{"class":"B"}}'))}
+    turn 0 it: null
+    look actors 0 1
+    {rows(2, row(0, "A", "4 4", '{"answer":null}'))}
+    turn 0 none
+    look actors 0 1
+    {rows(2, row(0, "A", "5 5", MISSING))}
+    turn 0 make
+    look actors 0 4096
+    {rows(3, row(0, "A", "6 6", '{"answer":{"ref":2}}'), row(1, "B", "0 0", FRESH), row(2, "B", "0 0", FRESH))}
+    look actors 1 1
+    {rows(3, row(1, "B", "0 0", FRESH))}
+    look actors 2 1
+    {rows(3, row(2, "B", "0 0", FRESH))}
+    look actors 3 1
+    {rows(3)}
+    look actors 4294967295 4096
+    {rows(3)}
+    post 1 it: -5
+    close 1
+    > {{"ok":{{}}}}
+    close 3
+    > {{"error":"UnknownActor"}}
+    look actors 1 2
+    {rows(3, row(1, "B", "1 0", FRESH, is_open="false"), row(2, "B", "0 0", FRESH))}
+    post 1 it: 6
+    > {{"error":"Closed"}}
+    turn 0 shut
+    > {{"ok":{{"answer":true}}}}
+    look actors 0 2
+    {rows(3, row(0, "A", "7 7", '{"answer":true}', is_open="false"), row(1, "B", "1 1", '{"answer":-5}', is_open="false"))}
+"""
+
+LOOKING["messages of actors count as those of clients do, once they are accepted"] = f"""
+    class A Object
+    method A tell: x ^x post: #one
+    method A one ^1
+    actor A
+    actor A
+    post 0 tell: {{"ref":1}}
+    run 1
+    look actors 0 2
+    {rows(2, row(0, "A", "1 1", FRAMES, runs("A", "tell:")), row(1, "A", "1 0", FRESH))}
+    run
+    look actors 0 2
+    {rows(2, row(0, "A", "1 1", '{"answer":true}'), row(1, "A", "1 1", '{"answer":1}'))}
+    close 1
+    turn 0 tell: {{"ref":1}}
+    > {{"ok":{{"answer":false}}}}
+    look actors 1 1
+    {rows(2, row(1, "A", "1 1", '{"answer":1}', is_open="false"))}
+"""
+
+# No script sees the phase `start`: the quantum that begins a message takes its first step too. A file may have it, and a session of a
+# server may come between a worker's beginning and its steps. A script that counts beyond the most may have it too, but not from 0.
+WHILE_RUNNING = {
+    "the method of the last frame runs, with the class that had it when it was called": f"""
+        class A Object
+        class B A
+        method A go: x ^self who + x
+        method A who ^1
+        method B who ^super who
+        actor B
+        post 0 go: 1
+        post 0 who
+        look actors 0 1
+        {rows(1, row(0, "B", "2 0", FRESH))}
+        run 1
+        look actors 0 1
+        {rows(1, row(0, "B", "2 1", FRAMES, runs("A", "go:")))}
+        run 2
+        look actors 0 1
+        {rows(1, row(0, "B", "2 1", FRAMES, runs("B", "who")))}
+        remove B who
+        look actors 0 1
+        {rows(1, row(0, "B", "2 1", FRAMES, runs("B", "who")))}
+        method A who ^2
+        run 2
+        look actors 0 1
+        {rows(1, row(0, "B", "2 1", FRAMES, runs("A", "who")))}
+        run 2
+        look actors 0 1
+        {rows(1, row(0, "B", "2 1", FRAMES, runs("B", "who")))}
+        run 1
+        look actors 0 1
+        {rows(1, row(0, "B", "2 1", FRAMES, runs("A", "go:")))}
+        run 3
+        look actors 0 1
+        {rows(1, row(0, "B", "2 1", '{"answer":3}'))}
+        run
+        look actors 0 1
+        {rows(1, row(0, "B", "2 2", '{"answer":2}'))}
+        method A doesNotUnderstand: s ^s
+        post 0 gone
+        run 1
+        look actors 0 1
+        {rows(1, row(0, "B", "3 3", FRAMES, runs("A", "doesNotUnderstand:")))}
+        run
+        look actors 0 1
+        {rows(1, row(0, "B", "3 3", '{"answer":{"sym":"gone"}}'))}
+        post 0 isNil
+        run 1
+        look actors 0 1
+        {rows(1, row(0, "B", "4 4", '{"answer":false}'))}
+    """,
+    "behind a checkpoint messages are counted as turns are, and what stands there stays": f"""
+        class A Object
+        method A one ^1
+        method A bad ^nil foo
+        actor A
+        actor A
+        post 0 one
+        post 0 one
+        post 0 bad
+        post 1 bad
+        look actors 0 2
+        {rows(2, row(0, "A", "3 0", FRESH), row(1, "A", "1 0", FRESH))}
+        checkpoint
+        > {{"ok":{{"posts":4,"steps":0}}}}
+        look actors 0 2
+        {rows(2, row(0, "A", "3 0", FRESH), row(1, "A", "1 0", FRESH))}
+        run 3
+        look actors 0 2
+        {rows(2, row(0, "A", "3 1", FRAMES, runs("A", "one")), row(1, "A", "1 1", FRAMES, runs("A", "bad")))}
+        checkpoint
+        > {{"ok":{{"posts":4,"steps":3}}}}
+        look actors 0 2
+        {rows(2, row(0, "A", "2 0", FRAMES, runs("A", "one")), row(1, "A", "0 0", FRAMES, runs("A", "bad")))}
+        run
+        > {{"ok":{{"quanta":9,"steps":9}}}}
+        look actors 0 2
+        {rows(2, row(0, "A", "2 2", MISSING), row(1, "A", "0 0", MISSING))}
+        outcome 0 0
+        > {{"ok":{{"answer":1}}}}
+        post 0 one
+        > {{"ok":{{"turn":3}}}}
+        look actors 0 1
+        {rows(2, row(0, "A", "3 2", MISSING))}
+        checkpoint
+        > {{"ok":{{"posts":5,"steps":12}}}}
+        look actors 0 2
+        {rows(2, row(0, "A", "1 0", MISSING), row(1, "A", "0 0", MISSING))}
+        run
+        look actors 0 1
+        {rows(2, row(0, "A", "1 1", '{"answer":1}'))}
+    """,
+}

@@ -204,8 +204,8 @@ def random_script(rng, sources, size):
 
 class CutTurns:
     """A script in which turns of several actors are cut by quanta, with edits between them. What is drawn apart changes nothing of the
-    rest: it is what `aside` names, which may be further definitions, questions for sends and looks at the classes. `further` are the lines
-    of this, and those of a run that is asked for quantum by quantum."""
+    rest: it is what `aside` names, which may be further definitions, questions for sends, looks at classes and actors, and checkpoints.
+    `further` are the lines of this, and those of a run that is asked for quantum by quantum."""
 
     SELECTORS = "foo bar m m1 who + = foo: class".split()
 
@@ -238,6 +238,17 @@ class CutTurns:
 
     def look(self):
         self.looks.ask()
+
+    def checkpoint(self):
+        """Few: counts of sends begin at 0 behind it."""
+        if self.apart.random() < 0.25:
+            self.script.add({"cmd": "checkpoint"})
+
+    def look_at_actors(self):
+        """Often, where there are looks, behind what changes actors."""
+        if "look" in self.aside and self.apart.random() < 0.25:
+            self.further += 1
+            self.looks.ask_actors()
 
     def look_behind(self, edit, selector=None):
         """Often, where classes are looked at, a look at what was edited."""
@@ -273,6 +284,7 @@ class CutTurns:
         times = quanta if quanta < 5 else 1
         for _ in range(times):
             self.script.add({"cmd": "run", "quanta": quanta // times})
+            self.look_at_actors()
         self.further += times - 1
 
     def command(self, kind):
@@ -286,12 +298,14 @@ class CutTurns:
             self.look_behind(self.script.commands[-1])
         elif kind < 0.6:
             self.post()
+            self.look_at_actors()
         elif kind < 0.8:
             self.run()
         elif kind < 0.985:
             self.ask()
         elif kind < 0.99:
             self.script.add({"actor": self.actor(), "cmd": "close"})
+            self.look_at_actors()
         elif len(self.script.image.actors) < 8:
             self.script.add({"class": self.rng.choice(["A", "B", "C", "D", "E", "Object"]), "cmd": "actor"})
 
@@ -326,7 +340,7 @@ class CutTurns:
 
 
 def cut_turns(rng, sources):
-    turns = CutTurns(rng, sources, aside=("define", "ask_sends", "look"))
+    turns = CutTurns(rng, sources, aside=("define", "ask_sends", "look", "checkpoint"))
     turns.grow(900)
     return turns.asked_in_the_end()
 

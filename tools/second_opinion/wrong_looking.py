@@ -4,6 +4,7 @@ from .wrong_rule import WrongRule
 
 PAST = "version, text = table.past[holder, selector][-1]"
 FOUND = "    found = table.find(number, selector)\n"
+BEGUN = "actor.accepted - len(actor.pending)"
 OWN = "    return set(KERNEL_SELECTORS.get(one.name, ())).union(one.methods)\n"
 
 WRONG_LOOKING = [
@@ -98,5 +99,63 @@ WRONG_LOOKING = [
         "looking",
         '        raise Refused("BadName")\n',
         '        raise Refused("NoSuchMethod")\n',
+    ),
+    WrongRule("the last actor is left out", "looking", "image.actors[first : first + most]", "image.actors[:-1][first : first + most]"),
+    WrongRule(
+        "actors are told from behind the number",
+        "looking",
+        "image.actors[first : first + most]",
+        "image.actors[first + 1 : first + 1 + most]",
+    ),
+    WrongRule("one actor more is told", "looking", "image.actors[first : first + most]", "image.actors[first : first + most + 1]"),
+    WrongRule(
+        "the count is that of the actors which are told",
+        "looking",
+        '"count": len(image.actors)',
+        '"count": len(image.actors[first : first + most])',
+    ),
+    WrongRule("pending messages are begun", "looking", BEGUN, "actor.accepted"),
+    WrongRule("the message in hand is not begun yet", "looking", BEGUN, BEGUN + " - actor.in_turn()"),
+    WrongRule(
+        "the message that waits is not accepted yet",
+        "looking",
+        '"accepted": actor.accepted',
+        '"accepted": actor.accepted - len(actor.pending)',
+    ),
+    WrongRule("accepted messages count since the image was new", "machine", "        self.accepted = len(self.pending)\n", ""),
+    WrongRule(
+        "the turn that stands at a checkpoint is counted still",
+        "looking",
+        '"accepted": actor.accepted',
+        '"accepted": actor.accepted + (actor.number in image.stands)',
+    ),
+    WrongRule("a checkpoint forgets how the turn that stands ended", "machine", "self.results[-1:]", "[]"),
+    WrongRule("the first frame runs", "looking", "frame = actor.frames[-1]", "frame = actor.frames[0]"),
+    WrongRule(
+        "the class of the receiver is shown in place of the method's",
+        "looking",
+        "image.classes.all[frame.holder]",
+        "image.classes.all[actor.class_of(frame.receiver)]",
+    ),
+    WrongRule(
+        "what a message would run now is shown in place of what runs",
+        "looking",
+        "image.classes.all[frame.holder]",
+        "image.classes.all[(image.classes.find(actor.class_of(frame.receiver), frame.method.selector) or (0,))[0]]",
+    ),
+    WrongRule(
+        "a turn that goes on shows how the one before it ended",
+        "looking",
+        "    if actor.frames:\n",
+        "    if actor.frames and not actor.results:\n",
+    ),
+    WrongRule("a turn that has ended is forgotten", "looking", "    if not actor.results:\n", "    if True:\n"),
+    WrongRule("the first turn is shown in place of the last", "looking", "result = actor.results[-1]", "result = actor.results[0]"),
+    WrongRule("all mailboxes are open", "looking", '"open": actor.is_open', '"open": True'),
+    WrongRule(
+        "a closed mailbox is open while messages wait",
+        "looking",
+        '"open": actor.is_open',
+        '"open": actor.is_open or bool(actor.pending)',
     ),
 ]

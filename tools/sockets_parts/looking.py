@@ -1,9 +1,12 @@
-"""Trials of looks at classes that other sessions edit meanwhile."""
+"""Trials of looks at classes that other sessions edit meanwhile, and at actors for which others post."""
 
 import threading
 
 EDITS = 400
 REMOVES = 7
+POSTS, WAITED = 300, 5
+# The actor counts its messages, and answers how many there were.
+COUNT = "a count isNil ifTrue: [count := 0]. count := count + 1. ^count"
 
 
 class Stage:
@@ -76,4 +79,74 @@ def looks_while_others_edit(program, Server, _post):
         assert server.ended() == ({"posts": 0, "steps": 0}, [])
 
 
-TRIALS = (looks_while_others_edit,)
+class Posting:
+    """A server with two actors, for each of which one session posts while another looks."""
+
+    def __init__(self, server, post):
+        self.server, self.post = server, post
+        self.errors = []
+        self.is_over = threading.Event()
+
+    def row(self, client, actor):
+        told = client.done(cmd="actors", **{"from": actor}, most=1)
+        [row] = told["actors"]
+        assert told["count"] == 2 and (row["actor"], row["class"], row["open"]) == (actor, "A", True), told
+        assert (row["phase"] == "frames") == (row["running"] is not None), row
+        assert row["running"] in (None, {"class": "A", "selector": "a"}), row
+        return row
+
+    def posts(self, client, actor):
+        """What was replied to is told: the message that was accepted, and now and then the turn that has ended."""
+        for turn in range(1, POSTS + 1):
+            while (reply := client.ask(**self.post(actor, "a", [], actor + 1, turn))) == {"error": "Full"}:
+                pass
+            assert reply == {"ok": {"turn": turn}}, reply
+            row = self.row(client, actor)
+            assert row["accepted"] == turn and row["begun"] <= turn, (turn, row)
+            if turn % WAITED == 0:
+                client.wait(actor, turn)
+                row = self.row(client, actor)
+                assert row["begun"] == turn and row["phase"] == {"answer": turn}, (turn, row)
+
+    def looks(self, client, actor):
+        """Counts never fall, and what has ended is never more than what was begun."""
+        accepted = begun = 0
+        while not self.is_over.is_set():
+            row = self.row(client, actor)
+            assert accepted <= row["accepted"] and begun <= row["begun"] <= row["accepted"], (accepted, begun, row)
+            accepted, begun = row["accepted"], row["begun"]
+            assert row["phase"] in ("fresh", "start", "frames", {"answer": begun}), row
+
+    def threads(self, part):
+        return [threading.Thread(target=self.run, args=(part, actor)) for actor in (0, 1)]
+
+    def run(self, part, actor):
+        try:
+            with self.server.client() as client:
+                part(client, actor)
+        except BaseException as error:
+            self.errors.append(f"{part.__name__} {actor}: {error!r}")
+            raise
+
+
+def looks_while_others_post(program, Server, post):
+    """Two sessions post and look, and two look alone."""
+    with Server(program, 5, 2) as server:
+        stage = Posting(server, post)
+        with server.client() as first:
+            first.make("A", ["count"], COUNT)
+            assert [first.actor("A") for _ in range(2)] == [0, 1]
+            looking, posting = stage.threads(stage.looks), stage.threads(stage.posts)
+            for thread in looking + posting:
+                thread.start()
+            for thread in posting:
+                thread.join()
+            stage.is_over.set()
+            for thread in looking:
+                thread.join()
+            assert not stage.errors, stage.errors
+        counted, refused = server.ended()
+        assert counted["posts"] == 2 * POSTS and refused == [], (counted, refused)
+
+
+TRIALS = (looks_while_others_edit, looks_while_others_post)

@@ -87,21 +87,38 @@ def method_of(session, rest):
     return name, match[2]
 
 
+# So many actors are listed at once.
+LISTED = 100
+
+
 def actors(session, rest):
-    known = session.known
-    rows = [["actor", "name", "class", ""]]
-    for number, actor in sorted(known.actors.items()):
-        names = [name for name, value in known.names.items() if value == {"ref": number}]
-        rows.append([number, ", ".join(names), actor.class_name or "not told", "closed" if actor.is_closed else ""])
-    in_image = session.turns.count_actors()
-    if known.actors:
+    if not re.fullmatch("[0-9]{0,5}", rest):
+        raise Wrong("write the number of the first actor to be listed after it, or nothing")
+    first = int(rest or 0)
+    found, there = looks.actors(session, first, LISTED)
+    rows = [["actor", "name", "class", "turn", "waiting", ""]]
+    for it in found:
+        names = [name for name, value in session.known.names.items() if value == {"ref": it["actor"]}]
+        waiting = it["accepted"] - it["begun"]
+        rows.append([it["actor"], ", ".join(names), it["class"], turn_of(session, it), waiting, "" if it["open"] else "closed"])
+    if found:
         session.tell(table(rows))
-    elif session.image.is_served:
-        session.say("in this session no actor was seen yet; name one as in  c := actor 0")
-    else:
+    if not there:
         session.say("there is no actor yet; make one as in  c := Counter actor")
-    if session.image.is_served or in_image > len(known.actors):
-        session.say(f"the image has {count(in_image, 'actor')}, numbered from 0")
+    elif len(found) < there:
+        more = first + len(found)
+        goes_on = f"; :actors {more}  goes on" if found and more < there else ", numbered from 0"
+        session.say(f"the image has {count(there, 'actor')}{goes_on}")
+
+
+def turn_of(session, told):
+    """Where the turn of an actor stands that the image told of."""
+    phase, running = told["phase"], told["running"]
+    if running:
+        return f"runs {running['class']} >> {running['selector']}"
+    if isinstance(phase, dict):
+        return f"fault {phase['fault']}" if "fault" in phase else f"answered {show(phase['answer'], session.known, told['actor'])}"
+    return "begins" if phase == "start" else "none yet"
 
 
 def names(session, rest):

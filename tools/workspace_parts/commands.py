@@ -92,7 +92,7 @@ COMMANDS = {
         Described(":versions Counter bump", "lists what was installed and removed for a method of a class", browsing.versions),
         Described(":implementors bump", "lists the classes that have a method of their own", browsing.implementors),
         Described(":senders bump", "lists the methods that send a message", browsing.senders),
-        Described(":actors", "lists the actors that were seen", browsing.actors),
+        Described(":actors 7", "lists the actors from a number on, with what they run; alone, from the first", browsing.actors),
         Described(":names", "lists what was named", browsing.names),
         Described(":stats Counter bump", "shows how the caches answered the sends of a method", browsing.stats),
         Described(":expect 5", "is refused where the messages before have another answer, so that a file can check", running.expect),

@@ -27,10 +27,9 @@ class KnownClass:
 
 @dataclass
 class KnownActor:
-    """`class_name` is None where an actor was made by a method."""
+    """`class_name` is None where a method made the actor, and the image was not asked."""
 
     class_name: str = None
-    is_closed: bool = False
 
 
 class Known:

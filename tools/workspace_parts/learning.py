@@ -10,7 +10,6 @@ def learn(image, known, turns):
     learn_classes(image.classes.all, known)
     for number, actor in enumerate(image.actors):
         known.actor(number).class_name = actor["class"]
-        known.actor(number).is_closed = not actor["open"]
         for turn, selector in turns_of(number, actor, turns.sender, image.classes):
             turns.waiting.append(turn)
             turns.selectors[turn] = selector

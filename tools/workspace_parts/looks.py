@@ -1,4 +1,4 @@
-"""What the image tells of its classes and methods. It is asked each time, so it is what is there now, whoever wrote it. What it tells is
+"""What the image tells of its classes, methods and actors. It is asked each time, so it is what is there now, whoever wrote it. What it tells is
 noted, for Tab, for :sources, and for what is said of refusals."""
 
 from second_opinion.language import KERNEL_SELECTORS
@@ -53,6 +53,14 @@ def implementors(session, selector):
 
 def senders(session, selector):
     return session.turns.ask({"cmd": "senders", "selector": selector})["methods"]
+
+
+def actors(session, first, most):
+    """So many actors at most, from a number on, and how many there are in all."""
+    told = session.turns.ask({"cmd": "actors", "from": first, "most": most})
+    for it in told["actors"]:
+        session.known.actor(it["actor"]).class_name = it["class"]
+    return told["actors"], told["count"]
 
 
 def understood(session, name):

@@ -59,9 +59,7 @@ def turn(session, rest):
 
 
 def close(session, rest):
-    number = actor_of(session, rest)
-    session.turns.ask({"cmd": "close", "actor": number})
-    session.known.actor(number).is_closed = True
+    session.turns.ask({"cmd": "close", "actor": actor_of(session, rest)})
 
 
 def checkpoint(session, rest):

@@ -10,7 +10,7 @@ REFUSALS = {
     "NoSuchMethod": "{class} has no method {selector} of its own, or no longer; look for a slip in its name",
     "Old": "another client posts under this number as well; type it again, or start with another --sender",
     "Pending": "turn {turn} of {actor} has not ended, or its message was not posted yet; ask again later",
-    "UnknownActor": "there is no {actor}; :actors tells how many there are",
+    "UnknownActor": "there is no {actor}; :actors lists those there are",
     "actors": "there are 65,536 actors, and no more can be made; let the old ones do more",
     "classes": "there are 1,024 classes, and no more can be defined; do with those there are",
     "edits": "the classes were edited as often as they may, 2,048 times since the server's start or 4,096 times in all; the first is "
@@ -30,14 +30,14 @@ IN_GENERAL = {
     "Pending": "the turn has not ended, or its message was not posted yet; ask again later",
     "TooMany": "there would be too many classes, variables, edits, names or actors; do with those there are, or let the server begin a "
     "new image",
-    "UnknownActor": "no actor has this number; :actors tells how many there are",
+    "UnknownActor": "no actor has this number; :actors lists those there are",
 }
 
 HELP = """\
 This image is served to many, and the server's workers run the actors: a message that is typed waits until its turn has ended.
 :post does not wait; its turn is told of with a later answer, and :turn asks for it. Ctrl-C stops the waiting, and the turn goes on.
 A session asks the image for its classes and methods, whoever wrote them (:classes, :methods, :versions, :senders, :implementors), how
-a turn of any actor ended (:turn 3 of actor 0), how many actors there are (:actors), and how often a method's sends were done (:stats).
+a turn of any actor ended (:turn 3 of actor 0), what the actors run (:actors), and how often a method's sends were done (:stats).
 :names, :sources and Tab have what this session typed, and what it was told of classes and methods; :methods alone tells of all.
 It cannot see who else is connected, what others named, which messages wait, or when a turn ends that it does not ask for. Edits of
 others take effect here at the next send, and are not told. c := actor 0 names any actor by its number.
@@ -58,7 +58,6 @@ COMMANDS = {
     "checkpoint": "empties the history of the server; turns are numbered anew for everybody",
     "step": FOR_SCRIPT,
     "run": FOR_SCRIPT,
-    "actors": "lists the actors that this session saw, and tells how many there are",
     "names": "lists what this session named",
     "save": "is for a script; here the server saves its image at its end",
     "sources": "writes the classes and methods that this session knows to a file, for :load",

@@ -46,8 +46,8 @@ def goes_on(program):
 Counter : Object | count |
 Counter >> start  count := 0
 Counter >> bump  count := count + 1. ^count
-actor  name  class
-    0        Counter  closed
+actor  name  class    turn        waiting
+    0        Counter  answered 2        1  closed
 actor 0
 turn 0 of actor 0 answers 2
 Pending: turn 1 of actor 0 has not ended, or not begun; :run goes on with it

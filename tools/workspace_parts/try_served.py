@@ -201,7 +201,7 @@ def lost_at_terminal(program):
         same(terminal.ask("c bump"), f"{BROKE}\n{NOTHING}; the next entry tries again\n")
         same(terminal.ask("c bump"), f"{NOTHING}; the next entry tries again\n")
         with Server(program, folder, *WORKERS) as server:
-            same(terminal.ask("c bump"), AGAIN + "\nUnknownActor: there is no actor 0; :actors tells how many there are\n")
+            same(terminal.ask("c bump"), AGAIN + "\nUnknownActor: there is no actor 0; :actors lists those there are\n")
             same(terminal.ask(COUNT[0]), "class Counter, version 1\n")
             server.end()
         with Server(program, folder, *WORKERS) as server:

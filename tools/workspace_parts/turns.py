@@ -105,23 +105,6 @@ class Turns:
             if refused.reply["error"] not in ("Expired", "Pending"):
                 raise
 
-    def has_actor(self, number):
-        try:
-            self.ask_for(number)
-        except Refused as refused:
-            if refused.reply["error"] != "UnknownActor":
-                raise
-            return False
-        return True
-
-    def count_actors(self):
-        """How many actors the image has: they are numbered from 0, and none is ever taken away."""
-        least, most = 0, 65_536
-        while least < most:
-            middle = (least + most) // 2
-            least, most = (middle + 1, most) if self.has_actor(middle) else (least, middle)
-        return least
-
     def checkpoint(self):
         """Empties the history. The turns that are waited for have other numbers then. Answers what the image has counted."""
         ended = {actor: self.last_ended(actor) for actor in {turn.actor for turn in self.waiting}}

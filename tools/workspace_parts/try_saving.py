@@ -56,7 +56,8 @@ def back(program):
         lines = ["C : Object", ":restart", ":classes", *BUMPED, ":save", "c bump. c bump", ":restart", ":actors"]
         found = typed(program, folder, lines)[0]
         same(found[2], "a new image, without classes and actors")
-        same(found[-3:], [f"{NAME} as it was saved last: {ONE}", "actor  name  class", "    0        Counter"])
+        rows = ["actor  name  class    turn        waiting", "    0        Counter  answered 1        0"]
+        same(found[-3:], [f"{NAME} as it was saved last: {ONE}", *rows])
         same(typed(program, folder, ["c := actor 0", "c bump"])[0][-1], "2")
 
 
@@ -140,7 +141,7 @@ def of_server(program):
         same(found, [f"{NAME}: {ONE}", "actor 0", "2", "turn 0 of actor 0 answers 1"])
         told = served(program, folder, ["c := actor 0", ":turn 0 of c", "c bump", ":actors"])
         same(told[:3], ["actor 0", "turn 0 of actor 0 answers 2", "3"])
-        same(told[-1], "the image has 1 actor, numbered from 0")
+        same(told[-1], "    0  c     Counter  answered 3        0")
         new = "Counter >> bump  ^0"
         told = served(program, folder, [new, ":classes", ":methods", ":sources c.st"])
         same(told[:3], ["Counter : Object | count |", "Counter >> start  count := 0", new])

@@ -133,8 +133,9 @@ fn document_again<C: Calls, R: Wait>(
     caller: &mut C,
 ) -> Result<MemoryOutput, Refusal> {
     match caller.document(rt, alloc) {
-        Err(Refusal::NoMemory) => caller.document(rt, alloc),
-        answer => answer,
+        Ok(text) => Ok(text),
+        // The output in memory fails where its growth is refused, and then it is a write that failed.
+        Err(_) => caller.document(rt, alloc),
     }
 }
 

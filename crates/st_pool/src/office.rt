@@ -1,5 +1,5 @@
-//! What lies under the lock: an image beside its books. Each call of a caller, and each claim that a worker settles or is handed,
-//! is one method here, and nothing else changes the image.
+//! What lies under the lock: an image beside its books. Each call of a caller is one method here, and each claim that a worker settles
+//! or is handed is one in `working`; nothing else changes the image.
 ghost use Rattle.st_classes.specs.declared.refusals.Refusal.TheVariants as refusals;
 ghost use Rattle.st_classes.specs.declared.refusals.Limited.TheVariants as limits;
 

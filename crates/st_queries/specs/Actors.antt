@@ -8,12 +8,12 @@ use Rattle.st_turn.specs.declared.body.Outcome.TheVariants.{Answer, Fault}
 use Rattle.st_turn.specs.declared.body.Phase.{Phase}
 use Rattle.st_turn.specs.declared.body.Phase.TheVariants.{Fresh, Start, Frames, Done}
 use Rattle.st_image.specs.Images.{ImageView, world}
-use Rattle.st_image.specs.Loading.{class_text, selector_text}
+use Rattle.st_image.specs.Loading.{class_text}
 use Rattle.st_image.specs.Worlds.{WorldActor}
 use Rattle.st_wire.specs.Names.{fault_name}
 use Rattle.st_wire.specs.Replies.{only, whole}
 use Rattle.st_queries.specs.Listing.{listed}
-use Rattle.st_queries.specs.Values.{value_told}
+use Rattle.st_queries.specs.Values.{method_named, value_told}
 
 -- the phase of a turn: `"fresh"`, `"start"`, `"frames"`, or how it ended
 abbrev pub phase_told : List (List ℕ) → List Edit → Phase → Data
@@ -23,13 +23,10 @@ phase_told names edits (Frames fs) = string (codes "frames")
 phase_told names edits (Done (Answer v)) = only (codes "answer") (value_told names edits v)
 phase_told names edits (Done (Fault f)) = only (codes "fault") (string (fault_name f))
 
--- a method, by the class that has it and its selector; null without one
+-- an installed method by its name; null without one
 abbrev pub running_method : List (List ℕ) → List Edit → Option MethodParts → Data
 running_method names edits None = null
-running_method names edits (Some m) = object
-    (member (codes "class") (string (class_text edits m.holder))
-    (member (codes "selector") (string (selector_text names m.selector))
-    no_members))
+running_method names edits (Some m) = method_named names edits m.holder m.selector
 
 -- the method of the running frame, if there is one
 abbrev pub running_told : List (List ℕ) → List Edit → Phase → Data

@@ -18,7 +18,7 @@ use Rattle.st_classes.specs.declared.refusals.Refusal.TheVariants.{NoMemory, NoS
 use Rattle.st_classes.specs.Classes.{chain, class_count, inherited, parent, slots}
 use Rattle.st_classes.specs.EditLists.{method_at}
 use Rattle.st_classes.specs.Kernel.{class, selector}
-use Rattle.st_classes.specs.Walks.{is_at, own}
+use Rattle.st_classes.specs.Walks.{is_at, method_id, own}
 use Rattle.st_image.specs.Images.{ImageView, world}
 use Rattle.st_image.specs.Loading.{class_text, selector_text}
 use Rattle.st_wire.specs.Replies.{only, whole}
@@ -28,6 +28,7 @@ use Rattle.st_queries.specs.Actors.{actors_told}
 use Rattle.st_queries.specs.Listing.{listed, texts}
 use Rattle.st_queries.specs.OwnMethods.{method_count, standing}
 use Rattle.st_queries.specs.Resolving.{and_then, class_in, selector_in}
+use Rattle.st_queries.specs.Values.{method_named}
 
 -- ---- classes
 
@@ -40,6 +41,7 @@ parent_told edits (Some p) = string (class_text edits p)
 abbrev pub added_slots : List Edit → ClassId → List (List ℕ)
 added_slots edits c = drop (length (inherited edits c)) (slots edits c)
 
+-- a class, by its number
 abbrev pub class_told : List Edit → ClassId → Data
 class_told edits c = object
     (member (codes "methods") (whole (method_count edits c))
@@ -76,12 +78,9 @@ methods_told names edits c = only (codes "methods")
 
 -- ---- what a send runs
 
--- the source of the method at a place
+-- the source of the method at a place; empty if nothing was installed there
 abbrev pub source_at : List Edit → ℕ → List ℕ
-source_at edits place = source_in (option_map (λ m. m.source) (method_at edits (record { 0 = place })))
-  where
-    source_in : Option (List ℕ) → List ℕ
-    source_in o = unwrap_or o []
+source_at edits place = unwrap_or (option_map (λ m. m.source) (method_at edits (method_id place))) []
 
 -- a method, and the class that has it
 abbrev pub source_of : List Edit → ClassId × Found → Data
@@ -110,12 +109,14 @@ source_told edits c s = ok_or (option_map (source_of edits) (holder_in edits s (
 
 -- ---- versions
 
+-- an install, by its source and its place
 abbrev pub install_told : List ℕ → ℕ → Data
 install_told source place = object
     (member (codes "source") (string source)
     (member (codes "version") (version_of place)
     no_members))
 
+-- a removal, by its place
 abbrev pub removal_told : ℕ → Data
 removal_told place = object
     (member (codes "removed") (boolean true)
@@ -145,22 +146,15 @@ is_send_of s (Send t n) = t.0 == s.0
 is_send_of s (SuperSend t n) = t.0 == s.0
 is_send_of s _ = false
 
--- a method, by its class and its selector
-abbrev pub sender_told : List (List ℕ) → List Edit → ClassId → Selector → Data
-sender_told names edits c s = object
-    (member (codes "class") (string (class_text edits c))
-    (member (codes "selector") (string (selector_text names s))
-    no_members))
-
 -- the method of an install that stands, if it sends the selector
 abbrev pub sender_at : List (List ℕ) → List Edit → Selector → Option ClassId → Option MethodParts → Option Data
-sender_at names edits s (Some c) (Some m) = if list_any (is_send_of s) m.code then Some (sender_told names edits c m.selector) else None
+sender_at names edits s (Some c) (Some m) = if list_any (is_send_of s) m.code then Some (method_named names edits c m.selector) else None
 sender_at names edits s _ _ = None
 
 -- the installed methods that send a selector, by their versions
 abbrev pub senders_told : List (List ℕ) → List Edit → Selector → Data
 senders_told names edits s = only (codes "methods")
-    (listed (λ place. sender_at names edits s (standing edits place) (method_at edits (record { 0 = place }))) 0 (length edits))
+    (listed (λ place. sender_at names edits s (standing edits place) (method_at edits (method_id place))) 0 (length edits))
 
 -- ---- all queries
 

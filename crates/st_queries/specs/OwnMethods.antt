@@ -6,7 +6,7 @@ use Rattle.st_classes.specs.declared.edits.Edit.{Edit}
 use Rattle.st_classes.specs.declared.edits.Edit.TheVariants.{Install}
 use Rattle.st_classes.specs.declared.kernel.Found.{Found}
 use Rattle.st_classes.specs.declared.kernel.Found.TheVariants.{User, Kernel as FoundKernel}
-use Rattle.st_classes.specs.Kernel.{kernel_method, selector}
+use Rattle.st_classes.specs.Kernel.{kernel_method, kernel_selectors, selector}
 use Rattle.st_classes.specs.Walks.{own}
 
 -- what was found is the method that was installed at a place
@@ -15,27 +15,27 @@ is_from place (Some (User m)) = m.0 == place
 is_from place (Some (FoundKernel k)) = false
 is_from place None = false
 
--- the class of the install at a place that still stands: its class's own method for its selector is that one
 abbrev pub standing_by : List Edit → ℕ → Option Edit → Option ClassId
 standing_by edits place (Some (Install c m)) = if is_from place (own edits c m.selector) then Some c else None
 standing_by edits place _ = None
 
+-- the class of the install at a place, if it still stands: its class's own method for its selector is that one
 abbrev pub standing : List Edit → ℕ → Option ClassId
 standing edits place = standing_by edits place (slice_get edits place)
 
--- a class is that one
+-- there is a class, and it is this one
 abbrev pub is_class_of : ClassId → Option ClassId → Bool
 is_class_of c None = false
 is_class_of c (Some d) = c.0 == d.0
 
--- how many of the first n installs stand in a class
-abbrev pub installs_in : List Edit → ClassId → ℕ → ℕ
-installs_in edits c n = count_by (λ place. is_class_of c (standing edits place)) (range_with_len 0 n)
+-- how many installs stand in a class
+abbrev pub installs_in : List Edit → ClassId → ℕ
+installs_in edits c = count_by (λ place. is_class_of c (standing edits place)) (range_with_len 0 (length edits))
 
 -- how many methods the kernel gives a class
 abbrev pub kernel_methods_in : ClassId → ℕ
-kernel_methods_in c = count_by (λ n. is_some (kernel_method c (selector n))) (range_with_len 0 22)
+kernel_methods_in c = count_by (λ n. is_some (kernel_method c (selector n))) (range_with_len 0 (length kernel_selectors))
 
--- how many methods a class has of its own
+-- how many methods a class has of its own: the installs in it that stand, and the kernel's
 abbrev pub method_count : List Edit → ClassId → ℕ
-method_count edits c = installs_in edits c (length edits) + kernel_methods_in c
+method_count edits c = installs_in edits c + kernel_methods_in c

@@ -1,7 +1,9 @@
--- What is told of values.
+-- What is told of values, and how methods are named.
 use Rattle.std.specs.Prelude.{ℕ, List, codes}
-use Rattle.serde_json.specs.Data.{Data, null, boolean, number, string}
+use Rattle.serde_json.specs.Data.{Data, null, boolean, number, string, object, member, no_members}
 use Rattle.serde_json.specs.Find.{of_integer}
+use Rattle.st_classes.specs.declared.values.ClassId.{ClassId}
+use Rattle.st_classes.specs.declared.values.Selector.{Selector}
 use Rattle.st_classes.specs.declared.values.Value.{Value}
 use Rattle.st_classes.specs.declared.values.Value.TheVariants as value
 use Rattle.st_classes.specs.declared.edits.Edit.{Edit}
@@ -17,3 +19,10 @@ value_told names edits (value.Sym s) = only (codes "sym") (string (selector_text
 value_told names edits (value.Class c) = only (codes "class") (string (class_text edits c))
 value_told names edits (value.Actor a) = only (codes "ref") (whole a.0)
 value_told names edits (value.Local n) = only (codes "local") (whole n)
+
+-- a method, by its class and its selector
+abbrev pub method_named : List (List ℕ) → List Edit → ClassId → Selector → Data
+method_named names edits c s = object
+    (member (codes "class") (string (class_text edits c))
+    (member (codes "selector") (string (selector_text names s))
+    no_members))

@@ -6,8 +6,8 @@ ghost use Rattle.st_classes.specs.EditLists.{method_at};
 ghost use Rattle.st_queries.specs.Actors.{actor_told, actors_told, phase_told, running_method, running_told};
 
 use crate::listing::{Rows, list, only};
-use crate::texts::{class_text, selector_text};
-use crate::values::value;
+use crate::texts::class_text;
+use crate::values::{method_named, value};
 use st_classes::names::Names;
 use st_classes::values::{ActorId, MethodId};
 use st_classes::version::Version;
@@ -47,14 +47,7 @@ fn method(
     let Some(method) = version.method(method) else {
         return Ok(Told::nothing());
     };
-    let mut members = Members::new(alloc);
-    members.put(alloc, "class", class_text(alloc, version, method.holder())?)?;
-    members.put(
-        alloc,
-        "selector",
-        selector_text(alloc, names, method.selector())?,
-    )?;
-    Ok(members.told())
+    method_named(alloc, names, version, method.holder(), method.selector())
 }
 
 /// The method of the running frame, if there is one.

@@ -50,7 +50,7 @@ fn added_slots(alloc: Global, version: &Version, class: ClassId) -> Result<Told,
 /// How many methods a class has of its own, by how many installs stand in each class.
 fn method_count(version: &Version, installs: &[u16], class: ClassId) -> u64
     requires class { is_class version.now class ≡ true }
-    requires installs { installs.now ≡ map (λ m. installs_in version.now (class_at m) (length version.now)) (range_with_len 0 (class_count version.now)) }
+    requires installs { installs.now ≡ map (λ m. installs_in version.now (class_at m)) (range_with_len 0 (class_count version.now)) }
     ensures { result ≡ count_of version.now class }
 {
     version.known();
@@ -67,7 +67,7 @@ struct ClassRows<'a> {
 
 impl<'a> Rows for ClassRows<'a> {
     ghost is_row = { λ c n. (is_class c.version.now (class_at n) ≡ true)
-        × (c.installs.now ≡ map (λ m. installs_in c.version.now (class_at m) (length c.version.now)) (range_with_len 0 (class_count c.version.now))) };
+        × (c.installs.now ≡ map (λ m. installs_in c.version.now (class_at m)) (range_with_len 0 (class_count c.version.now))) };
 
     ghost row_of = { λ c n. Some (class_told c.version.now (class_at n)) };
 

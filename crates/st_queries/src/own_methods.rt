@@ -64,7 +64,7 @@ fn raise(counts: &mut Vec<u16>, place: usize)
 
 /// For each class, how many installs stand in it.
 pub(crate) fn installs(alloc: Global, version: &Version) -> Result<Vec<u16>, AllocError>
-    ensures { IfOk result (λ counts. counts.items ≡ map (λ n. installs_in version.now (class_at n) (length version.now)) (range_with_len 0 (class_count version.now))) }
+    ensures { IfOk result (λ counts. counts.items ≡ map (λ n. installs_in version.now (class_at n)) (range_with_len 0 (class_count version.now))) }
 {
     version.known();
     let classes = version.classes() as usize;

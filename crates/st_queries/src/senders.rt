@@ -4,16 +4,17 @@ ghost use Rattle.std.specs.List.{list_any};
 ghost use Rattle.serde_json.specs.View.{view};
 ghost use Rattle.st_queries.specs.OwnMethods.{standing as standing_in};
 ghost use Rattle.st_classes.specs.EditLists.{method_at};
-ghost use Rattle.st_queries.specs.Answers.{is_send_of as sends_it, sender_at, sender_told, senders_told};
+ghost use Rattle.st_classes.specs.Walks.{method_id};
+ghost use Rattle.st_queries.specs.Answers.{is_send_of as sends_it, sender_at, senders_told};
 
 use crate::listing::{Rows, list, only};
 use crate::own_methods::standing;
-use crate::texts::{class_text, selector_text};
+use crate::values::method_named;
 use st_classes::instructions::Instruction;
 use st_classes::names::Names;
 use st_classes::values::{ClassId, MethodId, Selector};
 use st_classes::version::Version;
-use st_wire::told::{Members, Told};
+use st_wire::told::Told;
 use std::alloc::{AllocError, Global};
 
 /// Whether an instruction sends a selector, or super sends it.
@@ -35,22 +36,6 @@ fn sends(selector: Selector, code: &[Instruction]) -> bool
         .any(|instruction| is_send_of(selector, *instruction))
 }
 
-/// A method that sends it, by its class and its own selector.
-fn sender(
-    alloc: Global,
-    names: &Names,
-    version: &Version,
-    class: ClassId,
-    selector: Selector,
-) -> Result<Told, AllocError>
-    ensures { IfOk result (λ told. view told ≡ sender_told names.now version.now class selector) }
-{
-    let mut members = Members::new(alloc);
-    members.put(alloc, "class", class_text(alloc, version, class)?)?;
-    members.put(alloc, "selector", selector_text(alloc, names, selector)?)?;
-    Ok(members.told())
-}
-
 /// The rows of the methods that send it, by the places of their installs.
 #[derive(Drop)]
 struct SenderRows<'a> {
@@ -62,14 +47,14 @@ struct SenderRows<'a> {
 impl<'a> Rows for SenderRows<'a> {
     ghost is_row = { λ s n. Unit {0} };
 
-    ghost row_of = { λ s n. sender_at s.names.now s.version.now s.selector (standing_in s.version.now n) (method_at s.version.now (record { 0 = n })) };
+    ghost row_of = { λ s n. sender_at s.names.now s.version.now s.selector (standing_in s.version.now n) (method_at s.version.now (method_id n)) };
 
     fn row(&self, alloc: Global, number: u32) -> Result<Option<Told>, AllocError> {
         let Some(class) = standing(self.version, number) else {
             return Ok(None);
         };
         match self.version.method(MethodId(number)) {
-            Some(method) if sends(self.selector, method.code()) => Ok(Some(sender(
+            Some(method) if sends(self.selector, method.code()) => Ok(Some(method_named(
                 alloc,
                 self.names,
                 self.version,

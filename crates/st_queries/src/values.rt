@@ -1,14 +1,14 @@
-//! Values in answers.
+//! Values in answers, and the names of methods.
 ghost use Rattle.std.specs.Prelude.{◌≡◌, IfOk};
 ghost use Rattle.serde_json.specs.View.{view};
-ghost use Rattle.st_queries.specs.Values.{value_told};
+ghost use Rattle.st_queries.specs.Values.{method_named as named_method, value_told};
 
 use crate::listing::only;
 use crate::texts::{class_text, selector_text};
 use st_classes::names::Names;
-use st_classes::values::Value;
+use st_classes::values::{ClassId, Selector, Value};
 use st_classes::version::Version;
-use st_wire::told::Told;
+use st_wire::told::{Members, Told};
 use std::alloc::{AllocError, Global};
 
 /// A value, as answers and image files have it.
@@ -29,4 +29,20 @@ pub(crate) fn value(
         Value::Actor(actor) => only(alloc, "ref", Told::whole(actor.0.into())),
         Value::Local(place) => only(alloc, "local", Told::whole(place.into())),
     }
+}
+
+/// A method, by its class and its selector.
+pub(crate) fn method_named(
+    alloc: Global,
+    names: &Names,
+    version: &Version,
+    class: ClassId,
+    selector: Selector,
+) -> Result<Told, AllocError>
+    ensures { IfOk result (λ told. view told ≡ named_method names.now version.now class selector) }
+{
+    let mut members = Members::new(alloc);
+    members.put(alloc, "class", class_text(alloc, version, class)?)?;
+    members.put(alloc, "selector", selector_text(alloc, names, selector)?)?;
+    Ok(members.told())
 }

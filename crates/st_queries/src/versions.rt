@@ -6,9 +6,10 @@ ghost use Rattle.st_image.specs.CompiledEdits.{AllCompiled};
 ghost use Rattle.st_queries.specs.Answers.{install_told, removal_told, version_told, versions_told};
 
 use crate::listing::{Rows, list, only};
+use crate::methods::version_of;
 use st_classes::edits::Edit;
 use st_classes::names::Names;
-use st_classes::values::{ClassId, Selector};
+use st_classes::values::{ClassId, MethodId, Selector};
 use st_classes::version::Version;
 use st_wire::told::{Members, Told};
 use std::alloc::{AllocError, Global};
@@ -29,7 +30,7 @@ fn install(alloc: Global, source: &[u8], place: u32) -> Result<Told, AllocError>
 {
     let mut members = Members::new(alloc);
     members.put(alloc, "source", Told::text(alloc, source)?)?;
-    members.put(alloc, "version", Told::whole(u64::from(place) + 1))?;
+    members.put(alloc, "version", version_of(MethodId(place)))?;
     Ok(members.told())
 }
 
@@ -39,7 +40,7 @@ fn removal(alloc: Global, place: u32) -> Result<Told, AllocError>
 {
     let mut members = Members::new(alloc);
     members.put(alloc, "removed", Told::truth(true))?;
-    members.put(alloc, "version", Told::whole(u64::from(place) + 1))?;
+    members.put(alloc, "version", version_of(MethodId(place)))?;
     Ok(members.told())
 }
 

@@ -17,6 +17,9 @@ as attributes, and `stands`: what is true afterwards. A turn that ended with a f
 Where the other side ends or is not there, `Ended` is raised. Then `Image.reconnect` connects again, and each sender goes on behind
 its last message that the image has. `Sender.post_once` posts a message once, whatever breaks meanwhile.
 
+A turn knows the epoch of the image in which its message was posted. Behind a checkpoint or a restart turns have other numbers, and
+`Expired` is raised where such a turn is asked for: no answer is ever that of another message.
+
 Values: integers of 64 bits, `True`, `False`, `None`, `Symbol("at:put:")`, `ClassName("Counter")` and `Actor(0)` are themselves in
 arguments and in answers; in answers `Local(n)` is an object of the actor's own, which only the actor can use.
 """
@@ -34,6 +37,7 @@ from dataclasses import dataclass
 from typing import Any, Callable, Iterable, Iterator, Mapping, Optional, Sequence, TextIO, Union
 
 GREETING = 30.0  # Seconds that a server may take to say that it takes a session.
+LONGEST_WAIT = 60.0  # Seconds of the longest `wait` of the protocol.
 
 
 @dataclass(frozen=True)
@@ -62,9 +66,11 @@ class Local:
 
 @dataclass(frozen=True)
 class Turn:
-    """The turn of a message: its actor, and its position among the messages that the actor's mailbox accepted."""
+    """The turn of a message: its actor, its position among the messages that the actor's mailbox accepted, and the image's epoch that
+    was known before it was posted. Without one it is a turn of now, as `Turn(actor, 0)` behind a restart."""
     actor: Actor
     number: int
+    epoch: Optional[str] = None
 
 
 @dataclass(frozen=True)
@@ -84,6 +90,25 @@ class Counted:
     """What an image has counted over all checkpoints and files: accepted messages of clients, and committed steps."""
     posts: int
     steps: int
+
+
+@dataclass(frozen=True)
+class Status:
+    """How an image does: how many actors, classes, edits and names it has, how many edits it still takes, what the history holds and may
+    hold, what was counted over all checkpoints and files, and the sessions and workers of the server. `epoch` is another text behind
+    each checkpoint and each start."""
+    actors: int
+    classes: int
+    edits: int
+    edits_left: int
+    epoch: str
+    history: int
+    history_most: int
+    names: int
+    posts: int
+    sessions: int
+    steps: int
+    workers: int
 
 
 @dataclass(frozen=True)
@@ -117,6 +142,36 @@ class Version:
     source: Optional[str]
 
 
+@dataclass(frozen=True)
+class Defined:
+    """The edit that defined a class, with its own instance variables."""
+    name: str
+    superclass: str
+    slots: tuple[str, ...]
+
+
+@dataclass(frozen=True)
+class Installed:
+    """The edit that installed a method."""
+    class_name: str
+    source: str
+
+
+@dataclass(frozen=True)
+class Removed:
+    """The edit that removed a method."""
+    class_name: str
+    selector: str
+
+
+@dataclass(frozen=True)
+class Reparented:
+    """The edit that put a class under another superclass."""
+    class_name: str
+    superclass: str
+
+
+Edit = Union[Defined, Installed, Removed, Reparented]
 Value = Union[int, bool, None, Symbol, ClassName, Actor, Local]
 Reply = dict[str, Any]
 
@@ -141,6 +196,56 @@ class Standing:
     def waiting(self) -> int:
         """How many messages the mailbox holds."""
         return self.accepted - self.begun
+
+
+@dataclass(frozen=True)
+class Message:
+    """A message that waits in a mailbox. `sender` is the number of a client, or the actor that posted it, and `seq` its own number for
+    the message."""
+    selector: str
+    args: tuple[Value, ...]
+    sender: Union[int, Actor]
+    seq: int
+
+
+@dataclass(frozen=True)
+class Object:
+    """An object of an actor, with the values of its instance variables, inherited ones first."""
+    class_name: str
+    slots: tuple[Value, ...]
+
+
+@dataclass(frozen=True)
+class Frame:
+    """A method that has begun and not answered: the version of its install, the place of its next instruction, what `self` is, its
+    arguments and then its temporaries, and its operands, the deepest first."""
+    version: int
+    pc: int
+    receiver: Value
+    temps: tuple[Value, ...]
+    operands: tuple[Value, ...]
+
+
+@dataclass(frozen=True)
+class Inspected:
+    """An actor as an image file has it: docs/FORMAT.md says what each part is. `last` is the number of the last message that it posted,
+    `pending` what waits in its mailbox, the next one first, and `objects` are its own, of which the first is the actor itself. `turn` is
+    the number of the turn that stands in it, 0 where it stood there at the last checkpoint or in the file, and `None` before the first
+    one. `phase`, `answer` and `fault` are as in a `Standing`; `start` has the selector and the arguments of a message that was begun and
+    has taken no step, and `frames` those of a turn that goes on, from the first to the running one."""
+    actor: Actor
+    class_name: str
+    capacity: int
+    last: int
+    is_open: bool
+    pending: tuple[Message, ...]
+    objects: tuple[Object, ...]
+    turn: Optional[int]
+    phase: str
+    start: Optional[tuple[str, tuple[Value, ...]]]
+    frames: tuple[Frame, ...]
+    answer: Value
+    fault: Optional[str]
 
 
 class ActorImageError(Exception):
@@ -196,7 +301,7 @@ class BadArguments(Refused, stands="The selector takes other arguments, or one o
 class Closed(Refused, stands="The mailbox accepts nothing more. What it held may still be begun."): ...
 class Full(Refused, stands="The message was not accepted, and its number is not used: post it again later."): ...
 class Pending(Refused, stands="The turn has not ended, or there is no such turn yet: ask again."): ...
-class Expired(Refused, stands="The turn has ended, and the image no longer tells how: ask within the actor's next 64 turns."): ...
+class Expired(Refused, stands="How the turn ended is no longer told: 64 of the actor ended since, or a checkpoint or a restart came."): ...
 class HistoryFull(Refused, stands="The history is full: only questions are answered. Of a `run`, the quanta before ran."): ...
 class BadCommand(Refused, stands="No command, or none for a server: its keys or numbers are not as docs/PROTOCOL.md says."): ...
 class TooLong(Refused, stands="A line was over 8,192 bytes, and the session has ended: reconnect, and send shorter ones."): ...
@@ -216,7 +321,7 @@ class TooMany(Refused, stands="There are as many as there may be; `what` says of
         self.stands = MOST_OF.get(self.fields.get("what", ""), self.stands)
 class BadImage(Refused, stands="The image file is malformed at `place`, and stays as it is."):
     place: str
-class Stale(Refused, stands="The classes were edited meanwhile; `version` is the number of edits: try again."):
+class Stale(Refused, stands="The class has another version of the method, `version`, or none if that is 0: look at it first."):
     version: int
 
 
@@ -281,12 +386,56 @@ def _standing(told: Reply) -> Standing:
     )
 
 
+def _message(told: Reply) -> Message:
+    sender = told["sender"]
+    return Message(told["selector"], _all(told["args"]), sender if isinstance(sender, int) else _received(sender), told["seq"])
+
+
+def _frame(told: Reply) -> Frame:
+    return Frame(told["method"] + 1, told["pc"], _received(told["receiver"]), _all(told["temps"]), _all(told["operands"]))
+
+
+def _inspected(actor: Actor, told: Reply) -> Inspected:
+    phase = told["body"]["phase"]
+    stands = phase if isinstance(phase, dict) else {}
+    start = stands.get("start")
+    return Inspected(
+        actor,
+        told["class"],
+        told["capacity"],
+        told["last"],
+        told["open"],
+        tuple(map(_message, told["pending"])),
+        tuple(Object(it["class"], _all(it["slots"])) for it in told["body"]["objects"]),
+        told["turn"],
+        next(iter(stands), phase),
+        start and (start["selector"], _all(start["args"])),
+        tuple(map(_frame, stands.get("frames", ()))),
+        _received(stands.get("answer")),
+        stands.get("fault"),
+    )
+
+
+def _edit(told: Reply) -> Edit:
+    """An edit as an image file has it."""
+    ((kind, of),) = told.items()
+    if kind == "define":
+        return Defined(of["name"], of["super"], tuple(of["slots"]))
+    if kind == "install":
+        return Installed(of["class"], of["source"])
+    return Removed(of["class"], of["selector"]) if kind == "remove" else Reparented(of["class"], of["super"])
+
+
 def _received(value: Any) -> Value:
     """A value of JSON."""
     if not isinstance(value, dict):
         return value
     ((kind, of),) = value.items()
     return {"sym": Symbol, "class": ClassName, "ref": Actor, "local": Local}[kind](of)
+
+
+def _all(values: Iterable[Any]) -> tuple[Value, ...]:
+    return tuple(map(_received, values))
 
 
 @dataclass
@@ -317,10 +466,12 @@ class _Line:
 
 class Image:
     """An image at the other end. Use `script` or `connect`. Threads may share it: their commands are sent one after the other.
-    `connections` counts those that were made. `_waiting` is how many replies are to come."""
-    def __init__(self, open_line: Callable[[], _Line], seconds: float = 0.0):
-        self._open, self._lock = open_line, threading.RLock()
+    `connections` counts those that were made. `_waiting` is how many replies are to come, `_epoch` the last epoch that was told, if it
+    may go on, and `_longest` the seconds after which a reply that waits for a turn comes at the latest."""
+    def __init__(self, open_line: Callable[[], _Line], seconds: float = 0.0, longest: float = LONGEST_WAIT):
+        self._open, self._lock, self._longest = open_line, threading.RLock(), longest
         self._line: Optional[_Line] = None
+        self._epoch: Optional[str] = None
         self._waiting = self.connections = 0
         self.reconnect(seconds)
 
@@ -352,7 +503,7 @@ class Image:
                     if time.monotonic() >= until:
                         raise
                     time.sleep(0.05)
-            self._waiting = 0
+            self._waiting, self._epoch = 0, None
             self.connections += 1
 
     # ---- lines
@@ -421,6 +572,11 @@ class Image:
         """Installs a method, or replaces it, from the next send on. Gives the new version."""
         return self.ask({"cmd": "method", "class": class_name, "source": source})["version"]
 
+    def replace(self, class_name: str, source: str, over: int) -> int:
+        """As `install`, where the class's own method for the selector of the source has this version; 0 where it has none of its own, or
+        the kernel's. `Stale` is raised where it has another one, so that nobody's edit is overwritten unseen."""
+        return self.ask({"cmd": "replace", "class": class_name, "source": source, "over": over})["version"]
+
     def remove(self, class_name: str, selector: str) -> int:
         """Removes a method, from the next send on. Gives the new version."""
         return self.ask({"cmd": "remove", "class": class_name, "selector": selector})["version"]
@@ -440,9 +596,25 @@ class Image:
         """Empties the history, and gives what was counted so far. How turns ended is forgotten, and they are numbered anew: in each
         actor the turn that stands there is turn 0, and its pending messages are turns 1 and on."""
         counted = self.ask({"cmd": "checkpoint"})
+        self._epoch = None
         return Counted(counted["posts"], counted["steps"])
 
     # ---- looks, which change nothing
+
+    def status(self) -> Status:
+        """How the image does."""
+        status = Status(**self.ask({"cmd": "status"}))
+        self._epoch = status.epoch
+        return status
+
+    def edits(self, first: int = 0) -> Iterator[Edit]:
+        """The edits behind the first so many, in their order, up to the last: the one at place n, from 1, made version n. They are asked
+        for by 256. `BadArguments` is raised where the image has fewer edits."""
+        version = None
+        while version is None or first < version:
+            told = self.ask({"cmd": "edits", "from": first})
+            first, version = first + len(told["edits"]), told["version"]
+            yield from map(_edit, told["edits"])
 
     def classes(self) -> list[Class]:
         """All classes, by their numbers, the kernel's first."""
@@ -473,6 +645,10 @@ class Image:
     def actors(self, first: int = 0, most: int = 4_096) -> list[Standing]:
         """How the actors stand from a number on, so many of them at most: 1 to 4,096. Fewer are given where there are no more."""
         return [_standing(it) for it in self.ask({"cmd": "actors", "from": first, "most": most})["actors"]]
+
+    def inspect(self, actor: Actor) -> Inspected:
+        """An actor with its mailbox, its objects and its turn. In a server it is that of one moment, between two quanta of the actor."""
+        return _inspected(actor, self.ask({"cmd": "inspect", "actor": _number(actor)}))
 
     # ---- actors
 
@@ -506,26 +682,37 @@ class Image:
         ran = self.ask({"cmd": "run", "quanta": quanta})
         return ran["quanta"], ran["steps"]
 
+    def epoch(self) -> str:
+        """The epoch of a moment before: a message that is posted now is of this one or of a later one. The image is asked for it once,
+        and again behind a checkpoint or a new connection that is known of."""
+        return self._epoch or self.status().epoch
+
     def answer(self, turn: Turn) -> Value:
         """What a turn answered. `Fault`, `Pending` or `Expired` is raised where it did not, or where it is not known."""
+        return self.wait(turn, 0)
+
+    def wait(self, turn: Turn, seconds: float = 60.0) -> Value:
+        """As `answer`, but waits for so many seconds until a pending turn has ended. `Pending` is raised then; a script, which runs
+        nothing meanwhile, answers so at once. Other threads' commands to this image wait as long, a minute at a time."""
+        left = max(0.0, seconds)
+        while left > self._longest:
+            with contextlib.suppress(Pending):
+                return self._wait(turn, self._longest)
+            left -= self._longest
+        return self._wait(turn, left)
+
+    def _wait(self, turn: Turn, seconds: float) -> Value:
         number = _bounded(turn.number, 2**64 - 1, "the number of a turn")
-        told = self.ask({"cmd": "outcome", "actor": _number(turn.actor), "turn": number})
+        command = {"cmd": "wait", "actor": _number(turn.actor), "turn": number, "ms": round(1_000 * seconds)}
+        try:
+            told = self.ask({**command, "epoch": turn.epoch or self.status().epoch})
+        except Expired:
+            # Perhaps since there is another epoch, of which the next message is to be.
+            self._epoch = None
+            raise
         if "fault" in told:
             raise Fault(told["fault"], turn)
         return _received(told["answer"])
-
-    def wait(self, turn: Turn, seconds: float = 60.0, pause: float = 0.001) -> Value:
-        """As `answer`, but asks again while the turn is pending, for so many seconds. Behind a checkpoint or a restart its number is
-        that of another message, whose answer is given then."""
-        until = time.monotonic() + seconds
-        while True:
-            try:
-                return self.answer(turn)
-            except Pending:
-                if time.monotonic() >= until:
-                    raise
-                time.sleep(pause)
-                pause = min(2 * pause, 0.1)
 
 
 class Sender:
@@ -554,14 +741,14 @@ class Sender:
 
     def post(self, actor: Actor, selector: str, *args: Value) -> Turn:
         """Posts a message. Gives its turn."""
-        seq = self.last + 1
+        epoch, seq = self.image.epoch(), self.last + 1
         try:
             turn = self.image.ask(self._post(actor, selector, args, seq))["turn"]
         except Old as old:
             self._learn(old.last)
             raise
         self._learn(seq)
-        return Turn(actor, turn)
+        return Turn(actor, turn, epoch)
 
     def post_once(self, actor: Actor, selector: str, *args: Value, seconds: float = 60.0) -> Optional[Turn]:
         """Posts a message, and reconnects for so many seconds where the connection breaks meanwhile, but has it accepted once, if
@@ -600,11 +787,12 @@ class Sender:
                     return
 
         self._learn(self.last)
+        epoch = self.image.epoch()
         for place, told in enumerate(self.image.ask_all(commands(), window)):
             if isinstance(told, Old):
                 self._last = max(self._last, told.last)
             is_full = is_full or stop_at_full and isinstance(told, Full)
-            yield told if isinstance(told, Refused) else Turn(actors[place], told["turn"])
+            yield told if isinstance(told, Refused) else Turn(actors[place], told["turn"], epoch)
 
 
 def script(program: str, *options: str) -> Image:
@@ -646,7 +834,7 @@ def connect(path: str, seconds: float = 0.0, timeout: Optional[float] = None, op
 
         line = _Line(replies, commands, end)
         try:
-            stream.settimeout(GREETING)
+            stream.settimeout(GREETING if timeout is None else min(GREETING, timeout))
             stream.connect(path)
             _greet(line)
             stream.settimeout(timeout)
@@ -658,12 +846,12 @@ def connect(path: str, seconds: float = 0.0, timeout: Optional[float] = None, op
             raise
         return line
 
-    return Image(opened, seconds)
+    return Image(opened, seconds, LONGEST_WAIT if timeout is None else min(LONGEST_WAIT, timeout / 2))
 
 
 def _greet(line: _Line) -> None:
-    """Learns whether a session was taken, by a question about an actor that is never there."""
-    line.write({"cmd": "outcome", "actor": 2**32 - 1, "turn": 0})
+    """Learns whether a session was taken: then it is told how the image does."""
+    line.write({"cmd": "status"})
     reply = line.read()
-    if reply.get("error") != "UnknownActor":
+    if "epoch" not in reply.get("ok", {}):
         raise _refusal(reply) if "error" in reply else Ended("what replies is no server of actorimage")

@@ -1,10 +1,8 @@
 """Image files that the second implementation goes on from."""
 
 from inspect_parts.written import Written
-from second_opinion.machine import Frame
+from second_opinion.machine import Frame, Message
 from second_opinion.values import Value
-
-LARGEST = 2**64 - 1
 
 
 class Loaded(Written):
@@ -12,10 +10,11 @@ class Loaded(Written):
 
     def __init__(self, file, quantum=256, capacity=64):
         super().__init__(quantum, capacity)
-        self.methods, self.capacities = {}, {}
+        self.methods = {}
         self.classes.names.add(file["names"])
         for place, edit in enumerate(file["edits"]):
             self.edit(place, edit)
+        self.loaded = self.classes.edits
         self.names = file["names"] + [name for name in self.names if name not in set(file["names"])]
         self.stands = {number for number, actor in enumerate(file["actors"]) if actor["body"]["phase"] != "fresh"}
         for part in file["actors"]:
@@ -37,10 +36,8 @@ class Loaded(Written):
         for one in part["body"]["objects"]:
             actor.new_object(self.classes.numbers[one["class"]])
             actor.objects[-1].slots = self.values(one["slots"])
-        self.capacities[number], self.lasts[number], actor.is_open = part["capacity"], part["last"], part["open"]
-        for message in part["pending"]:
-            actor.pending.append(self.message_of(message))
-            self.accepted[number].append((message["sender"], message["seq"]))
+        actor.capacity, actor.last, actor.is_open = part["capacity"], part["last"], part["open"]
+        actor.pending.extend(map(self.message_of, part["pending"]))
         actor.accepted = len(actor.pending)
         self.stand(actor, part["body"]["phase"])
         if actor.is_ready():
@@ -65,27 +62,9 @@ class Loaded(Written):
         return Value("local", json["local"]) if isinstance(json, dict) and "local" in json else super().value(json)
 
     def message_of(self, part):
-        return part["selector"], self.values(part["args"])
+        return Message(part["selector"], self.values(part["args"]), part.get("sender"), part.get("seq", 0))
 
     def frame_of(self, part):
         method, holder = self.methods[part["method"]]
         receiver, temps, operands = self.value(part["receiver"]), self.values(part["temps"]), self.values(part["operands"])
         return Frame(method, holder, receiver, temps, operands, part["pc"])
-
-    def room_of(self, number):
-        """How many messages its mailbox holds: what the file says, or what a new one does."""
-        return self.capacities.get(number, self.capacity)
-
-    def deliver(self, number, selector, arguments):
-        """An actor whose numbers are used up posts nothing more."""
-        used_up = isinstance(self.sending, int) and self.lasts[self.sending] == LARGEST
-        return False if used_up else super().deliver(number, selector, arguments)
-
-    def refusal(self, number):
-        actor = self.actors[number]
-        if not actor.is_open:
-            return "Closed"
-        return "Full" if len(actor.pending) >= self.room_of(number) else None
-
-    def actor_part(self, actor):
-        return {**super().actor_part(actor), "capacity": self.room_of(actor.number)}

@@ -141,6 +141,8 @@ class Cut:
             reply = {"ok": {"turn": reply["ok"]["turn"] - self.image.earlier(command["actor"])}}
         if command["cmd"] == "actors" and "ok" in reply:
             reply = {"ok": {**reply["ok"], "actors": [self.counted(row) for row in reply["ok"]["actors"]]}}
+        if command["cmd"] == "inspect" and reply.get("ok", {}).get("turn") is not None:
+            reply = {"ok": {**reply["ok"], "turn": reply["ok"]["turn"] - self.image.earlier(command["actor"])}}
         if command["cmd"] == "stats" and "ok" in reply:
             reply = {"ok": {"sites": [{**site, **UNCOUNTED} for site in reply["ok"]["sites"]]}}
         return compact(reply).encode().rstrip(b"\n")

@@ -14,6 +14,7 @@ COMMANDS = (
     {"cmd": "define", "name": "N", "slots": ["x"], "super": "M"},
     {"class": "M", "cmd": "method", "source": "b ^self a"},
     {"class": "M", "cmd": "method", "source": "a ^15"},
+    {"class": "M", "cmd": "replace", "over": 2, "source": "a ^16"},
     {"class": "M", "cmd": "remove", "selector": "a"},
     {"class": "M", "cmd": "reparent", "super": "Object"},
     {"class": "M", "cmd": "actor"},
@@ -30,7 +31,10 @@ COMMANDS = (
     {"cmd": "implementors", "selector": "a"},
     {"cmd": "senders", "selector": "+"},
     {"cmd": "senders", "selector": "neverNamed"},
+    {"cmd": "edits", "from": 1},
     {"cmd": "actors", "from": 0, "most": 2},
+    {"actor": 0, "cmd": "inspect"},
+    {"cmd": "status"},
     {"cmd": "run", "quanta": 1},
     # these are refused
     {"actor": 0, "args": [], "cmd": "post", "selector": "a", "sender": 1, "seq": 1},
@@ -39,9 +43,20 @@ COMMANDS = (
     {"class": "M", "cmd": "method", "source": "a ^"},
     {"class": "M", "cmd": "remove", "selector": "c"},
     {"class": "M", "cmd": "source", "selector": "neverNamed"},
+    {"cmd": "edits", "from": 3},
+    {"actor": 1, "cmd": "inspect"},
+    {"class": "M", "cmd": "replace", "over": 1, "source": "a ^#neverNamed"},
+    {"actor": 0, "cmd": "wait", "epoch": "", "ms": 0, "turn": 0},
 )
 # Of these the second implementation leaves nothing behind, and it does not reply to them.
 READ = {"stats": "ok", "checkpoint": "ok", "run": "error"}
+
+
+def of_server(wanted, told):
+    """A status of a script as that of a server with two workers, of which nobody knows the epoch before."""
+    if "epoch" not in wanted.get("ok", ()):
+        return wanted
+    return {"ok": {**wanted["ok"], "epoch": told["ok"]["epoch"], "workers": 2}}
 
 
 def each_command(program):
@@ -60,7 +75,7 @@ def each_command(program):
             if wanted is None:
                 same(f"{command}: the kind of its reply", list(told), [READ[command["cmd"]]])
             else:
-                same(f"{command}: its reply", told, wanted)
+                same(f"{command}: its reply", told, of_server(wanted, told))
 
         ended = serve(program, path, talk)
         same(f"{command}: the server", (ended.status, ended.err), (0, b""))
@@ -72,13 +87,15 @@ ACTORS, ONE_STEP = {"cmd": "actors", "from": 0, "most": 4096}, {"cmd": "run", "q
 
 
 def actors_told(program):
-    """What is told of the actors of each file, and again behind each of three steps. A file may have a message that was begun and no
-    more, which no run leaves."""
+    """What is told of the actors of each file, and of each by itself, and again behind each of three steps. A file may have a message that
+    was begun and no more, which no run leaves."""
     phases = set()
     for name, path in good_files().items():
         data = read(path)
-        image = Loaded(json.loads(data), quantum=1)
-        commands = [ACTORS] + [ONE_STEP, ACTORS] * 3
+        file = json.loads(data)
+        image = Loaded(file, quantum=1)
+        looks = [ACTORS] + [{"actor": number, "cmd": "inspect"} for number in range(len(file["actors"]) + 1)]
+        commands = looks + [ONE_STEP, *looks] * 3
         lines = [json.dumps(command).encode() for command in commands]
         replies = program.replies(name, program.put("file", data), lines, settings(1, 64))
         for command, reply in zip(commands, replies, strict=True):
@@ -89,4 +106,30 @@ def actors_told(program):
     return f"{len(good_files())} files"
 
 
-TRIALS = (each_command, actors_told)
+STATUS, CHECKPOINT = {"cmd": "status"}, {"cmd": "checkpoint"}
+ONE_EDIT = {"class": "Object", "source": "a ^1"}
+# Edits of a file, around those of a run and of a table.
+EDITS = (0, 2047, 2049, 4095, 4096)
+
+
+def edits_left(program):
+    """What a status tells of an image that goes on from a file, behind one edit more, and behind a checkpoint. Of a table that is full
+    there is one status alone."""
+    for count in EDITS:
+        file = {"actors": [], "edits": [{"install": ONE_EDIT}] * count, "format": 2, "names": [], "posts": 5, "senders": [], "steps": 7}
+        commands = [STATUS, {**ONE_EDIT, "cmd": "method"}, STATUS, CHECKPOINT, STATUS] if count < EDITS[-1] else [STATUS]
+        about, image = f"{count} edits", Loaded(file)
+        lines = [json.dumps(command).encode() for command in commands]
+        told = map(json.loads, program.replies(about, program.put("file", compact(file).encode()), lines, settings(256, 64)))
+        epochs = []
+        for command, reply in zip(commands, told, strict=True):
+            wanted = image.reply(command)
+            if command == STATUS:
+                epochs.append(reply["ok"]["epoch"])
+                wanted["ok"]["epoch"] = epochs[-1]
+            same(f"{about}: {command}", reply, wanted)
+        same(f"{about}: the epochs", [epochs.index(it) for it in epochs], [0, 0, 2][: len(epochs)])
+    return f"{len(EDITS)} files"
+
+
+TRIALS = (each_command, actors_told, edits_left)

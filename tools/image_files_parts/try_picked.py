@@ -10,10 +10,10 @@ from .sessions import Cut
 
 
 def picked(program):
-    """All of them, but for one that fills the image with actors."""
+    """All of them, but for one that fills the image with actors, and those that ask of one run of the program."""
     count = sessions = 0
     for each in all_picked():
-        if each.text == MANY:
+        if each.text == MANY or each.is_of_one_run:
             continue
         script = Script(each.quantum, each.capacity, setup=())
         Taker(script).take(each.text)

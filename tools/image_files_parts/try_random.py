@@ -1,4 +1,5 @@
-"""Trials on random scripts, in which turns are cut by quanta, and methods are edited and looked at, in sessions of random lengths."""
+"""Trials on random scripts, in which turns are cut by quanta, and methods are edited, replaced and looked at, in sessions of random
+lengths."""
 
 import random
 
@@ -23,7 +24,7 @@ def at_random(program):
     rng = random.Random(SEED)
     sources, sessions = Sources(rng), 0
     for number in range(SCRIPTS):
-        script = CutTurns(rng, sources, aside=("define", "look")).grow(LINES)
+        script = CutTurns(rng, sources, aside=("define", "look", "replace")).grow(LINES)
         lines = [line.encode() for line in script.lines]
         cut = Cut(program.within(str(number)), f"random script {number}", lines, script.quantum, script.capacity)
         sessions += cut.sessions(lengths(rng))

@@ -127,6 +127,8 @@ def kept(line, reply):
     if command_of(line)["cmd"] in ("outcome", "actors"):
         return None
     reply = json.loads(reply)
+    if command_of(line)["cmd"] == "inspect" and "ok" in reply:
+        return {**reply["ok"], "turn": None}
     return list(reply["ok"]) if "ok" in reply and command_of(line)["cmd"] in ("post", "stats") else reply
 
 

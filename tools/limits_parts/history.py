@@ -1,6 +1,7 @@
 """A history that is full, and counts that can rise no more."""
 
-from scripts_parts.commands import accepted, actor, answer, closed, close, define, made, method, outcome, post, ran, remove, reparent, run
+from scripts_parts.commands import accepted, actor, answer, closed, close, define, made, method, outcome, post, ran, remove, reparent
+from scripts_parts.commands import replace, run
 
 from . import most
 from .program import same
@@ -19,11 +20,13 @@ def has_no_room(session):
         post(session.posts + 1, "endless"),
         define("N"),
         method("M", "a ^2"),
+        replace("M", 2, "a ^2"),
         remove("M", "a"),
         reparent("M", "Object"),
     ):
         session.refuses(command, FULL)
     session.refuses(define("M"), "ClassExists")
+    session.refuses(replace("M", 3, "a ^2"), "Stale", version=2)
     session.refuses(actor("N"), "UnknownClass")
     session.refuses(post(session.posts, "endless"), "Old", last=session.posts)
     session.refuses(outcome(1, 7), "UnknownActor")

@@ -1,6 +1,6 @@
 """As many edits as there may be, most of which are methods of one class."""
 
-from scripts_parts.commands import actor, answer, define, made, method, outcome, remove, reparent
+from scripts_parts.commands import actor, answer, define, made, method, outcome, remove, reparent, replace
 from scripts_parts.limits import name
 
 from . import most
@@ -18,8 +18,10 @@ def source(number, more=1):
 
 def has_no_room(session, edits):
     """One edit more is refused, of each kind; what is refused for itself is refused so."""
-    for command in (method("M", source(0, 2)), define("N"), remove("M", name("m", 1)), reparent("M", "Object")):
+    changed = source(0, 2)
+    for command in (method("M", changed), replace("M", 2, changed), define("N"), remove("M", name("m", 1)), reparent("M", "Object")):
         session.refuses_more(command, "edits")
+    session.refuses(replace("M", 1, changed), "Stale", version=2)
     session.refuses(define("M"), "ClassExists")
     session.refuses(remove("M", "other"), "NoSuchMethod")
     session.refuses(reparent("M", "M"), "Cycle")

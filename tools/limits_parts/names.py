@@ -1,6 +1,6 @@
 """As many names as there may be."""
 
-from scripts_parts.commands import IS_NIL, actor, answer, error, made, method, post, remove
+from scripts_parts.commands import IS_NIL, actor, answer, error, made, method, post, remove, replace
 from scripts_parts.limits import name
 
 from . import most
@@ -18,6 +18,8 @@ def has_no_room(session):
     session.ask(post(session.posts + 1, IS_NIL, args=symbols), error("TooMany", what="names"))
     session.ask(post(session.posts + 1, "more"), error("TooMany", what="names"))
     session.refuses_more(method("Object", "more ^1"), "names")
+    session.refuses_more(replace("Object", 0, "more ^1"), "names")
+    session.refuses(replace("Object", 1, "more ^1"), "Stale", version=0)
     session.refuses_more(method("Object", "last ^self more"), "names")
     session.refuses_more(method("Object", "last ^#more"), "names")
     session.refuses(method("Object", "last ^more"), "BadSource", kind="UnknownName", offset=6)

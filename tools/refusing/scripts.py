@@ -2,17 +2,25 @@
 
 import json
 import os
+import re
 import subprocess
 
 from .shim import Failing
 
 NO_MEMORY = '{"error":"NoMemory"}'
+# Of each run another one.
+EPOCH = re.compile(r'"epoch":"[^"\\]+"')
 
 
 def whole_replies(program, lines):
-    """The replies of a script as they are."""
+    """The replies of a script as they are, but for epochs."""
     text = "".join(line + "\n" for line in lines).encode()
-    return subprocess.run([program, "script"], input=text, capture_output=True, timeout=120).stdout.decode().splitlines()
+    out = subprocess.run([program, "script"], input=text, capture_output=True, timeout=120).stdout.decode()
+    return [without_epoch(it) for it in out.splitlines()]
+
+
+def without_epoch(reply):
+    return EPOCH.sub('"epoch":"now"', reply)
 
 
 def run(program, lines, failing=None, options=()):
@@ -28,8 +36,9 @@ KEYS = ["global", "selector", "sends", "site", "state", "super", "walk"]
 
 
 def told(reply):
-    """A reply; one to `stats`, where it is written as it must be, without how its sends were found and what state that left, since a lookup
-    that finds no memory for what it is to keep is not refused and finds it anew."""
+    """A reply without an epoch; one to `stats`, where it is written as it must be, without how its sends were found and what state that left,
+    since a lookup that finds no memory for what it is to keep is not refused and finds it anew."""
+    reply = without_epoch(reply)
     ok = json.loads(reply).get("ok") if reply.startswith("{") and reply.endswith("}") else None
     if not isinstance(ok, dict) or "sites" not in ok:
         return reply

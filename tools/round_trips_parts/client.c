@@ -1,8 +1,9 @@
 /* Clients in one thread that ask a server over a Unix socket: client PATH CLIENTS WINDOW ROUNDS FIRST FORMAT [REFUSED].
 
-   Each client sends WINDOW requests, reads as many lines, and does so ROUNDS times. A request is FORMAT with the client's number
-   (%1$d), the request's own (%2$lu), which begins at FIRST, and a number below 64 that goes round with it (%3$lu). It prints the
-   seconds from the first request to the last reply, and how many replies held the text REFUSED, or began with '-'. */
+   Each client sends WINDOW requests, reads as many lines as these are, and does so ROUNDS times. A request is FORMAT with the client's
+   number (%1$d), the request's own (%2$lu), which begins at FIRST, a number below 64 that goes round with it (%3$lu), and how often it
+   has come to that one, if this client alone counts from 1 (%4$lu). It prints the seconds from the first request to the last reply, and
+   how many replies held the text REFUSED, or began with '-'. */
 #define _GNU_SOURCE
 #include <stdio.h>
 #include <stdlib.h>
@@ -20,7 +21,7 @@ struct client {
 };
 
 static const char *format, *refused_text;
-static int window;
+static int window, lines;
 static long refused;
 
 static void fail(const char *what) {
@@ -31,14 +32,16 @@ static void fail(const char *what) {
 static void ask(struct client *client) {
   static char text[1 << 17];
   size_t length = 0;
-  for (int i = 0; i < window; i++, client->next++)
-    length += snprintf(text + length, sizeof text - length, format, client->number, client->next, (client->number + client->next) % 64);
+  for (int i = 0; i < window; i++, client->next++) {
+    unsigned long place = client->number + client->next;
+    length += snprintf(text + length, sizeof text - length, format, client->number, client->next, place % 64, (place + 63) / 64);
+  }
   for (size_t sent = 0; sent < length;) {
     ssize_t more = write(client->socket, text + sent, length - sent);
     if (more <= 0) fail("write");
     sent += more;
   }
-  client->waiting = window;
+  client->waiting = window * lines;
 }
 
 /* Reads what is there. The answer is whether the client is done. */
@@ -64,6 +67,7 @@ int main(int count, char **words) {
   int clients = atoi(words[2]), left = clients, all = epoll_create1(0);
   window = atoi(words[3]);
   format = words[6];
+  for (const char *at = format; (at = strchr(at, '\n')); at++) lines++;
   refused_text = count > 7 ? words[7] : NULL;
   struct sockaddr_un to = {.sun_family = AF_UNIX};
   strncpy(to.sun_path, words[1], sizeof to.sun_path - 1);

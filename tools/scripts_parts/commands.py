@@ -13,6 +13,10 @@ def method(name, source):
     return {"class": name, "cmd": "method", "source": source}
 
 
+def replace(name, over, source):
+    return {"class": name, "cmd": "replace", "over": over, "source": source}
+
+
 def remove(name, selector):
     return {"class": name, "cmd": "remove", "selector": selector}
 
@@ -43,6 +47,10 @@ def outcome(turn, of=0):
 
 def stats(name, selector):
     return {"class": name, "cmd": "stats", "selector": selector}
+
+
+def edits(behind):
+    return {"cmd": "edits", "from": behind}
 
 
 def version(number):

@@ -1,6 +1,6 @@
 """What the commands that look answer where there is as much as there may be."""
 
-from .commands import define, method, remove, version
+from .commands import define, edits, error, method, remove, replace, too_many, version
 from .limits import name
 from .running import run as run_script
 from .script import Script
@@ -8,6 +8,7 @@ from .script import Script
 # The kernel's classes, and how many methods each has of its own.
 KERNEL = {"Object": 5, "SmallInteger": 9, "True": 2, "False": 2, "UndefinedObject": 0, "Symbol": 0, "ActorRef": 4, "Class": 2}
 SESSION_EDITS, ALL_CLASSES, MOST_TOLD = 2048, 1024, 4096
+EDITS_TOLD = 256
 
 
 def row(name, methods=0, above="Object"):
@@ -63,6 +64,24 @@ def all_versions_listed(program):
     run_script(program, script)
 
 
+def all_edits_listed(program):
+    """As many edits as a session may make, each over the one before, and as many of them as are told at once, from several places."""
+    script = Script("all_edits_listed")
+    script.ask(define("A"), version(1))
+    rows = [{"define": {"name": "A", "slots": [], "super": "Object"}}]
+    for number in range(2, SESSION_EDITS + 1):
+        source = f'a "{number}\t{"x" * 3900}\n" ^{number}'
+        script.ask(replace("A", number - 1 if number > 2 else 0, source), version(number))
+        rows.append({"install": {"class": "A", "source": source}})
+    last = SESSION_EDITS - EDITS_TOLD
+    for first in (*range(0, SESSION_EDITS + 1, EDITS_TOLD), 1, last - 1, last + 1, SESSION_EDITS - 1):
+        script.ask(edits(first), {"ok": {"edits": rows[first : first + EDITS_TOLD], "version": SESSION_EDITS}})
+    script.ask(edits(SESSION_EDITS + 1), error("BadArguments"))
+    script.ask(replace("A", SESSION_EDITS - 1, "a ^1"), error("Stale", version=SESSION_EDITS))
+    script.ask(replace("A", SESSION_EDITS, "a ^1"), too_many("edits"))
+    run_script(program, script)
+
+
 def most_actors_listed(program):
     """More actors than are told at once."""
     script = Script("most_actors_listed")
@@ -77,4 +96,4 @@ def most_actors_listed(program):
     run_script(program, script)
 
 
-TRIALS = (all_classes_listed, all_methods_listed, all_versions_listed, most_actors_listed)
+TRIALS = (all_classes_listed, all_methods_listed, all_versions_listed, all_edits_listed, most_actors_listed)

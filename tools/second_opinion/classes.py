@@ -22,29 +22,39 @@ class Class:
 
 
 class Refused(Exception):
-    """An edit is refused, under this name."""
+    """A command is refused, under this name and with these fields."""
 
-    def __init__(self, name):
+    def __init__(self, name, **fields):
         super().__init__(name)
         self.name = name
+        self.fields = fields
+
+    def reply(self):
+        return {"error": self.name, **self.fields}
 
 
 class Classes:
-    """`edits` counts the definitions, installs, removes and reparents. `past` has all installs and removes at a class's number and a
-    selector: the version that each made, and the source, or None."""
+    """`edits` counts the definitions, installs, removes and reparents, and `log` has them as image files do. `past` has all installs and
+    removes at a class's number and a selector: the version that each made, and the source, or None."""
 
     def __init__(self):
         self.all = [Class(name, None if number == 0 else 0, []) for number, name in enumerate(KERNEL_CLASSES)]
         self.numbers = {name: number for number, name in enumerate(KERNEL_CLASSES)}
         self.edits = 0
+        self.log = []
         self.past = {}
         self.names = Names()
+
+    def done(self, kind, **parts):
+        """Counts an edit, and keeps it."""
+        self.edits += 1
+        self.log.append({kind: parts})
 
     def define(self, name, parent, slots):
         above = self.numbers[parent]
         self.numbers[name] = len(self.all)
         self.all.append(Class(name, above, self.all[above].slots + slots, own=slots))
-        self.edits += 1
+        self.done("define", name=name, slots=slots, super=parent)
 
     def install(self, class_name, source):
         """The method of the source, which is in the class then."""
@@ -55,9 +65,21 @@ class Classes:
         method = compile_method(tree, holder.slots, self.numbers)
         self.names.add(names_in(method))
         holder.methods[method.selector] = method
-        self.edits += 1
+        method.edit = self.edits
+        self.done("install", source=source.decode(), **{"class": class_name})
         self.note(class_name, method.selector, source.decode())
         return method
+
+    def check_version(self, class_name, source, version):
+        """Refuses where the class's own method for the selector of the source has another version. It is 0 if there is none, or one of
+        the kernel."""
+        number = self.numbers.get(class_name)
+        if number is None:
+            raise Refused("UnknownClass")
+        selector = read_method(source).selector
+        present = self.version(number, selector) if selector in self.all[number].methods else 0
+        if version != present:
+            raise Refused("Stale", version=present)
 
     def remove(self, class_name, selector):
         """Takes the class's own method for the selector away. What runs it goes on with it."""
@@ -71,7 +93,7 @@ class Classes:
         if selector not in methods:
             raise Refused("NoSuchMethod")
         del methods[selector]
-        self.edits += 1
+        self.done("remove", selector=selector, **{"class": class_name})
         self.note(class_name, selector, None)
 
     def note(self, class_name, selector, text):
@@ -96,7 +118,7 @@ class Classes:
         if self.height(number) + len(self.chain(above)) > LONGEST_CHAIN:
             raise Refused("TooDeep")
         self.all[number].parent = above
-        self.edits += 1
+        self.done("reparent", super=parent, **{"class": class_name})
 
     def chain(self, number):
         """The numbers of a class and those above it."""

@@ -1,31 +1,17 @@
-"""Runs the program on a script, and makes a script on which the two differ as short as it gets."""
+"""Compares replies, and makes a script on which the two differ as short as it gets."""
 
 import json
 import re
-import subprocess
 from collections import Counter
 
 from .image import Image, TooManySteps
+from .program import program_replies
 from .scripts import SETUP, compact
 
-# The program's reply where it has none.
-NOTHING = "no reply"
 # The ways in which sends are found. The second reader knows of none.
 WAYS = ("site", "global", "walk")
 MOST_TRIALS = 3000
 PATIENCE = 200_000
-
-
-def program_replies(program, lines, quantum, capacity):
-    words = [program, "script", "--quantum", str(quantum), "--capacity", str(capacity)]
-    text = "".join(line + "\n" for line in lines).encode()
-    try:
-        run = subprocess.run(words, input=text, stdout=subprocess.PIPE, stderr=subprocess.DEVNULL, timeout=120)
-        out = run.stdout
-    except subprocess.TimeoutExpired as late:
-        out = late.stdout or b""
-    replies = out.decode(errors="replace").split("\n")[:-1]
-    return replies + [NOTHING] * (len(lines) - len(replies))
 
 
 def sites_of(reply):
@@ -61,7 +47,7 @@ class Difference:
         places = differences(script.replies, got)
         first = places[0]
         self.commands, self.expected, self.got = script.commands[: first + 1], script.replies[first], got[first]
-        self.try_sources([script.commands[place] for place in places if script.commands[place]["cmd"] == "method"])
+        self.try_sources([script.commands[place] for place in places if "source" in script.commands[place]])
         self.drop_commands()
         self.shorten_sources()
         # A source that is nearly nothing now may be nothing at all.
@@ -85,9 +71,10 @@ class Difference:
         try:
             expected = self.mine(commands)
         except (LookupError, TooManySteps):
-            # A class or an actor is missing now, or a loop does not end.
+            # A class, an actor or an epoch is missing now, or a loop does not end.
             return False
-        its = program_replies(self.program, [json.dumps(command) for command in commands], self.quantum, self.capacity)
+        lines = [json.dumps(command) for command in commands]
+        its = program_replies(self.program, commands, lines, self.quantum, self.capacity)
         places = differences(expected, its)
         if not places:
             return False
@@ -110,7 +97,7 @@ class Difference:
         if not rest:
             return False
         last = rest[-1]
-        if last["cmd"] == "outcome":
+        if last["cmd"] in ("outcome", "wait"):
             posts = [one for one in self.commands[start:stop] if one["cmd"] == "post" and one["actor"] == last["actor"]]
             if self.keep(rest[:-1] + [dict(last, turn=max(0, last["turn"] - len(posts)))]):
                 return True
@@ -123,7 +110,7 @@ class Difference:
 
     def shorten(self, place, pattern):
         """Takes pieces out of one source, as many at once as can be."""
-        if place >= len(self.commands) or self.commands[place]["cmd"] != "method":
+        if place >= len(self.commands) or "source" not in self.commands[place]:
             return
         pieces = re.findall(pattern, self.commands[place]["source"], re.S)
         size = max(1, len(pieces) // 2)
@@ -142,7 +129,7 @@ class Difference:
 
     def report(self):
         last = self.commands[-1]
-        sources = [command["source"] for command in self.commands if command["cmd"] == "method"]
+        sources = [command["source"] for command in self.commands if "source" in command]
         lines = ["source: " + repr(source) for source in sources]
         lines += ["differs: " + last["cmd"], "  the second reader: " + self.expected, "  the program:       " + self.got]
         lines.append("script (--quantum %d --capacity %d):" % (self.quantum, self.capacity))

@@ -30,11 +30,14 @@ ONE_ARMED = {
 
 @dataclass
 class Compiled:
+    """`edit` is the place of its install among the edits, once it is installed."""
+
     selector: str
     arguments: int
     temporaries: int
     code: list
     depths: list
+    edit: int = 0
 
 
 class Compiler:

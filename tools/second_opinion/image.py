@@ -3,12 +3,17 @@
 from collections import Counter
 
 from .classes import Classes, Refused
-from .language import BadSource, MOST_ACTORS, MOST_COUNTED, MOST_RESULTS, arguments_of, is_selector
-from .looking import LOOKS, actors, look
-from .machine import Actor
+from .inspecting import inspected
+from .language import BadSource, LARGEST_NUMBER, LONGEST_WAIT, MOST_ACTORS, MOST_COUNTED, MOST_RESULTS, arguments_of, is_selector
+from .looking import LOOKS, actors, look, status
+from .machine import Actor, Message
 from .values import NIL, Value, boolean
 
 QUANTA = 1000
+# What the second reader calls an epoch, behind so many checkpoints. What the program calls it is not known before `status` tells it.
+EPOCH = "epoch %d"
+# Each of these that is accepted is an item of the history.
+ITEMS = ("define", "method", "replace", "remove", "reparent", "actor", "post", "close")
 
 
 class TooManySteps(Exception):
@@ -20,7 +25,8 @@ class Image:
     turn or have a message pending; `patience` is the number of steps
     that a run may take, where there is one. `posts` and `steps` are all that were ever counted; `stands` has the numbers of the
     actors that had begun a turn before the last checkpoint: the last one of these is turn 0. `sent` has methods with the sends of their
-    call sites since then, by the places in their code."""
+    call sites since then, by the places in their code. `items` are those of the history, `checkpoints` how many there were, `told` the
+    epochs that a `status` told, and `loaded` the edits that a file brought."""
 
     def __init__(self, quantum=256, capacity=64, patience=None):
         self.quantum = quantum
@@ -35,10 +41,17 @@ class Image:
         self.sent = {}
         self.last = -1
         self.installed = None
+        self.items = self.checkpoints = self.loaded = 0
+        self.told = set()
 
     def reply(self, command):
         """The reply to a command of those that the scripts here have: a definition, a method and an actor name a class that is
         there."""
+        reply = self.answer(command)
+        self.items += command["cmd"] in ITEMS and "ok" in reply
+        return reply
+
+    def answer(self, command):
         if command["cmd"] in LOOKS:
             return look(self.classes, command)
         if command["cmd"] == "actors":
@@ -52,24 +65,32 @@ class Image:
     def method(self, command):
         try:
             self.installed = self.classes.install(command["class"], command["source"].encode())
-        except Refused as refused:
-            return {"error": refused.name}
-        except BadSource as bad:
-            return {"error": "BadSource", "kind": bad.kind, "offset": bad.offset}
+        except (Refused, BadSource) as it:
+            return it.reply()
         return {"ok": {"version": self.classes.edits}}
+
+    def replace(self, command):
+        """A `method`, if it is over the present version."""
+        if command["over"] > LARGEST_NUMBER:
+            return {"error": "BadCommand"}
+        try:
+            self.classes.check_version(command["class"], command["source"].encode(), command["over"])
+        except (Refused, BadSource) as it:
+            return it.reply()
+        return self.method(command)
 
     def remove(self, command):
         try:
             self.classes.remove(command["class"], command["selector"])
         except Refused as refused:
-            return {"error": refused.name}
+            return refused.reply()
         return {"ok": {"version": self.classes.edits}}
 
     def reparent(self, command):
         try:
             self.classes.reparent(command["class"], command["super"])
         except Refused as refused:
-            return {"error": refused.name}
+            return refused.reply()
         return {"ok": {"version": self.classes.edits}}
 
     def actor(self, command):
@@ -103,7 +124,7 @@ class Image:
             return {"error": refused}
         if self.posts >= MOST_COUNTED:
             return {"error": "HistoryFull"}
-        self.deliver(number, selector, [self.value(argument) for argument in arguments])
+        self.deliver(number, Message(selector, [self.value(argument) for argument in arguments], sender, seq))
         self.numbers[sender] = seq
         self.posts += 1
         return {"ok": {"turn": self.actors[number].accepted}}
@@ -141,14 +162,14 @@ class Image:
         actor = self.actors[number]
         if not actor.is_open:
             return "Closed"
-        return "Full" if len(actor.pending) >= self.capacity else None
+        return "Full" if len(actor.pending) >= actor.capacity else None
 
-    def deliver(self, number, selector, arguments):
+    def deliver(self, number, message):
         """Whether the actor's mailbox takes the message, which is in it then."""
         if self.refusal(number):
             return False
         actor = self.actors[number]
-        actor.pending.append((selector, arguments))
+        actor.pending.append(message)
         actor.accepted += 1
         self.ready.add(number)
         return True
@@ -180,6 +201,7 @@ class Image:
         step it takes too, and ends then. None where the image cannot count so many more: then the turn has begun, and that is all."""
         if not actor.in_turn():
             actor.begin()
+            self.items += 1
         if self.steps + self.quantum >= MOST_COUNTED and self.passes(actor):
             return None
         steps = 0
@@ -192,6 +214,7 @@ class Image:
         if not actor.is_ready():
             self.ready.discard(actor.number)
         self.steps += steps
+        self.items += 1
         return steps
 
     def passes(self, actor):
@@ -211,6 +234,8 @@ class Image:
         """Turns are numbered from here on: 0 is the one that an actor is in, or else the last that it ended."""
         self.stands = {actor.number for actor in self.actors if actor.in_turn() or actor.results}
         self.sent = {}
+        self.items = 0
+        self.checkpoints += 1
         for actor in self.actors:
             actor.forget()
         return {"ok": {"posts": self.posts, "steps": self.steps}}
@@ -242,6 +267,28 @@ class Image:
         _, sends = self.sent.get(id(method), (None, Counter()))
         sites = [(place, name, selector) for place, (name, selector, _) in enumerate(method.code) if name in ("Send", "SuperSend")]
         return {"ok": {"sites": [{"selector": it, "sends": sends[place], "super": name == "SuperSend"} for place, name, it in sites]}}
+
+    def inspect(self, command):
+        if command["actor"] >= len(self.actors):
+            return {"error": "UnknownActor"}
+        return {"ok": inspected(self, self.actors[command["actor"]])}
+
+    def epoch(self):
+        return EPOCH % self.checkpoints
+
+    def status(self, command):
+        self.told.add(self.epoch())
+        return {"ok": status(self)}
+
+    def wait(self, command):
+        """A script answers at once. It cannot name an epoch before it is told."""
+        if command["ms"] > LONGEST_WAIT:
+            return {"error": "BadCommand"}
+        if command["epoch"] == self.epoch() and self.epoch() not in self.told:
+            raise LookupError(self.epoch())
+        if command["epoch"] != self.epoch():
+            return {"error": "Expired"}
+        return self.outcome(command)
 
     def outcome(self, command):
         if command["actor"] >= len(self.actors):

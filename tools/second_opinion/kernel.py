@@ -76,7 +76,7 @@ def of_actors(receiver, symbol, further, actor):
         raise Fault("badArgument")
     if any(argument.kind == "local" for argument in further):
         raise Fault("localArgument")
-    return boolean(actor.image.deliver(receiver.content, symbol.content, further))
+    return boolean(actor.post(receiver.content, symbol.content, further))
 
 
 def of_classes(selector, receiver, actor):

@@ -18,6 +18,18 @@ MOST_ACTORS = 65536
 MOST_RESULTS = 64
 # Posts of clients, and steps.
 MOST_COUNTED = 2**63 - 1
+# Edits that a class table holds, that a run of the program makes, and that are told at once.
+EDITS_OF_A_TABLE = 4096
+EDITS_OF_A_RUN = 2048
+EDITS_AT_ONCE = 256
+# Items of a history.
+MOST_ITEMS = 1_000_000
+# Milliseconds of a `wait`.
+LONGEST_WAIT = 60_000
+# Senders' numbers for messages.
+LARGEST_SEQUENCE = 2**64 - 1
+# Numbers of actors, versions that are named, and places in the edits.
+LARGEST_NUMBER = 2**32 - 1
 
 RESERVED = ("self", "super", "nil", "true", "false", "thisActor")
 
@@ -47,6 +59,9 @@ class BadSource(Exception):
         super().__init__(kind, offset)
         self.kind = kind
         self.offset = offset
+
+    def reply(self):
+        return {"error": "BadSource", "kind": self.kind, "offset": self.offset}
 
 
 def arguments_of(selector):

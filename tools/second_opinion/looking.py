@@ -1,7 +1,8 @@
-"""What the commands that look answer. They change nothing. Six ask the class table alone, and one the actors."""
+"""What the commands that look answer. They change nothing. Seven ask the class table alone; the others ask for actors, and for the whole
+image. What `inspect` answers is in inspecting.py."""
 
 from .classes import Refused
-from .language import KERNEL_SELECTORS, is_selector
+from .language import EDITS_AT_ONCE, EDITS_OF_A_RUN, EDITS_OF_A_TABLE, KERNEL_SELECTORS, LARGEST_NUMBER, MOST_ITEMS, is_selector
 from .values import Value
 
 
@@ -93,7 +94,17 @@ def senders(table, command):
     return {"methods": [row for _, row in sorted(found, key=lambda it: it[0])]}
 
 
-LOOKS = {it.__name__: it for it in (classes, methods, source, versions, implementors, senders)}
+def edits(table, command):
+    """The edits after the first so many, not all where these are many, and how many there are in all."""
+    first = command["from"]
+    if first > LARGEST_NUMBER:
+        raise Refused("BadCommand")
+    if first > table.edits:
+        raise Refused("BadArguments")
+    return {"edits": table.log[first : first + EDITS_AT_ONCE], "version": table.edits}
+
+
+LOOKS = {it.__name__: it for it in (classes, methods, source, versions, implementors, senders, edits)}
 
 
 def look(table, command):
@@ -101,7 +112,7 @@ def look(table, command):
     try:
         return {"ok": LOOKS[command["cmd"]](table, command)}
     except Refused as refused:
-        return {"error": refused.name}
+        return refused.reply()
 
 
 def phase(image, actor):
@@ -140,3 +151,27 @@ def actors(image, command):
     """The actors from a number on, at most so many, and how many there are in all."""
     first, most = command["from"], command["most"]
     return {"actors": [told(image, it) for it in image.actors[first : first + most]], "count": len(image.actors)}
+
+
+def edits_left(image):
+    """The table has a limit, and so has a run of the program, for which the edits of the file that it loaded do not count."""
+    edits = image.classes.edits
+    return max(0, min(EDITS_OF_A_TABLE - edits, EDITS_OF_A_RUN - (edits - image.loaded)))
+
+
+def status(image):
+    """The sizes of the image, and what it has counted. A script is one session, and has one worker."""
+    return {
+        "actors": len(image.actors),
+        "classes": len(image.classes.all),
+        "edits": image.classes.edits,
+        "edits_left": edits_left(image),
+        "epoch": image.epoch(),
+        "history": image.items,
+        "history_most": MOST_ITEMS,
+        "names": len(image.classes.names.numbers),
+        "posts": image.posts,
+        "sessions": 1,
+        "steps": image.steps,
+        "workers": 1,
+    }

@@ -4,8 +4,8 @@
     tools/second-opinion PROGRAM --sharp
 
 PROGRAM is `crates/actorimage/out/actorimage`. Compared are the replies to each command of scripts: which sources are refused, with which
-kind and at which byte; which methods are removed, and which classes moved; what looks at classes and actors show; which messages
-mailboxes take; how turns end, in how many quanta and steps; and how often each call site sent.
+kind and at which byte; which methods are removed or replaced, and which classes moved; what looks at classes, edits, actors and the image
+show; which messages mailboxes take; how turns end, in how many quanta and steps, and of which epoch; and how often each call site sent.
 How sends are found is not compared, but they have to be found in all three ways. Some scripts are picked by hand; the replies that are
 said in these are asked of the second reader first, and where it gives others, the status is 3. Where it and the program differ, the status
 is 1, and the shortest source and script that show it are printed; with --briefly only that they do. With --minutes it ends with the first
@@ -20,7 +20,8 @@ import threading
 import time
 from collections import Counter
 
-from .compare import WAYS, Difference, differences, found, program_replies
+from .compare import WAYS, Difference, differences, found
+from .program import program_replies
 from .scripts import all_scripts
 from .sharp import try_wrong_rules
 
@@ -56,7 +57,7 @@ def compare(program, seed, sources, briefly, minutes=None):
         if script.wrong and not briefly:
             print("\n".join(["tools/second-opinion: the second reader itself breaks a rule"] + script.wrong))
             return 3
-        got = program_replies(program, script.lines, script.quantum, script.capacity)
+        got = program_replies(program, script.commands, script.lines, script.quantum, script.capacity)
         scripts += 1
         read += script.sources
         turns += script.turns

@@ -1,5 +1,5 @@
 """Scripts picked by hand, for messages to super, removes, doesNotUnderstand:, classes that move, the objects and actors that methods make,
-and looks at classes and actors.
+looks at classes and actors, edits that are listed or are to replace a version, and waits for turns.
 
 Each is a text: a command a line, and behind a `>` the reply to the last command, where it is said. These replies come from the
 rules, and the second reader is held to them before it is compared with anything.
@@ -11,22 +11,28 @@ rules, and the second reader is held to them before it is compared with anything
     outcome 0 1           how turn 1 of actor 0 ended; without the 1, the last message that it got
     turn 0 at:put: 1 2    posts, runs all there is, and asks how that turn ended
     look classes          look methods C          look senders at:put:    look source C at:put:
-    look actors 0 4096    the actors from 0 on, at most so many             checkpoint
+    look actors 0 4096    the actors from 0 on, at most so many             look inspect 0        checkpoint
+    look edits 3          replace C 7 source, over version 7
+    status                wait 0 1 20 E, for turn 1 of actor 0 of the epoch E, and 20 milliseconds
 """
 
 import json
 from dataclasses import dataclass
 
-from . import picked_actors, picked_looking, picked_lookup, picked_mailboxes, picked_moves, picked_objects
+from . import picked_actors, picked_edits, picked_epochs, picked_inspecting, picked_looking, picked_lookup, picked_mailboxes, picked_moves
+from . import picked_objects
 from .language import LONGEST_WORD
 
 
 @dataclass
 class Picked:
+    """What it asks may be of one run of the program."""
+
     says: str
     text: str
     quantum: int = 256
     capacity: int = 64
+    is_of_one_run: bool = False
 
 
 def all_picked():
@@ -41,10 +47,14 @@ def all_picked():
         picked_mailboxes.CLOSING,
         picked_mailboxes.NUMBERS,
         picked_looking.LOOKING,
+        picked_edits.LISTED,
+        picked_edits.REPLACING,
     ):
         for says, text in texts.items():
             yield Picked(says, text)
-    for texts in (picked_lookup.WHILE_RUNNING, picked_moves.WHILE_RUNNING, picked_looking.WHILE_RUNNING):
+    for says, text in picked_epochs.EPOCHS.items():
+        yield Picked(says, text, is_of_one_run=True)
+    for texts in (picked_lookup.WHILE_RUNNING, picked_moves.WHILE_RUNNING, picked_looking.WHILE_RUNNING, picked_inspecting.INSPECTING):
         for says, text in texts.items():
             yield Picked(says, text, quantum=1)
     for texts in (picked_actors.FULL, picked_mailboxes.NARROW):
@@ -83,6 +93,10 @@ class Taker:
         class_name, _, source = rest.partition(" ")
         self.script.install(class_name, source)
 
+    def take_replace(self, rest):
+        class_name, over, source = rest.split(" ", 2)
+        self.script.add({"class": class_name, "cmd": "replace", "over": int(over), "source": source})
+
     def take_remove(self, rest):
         class_name, selector = rest.replace("LONG", "n" * LONGEST_WORD).split()
         self.script.add({"class": class_name, "cmd": "remove", "selector": selector})
@@ -93,15 +107,22 @@ class Taker:
 
     def take_look(self, rest):
         kind, *words = rest.split()
-        if kind == "actors":
-            first, most = map(int, words)
-            self.script.add({"cmd": kind, "from": first, "most": most})
+        if kind in ("actors", "edits", "inspect"):
+            keys = ["actor"] if kind == "inspect" else ["from", "most"]
+            self.script.add({"cmd": kind, **dict(zip(keys, map(int, words)))})
             return
         keys = {"methods": ["class"], "implementors": ["selector"], "senders": ["selector"]}.get(kind, ["class", "selector"])
         self.script.add({"cmd": kind, **dict(zip(keys, words))})
 
     def take_checkpoint(self, rest):
         self.script.add({"cmd": "checkpoint"})
+
+    def take_status(self, rest):
+        self.script.add({"cmd": "status"})
+
+    def take_wait(self, rest):
+        number, turn, milliseconds, epoch = rest.split(" ", 3)
+        self.script.add({"actor": int(number), "cmd": "wait", "epoch": epoch, "ms": int(milliseconds), "turn": int(turn)})
 
     def take_actor(self, rest):
         self.script.add({"class": rest, "cmd": "actor"})

@@ -6,10 +6,13 @@ import random
 from .image import Image, TooManySteps
 from .language import KERNEL_SELECTORS, arguments_of
 from .looks import Looks
+from .machine import Message
 from .names import names_in
 from .picked import Taker, all_picked
+from .replaces import Replaces
 from .short import short_sources
 from .sources import Sources
+from .waits import Waits, some_actor, some_turn
 from .words import ACTING, CALLING, GOOD
 
 SETUP = [
@@ -79,13 +82,18 @@ class Script:
         room = len(self.names) < MOST_NAMES and self.image.classes.edits < MOST_EDITS
         return room and len(self.image.actors) < MOST_ACTORS
 
-    def install(self, class_name, source, plain=False):
-        """The method, where the source is accepted."""
+    def install(self, class_name, source, plain=False, over=None):
+        """The method, where the source is accepted. One that is over a version is over the one that is told, if that is Stale."""
         command = {"class": class_name, "cmd": "method", "source": source}
+        if over is not None:
+            command = {**command, "cmd": "replace", "over": over}
         if len(json.dumps(command)) > MOST_LINE:
             return None
         self.sources += 1
-        if "ok" not in self.add(command, plain):
+        reply = self.add(command, plain)
+        if reply.get("error") == "Stale":
+            reply = self.add({**command, "over": reply["version"]}, plain)
+        if "ok" not in reply:
             return None
         method = self.image.installed
         self.names.update(names_in(method))
@@ -123,7 +131,7 @@ class Script:
         trial = self.image.copy()
         trial.patience = MOST_STEPS
         try:
-            trial.deliver(number, selector, [trial.value(argument) for argument in arguments])
+            trial.deliver(number, Message(selector, [trial.value(argument) for argument in arguments]))
             trial.run({})
         except TooManySteps:
             return False
@@ -176,19 +184,23 @@ def drawn_apart(rng):
 
 
 def random_script(rng, sources, size):
-    """Random sources, each accepted one run at once. Behind edits the classes are looked at."""
+    """Random sources, each accepted one run at once. Behind edits the classes are looked at, and some edits are to replace a version."""
     script = Script(rng.choice([256, 256, 256, 256, 1, 2, 5, 16, 255, 1024]))
     apart = drawn_apart(rng)
-    looks = Looks(apart, script)
+    looks, replaces, waits = (kind(apart, script) for kind in (Looks, Replaces, Waits))
     while script.sources < size and script.has_room():
         class_name = rng.choice(["A"] * 10 + ["B"] * 4 + ["C"] * 3 + [rng.choice(OTHER_CLASSES)] * 3)
         source = sources.next(class_name)
-        method = script.install(class_name, source, plain=rng.random() < 0.3)
+        method = script.install(class_name, source, rng.random() < 0.3, replaces.over())
         if method is None:
             continue
         sources.keep(source)
         if apart.random() < 0.2:
             looks.ask(class_name, method.selector)
+        if apart.random() < 0.1:
+            replaces.in_vain()
+        if apart.random() < 0.1:
+            waits.ask()
         if class_name in ("A", "B", "C", "Object") or rng.random() < 0.2:
             for _ in range(rng.choice([1, 1, 2])):
                 number = {"B": rng.choice([1, 2]), "C": 2}.get(class_name, rng.choice([0, 1, 2]))
@@ -199,12 +211,15 @@ def random_script(rng, sources, size):
         if rng.random() < 0.1:
             script.reparent(rng)
             looks.ask(script.commands[-1]["class"])
+    looks.ask_all_edits()
+    waits.ask_status()
     return script
 
 
 class CutTurns:
     """A script in which turns of several actors are cut by quanta, with edits between them. What is drawn apart changes nothing of the
-    rest: it is what `aside` names, which may be further definitions, questions for sends, looks at classes and actors, and checkpoints.
+    rest: it is what `aside` names, which may be further definitions, questions for sends, looks at classes and actors, checkpoints,
+    installs that are to replace a version, and waits for turns.
     `further` are the lines of this, and those of a run that is asked for quantum by quantum."""
 
     SELECTORS = "foo bar m m1 who + = foo: class".split()
@@ -218,14 +233,14 @@ class CutTurns:
         self.runs = [1, 1, 2, 3, 5, 10, 30] if quantum < 100 else [1, 2, 5]
         self.selectors = list(self.SELECTORS)
         self.apart = drawn_apart(rng)
-        self.looks = Looks(self.apart, self.script)
+        self.looks, self.replaces, self.waits = (kind(self.apart, self.script) for kind in (Looks, Replaces, Waits))
         self.defined = list("ABCDE") + ["Object"]
         self.further = 0
 
     def grow(self, size):
         while len(self.script.lines) - self.further < size and self.script.has_room():
             self.command(self.rng.random())
-            if self.apart.random() < 0.1:
+            if self.apart.random() < 0.15:
                 self.further += 1
                 getattr(self, self.apart.choice(self.aside))()
         return self.script
@@ -239,6 +254,12 @@ class CutTurns:
     def look(self):
         self.looks.ask()
 
+    def replace(self):
+        self.replaces.in_vain()
+
+    def wait(self):
+        self.waits.ask()
+
     def checkpoint(self):
         """Few: counts of sends begin at 0 behind it."""
         if self.apart.random() < 0.25:
@@ -248,7 +269,7 @@ class CutTurns:
         """Often, where there are looks, behind what changes actors."""
         if "look" in self.aside and self.apart.random() < 0.25:
             self.further += 1
-            self.looks.ask_actors()
+            self.looks.ask_inspect() if self.apart.random() < 0.5 else self.looks.ask_actors()
 
     def look_behind(self, edit, selector=None):
         """Often, where classes are looked at, a look at what was edited."""
@@ -270,12 +291,15 @@ class CutTurns:
         return len(one.methods)
 
     def asked_in_the_end(self):
-        """The script, at whose end all methods are asked for their sends, and all turns for how they ended that may be told."""
+        """The script, at whose end all methods are asked for their sends, all turns for how they ended that may be told, and the image for
+        its edits and its status."""
         for one in self.script.image.classes.all:
             self.sends_of(one.name)
         for number, actor in enumerate(self.script.image.actors):
             for turn in range(max(1, len(actor.results) - 66), len(actor.results) + 2):
                 self.script.add({"actor": number, "cmd": "outcome", "turn": turn})
+        self.looks.ask_all_edits()
+        self.waits.ask_status()
         return self.script
 
     def run(self):
@@ -310,11 +334,13 @@ class CutTurns:
             self.script.add({"class": self.rng.choice(["A", "B", "C", "D", "E", "Object"]), "cmd": "actor"})
 
     def install(self):
-        """Where sends are asked for, often before a method is replaced: its own are told no more then."""
+        """Where sends are asked for, often before a method is replaced: its own are told no more then. Where installs are to replace a
+        version, so is this."""
         class_name = self.rng.choice(CLASSES_TO_EDIT)
         if "ask_sends" in self.aside and self.apart.random() < 0.4:
             self.further += self.sends_of(class_name)
-        method = self.script.install(class_name, self.sources.next_to_run(class_name))
+        over = self.replaces.over() if "replace" in self.aside else None
+        method = self.script.install(class_name, self.sources.next_to_run(class_name), over=over)
         if method:
             self.selectors.append(method.selector)
             self.look_behind(self.script.commands[-1], method.selector)
@@ -328,19 +354,14 @@ class CutTurns:
         self.script.send(sender, seq, self.actor(), selector, random_arguments(self.rng, count))
 
     def actor(self):
-        """An actor's number; seldom one that isn't there."""
-        return self.rng.randrange(len(self.script.image.actors) + (self.rng.random() < 0.03))
+        return some_actor(self.rng, self.script.image)
 
     def ask(self):
-        number = self.actor()
-        actors = self.script.image.actors
-        ended = len(actors[number].results) if number < len(actors) else 0
-        turn = max(0, ended + self.rng.choice([0, 0, 0, -1, 1, -2, -63, -64, -65]))
-        self.script.add({"actor": number, "cmd": "outcome", "turn": turn})
+        self.script.add({**some_turn(self.rng, self.script.image), "cmd": "outcome"})
 
 
 def cut_turns(rng, sources):
-    turns = CutTurns(rng, sources, aside=("define", "ask_sends", "look", "checkpoint"))
+    turns = CutTurns(rng, sources, aside=("define", "ask_sends", "look", "checkpoint", "replace", "wait"))
     turns.grow(900)
     return turns.asked_in_the_end()
 

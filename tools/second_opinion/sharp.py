@@ -7,6 +7,9 @@ import sys
 import tempfile
 
 from .wrong_acting import WRONG_ACTING
+from .wrong_edits import WRONG_EDITS
+from .wrong_epochs import WRONG_EPOCHS
+from .wrong_inspecting import WRONG_INSPECTING
 from .wrong_looking import WRONG_LOOKING
 from .wrong_mailboxes import WRONG_MAILBOXES
 from .wrong_reading import WRONG_READING
@@ -41,7 +44,7 @@ def trial(rule, program, room):
 
 def try_wrong_rules(program):
     """The status: 0 where each wrong rule is told apart."""
-    rules = WRONG_READING + WRONG_RUNNING + WRONG_ACTING + WRONG_MAILBOXES + WRONG_LOOKING
+    rules = WRONG_READING + WRONG_RUNNING + WRONG_ACTING + WRONG_MAILBOXES + WRONG_LOOKING + WRONG_INSPECTING + WRONG_EDITS + WRONG_EPOCHS
     missed = 0
     with tempfile.TemporaryDirectory(prefix="second-opinion-") as room:
         for rule in rules:

@@ -54,8 +54,8 @@ REMOVES = [
     WrongRule(
         "a remove is no edit",
         "classes",
-        "        del methods[selector]\n        self.edits += 1\n",
-        "        del methods[selector]\n",
+        '        self.done("remove", selector=selector, **{"class": class_name})\n',
+        "",
     ),
     WrongRule(
         "a refused remove is an edit",
@@ -153,8 +153,8 @@ MOVES = [
     WrongRule(
         "a reparent is no edit",
         "classes",
-        "        self.all[number].parent = above\n        self.edits += 1\n",
-        "        self.all[number].parent = above\n",
+        '        self.done("reparent", super=parent, **{"class": class_name})\n',
+        "",
     ),
     WrongRule(
         "a class goes under one with fewer instance variables",
@@ -480,39 +480,39 @@ POSTS = [
     WrongRule(
         "a post answers the reference",
         "kernel",
-        "    return boolean(actor.image.deliver(receiver.content, symbol.content, further))\n",
-        "    actor.image.deliver(receiver.content, symbol.content, further)\n    return receiver\n",
+        "    return boolean(actor.post(receiver.content, symbol.content, further))\n",
+        "    actor.post(receiver.content, symbol.content, further)\n    return receiver\n",
     ),
     WrongRule(
         "a post answers true always",
         "kernel",
-        "    return boolean(actor.image.deliver(receiver.content, symbol.content, further))\n",
-        "    actor.image.deliver(receiver.content, symbol.content, further)\n    return boolean(True)\n",
+        "    return boolean(actor.post(receiver.content, symbol.content, further))\n",
+        "    actor.post(receiver.content, symbol.content, further)\n    return boolean(True)\n",
     ),
     WrongRule(
         "a full mailbox takes the posts of actors",
         "kernel",
-        "    return boolean(actor.image.deliver(receiver.content, symbol.content, further))\n",
+        "    return boolean(actor.post(receiver.content, symbol.content, further))\n",
         (
-            "    actor.image.capacity += 1\n"
+            "    actor.image.actors[receiver.content].capacity += 1\n"
             "    try:\n"
-            "        return boolean(actor.image.deliver(receiver.content, symbol.content, further))\n"
+            "        return boolean(actor.post(receiver.content, symbol.content, further))\n"
             "    finally:\n"
-            "        actor.image.capacity -= 1\n"
+            "        actor.image.actors[receiver.content].capacity -= 1\n"
         ),
     ),
     WrongRule(
         "the mailbox of an actor that a method made holds a message more",
         "image",
-        "if len(actor.pending) >= self.capacity else None",
-        "if len(actor.pending) >= self.capacity + (number > 2) else None",
+        "if len(actor.pending) >= actor.capacity else None",
+        "if len(actor.pending) >= actor.capacity + (number > 2) else None",
     ),
     WrongRule(
         "a full mailbox is a fault",
         "kernel",
-        "    return boolean(actor.image.deliver(receiver.content, symbol.content, further))\n",
+        "    return boolean(actor.post(receiver.content, symbol.content, further))\n",
         (
-            "    if not actor.image.deliver(receiver.content, symbol.content, further):\n"
+            "    if not actor.post(receiver.content, symbol.content, further):\n"
             '        raise Fault("badArgument")\n'
             "    return boolean(True)\n"
         ),
@@ -520,14 +520,14 @@ POSTS = [
     WrongRule(
         "an actor can't post to itself",
         "kernel",
-        "    return boolean(actor.image.deliver(",
-        "    return boolean(receiver.content != actor.number and actor.image.deliver(",
+        "    return boolean(actor.post(",
+        "    return boolean(receiver.content != actor.number and actor.post(",
     ),
     WrongRule(
         "the message of a turn is in the mailbox until the turn ends",
         "image",
-        "if len(actor.pending) >= self.capacity else None",
-        "if len(actor.pending) + actor.in_turn() >= self.capacity else None",
+        "if len(actor.pending) >= actor.capacity else None",
+        "if len(actor.pending) + actor.in_turn() >= actor.capacity else None",
     ),
     WrongRule(
         "a posted selector may be any value",
@@ -616,9 +616,9 @@ POSTS = [
     WrongRule(
         "posted messages go before those of clients",
         "kernel",
-        "    return boolean(actor.image.deliver(receiver.content, symbol.content, further))\n",
+        "    return boolean(actor.post(receiver.content, symbol.content, further))\n",
         (
-            "    taken = actor.image.deliver(receiver.content, symbol.content, further)\n"
+            "    taken = actor.post(receiver.content, symbol.content, further)\n"
             "    if taken:\n"
             "        actor.image.actors[receiver.content].pending.rotate(1)\n"
             "    return boolean(taken)\n"
@@ -627,9 +627,9 @@ POSTS = [
     WrongRule(
         "posted messages have no number",
         "kernel",
-        "    return boolean(actor.image.deliver(receiver.content, symbol.content, further))\n",
+        "    return boolean(actor.post(receiver.content, symbol.content, further))\n",
         (
-            "    taken = actor.image.deliver(receiver.content, symbol.content, further)\n"
+            "    taken = actor.post(receiver.content, symbol.content, further)\n"
             "    actor.image.actors[receiver.content].accepted -= taken\n"
             "    return boolean(taken)\n"
         ),
@@ -655,8 +655,8 @@ POSTS = [
     WrongRule(
         "a client may post objects",
         "image",
-        '            return {"error": "BadCommand"}\n',
-        '            return {"error": "BadArguments"}\n',
+        'for argument in arguments):\n            return {"error": "BadCommand"}\n',
+        'for argument in arguments):\n            return {"error": "BadArguments"}\n',
     ),
     WrongRule(
         "the selector of a client's post is looked at behind the actor",

@@ -3,7 +3,7 @@
 from .wrong_rule import WrongRule
 
 OPEN = "        if not actor.is_open:\n"
-FULL = '        return "Full" if len(actor.pending) >= self.capacity else None\n'
+FULL = '        return "Full" if len(actor.pending) >= actor.capacity else None\n'
 CLOSE = "        self.actors[number].is_open = False\n"
 NUMBER = "        self.numbers[sender] = seq\n"
 OLD = '        if seq <= last:\n            return {"error": "Old", "last": last}\n'
@@ -14,12 +14,17 @@ WRONG_MAILBOXES = [
     WrongRule("closing drops what is pending", "image", CLOSE, CLOSE + "        self.actors[number].pending.clear()\n"),
     WrongRule("closing does nothing", "image", CLOSE, ""),
     WrongRule("a closed mailbox that is empty takes a message", "image", OPEN, "        if not actor.is_open and actor.pending:\n"),
-    WrongRule("a full mailbox is Full, closed or not", "image", OPEN, "        if not actor.is_open and len(actor.pending) < self.capacity:\n"),
+    WrongRule(
+        "a full mailbox is Full, closed or not",
+        "image",
+        OPEN,
+        "        if not actor.is_open and len(actor.pending) < actor.capacity:\n",
+    ),
     WrongRule(
         "a full mailbox drops its oldest message",
         "image",
         FULL,
-        "        if len(actor.pending) >= self.capacity:\n            actor.pending.popleft()\n        return None\n",
+        "        if len(actor.pending) >= actor.capacity:\n            actor.pending.popleft()\n        return None\n",
     ),
     WrongRule("a mailbox closes twice", "image", "        return was_open\n", "        return True\n"),
     WrongRule("a closed actor makes closed ones", "machine", "        self.is_open = True\n", "        self.is_open = not image.actors or image.actors[-1].is_open\n"),

@@ -156,7 +156,7 @@ TURNS = [
         ),
     ),
     WrongRule("the last message is first", "machine", "self.pending.popleft()", "self.pending.pop()"),
-    WrongRule("a mailbox holds one message more", "image", ">= self.capacity", "> self.capacity"),
+    WrongRule("a mailbox holds one message more", "image", ">= actor.capacity", "> actor.capacity"),
     WrongRule(
         "Full goes before BadArguments",
         "image",

@@ -95,6 +95,21 @@ class Posting:
         assert row["running"] in (None, {"class": "A", "selector": "a"}), row
         return row
 
+    def inspect(self, client, actor):
+        """The number of the turn that stands in the actor. What it has counted and what waits are of the same moment: each message has the
+        number of its turn, and a turn that has not ended may have counted already."""
+        told = client.done(cmd="inspect", actor=actor)
+        [one], phase, turn = told["body"]["objects"], told["body"]["phase"], told["turn"] or 0
+        waiting = [(it["sender"], it["seq"]) for it in told["pending"]]
+        assert waiting == [(actor + 1, turn + place) for place in range(1, len(waiting) + 1)], told
+        counted = one["slots"][0] or 0
+        if "frames" in phase:
+            assert counted in (turn - 1, turn), told
+        else:
+            assert phase in ("fresh", {"answer": turn}) or "start" in phase, told
+            assert counted == turn - ("start" in phase) and (turn == 0) == (phase == "fresh"), told
+        return turn
+
     def posts(self, client, actor):
         """What was replied to is told: the message that was accepted, and now and then the turn that has ended."""
         for turn in range(1, POSTS + 1):
@@ -107,6 +122,7 @@ class Posting:
                 client.wait(actor, turn)
                 row = self.row(client, actor)
                 assert row["begun"] == turn and row["phase"] == {"answer": turn}, (turn, row)
+                assert self.inspect(client, actor) == turn
 
     def looks(self, client, actor):
         """Counts never fall, and what has ended is never more than what was begun."""
@@ -114,8 +130,9 @@ class Posting:
         while not self.is_over.is_set():
             row = self.row(client, actor)
             assert accepted <= row["accepted"] and begun <= row["begun"] <= row["accepted"], (accepted, begun, row)
-            accepted, begun = row["accepted"], row["begun"]
-            assert row["phase"] in ("fresh", "start", "frames", {"answer": begun}), row
+            accepted, begun = row["accepted"], self.inspect(client, actor)
+            assert row["begun"] <= begun, (row, begun)
+            assert row["phase"] in ("fresh", "start", "frames", {"answer": row["begun"]}), row
 
     def threads(self, part):
         return [threading.Thread(target=self.run, args=(part, actor)) for actor in (0, 1)]

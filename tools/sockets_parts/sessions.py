@@ -94,8 +94,8 @@ def a_long_line_ends_its_session(program, Server, _post):
 
 
 def one_place_is_kept_for_the_operator(program, Server, _post):
-    """While 64 sessions are open one of the operator's is let in, and no second one. So are a workspace and tools/top. Its end has a
-    name that begins so."""
+    """While 64 sessions are open one of the operator's is let in, and no second one. So are a workspace, tools/top and tools/status. Its
+    end has a name that begins so."""
     names = (f"\0actorimage.operator.{number}.{os.getpid()}".encode() for number in range(2))
     with Server(program, 1000, 2) as server, contextlib.ExitStack() as all_of_them:
         for _ in range(64):
@@ -106,7 +106,11 @@ def one_place_is_kept_for_the_operator(program, Server, _post):
                 with late:
                     assert late.lines.readline() == TOO_MANY
         soon(lambda: len(threads(server)) == 67, "the session of the operator goes on")
-        for words, given in ((["workspace", "--socket", server.path], "3 + 4\n"), (["top", "--once", server.path, "Object.isNil"], "")):
+        for words, given in (
+            (["workspace", "--socket", server.path], "3 + 4\n"),
+            (["top", "--once", server.path, "Object.isNil"], ""),
+            (["status", server.path], ""),
+        ):
             run = subprocess.run([os.path.join(TOOLS, words[0]), *words[1:]], input=given, capture_output=True, text=True, timeout=60)
             assert run.returncode == 0, run
             soon(lambda: len(threads(server)) == 67, f"the session of {words[0]} goes on")

@@ -1,10 +1,13 @@
 """A frame: the lines that are shown of what was done between two samples."""
 
+import sys
 from dataclasses import dataclass
-from typing import Iterable, Iterator, Optional, Sequence
+from typing import Iterable, Iterator, Sequence
+
+from actorimage import Status
 
 from .sites import STATES, Found, Row
-from .turns import Ends
+from .turns import Acting, Ends
 
 # The letter of each state and its colour, as the number that a terminal takes.
 LETTERS = dict(zip(STATES, ".mpM"))
@@ -12,10 +15,14 @@ COLOURS = {"empty": 90, "mono": 32, "poly": 33, "mega": 31}
 FAULTY, HEAD, PLAIN = 31, 7, 0
 COLUMNS = ("SENDS/S", "SENDS", "SITE", "CACHE", "WALK")
 WIDTHS = (8, 8, 7, 7, 7)
-# Between the columns of numbers and that of the sites, and the least width of the names.
-GAP, LEAST_NAME = 2, 12
+# Those of an actor's numbers, behind its own and its class.
+OF_ACTORS = ("TURNS/S", "TURNS", "WAITS")
+# Between the columns of numbers and the last one, and the least and the most width of a name.
+GAP, LEAST_NAME, MOST_CLASS = 2, 12, 30
 LEGEND = "SITES, in the order of the code: "
-NO_METHODS = "no methods: write some as  Counter.bump, or a file that names them as  --from FILE"
+NO_ACTORS = "no actors"
+# More lines than a frame has.
+UNBOUNDED = sys.maxsize
 
 
 @dataclass(frozen=True)
@@ -36,31 +43,53 @@ class Shown:
     path: str
     clock: str
     seconds: float
-    rows: Sequence[Row]
+    status: Status
+    actors: Sequence[Acting]
     ends: Ends
+    rows: Sequence[Row]
 
 
-def frame(shown: Shown, width: int, height: Optional[int] = None) -> list[Line]:
-    """The lines, at most so wide; if there is no room for all rows, those that send least are left out."""
+def frame(shown: Shown, width: int, height: int = UNBOUNDED) -> list[Line]:
+    """The lines, at most so wide and so many; if there is no room for all actors and methods, those that do least are left out."""
     lines = [*head(shown), []]
-    if not shown.rows:
-        return [cut(line, width) for line in [*lines, [Piece(NO_METHODS)]]]
-    rows = list(shown.rows)
-    room = len(rows) if height is None else max(1, height - len(lines) - 3)
+    room = height - len(lines)
+    lines += of_actors(shown, width, max(1, (room // 2 if shown.rows else room) - 2))
+    if shown.rows:
+        lines += [[], *of_methods(shown, width, max(1, height - len(lines) - 4)), legend()]
+    return [cut(it, width) for it in lines]
+
+
+def of_actors(shown: Shown, width: int, room: int) -> Iterator[Line]:
+    """The actors: first those that were in one turn all the time, then by what ended, what waits, and their numbers."""
+    actors = sorted(shown.actors, key=lambda it: (not it.is_long, -it.turns, -it.standing.waiting, it.standing.actor.number))
+    if not actors:
+        yield [Piece(NO_ACTORS)]
+        return
+    name = 9 + min(MOST_CLASS, max(len(it.standing.class_name) for it in actors))
+    yield [Piece((columns("ACTOR  CLASS", OF_ACTORS, name) + " " * GAP + "LAST TURN").ljust(width), HEAD)]
+    for it in actors[:room]:
+        numbers = (short(it.turns / shown.seconds), short(max(0, it.ended())), short(it.standing.waiting))
+        first = f"{it.standing.actor.number:5}  {it.standing.class_name}"
+        yield [Piece(columns(first[:name], numbers, name) + " " * GAP), Piece(it.doing(), FAULTY if it.standing.fault else PLAIN)]
+    if room < len(actors):
+        yield [Piece(f"and {len(actors) - room:,} more that do less")]
+
+
+def of_methods(shown: Shown, width: int, room: int) -> Iterator[Line]:
     longest = max(LEAST_NAME, width - sum(WIDTHS) - GAP - 8)
-    name = 1 + min(max(LEAST_NAME, *(len(row.name) for row in rows)), longest)
-    lines.append([Piece((columns("METHOD", COLUMNS, name) + " " * GAP + "SITES").ljust(width), HEAD)])
-    lines += [line(row, shown.seconds, name, width) for row in rows[:room]]
-    if room < len(rows):
-        lines.append([Piece(f"and {len(rows) - room} more that send less")])
-    return [cut(it, width) for it in [*lines, legend()]]
+    name = 1 + min(max(LEAST_NAME, *(len(row.name) for row in shown.rows)), longest)
+    yield [Piece((columns("METHOD", COLUMNS, name) + " " * GAP + "SITES").ljust(width), HEAD)]
+    yield from (line(row, shown.seconds, name, width) for row in shown.rows[:room])
+    if room < len(shown.rows):
+        yield [Piece(f"and {len(shown.rows) - room} more that send less")]
 
 
 def head(shown: Shown) -> Iterator[Line]:
-    ends = shown.ends
+    ends, status = shown.ends, shown.status
     yield [Piece(f"{shown.path}: {shown.seconds:.1f} seconds up to {shown.clock}")]
-    actors = ("the first " if ends.are_first else "") + count(ends.actors, "actor")
-    turns = f"turns: {short(ends.turns / shown.seconds)} a second, of {actors}"
+    room = f"history: {status.history:,} of {status.history_most:,} items; edits left: {status.edits_left:,}"
+    yield [Piece(f"{room}; {count(status.sessions, 'session')}")]
+    turns = f"turns: {short(ends.turns / shown.seconds)} a second, of {count(len(shown.actors), 'actor')}"
     told = "" if ends.told == ends.turns else f" in the {ends.told:,} of {ends.turns:,} turns that were asked for"
     names = ", ".join(f"{name} {number:,}" for name, number in ends.faults.most_common())
     faults = f"faults: {names}{told}" if ends.faults else f"faults: none{told}"

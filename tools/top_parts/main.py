@@ -1,15 +1,16 @@
-"""Shows again and again how the methods of a served image do, as top does of processes.
+"""Shows again and again how the actors and methods of a served image do, as top does of processes.
 
-    tools/top SOCKET [METHOD..] [--from FILE] [--actors A,B-C] [--seconds S] [--sites] [--once]
+    tools/top SOCKET [METHOD..] [--actors A,B-C] [--seconds S] [--sites] [--once]
     tools/top --try PROGRAM
 
-A METHOD is written as Counter.bump. --from takes further ones from a file: a workspace's log (:log FILE), definitions (:sources FILE)
-or an image file. No command lists the methods of a served image, so others are not shown.
+Of each actor, or of those that --actors names, there are its turns a second, all its turns since the last checkpoint, how many messages
+wait, and what it runs or how its last turn ended. Those that are in one turn all the time come first, and then those that end most.
+Above stand the turns of all and their faults. An image tells how an actor's newest 64 turns ended; where more end between two frames,
+the faults are those of a part.
 
-Of each method there are its sends a second, all its sends since it was installed, the share of the newest ones that the sites
-answered, the lookup cache and the walk, and a letter for each call site: . empty, m mono, p poly, M mega. --sites shows the sites
-below it. Above stand the turns that ended and their faults, of the first 1,024 actors or of those that --actors names. An image tells
-how an actor's newest 64 turns ended; where more end between two frames, the faults are those of a part.
+A METHOD is written as Counter.bump, or as Counter for all that the class has. Of each there are its sends a second, all its sends since
+it was installed, the share of the newest ones that the sites answered, the lookup cache and the walk, and a letter for each call site:
+. empty, m mono, p poly, M mega. --sites shows the sites below it.
 
 At a terminal q ends it and s shows the sites or hides them. If standard output is none, frames are printed one after the other;
 --once prints one. Each frame is of S seconds, 2 if none are given. What is asked is no item of the history, and changes nothing.
@@ -24,7 +25,7 @@ import time
 import actorimage
 
 from .frame import Piece, Shown, frame
-from .named import NoMethods, given, of_file
+from .named import NoMethods, given, named
 from .screen import opened
 from .sites import rows, sample
 from .turns import Turns
@@ -35,17 +36,17 @@ LONGEST_SESSION = 60
 
 
 class Watch:
-    """Two samples: the one of the last frame, and the one of now."""
+    """Two samples: the one of the last frame, and the one of now. `words` are the methods and classes that are named."""
 
-    def __init__(self, image, path, methods, actors):
-        self.image, self.path, self.methods, self.actors = image, path, methods, actors
+    def __init__(self, image, path, words, actors):
+        self.image, self.path, self.words, self.actors = image, path, words, actors
         self.began = time.monotonic()
         self.begin()
 
     def begin(self):
         self.turns = Turns(self.actors)
-        self.turns.sample(self.image)
-        self.at, self.sites = time.monotonic(), sample(self.image, self.methods)
+        self.turns.sample(self.image, self.image.status().epoch)
+        self.at, self.sites = time.monotonic(), sample(self.image, named(self.image, self.words))
 
     def again(self):
         """Connects again. The image may be another one, so nothing is known of before."""
@@ -59,20 +60,19 @@ class Watch:
 
     def shown(self, with_sites):
         """What was done since the last sample."""
-        now, sites = time.monotonic(), sample(self.image, self.methods)
-        ends = self.turns.sample(self.image)
+        now, status, sites = time.monotonic(), self.image.status(), sample(self.image, named(self.image, self.words))
+        actors, ends = self.turns.sample(self.image, status.epoch)
         found = list(rows(self.sites, sites, with_sites))
         seconds, self.at, self.sites = now - self.at, now, sites
-        return Shown(self.path, time.strftime("%H:%M:%S"), seconds, found, ends)
+        return Shown(self.path, time.strftime("%H:%M:%S"), seconds, status, actors, ends, found)
 
 
 def arguments():
     plain = argparse.RawDescriptionHelpFormatter
     parser = argparse.ArgumentParser(prog="tools/top", description=__doc__, formatter_class=plain, usage=argparse.SUPPRESS)
     parser.add_argument("socket", metavar="SOCKET", nargs="?", help="where the server listens")
-    parser.add_argument("methods", metavar="METHOD", nargs="*", help="a method, as Counter.bump")
-    parser.add_argument("--from", dest="files", metavar="FILE", action="append", default=[], help="a file that names methods")
-    parser.add_argument("--actors", metavar="A,B-C", help="the actors whose turns are watched")
+    parser.add_argument("methods", metavar="METHOD", nargs="*", help="a method, as Counter.bump, or a class")
+    parser.add_argument("--actors", metavar="A,B-C", help="the actors that are shown")
     parser.add_argument("--seconds", metavar="S", type=float, default=2, help="seconds of each frame")
     parser.add_argument("--sites", action="store_true", help="show the call sites of each method")
     parser.add_argument("--once", action="store_true", help="print one frame")
@@ -89,20 +89,19 @@ def numbers(text):
     """The numbers of actors, as in 0,4-9; None if none are given."""
     if text is None:
         return None
-    found = []
+    found = set()
     for part in text.split(","):
         first, _, last = part.partition("-")
         if not first.isdecimal() or not (last or "0").isdecimal():
             raise NoMethods(f"--actors takes numbers, as in  0,4-9, and not {text}")
-        found += range(int(first), int(last or first) + 1)
-    return list(dict.fromkeys(found))
+        found.update(range(int(first), int(last or first) + 1))
+    return found
 
 
 def watch(found):
-    methods = [given(it) for it in found.methods] + [method for path in found.files for method in of_file(path)]
-    actors = numbers(found.actors)
+    words, actors = [given(it) for it in found.methods], numbers(found.actors)
     with actorimage.connect(found.socket, operator=True) as image, opened(not found.once) as screen:
-        go_on(Watch(image, found.socket, list(dict.fromkeys(methods)), actors), screen, found)
+        go_on(Watch(image, found.socket, words, actors), screen, found)
 
 
 def go_on(watched, screen, found):

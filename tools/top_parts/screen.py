@@ -5,9 +5,9 @@ import select
 import shutil
 import sys
 import time
-from typing import Iterator, Optional
+from typing import Iterator
 
-from .frame import Line, as_coloured, as_text
+from .frame import UNBOUNDED, Line, as_coloured, as_text
 
 try:
     import termios
@@ -29,9 +29,9 @@ class Printed:
     def __init__(self) -> None:
         self.is_first = True
 
-    def size(self) -> tuple[int, Optional[int]]:
-        """How many columns there are, and lines if they are bounded."""
-        return shutil.get_terminal_size().columns or WIDTH if sys.stdout.isatty() else WIDTH, None
+    def size(self) -> tuple[int, int]:
+        """How many columns and lines there are."""
+        return shutil.get_terminal_size().columns or WIDTH if sys.stdout.isatty() else WIDTH, UNBOUNDED
 
     def show(self, lines: list[Line]) -> None:
         if not self.is_first:
@@ -50,9 +50,9 @@ class Screen:
 
     keys = True
 
-    def size(self) -> tuple[int, Optional[int]]:
+    def size(self) -> tuple[int, int]:
         size = shutil.get_terminal_size()
-        return size.columns or WIDTH, size.lines or None
+        return size.columns or WIDTH, size.lines or UNBOUNDED
 
     def show(self, lines: list[Line]) -> None:
         text = "".join(f"{as_coloured(line)}{CLEAR_LINE}\r\n" for line in lines[:-1])

@@ -1,35 +1,28 @@
 """Trials: which methods are named, what is counted between two samples, and how frames look."""
 
 import contextlib
-import json
 import os
 import subprocess
 import sys
 import tempfile
 import time
+from collections import Counter
 
 import actorimage
-from actorimage import Actor, Turn
+from actorimage import Actor, Standing, Status
 from workspace_parts.pretend import Terminal
 from workspace_parts.serving import Server
 from workspace_parts.try_common import TOP, same
 
 from .frame import Shown, as_coloured, as_text, frame, short
 from .main import Watch, numbers
-from .named import Method, NoMethods, given, of_file
+from .named import Method, NoMethods, given, named
 from .sites import Found, Row
-from .turns import Ends, Turns
+from .turns import Acting, Ends, Turns
 
 HERE = os.path.join(TOP, "tools", "top")
 COUNTER = "bump count isNil ifTrue: [count := 0]. count := count + 1. ^count"
 SECONDS = 60
-
-
-def written(folder, name, text):
-    path = os.path.join(folder, name)
-    with open(path, "w", encoding="utf-8") as file:
-        file.write(text)
-    return path
 
 
 def refused(call, *arguments):
@@ -41,29 +34,24 @@ def refused(call, *arguments):
 
 
 def methods_are_named(program):
-    """By words, and by the three kinds of files."""
+    """By words, one by one or by their class, as the image has them then."""
     for word in ("Counter.at:put:", "Counter>>at:put:", "Counter >> at:put:", "Counter at:put:"):
         same(given(word), Method("Counter", "at:put:"))
-    same(given("Object.~="), Method("Object", "~="))
-    same(refused(given, "bump"), "bump is no method; write a class and a selector, as in  Counter.bump")
-    sent = [
-        ({"cmd": "define", "name": "A", "slots": [], "super": "Object"}, True),
-        ({"cmd": "method", "class": "A", "source": "at: i put: v\n  ^self gone"}, True),
-        ({"cmd": "method", "class": "A", "source": "bad ^("}, False),
-        ({"cmd": "method", "class": "A", "source": "gone ^1"}, True),
-        ({"cmd": "method", "class": "A", "source": "at: i put: v ^2"}, True),
-        ({"cmd": "remove", "class": "A", "selector": "gone"}, True),
-    ]
-    log = "".join(json.dumps({"sent": it, "answered": {"ok": {}} if ok else {"error": "X"}}) + "\n" for it, ok in sent)
-    with tempfile.TemporaryDirectory() as folder:
-        same(of_file(written(folder, "log", log.replace('{"sent": ', '{"sent":'))), [Method("A", "at:put:")])
-        text = 'A : Object | x |\nA >> + n\n  ^n\n"a comment"\na := A actor\nB >> m  ^1\nB >> m  ^2\n'
-        same(of_file(written(folder, "definitions", text)), [Method("A", "+"), Method("B", "m")])
-        same(of_file(os.path.join(TOP, "examples", "job.image.json")), [Method("Job", "pay"), Method("Job", "work:")])
-        same("names no methods" in refused(of_file, written(folder, "broken", '{"actors":[')), True)
-        same(refused(of_file, os.path.join(folder, "none")).endswith("names no methods (No such file or directory)"), True)
-    same(numbers("0,4-6,5"), [0, 4, 5, 6])
+    same((given("Object.~="), given("Counter")), (Method("Object", "~="), "Counter"))
+    said = "bump is no method; write a class, or a class and a selector, as in  Counter  or  Counter.bump"
+    same(refused(given, "bump"), said)
+    same(numbers("0,4-6,5"), {0, 4, 5, 6})
     same(refused(numbers, "a"), "--actors takes numbers, as in  0,4-9, and not a")
+    with actorimage.script(program) as image:
+        image.define("A")
+        image.install("A", "m ^1")
+        image.install("A", "n ^1")
+        image.install("True", "no ^false")
+        words = [Method("A", "n"), "A", "True", "Gone", Method("Gone", "m")]
+        wanted = [Method("A", "n"), Method("A", "m"), Method("True", "no"), Method("Gone", "m")]
+        same(named(image, words), wanted)
+        image.remove("A", "m")
+        same(named(image, ["A"]), [Method("A", "n")])
 
 
 def post(image, number, *messages):
@@ -74,6 +62,12 @@ def post(image, number, *messages):
         for last in turns.values():
             with contextlib.suppress(actorimage.Fault):
                 image.wait(last)
+
+
+def until(holds):
+    ends = time.monotonic() + SECONDS
+    while not holds():
+        same(time.monotonic() < ends, True)
 
 
 def sends_are_counted(program):
@@ -112,28 +106,64 @@ def turns_are_counted(program):
         with actorimage.connect(server.path) as image:
             image.define("Counter", slots=["count"])
             image.install("Counter", COUNTER)
-            every, some = Turns(None), Turns([1, 9])
-            same((every.sample(image), some.sample(image)), (Ends(), Ends()))
+            every, some = Turns(None), Turns({1, 9})
+
+            def sampled(turns):
+                actors, ends = turns.sample(image, image.status().epoch)
+                return {it.standing.actor.number: it.turns for it in actors}, ends
+
+            same((sampled(every), sampled(some)), (({}, Ends()), ({}, Ends())))
             one = image.new_actor("Counter")
-            same([it.sample(image) for it in (every, some)], [Ends(1), Ends()])
+            same([sampled(it) for it in (every, some)], [({0: 0}, Ends()), ({}, Ends())])
             post(image, 1, *[(one, "bump")] * 3, (one, "foo"), (one, "bump"))
             last = "notUnderstood in turn 4 of actor 0"
-            same(every.sample(image), Ends(1, 5, 5, {"notUnderstood": 1}, last))
+            same(sampled(every), ({0: 5}, Ends(5, 5, {"notUnderstood": 1}, last)))
             two = image.new_actor("Counter")
             post(image, 1, *[(two, "foo"), (two, "bump")] * 100)
-            last = "notUnderstood in turn 199 of actor 1"
-            same([it.sample(image) for it in (some, every)], [Ends(it, 200, 64, {"notUnderstood": 32}, last) for it in (1, 2)])
+            ends = Ends(200, 64, {"notUnderstood": 32}, "notUnderstood in turn 199 of actor 1")
+            same([sampled(it) for it in (some, every)], [({1: 200}, ends), ({0: 0, 1: 200}, ends)])
             post(image, 1, *[(one, "bump")] * 2, *[(two, "foo"), (two, "bump")] * 100)
-            last = "notUnderstood in turn 399 of actor 1"
-            same(some.sample(image), Ends(1, 200, 64, {"notUnderstood": 32}, last))
-            same(every.sample(image), Ends(2, 202, 66, {"notUnderstood": 32}, last))
-            list(image.ask_all([{"cmd": "actor", "class": "Counter"}] * 130))
-            same(every.sample(image), Ends(132, 0, 0, {}, last))
-            list(image.ask_all([{"cmd": "actor", "class": "Counter"}] * 1000))
-            same(every.sample(image), Ends(1024, 0, 0, {}, last, are_first=True))
-            same(image.answer(Turn(Actor(0), 7)), 6)
+            ends = Ends(202, 66, {"notUnderstood": 32}, "notUnderstood in turn 399 of actor 1")
+            same(sampled(every), ({0: 2, 1: 200}, ends))
+            image.checkpoint()
+            post(image, 1, (one, "bump"), (one, "foo"))
+            last = "notUnderstood in turn 2 of actor 0"
+            same(sampled(every), ({0: 2, 1: 0}, Ends(2, 2, {"notUnderstood": 1}, last)))
+            list(image.ask_all([{"cmd": "actor", "class": "Counter"}] * 5000))
+            same(sampled(every), (dict.fromkeys(range(5002), 0), Ends(last=last)))
 
 
+def actors_are_told(program):
+    """What an actor runs, or how its last turn ended; and which is in one turn all the time."""
+    with tempfile.TemporaryDirectory() as folder, Server(program, folder, "--workers", "2") as server:
+        with actorimage.connect(server.path) as image:
+            image.define("Job")
+            image.install("Job", "goes ^true")
+            image.install("Job", "work [self goes] whileTrue: [nil]. ^7")
+            jobs = [image.new_actor("Job") for _ in range(4)]
+            sender = image.sender(1)
+            for _ in range(2):
+                sender.post(jobs[1], "work")
+            post(image, 2, (jobs[2], "foo"), (jobs[3], "goes"))
+            image.close(jobs[3])
+            watched = Watch(image, "it", [], None)
+            until(lambda: watched.shown(False).actors[1].standing.running)
+            actors = watched.shown(False).actors
+            same([it.doing() for it in actors if it.standing.actor != jobs[1]], ["none yet", "fault notUnderstood", "answered, closed"])
+            same([it.is_long for it in actors], [False, True, False, False])
+            same((actors[1].doing() in ("runs Job >> work", "runs Job >> goes"), actors[1].standing.waiting), (True, 1))
+            image.install("Job", "goes ^false")
+            until(lambda: watched.shown(False).actors[1].doing() == "answered")
+
+
+STATUS = Status(3, 9, 40, 2008, "7-0", 12_345, 1_000_000, 60, 5, 2, 90, 4)
+SHOP = ("Shop", 9, 7, True, "frames", None, None, ("Shop", "sell:"))
+ACTORS = [
+    Acting(Standing(Actor(0), "Counter", 1_700, 1_700, True, "fault", None, "overflow", None), 1_234),
+    Acting(Standing(Actor(1), *SHOP)),
+    Acting(Standing(Actor(12), *SHOP), 0, is_long=True),
+    Acting(Standing(Actor(13), "Counter", 0, 0, False, "fresh", None, None, None)),
+]
 ROWS = [
     Row("Shop >> sell:", Found(4_488_040), Found(3000, 2997, 2, 1), ["mono", "poly", "mega", "empty"]),
     Row("  super area", Found(12), Found(), ["mono"]),
@@ -142,8 +172,15 @@ ROWS = [
 ]
 FRAME = """\
 shop.socket: 1.5 seconds up to 14:03:21
-turns: 823 a second, of 2 actors; faults: overflow 2, zeroDivide 1 in the 64 of 1,234 turns that were asked for
+history: 12,345 of 1,000,000 items; edits left: 2,008; 2 sessions
+turns: 823 a second, of 4 actors; faults: overflow 2, zeroDivide 1 in the 64 of 1,234 turns that were asked for
 last fault that was seen: overflow in turn 7 of actor 1
+
+ACTOR  CLASS     TURNS/S   TURNS  WAITS  LAST TURN
+   12  Shop            0       6      2  runs Shop >> sell:
+    0  Counter       823   1.70k      0  fault overflow
+    1  Shop            0       6      2  runs Shop >> sell:
+   13  Counter         0       0      0  none yet, closed
 
 METHOD         SENDS/S   SENDS   SITE  CACHE   WALK  SITES
 Shop >> sell:    2.00k   4.49M  99.9%   0.1%   0.0%  mpM.
@@ -155,19 +192,21 @@ SITES, in the order of the code: . empty  m mono  p poly  M mega"""
 
 def frames_look_so(program):
     """A frame, narrow and low ones, and the colours."""
-    from collections import Counter
-
-    ends = Ends(2, 1234, 64, Counter({"overflow": 2, "zeroDivide": 1}), "overflow in turn 7 of actor 1")
-    shown = Shown("shop.socket", "14:03:21", 1.5, ROWS, ends)
+    ends = Ends(1234, 64, Counter({"overflow": 2, "zeroDivide": 1}), "overflow in turn 7 of actor 1")
+    shown = Shown("shop.socket", "14:03:21", 1.5, STATUS, ACTORS, ends, ROWS)
     same("\n".join(as_text(it) for it in frame(shown, 120)), FRAME)
-    same([len(as_text(it)) <= 40 for it in frame(shown, 40)], [True] * 10)
-    low = [as_text(it) for it in frame(shown, 120, 9)]
-    same((len(low), low[5:8]), (9, [FRAME.split("\n")[5], FRAME.split("\n")[6], "and 2 more that send less"]))
+    same([len(as_text(it)) <= 40 for it in frame(shown, 40)], [True] * 17)
+    low, lines = [as_text(it) for it in frame(shown, 120, 14)], FRAME.split("\n")
+    same((len(low), low[5:9]), (14, [lines[5], lines[6], lines[7], "and 2 more that do less"]))
+    same(low[10:13], [lines[11], lines[12], "and 3 more that send less"])
     coloured = [as_coloured(it) for it in frame(shown, 120)]
-    same(coloured[5].endswith("  \x1b[32mm\x1b[0m\x1b[33mp\x1b[0m\x1b[31mM\x1b[0m\x1b[90m.\x1b[0m"), True)
-    same("\x1b[31mUnknownClass\x1b[0m" in coloured[8] and "\x1b[31mfaults: overflow" in coloured[1], True)
-    many = Shown("it", "x", 1, [Row("A >> m", Found(1), Found(1), ["mono"] * 1024)], Ends())
-    same(as_text(frame(many, 80)[4]), "A >> m              1       1   0.0%   0.0%   0.0%  " + "m" * 23 + "+1001")
+    same(coloured[12].endswith("  \x1b[32mm\x1b[0m\x1b[33mp\x1b[0m\x1b[31mM\x1b[0m\x1b[90m.\x1b[0m"), True)
+    same("\x1b[31mUnknownClass\x1b[0m" in coloured[15] and "\x1b[31mfaults: overflow" in coloured[2], True)
+    same("\x1b[31mfault overflow\x1b[0m" in coloured[7], True)
+    none = Shown("it", "x", 1, STATUS, [], Ends(), [])
+    same([as_text(it) for it in frame(none, 80)][2:], ["turns: 0 a second, of 0 actors; faults: none", "", "no actors"])
+    many = Shown("it", "x", 1, STATUS, [], Ends(), [Row("A >> m", Found(1), Found(1), ["mono"] * 1024)])
+    same(as_text(frame(many, 80)[7]), "A >> m              1       1   0.0%   0.0%   0.0%  " + "m" * 23 + "+1001")
     same([short(it) for it in (0, 0.5, 7, 12.6, 999, 1000, 12_345, 999_499, 999_500, 4_488_040, 10**13)],
          ["0", "0.5", "7", "13", "999", "1.00k", "12.3k", "999k", "1.00M", "4.49M", "10.0T"])
 
@@ -184,8 +223,8 @@ def commands_are_taken(program):
         with Server(program, folder, "--workers", "1"):
             once = run("socket", "--once", "--seconds", "0.1", "Object.foo", cwd=folder)
             lines = once.stdout.splitlines()
-            same((len(lines), lines[1], lines[4], once.returncode),
-                 (6, "turns: 0 a second, of 0 actors; faults: none", "Object >> foo  NoSuchMethod", 0))
+            same((len(lines), lines[2], lines[4], lines[7], once.returncode),
+                 (9, "turns: 0 a second, of 0 actors; faults: none", "no actors", "Object >> foo  NoSuchMethod", 0))
             same(run("socket", "foo", cwd=folder).returncode, 1)
             same(run(cwd=folder).returncode, 2)
             piped = f"{sys.executable} {HERE} socket --seconds 0.05 | head -n 3"
@@ -216,7 +255,9 @@ def screens_are_shown(program):
             terminal.kill()
 
 
-TRIALS = (methods_are_named, frames_look_so, sends_are_counted, turns_are_counted, commands_are_taken, screens_are_shown)
+TRIALS = (
+    methods_are_named, frames_look_so, sends_are_counted, turns_are_counted, actors_are_told, commands_are_taken, screens_are_shown,
+)
 
 
 def try_all(program):

@@ -1,109 +1,91 @@
-"""How the turns of actors end: no command tells how many there were, so the image is asked until one is pending."""
+"""How actors stand, and how their turns ended between two samples."""
 
 from collections import Counter
 from dataclasses import dataclass, field
-from typing import Any, Iterable, Optional
+from typing import Container, Iterator, Optional
 
-from actorimage import Image, Refused, UnknownActor
+from actorimage import Image, Refused, Standing
 
-# The outcomes that an image keeps of an actor, and how many are asked for in one sample.
-KEPT, MOST_ASKED = 64, 4_096
-# The actors that are watched where none are given.
-MOST_ACTORS = 1_024
+# The actors that are asked for at once, the outcomes that an image keeps of an actor, and how many are asked for in one sample.
+PAGE, KEPT, MOST_ASKED = 4_096, 64, 4_096
+IN_TURN = ("start", "frames")
 
 
 @dataclass
 class Ends:
-    """What ended since the last sample. `told` of the turns were asked how they ended; `last` says where the newest fault was.
-    `are_first` says that there may be more actors, which are not watched."""
+    """What ended since the last sample. `told` of the turns were asked how they ended; `last` says where the newest fault was."""
 
-    actors: int = 0
     turns: int = 0
     told: int = 0
     faults: Counter = field(default_factory=Counter)
     last: Optional[str] = None
-    are_first: bool = False
 
 
-def outcomes(image: Image, turns: Iterable[tuple[int, int]]) -> list[Any]:
-    """How turns ended, each an actor and a number; a refusal where it is not told."""
-    return list(image.ask_all({"cmd": "outcome", "actor": actor, "turn": turn} for actor, turn in turns))
+@dataclass(frozen=True)
+class Acting:
+    """An actor, how many of its turns ended since the last sample, and whether it was in one turn all the time."""
+
+    standing: Standing
+    turns: int = 0
+    is_long: bool = False
+
+    def ended(self) -> int:
+        """The number of its last turn that has ended; -1 if turn 0, which stood there at a checkpoint, has not."""
+        return self.standing.begun - (self.standing.phase in IN_TURN)
+
+    def doing(self) -> str:
+        """What it does, or how its last turn ended."""
+        it = self.standing
+        running = it.running and f"runs {it.running[0]} >> {it.running[1]}"
+        said = running or {"fresh": "none yet", "start": "begins", "fault": f"fault {it.fault}"}.get(it.phase, "answered")
+        return said if it.is_open else f"{said}, closed"
 
 
-def is_pending(told: Any) -> bool:
-    return isinstance(told, Refused) and told.name == "Pending"
+def standings(image: Image) -> Iterator[Standing]:
+    """How all actors stand, a page after the other."""
+    first = 0
+    while page := image.actors(first, PAGE):
+        yield from page
+        first += len(page)
 
 
 class Turns:
-    """`ended` has for each watched actor how many of its turns had ended at the last sample. `given` are the actors that are watched;
-    if there are none, the first 1,024."""
+    """`given` are the numbers of the actors that are watched; if there are none, all are. `before` has them as of the last sample, in which
+    the image had this `epoch`."""
 
-    def __init__(self, given: Optional[list[int]]):
-        self.given, self.ended = given, {}
-        self.count, self.is_first = 0, True
+    def __init__(self, given: Optional[Container[int]]):
+        self.given, self.before = given, {}
+        self.epoch: Optional[str] = None
         self.last_fault: Optional[str] = None
 
-    def sample(self, image: Image) -> Ends:
-        """What ended since the last sample; at first, nothing. Of an actor that was made meanwhile, all."""
-        self.find_actors(image)
-        self.is_first = False
-        known = dict(self.ended)
-        self.ended = self.find_ended(image, known)
-        ends = Ends(len(self.ended), are_first=self.given is None and self.count == MOST_ACTORS)
-        news = [(actor, known[actor], self.ended[actor]) for actor in known if known[actor] is not None]
-        self.read(image, [(actor, old, new) for actor, old, new in news if new > old], ends)
-        return ends
+    def sample(self, image: Image, epoch: str) -> tuple[list[Acting], Ends]:
+        """The actors, and what ended since the last sample; at first, nothing. Of an actor that was made meanwhile, all. Behind a
+        checkpoint turns are numbered anew, and those since then are told."""
+        is_first, old = self.epoch is None, self.before if epoch == self.epoch else {}
+        seen = [it for it in standings(image) if self.given is None or it.actor.number in self.given]
+        now = [self.acting(it, old.get(it.actor), is_first) for it in seen]
+        self.epoch, self.before = epoch, {it.standing.actor: it for it in now}
+        ends = Ends(sum(it.turns for it in now))
+        self.read(image, now, ends)
+        return now, ends
 
-    def find_actors(self, image: Image) -> None:
-        """Actors are numbered from 0, and none ever goes."""
-        if self.given is None:
-            while self.count < MOST_ACTORS and self.are_more(image):
-                self.count = min(MOST_ACTORS, self.count + 64)
-            numbers: Iterable[int] = range(self.count)
-        else:
-            numbers = self.given
-        new = [it for it in numbers if it not in self.ended]
-        told = outcomes(image, ((actor, 0) for actor in new))
-        there = [actor for actor, it in zip(new, told) if not isinstance(it, UnknownActor)]
-        self.ended.update(dict.fromkeys(there, None if self.is_first else 0))
-        if self.given is None:
-            self.count = len(self.ended)
+    def acting(self, standing: Standing, before: Optional[Acting], is_first: bool) -> Acting:
+        ended = Acting(standing).ended()
+        turns = 0 if is_first else max(0, ended - (before.ended() if before else 0))
+        in_turn = before is not None and before.standing.phase in IN_TURN and standing.phase in IN_TURN
+        return Acting(standing, turns, in_turn and before.standing.begun == standing.begun)
 
-    def are_more(self, image: Image) -> bool:
-        (told,) = outcomes(image, [(self.count, 0)])
-        return not isinstance(told, UnknownActor)
-
-    def find_ended(self, image: Image, known: dict[int, Optional[int]]) -> dict[int, int]:
-        """How many turns of each actor have ended: all up to this number have, and the next one has not. All actors are asked at
-        once, first further and further away, and then by halves."""
-        least = {actor: old or 0 for actor, old in known.items()}
-        most: dict[int, int] = {}
-        step, open_ones = 1, list(known)
-        while open_ones:
-            told = outcomes(image, ((actor, least[actor] + step) for actor in open_ones))
-            for actor, it in zip(open_ones, told):
-                if is_pending(it):
-                    most[actor] = least[actor] + step
-                else:
-                    least[actor] += step
-            open_ones = [actor for actor in open_ones if actor not in most]
-            step *= 2
-        while open_ones := [actor for actor in known if most[actor] - least[actor] > 1]:
-            middles = {actor: (least[actor] + most[actor]) // 2 for actor in open_ones}
-            for actor, it in zip(open_ones, outcomes(image, middles.items())):
-                (most if is_pending(it) else least)[actor] = middles[actor]
-        return least
-
-    def read(self, image: Image, news: list[tuple[int, int, int]], ends: Ends) -> None:
+    def read(self, image: Image, now: list[Acting], ends: Ends) -> None:
         """Asks how the newest of the turns ended."""
-        ends.turns = sum(new - old for _, old, new in news)
+        news = [it for it in now if it.turns]
         each = min(KEPT, max(1, MOST_ASKED // max(1, len(news))))
-        asked = [(actor, turn) for actor, old, new in news for turn in range(max(old, new - each) + 1, new + 1)]
-        for (actor, turn), it in zip(asked, outcomes(image, asked)):
-            if isinstance(it, Refused):
+        asked = [(it.standing.actor.number, it.ended() - back) for it in news for back in reversed(range(min(each, it.turns)))]
+        waits = ({"cmd": "wait", "actor": actor, "epoch": self.epoch, "ms": 0, "turn": turn} for actor, turn in asked[:MOST_ASKED])
+        for (actor, turn), told in zip(asked, image.ask_all(waits)):
+            if isinstance(told, Refused):
                 continue
             ends.told += 1
-            if "fault" in it:
-                ends.faults[it["fault"]] += 1
-                self.last_fault = f"{it['fault']} in turn {turn} of actor {actor}"
+            if "fault" in told:
+                ends.faults[told["fault"]] += 1
+                self.last_fault = f"{told['fault']} in turn {turn} of actor {actor}"
         ends.last = self.last_fault

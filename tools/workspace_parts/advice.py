@@ -35,7 +35,8 @@ REFUSALS = {
     "SlotClash": "a variable is named twice, here or in a class above; take another name",
     "SlotsDiffer": "{super} has other variables than the class above {class} has now, inherited ones counted, and objects keep theirs; "
     "take a class with the same ones",
-    "Stale": "a method that this used was edited meanwhile, and this was not done; try again",
+    "Stale": "somebody has changed this method since it was shown or written here, and nothing is written; type it again to write it over "
+    "what stands there now",
     "TooDeep": "a chain of classes would be over 64 long; take a class nearer to Object",
     "TooLong": "this is too long for one line to the program, 8,192 bytes; make it shorter",
     "TooMany": "there would be too many {what}; do with those there are, or begin a new image",

@@ -29,10 +29,25 @@ def versions(session, rest):
     name, selector = method_of(session, rest)
     found = looks.versions(session, name, selector)
     for it in found:
-        text = "removed" if "removed" in it else f"{name} >> {it['source']}"
-        session.tell(f"version {it['version']}: {text}".split("\n"))
+        session.tell(shown.version(name, it))
     if not found:
         session.say(f"no method {selector} was written in {name}; :implementors {selector}  lists the classes that have one")
+    last = found[-1] if found else {"removed": True}
+    session.known.note_shown(name, selector, None if "removed" in last else {"class": name, **last})
+
+
+def revert(session, rest):
+    match = re.fullmatch(r"(.*\S)\s+([0-9]{1,9})", rest)
+    if not match:
+        raise Wrong("write a class, a selector and a version after it, as in  Counter bump 3")
+    (name, selector), number = method_of(session, match[1]), int(match[2])
+    row = next((it for it in looks.versions(session, name, selector) if it["version"] == number), None)
+    if row is None:
+        raise Wrong(f"{name} had no method {selector} of version {number}; :versions {name} {selector}  lists those that it had")
+    if "removed" in row:
+        raise Wrong(f"version {number} is that without the method; :remove {name} {selector}  removes it again")
+    version = session.write(name, selector, row["source"])
+    session.tell(shown.version(name, {**row, "version": version}))
 
 
 def implementors(session, rest):

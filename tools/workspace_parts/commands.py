@@ -2,7 +2,7 @@
 
 from dataclasses import dataclass
 
-from . import advice, browsing, files, running, saving
+from . import advice, browsing, files, inspecting, running, saving
 from .known import near
 from .wrong import Wrong
 
@@ -90,9 +90,11 @@ COMMANDS = {
         Described(":classes", "lists the classes that were defined", browsing.classes),
         Described(":methods Counter", "lists the methods of a class; alone, all methods; as  :methods Counter bump  one", browsing.methods),
         Described(":versions Counter bump", "lists what was installed and removed for a method of a class", browsing.versions),
+        Described(":revert Counter bump 3", "writes a method again as it was in a version", browsing.revert),
         Described(":implementors bump", "lists the classes that have a method of their own", browsing.implementors),
         Described(":senders bump", "lists the methods that send a message", browsing.senders),
         Described(":actors 7", "lists the actors from a number on, with what they run; alone, from the first", browsing.actors),
+        Described(":inspect c", "shows an actor: variables, mailbox, turn; as  :inspect c 1  an object of its own", inspecting.inspect),
         Described(":names", "lists what was named", browsing.names),
         Described(":stats Counter bump", "shows how the caches answered the sends of a method", browsing.stats),
         Described(":expect 5", "is refused where the messages before have another answer, so that a file can check", running.expect),

@@ -9,9 +9,9 @@ ELSEWHERE = "to find the place, see how far the methods came, as in  :stats Coun
 
 def lines(session, turn, fault):
     """The image is asked what the turn's message runs."""
-    name, selector = session.known.actor(turn.actor).class_name, session.turns.selectors.get(turn)
-    if not name or not selector:
-        return [ELSEWHERE + ("" if name else "; the message  class  asks an actor for its class")]
+    name, selector = looks.actor(session, turn.actor), session.turns.selectors.get(turn)
+    if not selector:
+        return [ELSEWHERE]
     for sent in (selector, "doesNotUnderstand:"):
         found = looks.source(session, name, sent)
         if found and "source" in found:

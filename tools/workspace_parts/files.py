@@ -2,7 +2,7 @@
 
 import os
 from collections import Counter
-from dataclasses import dataclass
+from dataclasses import dataclass, field
 
 from .cutting import continues, entries
 from .entries import Command, Definition, form
@@ -18,14 +18,15 @@ IMAGE = '{"actors":['
 
 @dataclass
 class Loading:
-    """A file that is being loaded, the line at which it is, how many of its classes the served image had already, and how many of its
-    faults were expected."""
+    """A file that is being loaded, the line at which it is, how many of its classes the served image had already, how many of its
+    faults were expected, and the methods that it and the files below it have written."""
 
     name: str
     real: str
     line: int = 0
     there: int = 0
     expected: int = 0
+    written: list = field(default_factory=list)
 
     def __str__(self):
         return f"{self.name}, line {self.line}:"
@@ -54,6 +55,7 @@ def load(session, rest):
         done = load_lines(session, lines)
     finally:
         session.loading.pop()
+    session.tell_unknown(loading.written)
     done["Definition"] -= loading.there
     done["refused"] -= loading.expected
     said = [count(done[kind], thing) for kind, thing in (("Definition", "class"), ("Method", "method")) if done[kind]]

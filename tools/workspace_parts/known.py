@@ -27,13 +27,17 @@ class KnownClass:
 
 @dataclass
 class KnownActor:
-    """`class_name` is None where a method made the actor, and the image was not asked."""
+    """`class_name` is None where the image was not asked for it."""
 
     class_name: str = None
 
 
 class Known:
+    """`versions` has those of the methods that were shown or written last, by the class and the selector; 0 where the class was seen to
+    have none of its own. `installed` has the class and the selector of installs, by their places among the edits."""
+
     def __init__(self):
+        self.versions, self.installed = {}, {}
         self.classes = {name: KnownClass(name, "Object", []) for name in KERNEL}
         self.classes["Object"].parent = None
         self.actors = {}
@@ -58,6 +62,13 @@ class Known:
         """A class that has a method may be one that another session defined."""
         self.classes.setdefault(name, KnownClass(name, None, [])).methods[selector] = source
 
+    def note_shown(self, name, selector, found):
+        """Takes note of what a class was shown to run, if it is its own."""
+        is_own = found and found["class"] == name
+        self.versions[name, selector] = found.get("version", 0) if is_own else 0
+        if found and "version" in found:
+            self.versions[found["class"], selector] = found["version"]
+
     def user_classes(self):
         """Those that were defined, each after the class above it, which may have been defined later."""
         ordered = {}
@@ -72,10 +83,6 @@ class Known:
         while name in self.classes:
             yield self.classes[name]
             name = self.classes[name].parent
-
-    def holder(self, name, selector):
-        """The name of the first class from this one on with a method of the user's; None if none has one."""
-        return next((known.name for known in self.chain(name) if selector in known.methods), None)
 
     def slots(self, name):
         return [slot for known in self.chain(name) for slot in known.slots]

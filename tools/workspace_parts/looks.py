@@ -3,6 +3,7 @@ noted, for Tab, for :sources, and for what is said of refusals."""
 
 from second_opinion.language import KERNEL_SELECTORS
 
+from .tokens import pattern
 from .wrong import Refused
 
 
@@ -37,9 +38,16 @@ def source(session, name, selector):
     return found
 
 
+def shown_source(session, name, selector):
+    """As `source`, for what is shown: an edit of this session takes the place of no other version than that."""
+    found = source(session, name, selector)
+    session.known.note_shown(name, selector, found)
+    return found
+
+
 def own_sources(session, name):
     """The sources of the methods that a class has of its own, but for the kernel's. One that is removed meanwhile is none."""
-    found = [source(session, name, it["selector"]) for it in methods(session, name) if "version" in it]
+    found = [shown_source(session, name, it["selector"]) for it in methods(session, name) if "version" in it]
     return [it["source"] for it in found if it and it["class"] == name and "source" in it]
 
 
@@ -55,12 +63,54 @@ def senders(session, selector):
     return session.turns.ask({"cmd": "senders", "selector": selector})["methods"]
 
 
+def sent(session, name, selector):
+    """The selectors that a method sends, in the order of its code; none if it is gone."""
+    try:
+        sites = session.turns.ask({"cmd": "stats", "class": name, "selector": selector})["sites"]
+    except Refused:
+        return []
+    return list(dict.fromkeys(it["selector"] for it in sites))
+
+
+def actor(session, number):
+    """The class of an actor. Refused if there is no such actor."""
+    found, _ = actors(session, number, 1)
+    if not found:
+        raise Refused({"cmd": "actors", "actor": number}, {"error": "UnknownActor"})
+    return found[0]["class"]
+
+
 def actors(session, first, most):
     """So many actors at most, from a number on, and how many there are in all."""
     told = session.turns.ask({"cmd": "actors", "from": first, "most": most})
     for it in told["actors"]:
         session.known.actor(it["actor"]).class_name = it["class"]
     return told["actors"], told["count"]
+
+
+def inspect(session, number):
+    """An actor as image files have it, with the number of its turn. Refused if there is no such actor."""
+    told = session.turns.ask({"cmd": "inspect", "actor": number})
+    session.known.actor(number).class_name = told["class"]
+    return told
+
+
+def slots(session, name):
+    """The instance variables of a class, inherited ones first."""
+    classes(session)
+    return [slot for it in reversed(list(session.known.chain(name))) for slot in it.slots]
+
+
+def installed(session, place):
+    """The class and the selector of a method, by the place of its install among the edits. No edit is ever another one, so what was told
+    is told no more."""
+    found = session.known.installed
+    if place not in found:
+        edits = session.turns.ask({"cmd": "edits", "from": place})["edits"]
+        for number, edit in enumerate(edits, place):
+            if "install" in edit:
+                found[number] = edit["install"]["class"], pattern(edit["install"]["source"])[0]
+    return found[place]
 
 
 def understood(session, name):

@@ -1,45 +1,53 @@
 """What is said of a refused command: its sentence in advice.py, and what the workspace knows besides."""
 
-from . import advice
+from . import advice, looks
 from .known import KERNEL, near
 from .sources import bad_source
 from .turns import Turn
 
 
-def lines(command, reply, known, turns, image):
+def lines(session, command, reply):
+    """Of a served image it is asked first which classes there are now."""
+    known, image = session.known, session.image
+    if image.is_served and reply["error"] in ABOUT_CLASSES:
+        looks.classes(session)
     if reply["error"] == "BadSource":
         variables = known.slots(command["class"])
         return bad_source(command["source"], reply["kind"], reply["offset"], variables, known.classes)
     if reply["error"] == "UnknownClass":
         return [unknown_class(command, reply, known, image)]
-    own = None if image.is_served else OF_SCRIPT.get(reply["error"])
-    return [own and own(command, reply, known, turns) or advice.refusal(command, reply, image.advice)]
+    own = OWN.get(reply["error"])
+    return [own and own(session, command, reply) or advice.refusal(command, reply, image.advice)]
 
 
 def unknown_class(command, reply, known, image):
-    """Names the first class of the command that is not known. Others may have defined some that are not."""
+    """Names the first class of the command that is not there."""
     given = [command.get("class"), command.get("super")]
     given += [it["class"] for it in command.get("args", []) if isinstance(it, dict) and "class" in it]
-    unknown = [name for name in given if name and name not in known.classes]
-    name = " or ".join(unknown if image.is_served else unknown[:1]) or "this"
-    if unknown and name[0].islower():
+    name = next((name for name in given if name and name not in known.classes), "this")
+    if name != "this" and name[0].islower():
         return f"{reply['error']}: no class is named {name}; the name of a class begins with a capital" + near(name, known.classes)
     return advice.refusal({**command, "class": name, "super": name}, reply, image.advice) + near(name, [*known.classes, *known.names])
 
 
-def no_such_method(command, reply, known, turns):
-    """Where a class above has the method, names that."""
+def no_such_method(session, command, reply):
+    """Where a class above has the method, or the kernel, names that."""
     name, selector = command["class"], command["selector"]
-    holder = known.holder(name, selector)
-    return holder and f"{reply['error']}: {name} has no method {selector} of its own; {holder} has one"
+    found = looks.source(session, name, selector)
+    if found and found["class"] != name:
+        return f"{reply['error']}: {name} has no method {selector} of its own; {found['class']} has one"
+    return found and "kernel" in found and f"{reply['error']}: {name} has this method from the kernel; it sends nothing that is counted"
 
 
-def pending(command, reply, known, turns):
+def pending(session, command, reply):
+    """Where nobody has posted the turn's message, says so."""
     turn = Turn(command["actor"], command["turn"])
-    return None if turn in turns.waiting else f"{reply['error']}: {turn} has not ended; perhaps its message was never posted"
+    ((told,), _) = looks.actors(session, turn.actor, 1)
+    return None if turn.number <= told["accepted"] else f"{reply['error']}: {turn} has not ended; its message is not posted yet"
 
 
-def class_exists(command, reply, known, turns):
+def class_exists(session, command, reply):
+    known = session.known
     name, old = command["name"], known.classes.get(command["name"])
     if name in KERNEL:
         return f"{reply['error']}: {name} is a class of the kernel, and stays as it is; take another name"
@@ -57,5 +65,6 @@ ADD = "tools/add-variable FILE {} {}  gives it these too, in an image file that 
 MOVE = "name just these to put it under another class, and further ones in a class below it"
 
 
-# What is known for certain where nobody else edits and posts.
-OF_SCRIPT = {"ClassExists": class_exists, "NoSuchMethod": no_such_method, "Pending": pending}
+ABOUT_CLASSES = ("BadSource", "ClassExists", "UnknownClass")
+# What says more than its sentence in advice.py.
+OWN = {"ClassExists": class_exists, "NoSuchMethod": no_such_method, "Pending": pending}

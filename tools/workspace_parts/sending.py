@@ -92,7 +92,7 @@ class Sending:
     def numbered(self, actor):
         """The reference to an actor by its number, if there is one: the program is asked where it was not seen yet."""
         if actor.number not in self.known.actors:
-            self.turns.ask_for(actor.number)
+            looks.actor(self.session, actor.number)
         value = {"ref": actor.number}
         self.known.see(value)
         return value
@@ -108,15 +108,14 @@ class Sending:
         actor = self.receiver(receiver, place)
         if any(isinstance(argument, dict) and "local" in argument for argument in arguments):
             raise Wrong("an object of an actor's own cannot be sent to another one; send a number, a symbol or an actor", place)
-        answer = self.answer(self.turns.post(actor, selector, arguments))
-        if selector == "class" and isinstance(answer, dict) and "class" in answer:
-            self.known.actor(actor).class_name = answer["class"]
-        return answer, actor
+        return self.answer(self.turns.post(actor, selector, arguments)), actor
 
     def receiver(self, value, place=None):
-        """The number of the actor that a value is."""
+        """The number of the actor that a value is, whose class is asked for if it is not known."""
         if not isinstance(value, dict) or "ref" not in value:
             raise Wrong(f"{show(value, self.known)} is not an actor, and messages are sent to actors here; {TRY}", place)
+        if not self.known.actor(value["ref"]).class_name:
+            looks.actors(self.session, value["ref"], 1)
         return value["ref"]
 
     def answer(self, turn):

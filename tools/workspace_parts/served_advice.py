@@ -1,15 +1,12 @@
 """What is said of a served image in place of what advice.py says of a script, and what `:help` says besides."""
 
 REFUSALS = {
-    "ClassExists": "there is a class {class} already, perhaps of another session, and its variables stay; :classes tells which; "
-    "replace its methods, or take another name",
     "Full": "the mailbox of {actor} is full; send it again when the actor has come further",
     "HistoryFull": "the history of the server is full, often of the quanta of an endless turn, and nothing more is accepted; "
     ":checkpoint empties it",
     "NoMemory": "memory ran out in the server, and this was not done; try again",
-    "NoSuchMethod": "{class} has no method {selector} of its own, or no longer; look for a slip in its name",
     "Old": "another client posts under this number as well; type it again, or start with another --sender",
-    "Pending": "turn {turn} of {actor} has not ended, or its message was not posted yet; ask again later",
+    "Pending": "turn {turn} of {actor} has not ended; ask again later",
     "UnknownActor": "there is no {actor}; :actors lists those there are",
     "actors": "there are 65,536 actors, and no more can be made; let the old ones do more",
     "classes": "there are 1,024 classes, and no more can be defined; do with those there are",
@@ -20,12 +17,9 @@ REFUSALS = {
 
 # What a refusal means by itself.
 IN_GENERAL = {
-    "ClassExists": "a class has this name already, perhaps of another session, and its variables stay; replace its methods, or take "
-    "another name",
     "Full": "the actor's mailbox is full; send the message again when the actor has come further",
     "HistoryFull": REFUSALS["HistoryFull"],
     "NoMemory": REFUSALS["NoMemory"],
-    "NoSuchMethod": "a class has no such method of its own, or no longer; look for a slip in its name",
     "Old": REFUSALS["Old"],
     "Pending": "the turn has not ended, or its message was not posted yet; ask again later",
     "TooMany": "there would be too many classes, variables, edits, names or actors; do with those there are, or let the server begin a "
@@ -37,10 +31,13 @@ HELP = """\
 This image is served to many, and the server's workers run the actors: a message that is typed waits until its turn has ended.
 :post does not wait; its turn is told of with a later answer, and :turn asks for it. Ctrl-C stops the waiting, and the turn goes on.
 A session asks the image for its classes and methods, whoever wrote them (:classes, :methods, :versions, :senders, :implementors), how
-a turn of any actor ended (:turn 3 of actor 0), what the actors run (:actors), and how often a method's sends were done (:stats).
+a turn of any actor ended (:turn 3 of actor 0), what the actors run (:actors), what one of them holds and which messages wait for it
+(:inspect actor 0), and how often a method's sends were done (:stats).
 :names, :sources and Tab have what this session typed, and what it was told of classes and methods; :methods alone tells of all.
-It cannot see who else is connected, what others named, which messages wait, or when a turn ends that it does not ask for. Edits of
-others take effect here at the next send, and are not told. c := actor 0 names any actor by its number.
+It cannot see who else is connected, what others named, or when a turn ends that it does not ask for. Edits of
+others take effect here at the next send, and are not told; but a method that somebody has changed since it was shown or written here
+is not written over: what is there now is shown, and what is typed again takes the place of that. c := actor 0 names any actor by its
+number. Where somebody has a checkpoint, turns of before are not told of any more.
 Where the connection breaks, the next entry at a terminal connects again, asks for the last message of this sender that the image
 has, and goes on behind it. The server saves its image when tools/stop ends it, if it was started with --image FILE.
 """.splitlines()

@@ -1,44 +1,81 @@
-"""The turns of a served image: its workers run them, and how one ended is asked for until it is told."""
+"""The turns of a served image: its workers run them, and the image is asked to tell when one has ended."""
 
 import time
 
-from .turns import Life, Turns
+from .turns import HISTORY, Life, Turns
 from .wrong import BrokenOff, Refused, Wrong
 
-# Seconds between two questions.
-FIRST_PAUSE, LONGEST_PAUSE = 0.001, 0.02
+# Milliseconds of one wait: so long Ctrl-C and a sign of life may be late.
+WAIT = 200
 # What is said behind a new connection: of a session that has posted nothing, of an image that has nothing of the sender, and of one
 # that has its messages up to a number, all of them or not.
 AGAIN = "connected again; the image may be another one, in which names of actors from before mean nothing"
 NEW = "connected again; the image has no message of sender {}: it is another one, or was saved before, and names of actors may mean nothing"
 HAS = "connected again; the image has the messages of sender {} up to number {}"
 HAS_NOT = "connected again; the image was saved before: it has the messages of sender {} up to number {}, and not those up to {}"
+NUMBERED_ANEW = "somebody has had a checkpoint meanwhile: turns are numbered anew, and how {} ended is not known here"
 NOBODY_RUNS = "the server's workers run the actors, so there is nothing to run here; :turn 3 of c asks how a turn ended"
 
 
 class ServedTurns(Turns):
+    """`epoch` is that of the image's turns, as it was before the first message of those that are waited for was posted; None where it is
+    to be asked for. `room` is how much the history held and might hold then."""
+
+    epoch, room = None, (0, HISTORY)
+
     def go_on(self, quanta=None, turn=None):
         raise Wrong(NOBODY_RUNS)
 
+    def post(self, actor, selector, arguments):
+        """The epoch may be another one by now, unless turns of the one that is known are waited for."""
+        if not self.waiting:
+            self.epoch = None
+        self.learn_epoch()
+        return super().post(actor, selector, arguments)
+
+    def learn_epoch(self):
+        if self.epoch is None:
+            status = self.ask({"cmd": "status"})
+            self.epoch, self.room = status["epoch"], (status["history"], status["history_most"])
+
+    def is_nearly_full(self):
+        held, most = self.room
+        return most - held <= most // 10
+
+    def outcome(self, turn, milliseconds=0):
+        """How a turn ended, for which it is waited so long. Others' checkpoints number turns anew: then it is not known."""
+        self.learn_epoch()
+        command = {"cmd": "wait", "actor": turn.actor, "epoch": self.epoch, "ms": milliseconds, "turn": turn.number}
+        try:
+            return self.ask(command)
+        except Refused as refused:
+            if refused.reply["error"] == "Expired":
+                self.see_epoch(turn)
+            raise
+
+    def see_epoch(self, turn):
+        before, self.epoch = self.epoch, None
+        self.learn_epoch()
+        if self.epoch != before:
+            self.waiting, self.ends, self.selectors = [], {}, {}
+            raise BrokenOff(NUMBERED_ANEW.format(turn))
+
     def end_of(self, turn):
         """Waits until a turn has ended, and says how. Those that were posted before and have ended are seen as well."""
-        self.wait(turn)
+        end = self.wait(turn)
+        self.waiting.remove(turn)
         for actor in {it.actor for it in self.waiting}:
             self.see_ends(actor)
-        return self.ends.pop(turn)
+        return end
 
     def wait(self, turn):
-        life, begun, pause = Life(), time.monotonic(), FIRST_PAUSE
+        life, begun = Life(), time.monotonic()
         try:
-            while True:
-                self.see_ends(turn.actor)
-                if turn in self.ends:
-                    return
+            while (end := self.ending(turn, WAIT)) is None:
                 if self.breaks.asked:
                     raise BrokenOff(f"{turn} is not waited for, and goes on in the server;  :{turn}  asks for it")
-                time.sleep(pause)
-                pause = min(2 * pause, LONGEST_PAUSE)
                 life.tell(f"{int(time.monotonic() - begun)} s so far; Ctrl-C stops the waiting")
+            return end
         finally:
             life.clear()
 
@@ -55,7 +92,8 @@ class ServedTurns(Turns):
     def begin_again(self):
         """Behind a new connection the image may be another one, in which the numbers of turns mean others. Says what it has of the
         sender's messages, whose numbers go on behind them."""
-        self.waiting, self.ends, self.selectors = [], {}, {}
+        self.waiting, self.ends, self.selectors, self.epoch = [], {}, {}, None
+        self.learn_epoch()
         here, self.last = self.last, self.last_in_image()
         if not here:
             return AGAIN
@@ -66,5 +104,5 @@ class ServedTurns(Turns):
     def checkpoint(self):
         """Meanwhile the workers run, so which numbers the turns have that were waited for is not known."""
         counted = self.ask({"cmd": "checkpoint"})
-        self.waiting, self.ends, self.selectors = [], {}, {}
+        self.waiting, self.ends, self.selectors, self.epoch = [], {}, {}, None
         return counted

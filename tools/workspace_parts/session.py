@@ -11,7 +11,7 @@ from .sources import marked
 from .statements import read_statements
 from .tokens import has_body, pattern
 from .values import show
-from .wrong import Died, Faulted, Refused, Stopped, Wrong
+from .wrong import Died, Faulted, Lost, Refused, Stopped, Wrong
 
 CHANGED = "what was done since the image was saved last is lost, and {} has what another program wrote"
 OFFER = "a tenth of the history is left;  :checkpoint  empties it, and all goes on"
@@ -75,8 +75,8 @@ class Session:
         self.start()
 
     def begin_again(self):
-        """Says with what it goes on behind a new connection. In a new image the numbers of actors mean others."""
-        self.known.actors = {}
+        """Says with what it goes on behind a new connection. In a new image the numbers of actors, of versions and of edits mean others."""
+        self.known.actors, self.known.versions, self.known.installed = {}, {}, {}
         return self.turns.begin_again()
 
     def close(self):
@@ -206,8 +206,31 @@ class Session:
         if not has_body(found.source):
             self.show(found, selector)
             return
-        self.turns.ask({"cmd": "method", "class": found.holder, "source": found.source})
-        self.known.install(found.holder, selector, found.source)
+        self.write(found.holder, selector, found.source)
+
+    def write(self, name, selector, source):
+        """Writes a method, and answers its version. Where one was shown or written before, it takes the place of that one alone."""
+        command = {"cmd": "method", "class": name, "source": source}
+        if (name, selector) in self.known.versions:
+            command.update(cmd="replace", over=self.known.versions[name, selector])
+        try:
+            version = self.turns.ask(command)["version"]
+        except Refused as refused:
+            if refused.reply["error"] == "Stale":
+                refused.more = shown.now(self, name, selector)
+            raise
+        self.known.install(name, selector, source)
+        self.known.versions[name, selector] = version
+        if self.loading:
+            self.loading[0].written.append((name, selector))
+        else:
+            self.tell_unknown([(name, selector)])
+        return version
+
+    def tell_unknown(self, methods):
+        """Tells which of the messages that methods send no class has a method for."""
+        sent = dict.fromkeys(it for method in methods for it in looks.sent(self, *method))
+        self.tell([f"no class has a method {it}" for it in sent if not looks.implementors(self, it)])
 
     def show(self, found, selector):
         """Shows a method whose pattern alone was typed; a file that has no more of one is wrong there."""
@@ -218,6 +241,7 @@ class Session:
 
     def remove(self, class_name, selector):
         self.turns.ask({"cmd": "remove", "class": class_name, "selector": selector})
+        self.known.versions[class_name, selector] = 0
         if class_name in self.known.classes:
             self.known.classes[class_name].methods.pop(selector, None)
 
@@ -260,6 +284,9 @@ class Session:
         self.say(f"fault {fault} in {turn}")
 
     def tell_refusal(self, refused):
-        lines = refused_lines(refused.command, refused.reply, self.known, self.turns, self.image)
+        try:
+            lines = refused_lines(self, refused.command, refused.reply) + refused.more
+        except Lost as lost:
+            lines = [lost.sentence]
         self.why = lambda: lines
         self.tell(lines)

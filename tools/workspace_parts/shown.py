@@ -22,7 +22,7 @@ def shown(session, found, selector, head):
 
 
 def answer(session, name, selector, head):
-    found, typed = looks.source(session, name, selector), f"{name} >> {head}"
+    found, typed = looks.shown_source(session, name, selector), f"{name} >> {head}"
     if found is None:
         return [missing(session, name, selector), NO_BODY.format(typed)]
     lines = lines_of(found, selector)
@@ -41,10 +41,24 @@ def inherited(name, holder):
 
 def method(session, name, selector):
     """The lines for what a message to an object of the class runs."""
-    found = looks.source(session, name, selector)
+    found = looks.shown_source(session, name, selector)
     if found is None:
         raise Wrong(missing(session, name, selector))
     return lines_of(found, selector) + ([] if found["class"] == name else [inherited(name, found["class"])])
+
+
+def now(session, name, selector):
+    """The lines for what a class has of its own, with the version."""
+    found = looks.shown_source(session, name, selector)
+    if not found or found["class"] != name or "version" not in found:
+        return [f"{name} has no method {selector} of its own now"]
+    return version(name, found)
+
+
+def version(name, row):
+    """The lines for an install or a removal."""
+    text = "removed" if "removed" in row else f"{name} >> {row['source']}"
+    return f"version {row['version']}: {text}".split("\n")
 
 
 def missing(session, name, selector):

@@ -165,7 +165,7 @@ def words(known, before, text):
 def command_words(known, name, given, text):
     if name in ("load", "save", "sources", "log"):
         return files(text)
-    if name in ("methods", "stats", "remove", "versions"):
+    if name in ("methods", "stats", "remove", "versions", "revert"):
         return [*known.classes] if not given else own_selectors(known, given[0])
     if name in ("implementors", "senders"):
         return known.selectors(None)

@@ -210,6 +210,35 @@ def further_variables(program):
         same((found[:4], found[5:]), (wanted, ["turn 0 of actor 0 answers 100", "3", "100"]))
 
 
+SHOWN = """\
+actor 0, an Other
+  a = 0
+  b = an Other
+mailbox: open, 1 of 1,024 messages
+  + actor 1  from actor 0, number 18446744073709551615
+turn 0: begins brought: 1 by: #brought:by:
+actor 1, an Other
+  a = nil
+  b = nil
+mailbox: closed, 0 of 1 message
+turn 0: runs UndefinedObject >> +  in Twin
+  called by Twin >> step
+1 further object; :inspect actor 1 1  shows object 1
+object 1 of actor 1, an Object
+actor 2, an Object
+mailbox: open, 0 of 64 messages
+turn 0: answered Twin
+"""
+
+
+def shown(program):
+    """Actors of a file that was written by hand: one is at the start of a message."""
+    with tempfile.TemporaryDirectory() as folder:
+        shutil.copy(os.path.join(TOP, "tests", "inspect", "by-hand.json"), os.path.join(folder, NAME))
+        found = typed(program, folder, [":inspect actor 0", ":inspect actor 1", ":inspect actor 1 1", ":inspect actor 2"])[0]
+        same(found[1:], SHOWN.splitlines())
+
+
 def ended_turn(program):
     """A turn that no edit ends is ended in the file, and the next message is done."""
     with tempfile.TemporaryDirectory() as folder:
@@ -226,4 +255,7 @@ def ended_turn(program):
         same(found[2:], ["turn 0 of actor 0 answers nil", "1 quantum, 3 steps", "turn 1 of actor 0 answers 7"])
 
 
-TRIALS = (further_variables, ended_turn, goes_on, as_typed, middle_of_turn, refused, no_place, linked, at_signals, program_is_killed, broken_off)
+TRIALS = (
+    further_variables, shown, ended_turn, goes_on, as_typed, middle_of_turn, refused, no_place, linked, at_signals, program_is_killed,
+    broken_off,
+)

@@ -8,16 +8,17 @@ import tempfile
 import threading
 
 from .breaks import Breaks
-from .images import WatchedImage
+from .images import ServedImage, WatchedImage
 from .reconnecting import Reconnecting
 from .served_turns import AGAIN
 from .serving import Server
-from .session import Session
+from .session import OFFER, Session
 from .socket_connection import SocketConnection
 from .try_common import same
 from .wrong import Ended, Lost
 
 GREETED = '{"error":"BadCommand"}'
+STATUS = '{"ok":{"epoch":"7","history":899999,"history_most":1000000}}'
 POST = {"cmd": "post", "actor": 0, "selector": "bump", "args": [], "sender": 7, "seq": 3}
 OUTCOME = {"cmd": "outcome", "actor": 0, "turn": 1}
 BROKE = "the connection to {} broke, perhaps since the server has ended"
@@ -116,7 +117,7 @@ def begins_again(program):
             "connected again; the image was saved before: it has the messages of sender 7 up to number 2, and not those up to 3",
         ),
     ):
-        with pretended([GREETED], [GREETED, reply, '{"ok":{"sites":[]}}']) as path:
+        with pretended([GREETED], [GREETED, STATUS, reply, '{"ok":{"sites":[]}}']) as path:
             told = []
             session = Session(WatchedImage(path, 7), Breaks(), told.append)
             session.turns.last = here
@@ -126,4 +127,16 @@ def begins_again(program):
             session.end()
 
 
-TRIALS = (begins_again, no_server_replies, too_many, once_more, perhaps_accepted)
+def nearly_full(program):
+    """A checkpoint is offered where the image tells that a tenth of its history is left, whoever has used it."""
+    answer, turn = '{"ok":{"answer":1}}', "turn 1 of actor 0 answers 1"
+    for full, wanted in ((STATUS, [turn]), (STATUS.replace("899999", "900000"), [turn, OFFER])):
+        with pretended([GREETED, full, answer]) as path:
+            told = []
+            session = Session(ServedImage(path, 7), Breaks(), told.append)
+            session.do(":turn 1 of actor 0")
+            same(told, wanted)
+            session.end()
+
+
+TRIALS = (begins_again, nearly_full, no_server_replies, too_many, once_more, perhaps_accepted)

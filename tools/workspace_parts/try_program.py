@@ -104,7 +104,7 @@ def log(program):
     text = "".join(json.dumps(it["sent"]) + "\n" for it in told)
     again = subprocess.run([program, "script"], input=text.encode(), capture_output=True, timeout=60).stdout.decode()
     same([json.loads(line) for line in again.splitlines()], [it["answered"] for it in told])
-    same(len(told), 14)
+    same(len(told), 17)
 
 
 def no_program(program):

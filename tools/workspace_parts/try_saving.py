@@ -153,7 +153,7 @@ def endless_on_server(program):
     with tempfile.TemporaryDirectory() as folder:
         typed(program, folder, ["C : Object", "C >> m  [true] whileTrue: [nil]", "c := C actor", ":post c m", ":step"])
         told = served(program, folder, ["c := actor 0", ":turn 0 of c"])
-        same(told, ["actor 0", "Pending: turn 0 of actor 0 has not ended, or its message was not posted yet; ask again later"])
+        same(told, ["actor 0", "Pending: turn 0 of actor 0 has not ended; ask again later"])
         same(typed(program, folder, [":step"])[0], [f"{NAME}: 1 class, 1 method, 1 actor, 1 turn to run", "1 quantum, 256 steps"])
 
 

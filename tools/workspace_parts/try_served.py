@@ -87,7 +87,7 @@ def stopped_waiting(program):
             terminal.interrupt()
             terminal.see("turn 1 of actor 0 is not waited for, and goes on in the server;  :turn 1 of actor 0  asks for it\n")
             same(terminal.see("> "), "not sent: s goOn\n> ")
-            said = "Pending: turn 1 of actor 0 has not ended, or its message was not posted yet; ask again later\n"
+            said = "Pending: turn 1 of actor 0 has not ended; ask again later\n"
             same(terminal.ask(":turn 1 of actor 0"), said)
             terminal.ask("Spin >> goOn  ^false")
             same(terminal.ask("s goOn"), "turn 1 of actor 0 answers 7\nfalse\n")
@@ -132,6 +132,8 @@ def loaded_again(program):
         lines = [line for n in range(25) for line in (f"C{n} : Object | a |", f"C{n} >> m  ^{n}")]
         same(loads(*lines), (["all.st: 25 classes, 25 methods"], 0))
         same(loads(*lines, "D : C0", "D >> m ^a"), (["all.st: 1 class, 26 methods, 25 classes there already"], 0))
+        lines = ["E : Object", "E >> m  ^self later: self zork", "E >> later: n  ^n"]
+        same(loads(*lines), (["no class has a method zork", "all.st: 1 class, 2 methods"], 0))
         said, status = loads("C1 : Object | b |", "C1 >> n  ^(b", "C1 >> m  ^30")
         same((said[-1], status), ("all.st: 1 method, 1 refused, 1 class there already", 1))
         same(typed(folder, ["c := C1 actor", "c m"]).stdout.decode().split("\n")[-2], "30")

@@ -15,7 +15,7 @@ SLICE = 64
 HISTORY = 1_000_000
 ITEMS_OF_QUANTUM = 2
 # The commands that are an item each.
-CALLS = ("define", "method", "remove", "reparent", "actor", "post", "close")
+CALLS = ("define", "method", "replace", "remove", "reparent", "actor", "post", "close")
 GOES_ON = ":run or :step goes on where it was"
 ENDS_IT = (
     "an edit of a method that it sends ends it, and :close ends posts without end; a loop that sends nothing goes on until :restart; "
@@ -97,20 +97,11 @@ class Turns:
     def outcome(self, turn):
         return self.ask({"cmd": "outcome", "actor": turn.actor, "turn": turn.number})
 
-    def ask_for(self, actor):
-        """Refused if there is no such actor. Of one that is there, turn 0 has an outcome only in an image that was loaded."""
-        try:
-            self.outcome(Turn(actor, 0))
-        except Refused as refused:
-            if refused.reply["error"] not in ("Expired", "Pending"):
-                raise
-
     def checkpoint(self):
         """Empties the history. The turns that are waited for have other numbers then. Answers what the image has counted."""
-        ended = {actor: self.last_ended(actor) for actor in {turn.actor for turn in self.waiting}}
+        begun = {actor: self.begun(actor) for actor in {turn.actor for turn in self.waiting}}
         counted = self.ask({"cmd": "checkpoint"})
         self.items = 0
-        begun = {actor: last + self.is_going_on(Turn(actor, 0)) for actor, last in ended.items()}
         new = {turn: Turn(turn.actor, turn.number - begun[turn.actor]) for turn in self.waiting}
         self.selectors = {new[turn]: self.selectors[turn] for turn in self.waiting if turn in self.selectors}
         self.waiting = [new[turn] for turn in self.waiting]
@@ -120,18 +111,10 @@ class Turns:
         """Whether a tenth of the history is left, or less."""
         return HISTORY - self.items <= HISTORY // 10
 
-    def last_ended(self, actor):
-        """The number of the last turn of an actor that has ended, where its turns that are waited for have not; -1 if turn 0 has not
-        ended either."""
-        least, most = -1, min(turn.number for turn in self.waiting if turn.actor == actor) - 1
-        while least < most:
-            middle = (least + most + 1) // 2
-            least, most = (least, middle - 1) if self.is_going_on(Turn(actor, middle)) else (middle, most)
-        return least
-
-    def is_going_on(self, turn):
-        """Whether a turn has not ended."""
-        return self.ending(turn) is None
+    def begun(self, actor):
+        """How many messages an actor has begun, which is the number of the turn that stands in it."""
+        ((told,), _) = self.ask({"cmd": "actors", "from": actor, "most": 1}).values()
+        return told["begun"]
 
     def forget(self, turn):
         """A turn that was asked for by itself is not told of again."""
@@ -193,10 +176,10 @@ class Turns:
             self.waiting.remove(turn)
             self.ends[turn] = end
 
-    def ending(self, turn):
+    def ending(self, turn, *waited):
         """How a turn ended; None if it has not, and {} if that is no longer kept."""
         try:
-            return self.outcome(turn)
+            return self.outcome(turn, *waited)
         except Refused as refused:
             if refused.reply["error"] not in ("Pending", "Expired"):
                 raise

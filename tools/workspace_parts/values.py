@@ -25,6 +25,10 @@ def show_object(number, known, actor):
     name = known.actor(actor).class_name
     if not name:
         return "itself"
+    return a_or_an(name)
+
+
+def a_or_an(name):
     return ("an " if name[0] in "AEIOUaeiou" else "a ") + name
 
 

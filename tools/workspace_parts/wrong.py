@@ -17,12 +17,13 @@ class Wrong(Stopped):
 
 
 class Refused(Stopped):
-    """The program refused a command."""
+    """The program refused a command. `more` are lines that are told behind what the refusal means."""
 
     def __init__(self, command, reply):
         super().__init__(reply["error"])
         self.command = command
         self.reply = reply
+        self.more = []
 
 
 class BrokenOff(Stopped):

@@ -29,6 +29,7 @@ use st_server::images::Image;
 use st_server::porters::FaultList;
 use st_server::scripts::script_on;
 use st_server::sockets::{Served, serve_image};
+use st_server::starts::now;
 use st_wire::names::refusal_name;
 use st_wire::streams::{Reader, Writer};
 use std::alloc::Global;
@@ -51,7 +52,7 @@ fn first_image(alloc: Global, file: Option<&File>) -> Result<Image, Refusal>
 }
 
 /// Runs the commands of standard input on an image, and writes the replies to standard output.
-fn run_script<R: Input + Print + AllocGlobal>(
+fn run_script<R: Input + Print + Clock + AllocGlobal>(
     rt: &R,
     options: ScriptOptions<'_>,
     image: Image,
@@ -64,7 +65,8 @@ fn run_script<R: Input + Print + AllocGlobal>(
     };
     let mut input = Reader::new(rt.reader());
     let mut output = Writer::new(buffered);
-    let (image, result) = script_on(alloc, &mut input, &mut output, options.settings(), image);
+    let settings = options.settings(now(rt));
+    let (image, result) = script_on(alloc, &mut input, &mut output, settings, image);
     match output.finish() {
         Ok(_) => (image, result),
         Err(_) => (image, Err(Refusal::WriteFault)),
@@ -84,7 +86,7 @@ fn save_at<R: Files<File = File>>(
 }
 
 /// Runs a script on a new image or on the image of a file. That file then gets the image, unless the session is refused.
-fn script<R: Input + Print + Files<File = File> + AllocGlobal>(
+fn script<R: Input + Print + Files<File = File> + Clock + AllocGlobal>(
     rt: &R,
     options: ScriptOptions<'_>,
 ) -> Result<(), Failure> {

@@ -32,15 +32,17 @@ impl<'a> ScriptOptions<'a> {
         image: None,
     };
 
-    /// The settings of the script. Options that were not given have their defaults, and the history always has.
-    pub fn settings(self) -> ScriptSettings
-        ensures { result ≡ record { quantum = unwrap_or self.entry.quantum 256; capacity = unwrap_or self.entry.capacity 64; history = 1000000 } }
+    /// The settings of the script, for a program that began at `start`, in nanoseconds since 1970. Options that were not given have their
+    /// defaults, and the history always has.
+    pub fn settings(self, start: u64) -> ScriptSettings
+        ensures { result ≡ record { quantum = unwrap_or self.entry.quantum 256; capacity = unwrap_or self.entry.capacity 64; history = 1000000; start = start } }
     {
         let default = ScriptSettings::DEFAULT;
         ScriptSettings {
             quantum: self.quantum.unwrap_or(default.quantum),
             capacity: self.capacity.unwrap_or(default.capacity),
             history: default.history,
+            start,
         }
     }
 }

@@ -153,11 +153,14 @@ absent-before (x ∷ xs) (suc place) text d h =
     let other : bytes_eq text x ≡ false = differ x text (none-at (bytes_eq x) xs place text parts.0 h) in
     rw other (absent-before xs place text parts.1 h)
 
-pub interned-next : (names : List (List ℕ)) (place : ℕ) (text : List ℕ) → has_twice names ≡ false → slice_get names place ≡ Some text → interned (take place names) text ≡ take (place + 1) names
-interned-next names place text d h =
+interned-new : (names : List (List ℕ)) (place : ℕ) (text : List ℕ) → is_name (take place names) text ≡ false → slice_get names place ≡ Some text → interned (take place names) text ≡ take (place + 1) names
+interned-new names place text out h =
     let more : take (place + 1) names ≡ take place names ++ get_or names place text ∷ [] = take_more names place text (slice_get_within names place text h) in
     let here : get_or names place text ≡ text = get_or_from_slice_get names place text text h in
-    rw (absent-before names place text d h, more, here) refl
+    rw (out, more, here) refl
+
+pub interned-next : (names : List (List ℕ)) (place : ℕ) (text : List ℕ) → has_twice names ≡ false → slice_get names place ≡ Some text → interned (take place names) text ≡ take (place + 1) names
+interned-next names place text d h = interned-new names place text (absent-before names place text d h) h
 
 -- and so for texts behind references
 pub borrowed-next : (texts : List (Bor (List ℕ))) (place : ℕ) (default : Bor (List ℕ)) (names more : List (List ℕ)) → has_twice (map (λ t. t.now) texts) ≡ false → place < length texts → names ≡ take place (map (λ t. t.now) texts) → more ≡ interned names (get_or texts place default).now → more ≡ take (place + 1) (map (λ t. t.now) texts)
@@ -165,3 +168,25 @@ borrowed-next texts place default names more d within so_far e =
     let now : Bor (List ℕ) → List ℕ = λ t. t.now in
     let here : slice_get (map now texts) place ≡ Some (get_or texts place default).now = slice_get-map now texts place ∙ ap (option_map now) (slice_get-get_or texts place default within) in
     e ∙ ap (λ ns. interned ns (get_or texts place default).now) so_far ∙ interned-next (map now texts) place (get_or texts place default).now d here
+
+-- before the place of a name there is none like it, where all are different
+fresh-before : (names : List (List ℕ)) (place : ℕ) (text : List ℕ) → ((a b : ℕ) (t : List ℕ) → slice_get names a ≡ Some t → slice_get names b ≡ Some t → a ≡ b) → slice_get names place ≡ Some text → is_name (take place names) text ≡ false
+fresh-before [] place text d h = absurd (let e : None ≡ Some text = h in cc)
+fresh-before (x ∷ xs) zero text d h = refl
+fresh-before (x ∷ xs) (suc place) text d h =
+    let rest : is_name (take place xs) text ≡ false = fresh-before xs place text (λ a b t p q. let e : suc a ≡ suc b = d (suc a) (suc b) t p q in omega (arith, e)) h in
+    by (bytes_eq text x) refl rest
+  where
+    by : (b : Bool) → bytes_eq text x ≡ b → is_name (take place xs) text ≡ false → is_name (take (suc place) (x ∷ xs)) text ≡ false
+    by false e rest = rw e rest
+    by true e rest =
+        let same : text ≡ x = (bytes_eq-Decides text x).0 e in
+        let first : zero ≡ suc place = d zero (suc place) text (ap Some (sym same)) h in
+        absurd (omega (arith, first))
+
+-- and so for a table that is copied
+pub copied-next : (vs : List (Vec ℕ)) (place : ℕ) (default : Vec ℕ) (names more : List (List ℕ)) → ((a b : ℕ) (t : List ℕ) → slice_get (texts_of vs) a ≡ Some t → slice_get (texts_of vs) b ≡ Some t → a ≡ b) → place < length vs → names ≡ take place (texts_of vs) → more ≡ interned names (get_or vs place default).items → more ≡ take (place + 1) (texts_of vs)
+copied-next vs place default names more d within so_far e =
+    let items : Vec ℕ → List ℕ = λ v. v.items in
+    let here : slice_get (texts_of vs) place ≡ Some (get_or vs place default).items = slice_get-map items vs place ∙ ap (option_map items) (slice_get-get_or vs place default within) in
+    e ∙ ap (λ ns. interned ns (get_or vs place default).items) so_far ∙ interned-new (texts_of vs) place (get_or vs place default).items (fresh-before (texts_of vs) place (get_or vs place default).items d here) here

@@ -19,6 +19,7 @@ pub mod laws;
 pub mod limits;
 mod method_map;
 pub mod methods;
+mod name_table;
 pub mod names;
 pub mod operations;
 pub mod refusals;

@@ -1,92 +1,57 @@
-//! The name table.
-ghost use Rattle.std.specs.Prelude.{◌≡◌, ◌<◌, false, length, slice_get, map, is_some, option_map, None, IsTrue, IfOk, IfErr, IfSome, OnOk, OnErr};
+//! The name table, which many can read at the same time.
+ghost use Rattle.std.specs.Prelude.{◌≡◌, ◌<◌, true, false, length, slice_get, option_map, None, IsTrue, IfOk, IfErr, OnOk, OnErr};
+ghost use Rattle.std.specs.Arc.{arc_value};
 ghost use Rattle.st_classes.specs.declared.refusals.Refusal.TheVariants.{NoMemory};
-ghost use Rattle.st_classes.specs.EditRules.{has_twice};
 ghost use Rattle.st_classes.specs.Kernel.{kernel_selectors, selector};
-ghost use Rattle.st_classes.specs.Names.{is_name, interned, intern_rules, texts_of, AreNames};
+ghost use Rattle.st_classes.specs.Names.{is_name, interned, intern_rules, AreNames};
 ghost use Rattle.st_classes.specs.Refusals.{first_of, Answers};
 ghost use Rattle.st_classes.specs.Selectors.{is_selector, place_of};
 ghost use Rattle.st_classes.specs.MethodSuits.{arity_at};
 
-use crate::limits;
-use crate::refusals::{Limited, Refusal};
+use crate::name_table::NameTable;
+use crate::refusals::Refusal;
 use crate::selectors::arity_of;
 use crate::values::Selector;
-use indexmap::IndexSet;
 use std::alloc::{AllocError, Global};
 use std::marker::Model;
-
-/// The kernel's selectors, names 0 to 21.
-const KERNEL: [&[u8]; 22] = [
-    b"==",
-    b"=",
-    b"class",
-    b"isNil",
-    b"doesNotUnderstand:",
-    b"+",
-    b"-",
-    b"*",
-    b"//",
-    b"\\\\",
-    b"<",
-    b">",
-    b"<=",
-    b">=",
-    b"not",
-    b"&",
-    b"post:",
-    b"post:with:",
-    b"post:with:with:",
-    b"close",
-    b"new",
-    b"newActor",
-];
+use std::sync::Arc;
 
 /// Selectors and symbols by number, from 0 in the order in which they were interned. A name never changes its number.
+///
+/// Others can read the table of a moment while it grows ([`Names::again`]). A table that others read is copied before a name is added,
+/// so at most once for each name.
 #[derive(Drop)]
 pub struct Names {
-    texts: IndexSet<Vec<u8>>,
+    table: Arc<NameTable>,
 }
 
 impl Model for Names {
     ghost use Rattle.std.specs.Prelude.{ℕ, List};
+    ghost use Rattle.std.specs.Arc.{arc_value};
 
     ghost Value = { List (List ℕ) };
 
-    ghost use Rattle.st_classes.specs.Names.{AreNames, texts_of};
-
-    ghost view = { λ n. texts_of n.texts.keys };
-
-    ghost invariant = { λ n. AreNames (texts_of n.texts.keys) };
+    ghost view = { λ n. arc_value n.table };
 }
 
-fn place_in(texts: &IndexSet<Vec<u8>>, text: &[u8]) -> Option<usize>
-    ensures place { result ≡ place_of (texts_of texts.now.keys) text.now }
-    ensures found { is_some result ≡ is_name (texts_of texts.now.keys) text.now }
-    ensures within { IfSome result (λ place. place < length texts.now.keys) }
+/// Appends a selector that is not in a table, and answers its number.
+fn append(table: &mut Arc<NameTable>, alloc: Global, text: &[u8]) -> Result<Selector, AllocError>
+    requires new { is_name (arc_value table.old) text.now ≡ false }
+    requires selector { is_selector text.now ≡ true }
+    requires room { length (arc_value table.old) < 8192 }
+    ensures names { OnOk result (arc_value table.new ≡ interned (arc_value table.old) text.now) }
+    ensures place { IfOk result (λ s. slice_get (arc_value table.new) s.0 ≡ Some text.now) }
+    ensures unchanged { OnErr result (arc_value table.new ≡ arc_value table.old) }
 {
-    texts.get_index_of(text)
-}
-
-fn add(texts: &mut IndexSet<Vec<u8>>, alloc: Global, text: &[u8]) -> Result<(), AllocError>
-    ensures ok { OnOk result (texts_of texts.new.keys ≡ interned (texts_of texts.old.keys) text.now) }
-    ensures err { OnErr result (texts.new.keys ≡ texts.old.keys) }
-{
-    let copy = Vec::from_slice(alloc, text)?;
-    texts.insert(copy)?;
-    Ok(())
-}
-
-// A set of texts, which must be pairwise different.
-fn set_of(alloc: Global, texts: &[&[u8]]) -> Result<IndexSet<Vec<u8>>, AllocError>
-    requires { has_twice (map (λ t. t.now) texts.now) ≡ false }
-    ensures { IfOk result (λ set. texts_of set.keys ≡ map (λ t. t.now) texts.now) }
-{
-    let mut set = IndexSet::with_capacity(alloc, texts.len())?;
-    for text in texts {
-        add(&mut set, alloc, text)?;
+    match Arc::get_mut(table) {
+        Some(own) => own.append(alloc, text),
+        None => {
+            let mut copy = table.copy(alloc)?;
+            let name = copy.append(alloc, text)?;
+            *table = Arc::new(alloc, copy)?;
+            Ok(name)
+        }
     }
-    Ok(set)
 }
 
 impl Names {
@@ -94,8 +59,18 @@ impl Names {
     pub fn kernel(alloc: Global) -> Result<Names, AllocError>
         ensures { IfOk result (λ n. n ≡ kernel_selectors) }
     {
-        let texts = set_of(alloc, &KERNEL)?;
-        Ok(Names { texts })
+        Ok(Names {
+            table: Arc::new(alloc, NameTable::kernel(alloc)?)?,
+        })
+    }
+
+    /// The same table, for someone who reads it while this one grows. It takes no memory.
+    pub fn again(&self) -> Result<Names, AllocError>
+        ensures { IfOk result (λ n. n ≡ self.now) }
+    {
+        Ok(Names {
+            table: Arc::try_clone(&self.table)?,
+        })
     }
 
     /// What holds of every table: it starts with the kernel's names, each name is a selector, all names are different, and there
@@ -103,7 +78,7 @@ impl Names {
     pub fn known(&self)
         ensures { AreNames self.now }
     {
-        let _ = &self.texts;
+        self.table.known();
     }
 
     /// The number of a selector. A text that is not in the table yet is appended.
@@ -116,30 +91,20 @@ impl Names {
         ensures unchanged { OnErr result (self.new ≡ self.old) }
         ensures memory { IfErr result (λ e. e ≡ NoMemory → (first_of (intern_rules self.old text.now) ≡ None) × (is_name self.old text.now ≡ false)) }
     {
-        if let Some(place) = place_in(&self.texts, text) {
-            return Ok(Selector(place as u16));
+        if let Some(name) = self.table.find(text) {
+            return Ok(name);
         }
-        if arity_of(text).is_none() {
-            return Err(Refusal::BadName);
+        if let Some(refusal) = self.table.refusal(text) {
+            return Err(refusal);
         }
-        let place = self.texts.len();
-        if place >= limits::NAMES {
-            return Err(Refusal::TooMany {
-                what: Limited::Names,
-            });
-        }
-        let Ok(()) = add(&mut self.texts, alloc, text) else {
-            return Err(Refusal::NoMemory);
-        };
-        Ok(Selector(place as u16))
+        Ok(append(&mut self.table, alloc, text)?)
     }
 
     /// The number of a name.
     pub fn find(&self, text: &[u8]) -> Option<Selector>
         ensures { result ≡ option_map selector (place_of self.now text.now) }
     {
-        let place = place_in(&self.texts, text)?;
-        Some(Selector(place as u16))
+        self.table.find(text)
     }
 
     /// The text of a name.
@@ -148,7 +113,7 @@ impl Names {
         ensures text { slice_get self.now name.0 ≡ Some result.now }
         ensures selector { IsTrue (is_selector result.now) }
     {
-        self.texts.as_slice()[usize::from(name.0)].as_slice()
+        self.table.text(name)
     }
 
     /// The number of arguments of a selector, at most 8.
@@ -166,6 +131,6 @@ impl Names {
     pub fn len(&self) -> u32
         ensures { result ≡ length self.now }
     {
-        self.texts.len() as u32
+        self.table.len()
     }
 }

@@ -59,6 +59,18 @@ pub fn joined_pattern(alloc: Global, parameters: &[Parameter]) -> Result<Vec<u8>
     Ok(text)
 }
 
+/// The text of a pattern's selector. The only refusal is `NoMemory`.
+pub fn pattern_text(alloc: Global, pattern: &Pattern) -> Result<Vec<u8>, Refusal>
+    ensures ok { IfOk result (λ text. text.items ≡ pattern_selector pattern.now) }
+    ensures err { IfErr result (λ e. e ≡ Refusal.NoMemory) }
+{
+    match pattern {
+        Pattern::Unary(name) => Ok(Vec::from_slice(alloc, name.text.as_slice())?),
+        Pattern::Binary { selector, .. } => Ok(Vec::from_slice(alloc, selector.text.as_slice())?),
+        Pattern::Keyword(parameters) => joined_pattern(alloc, parameters.as_slice()),
+    }
+}
+
 impl<'t> Sent<'t> {
     /// The number of arguments.
     pub fn arguments(self) -> u8

@@ -254,6 +254,13 @@ impl<M: Mailbox> Image<M> {
         self.token.shown()
     }
 
+    /// The class table, as a pointer that can be shared.
+    pub fn token(&self) -> &Token
+        ensures { result.now ≡ (world self.now).edits }
+    {
+        &self.token
+    }
+
     /// The number of actors, at most 65,536.
     pub fn actors(&self) -> u32
         ensures { result ≡ length (world self.now).actors }

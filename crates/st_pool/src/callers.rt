@@ -15,8 +15,9 @@ ghost use Rattle.st_pool.specs.Checkpointed.{Checkpoints, with_checkpoint};
 ghost use Rattle.st_pool.specs.Done.{Finds, HasAtLeast, OfficeView, one_call_more};
 
 use crate::answers::{closed, counts, created, position, version};
-use crate::holds::{Calling, Interning, Job};
+use crate::holds::{Calling, Condition, Interning, Job};
 use crate::naming::Naming;
+use crate::office::Office;
 use crate::shared::Shared;
 use crate::shares::CallerShare;
 use st_calls::calls::{Answer, Call};
@@ -31,7 +32,8 @@ use st_mailbox::ring_box::RingBox;
 use st_turn::body::Outcome;
 use std::alloc::{AllocError, Global};
 use std::marker::Model;
-use std::sync::Wait;
+use std::sync::{MutexGuard, Wait};
+use std::time::{Clock, Duration};
 
 /// Who posts and edits, by one hold of the lock a call. Contracts see what it has done: how many of its edits were accepted, a receipt
 /// for each of its posts that was, how many items of histories its checkpoints have emptied, and how many calls it has made.
@@ -65,14 +67,44 @@ impl<'a, K: Naming, M: Mailbox> Caller<'a, K, M> {
     pub fn hold<R: Wait, J: Job<K, M>>(&mut self, rt: &R, alloc: Global, job: J) -> J::Out
         ensures { (o : OfficeView) × (p : OfficeView) × Finds K.start K.first self.old o × J.done job o self.old result p self.new }
     {
+        let office = self.shared.enter(rt);
+        self.run_in(office, alloc, job)
+    }
+
+    /// The same, in a hold that begins once a condition holds, or this long has passed. The thread sleeps for it.
+    pub fn hold_when<R: Wait + Clock, C: Condition<K, M>, J: Job<K, M>>(
+        &mut self,
+        rt: &R,
+        alloc: Global,
+        condition: &C,
+        most: Duration,
+        job: J,
+    ) -> J::Out
+        ensures { (o : OfficeView) × (p : OfficeView) × Finds K.start K.first self.old o × J.done job o self.old result p self.new }
+    {
+        let office = self.shared.enter_when(rt, condition, most);
+        self.run_in(office, alloc, job)
+    }
+
+    /// Does something in a hold, which ends with it.
+    #[inline]
+    fn run_in<J: Job<K, M>>(
+        &mut self,
+        mut office: MutexGuard<'_, Office<K, M>>,
+        alloc: Global,
+        job: J,
+    ) -> J::Out
+        ensures { (o : OfficeView) × (p : OfficeView) × Finds K.start K.first self.old o × J.done job o self.old result p self.new }
+    {
         let Caller { shared, share } = self;
-        let mut office = shared.enter(rt);
         office.audit(share);
         let moves = office.moves();
         let out = job.run(alloc, &mut office, share);
         let has_moved = office.moves() != moves;
+        let has_news = office.take_news();
         drop(office);
         shared.wake_if(has_moved);
+        shared.tell_if(has_news);
         out
     }
 

@@ -21,6 +21,11 @@ pub trait Job<K: Naming, M: Mailbox> {
         ensures { done self office.old mine.old result office.new mine.new };
 }
 
+/// What a hold of the lock waits for. It is looked at after each commit that has ended a turn, and after each checkpoint.
+pub trait Condition<K: Naming, M: Mailbox> {
+    fn holds(&self, office: &Office<K, M>) -> bool;
+}
+
 /// One call.
 #[derive(Drop)]
 pub(crate) struct Calling {

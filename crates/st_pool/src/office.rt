@@ -35,7 +35,9 @@ pub struct Office<K: Naming, M: Mailbox> {
     head: Head<K>,
     /// The images that were seen, if they are known. The last one is this image, or an earlier state of it.
     front: Option<Front<K>>,
-    /// The workers that wait, and what they wait for.
+    /// How many checkpoints there have been, modulo 2^64.
+    checkpoints: u64,
+    /// The workers and callers that wait, and what they wait for.
     pub(crate) waiting: Waiting,
 }
 
@@ -87,12 +89,13 @@ impl<K: Naming, M: Mailbox> Office<K, M> {
             books,
             head,
             front: Some(front),
+            checkpoints: 0,
             waiting: Waiting::none(),
         }
     }
 
     /// The image.
-    pub(crate) fn image(&self) -> &Image<M>
+    pub fn image(&self) -> &Image<M>
         ensures { result.now ≡ self.now.image }
     {
         &self.image
@@ -199,7 +202,9 @@ impl<K: Naming, M: Mailbox> Office<K, M> {
         match apply(alloc, &mut self.image, Call::Checkpoint) {
             Ok(answer) => {
                 self.books.empty(mine, count);
+                self.checkpoints = self.checkpoints.wrapping_add(1);
                 self.waiting.note_move();
+                self.waiting.note_news_if(true);
                 Ok(answer)
             }
             Err(refusal) => Err(refusal),
@@ -280,6 +285,18 @@ impl<K: Naming, M: Mailbox> Office<K, M> {
     {
         self.image.known();
         self.books.audit(mine);
+    }
+
+    /// How many checkpoints there have been since the image was shared, modulo 2^64. The turns are numbered anew by each.
+    pub fn checkpoints(&self) -> u64 {
+        self.checkpoints
+    }
+
+    /// Whether callers that wait are to be told that a turn has ended, or the turns have been numbered anew.
+    pub(crate) fn take_news(&mut self) -> bool
+        ensures { self.new ≡ self.old }
+    {
+        self.waiting.take_news()
     }
 
     /// Tells the workers to end.

@@ -8,6 +8,7 @@ ghost use Rattle.st_pool.specs.Done.{nothing_done};
 use crate::books::Blanks;
 use crate::callers::Caller;
 use crate::front::Opened;
+use crate::holds::Condition;
 use crate::naming::Naming;
 use crate::office::Office;
 use st_classes::refusals::Refusal;
@@ -15,7 +16,8 @@ use st_image::image::Image;
 use st_mailbox::mailboxes::Mailbox;
 use std::alloc::Global;
 use std::hint::spin_loop;
-use std::sync::{Condvar, Mutex, MutexGuard, Wait};
+use std::sync::{Condvar, CondvarTimeouts, Mutex, MutexGuard, Wait};
+use std::time::{Clock, Duration};
 
 /// How often a thread looks for the lock at short intervals. A hold takes about a microsecond.
 const LOOKS: usize = 100;
@@ -44,6 +46,8 @@ pub struct Shared<K: Naming, M: Mailbox> {
     pub(crate) moved: Condvar,
     /// What workers rest on that were in the way of others.
     pub(crate) eased: Condvar,
+    /// What callers sleep on that wait for the end of a turn.
+    pub(crate) ended: Condvar,
 }
 
 impl<K: Naming, M: Mailbox> Shared<K, M> {
@@ -62,6 +66,7 @@ impl<K: Naming, M: Mailbox> Shared<K, M> {
             office: Mutex::new(Office::new(image, blanks, opened)),
             moved: Condvar::new(),
             eased: Condvar::new(),
+            ended: Condvar::new(),
         }
     }
 
@@ -96,6 +101,32 @@ impl<K: Naming, M: Mailbox> Shared<K, M> {
             return office;
         }
         self.office.lock(rt)
+    }
+
+    /// Takes the lock once a condition holds, or this long has passed. The thread sleeps for it, and holds no lock meanwhile.
+    pub(crate) fn enter_when<R: Wait + Clock, C: Condition<K, M>>(
+        &self,
+        rt: &R,
+        condition: &C,
+        most: Duration,
+    ) -> MutexGuard<'_, Office<K, M>> {
+        let mut before = self.enter(rt);
+        if most.is_zero() || condition.holds(&before) {
+            return before;
+        }
+        before.waiting.begin_watch();
+        let (mut behind, _) = self
+            .ended
+            .wait_timeout_while(rt, before, most, |office| !condition.holds(office));
+        behind.waiting.end_watch();
+        behind
+    }
+
+    /// A turn has ended, or the turns have been numbered anew, if so: the callers that wait look again.
+    pub(crate) fn tell_if(&self, has_news: bool) {
+        if has_news {
+            self.ended.notify_all();
+        }
     }
 
     /// Something has moved: a worker that sleeps is woken, and one that rests.

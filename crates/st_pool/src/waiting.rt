@@ -1,10 +1,10 @@
-//! Workers that wait: how many there are, and the counts by which each knows whether to go on.
+//! Workers and callers that wait: how many there are, and by what each knows whether to go on.
 //!
 //! A worker sleeps while nothing can be done, until something has moved. It rests while it would be in the way of others, until
 //! something other than short quanta has moved. While memory or room in the history is wanting, each call of a caller is a move, since no
-//! clause says which of them gives some back.
+//! clause says which of them gives some back. A caller waits for the end of a turn, or of all turns that are numbered from one base.
 
-/// How many workers wait, and what has happened that they wait for.
+/// How many workers and callers wait, and what has happened that they wait for.
 #[derive(Drop)]
 pub(crate) struct Waiting {
     /// How often something happened for which a worker that sleeps is to look again.
@@ -18,6 +18,10 @@ pub(crate) struct Waiting {
     /// Whether memory or room in the history was wanting since a worker looked last.
     is_wanting: bool,
     is_stopped: bool,
+    /// How many callers wait for the end of a turn.
+    watchers: u32,
+    /// Whether a turn has ended since they were told, or the turns have been numbered anew.
+    has_news: bool,
 }
 
 impl Waiting {
@@ -30,6 +34,8 @@ impl Waiting {
             resting: 0,
             is_wanting: false,
             is_stopped: false,
+            watchers: 0,
+            has_news: false,
         }
     }
 
@@ -143,5 +149,35 @@ impl Waiting {
     /// A worker that was about to rest, or rested, has the lock again.
     pub(crate) fn stand_up(&mut self) {
         self.resting = self.resting.wrapping_sub(1);
+    }
+
+    /// A caller is about to wait for the end of a turn, and holds the lock until it does.
+    pub(crate) fn begin_watch(&mut self) {
+        self.watchers = self.watchers.wrapping_add(1);
+    }
+
+    /// A caller that was about to wait, or waited, has the lock again.
+    pub(crate) fn end_watch(&mut self) {
+        self.watchers = self.watchers.wrapping_sub(1);
+    }
+
+    /// Whether a caller waits.
+    #[inline]
+    pub(crate) fn has_watchers(&self) -> bool {
+        self.watchers != 0
+    }
+
+    /// Something has happened that callers wait for, if so.
+    #[inline]
+    pub(crate) fn note_news_if(&mut self, is_news: bool) {
+        self.has_news = self.has_news || is_news;
+    }
+
+    /// Whether callers that wait are to be told of something. They are told once.
+    #[inline]
+    pub(crate) fn take_news(&mut self) -> bool {
+        let is_told = self.has_news && self.has_watchers();
+        self.has_news = false;
+        is_told
     }
 }

@@ -144,7 +144,9 @@ fn turn_over<K: Naming, M: Mailbox, R: Wait>(
     let wants_help = office.wants_help();
     let is_hurried = ran.long == 0 && (rests || turned.goes_on);
     let wants_more = !is_hurried && office.wants_more();
+    let has_news = office.take_news();
     drop(office);
+    shared.tell_if(has_news);
     seats.let_go();
     for _ in 0..turned.committed {
         if wants_help {

@@ -10,10 +10,12 @@ use st_pool::naming::Naming;
 use st_pool::shares::CallerShare;
 use st_pool::totals::Totals;
 use st_server::attending::attend;
+use st_server::starts::Place;
 use st_wire::streams::{MemoryInput, Writer};
 use std::alloc::{AllocError, Global};
 use std::io::{self, ErrorKind, Write};
 use std::sync::Wait;
+use std::sync::atomic::AtomicU64;
 use std::test::*;
 use std::thread::Threads;
 use std::time::Clock;
@@ -66,7 +68,7 @@ fn lines(alloc: Global) -> Result<Vec<u8>, AllocError> {
 }
 
 /// A session over a caller: its share, and how it ended.
-fn talk<K: Naming, R: Wait>(
+fn talk<K: Naming, R: Wait + Clock>(
     rt: &R,
     alloc: Global,
     caller: Caller<'_, K>,
@@ -74,11 +76,17 @@ fn talk<K: Naming, R: Wait>(
 ) -> (CallerShare<K>, Result<u64, Refusal>) {
     let mut input = MemoryInput::new(lines);
     let mut output = Writer::new(Failing { left: WRITES });
-    attend(rt, alloc, caller, &mut input, &mut output)
+    let sessions = AtomicU64::new(1);
+    let place = Place {
+        start: 0,
+        sessions: &sessions,
+        workers: 1,
+    };
+    attend(rt, alloc, place, caller, &mut input, &mut output)
 }
 
 /// The thread of the session's caller.
-pub fn talk_and_fail<K: Naming, R: Wait>(
+pub fn talk_and_fail<K: Naming, R: Wait + Clock>(
     rt: &R,
     alloc: Global,
     stage: &Stage<K>,

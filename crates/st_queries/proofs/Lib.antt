@@ -6,3 +6,5 @@ pub mod Kernels
 pub mod SlotTexts
 pub mod Found
 pub mod InstalledTexts
+pub mod OwnPlaces
+pub mod Held

@@ -14,20 +14,25 @@ use Rattle.st_classes.specs.declared.methods.MethodParts.{MethodParts}
 use Rattle.st_classes.specs.declared.kernel.Found.{Found}
 use Rattle.st_classes.specs.declared.kernel.Found.TheVariants.{User, Kernel as FoundKernel}
 use Rattle.st_classes.specs.declared.refusals.Refusal.{Refusal}
-use Rattle.st_classes.specs.declared.refusals.Refusal.TheVariants.{NoMemory, NoSuchMethod}
+use Rattle.st_classes.specs.declared.refusals.Refusal.TheVariants.{NoMemory, NoSuchMethod, UnknownActor}
 use Rattle.st_classes.specs.Classes.{chain, class_count, inherited, parent, slots}
 use Rattle.st_classes.specs.EditLists.{method_at}
 use Rattle.st_classes.specs.Kernel.{class, selector}
 use Rattle.st_classes.specs.Walks.{is_at, method_id, own}
-use Rattle.st_image.specs.Images.{ImageView, world}
+use Rattle.st_image.specs.Images.{ImageView}
 use Rattle.st_image.specs.Loading.{class_text, selector_text}
 use Rattle.st_wire.specs.Replies.{only, whole}
 use Rattle.st_wire.specs.declared.queries.Query.{Query}
 use Rattle.st_wire.specs.declared.queries.Query.TheVariants as query
+use Rattle.st_queries.specs.declared.hosts.Host.{Host}
 use Rattle.st_queries.specs.Actors.{actors_told}
+use Rattle.st_queries.specs.Edits.{edits_told}
+use Rattle.st_queries.specs.Inspecting.{inspected_told}
 use Rattle.st_queries.specs.Listing.{listed, texts}
 use Rattle.st_queries.specs.OwnMethods.{method_count, standing}
 use Rattle.st_queries.specs.Resolving.{and_then, class_in, selector_in}
+use Rattle.st_queries.specs.Sights.{Sight, sight}
+use Rattle.st_queries.specs.Status.{status_told}
 use Rattle.st_queries.specs.Values.{method_named}
 
 -- ---- classes
@@ -158,17 +163,24 @@ senders_told names edits s = only (codes "methods")
 
 -- ---- all queries
 
--- what a query answers; names are looked up and not interned, and a class before a selector
-abbrev pub told : ImageView → Query → Result Data Refusal
-told i query.Classes = Ok (classes_told (world i).edits)
-told i (query.Methods class) = and_then (λ c. Ok (methods_told i.names (world i).edits c)) (class_in (world i).edits class)
-told i (query.Source class text) =
-    and_then (λ c. and_then (source_told (world i).edits c) (selector_in i.names text)) (class_in (world i).edits class)
-told i (query.Versions class text) =
-    and_then (λ c. and_then (λ s. Ok (versions_told (world i).edits c s)) (selector_in i.names text)) (class_in (world i).edits class)
-told i (query.Implementors text) = and_then (λ s. Ok (implementors_told (world i).edits s)) (selector_in i.names text)
-told i (query.Senders text) = and_then (λ s. Ok (senders_told i.names (world i).edits s)) (selector_in i.names text)
-told i (query.Actors from most) = Ok (actors_told i from most)
+-- what is told of what is seen of an image; names are looked up and not interned, and a class before a selector
+abbrev pub told_of : Sight → Host → Query → Result Data Refusal
+told_of s host query.Classes = Ok (classes_told s.edits)
+told_of s host (query.Methods class) = and_then (λ c. Ok (methods_told s.names s.edits c)) (class_in s.edits class)
+told_of s host (query.Source class text) =
+    and_then (λ c. and_then (source_told s.edits c) (selector_in s.names text)) (class_in s.edits class)
+told_of s host (query.Versions class text) =
+    and_then (λ c. and_then (λ t. Ok (versions_told s.edits c t)) (selector_in s.names text)) (class_in s.edits class)
+told_of s host (query.Implementors text) = and_then (λ t. Ok (implementors_told s.edits t)) (selector_in s.names text)
+told_of s host (query.Senders text) = and_then (λ t. Ok (senders_told s.names s.edits t)) (selector_in s.names text)
+told_of s host (query.Edits from) = edits_told s.names s.edits from
+told_of s host (query.Actors from most) = Ok (actors_told s from)
+told_of s host (query.Inspect a) = ok_or (option_map (inspected_told s.names s.edits) s.inspected) UnknownActor
+told_of s host query.Status = Ok (status_told s host)
+
+-- what a query answers: what is told of what is seen of the image for it
+abbrev pub told : ImageView → Host → Query → Result Data Refusal
+told i host q = told_of (sight i q) host q
 
 -- the answer is that; or memory ran out
 abbrev pub IsAnswer : Result Data Refusal → Result Value Refusal → Type 0

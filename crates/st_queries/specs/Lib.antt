@@ -2,5 +2,12 @@ pub mod Resolving
 pub mod Listing
 pub mod OwnMethods
 pub mod Values
+pub mod Glances
+pub mod Inspecting
+pub mod Hosts
+pub mod Sights
 pub mod Actors
+pub mod Edits
+pub mod Status
 pub mod Answers
+pub mod QueryLaws

@@ -8,6 +8,10 @@ use Rattle.serde_json.specs.View.{items_of}
 abbrev pub listed : (ℕ → Option Data) → ℕ → ℕ → Data
 listed row first n = array (items_of (filter_map row (range_with_len first n)))
 
+-- what is told of each item, in their order
+abbrev pub each : {T : Type 0} → (T → Data) → List T → Data
+each tell xs = array (items_of (map tell xs))
+
 -- texts, in their order
 abbrev pub texts : List (List ℕ) → Data
-texts ts = array (items_of (map string ts))
+texts = each string

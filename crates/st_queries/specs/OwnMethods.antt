@@ -1,13 +1,29 @@
 -- The methods that classes have of their own.
-use Rattle.std.specs.Prelude.{ℕ, ◌+◌, ◌==◌, List, length, Bool, false, Option, Some, None, is_some, slice_get, count_by, if◌then◌else◌}
+use Rattle.std.specs.Prelude.{ℕ, ◌+◌, ◌==◌, List, length, Bool, false, Option, Some, None, is_some, option_and_then, slice_get, count_by, if◌then◌else◌}
 use Rattle.std.specs.List.{range_with_len}
 use Rattle.st_classes.specs.declared.values.ClassId.{ClassId}
+use Rattle.st_classes.specs.declared.values.MethodId.{MethodId}
 use Rattle.st_classes.specs.declared.edits.Edit.{Edit}
 use Rattle.st_classes.specs.declared.edits.Edit.TheVariants.{Install}
 use Rattle.st_classes.specs.declared.kernel.Found.{Found}
 use Rattle.st_classes.specs.declared.kernel.Found.TheVariants.{User, Kernel as FoundKernel}
 use Rattle.st_classes.specs.Kernel.{kernel_method, kernel_selectors, selector}
+use Rattle.st_classes.specs.Selectors.{place_of}
 use Rattle.st_classes.specs.Walks.{own}
+
+-- what holds of a method that was found, if it is the user's
+abbrev pub IfUser : Option Found → (MethodId → Type 0) → Type 0
+IfUser (Some (User m)) P = P m
+IfUser _ P = Unit {0}
+
+-- the version of what was found: how many edits there were when it had been installed; 0 if nothing was installed
+abbrev pub installed_version : Option Found → ℕ
+installed_version (Some (User m)) = m.0 + 1
+installed_version _ = 0
+
+-- the version of a class's own method for the selector with a text
+abbrev pub own_version : List (List ℕ) → List Edit → ClassId → List ℕ → ℕ
+own_version names edits c text = installed_version (option_and_then (λ n. own edits c (selector n)) (place_of names text))
 
 -- what was found is the method that was installed at a place
 abbrev pub is_from : ℕ → Option Found → Bool

@@ -9,6 +9,7 @@ use Rattle.st_classes.specs.declared.values.Value.TheVariants as value
 use Rattle.st_classes.specs.declared.edits.Edit.{Edit}
 use Rattle.st_image.specs.Loading.{class_text, selector_text}
 use Rattle.st_wire.specs.Replies.{only, whole}
+use Rattle.st_queries.specs.Listing.{each}
 
 -- a value, as answers and image files have it
 abbrev pub value_told : List (List ℕ) → List Edit → Value → Data
@@ -19,6 +20,10 @@ value_told names edits (value.Sym s) = only (codes "sym") (string (selector_text
 value_told names edits (value.Class c) = only (codes "class") (string (class_text edits c))
 value_told names edits (value.Actor a) = only (codes "ref") (whole a.0)
 value_told names edits (value.Local n) = only (codes "local") (whole n)
+
+-- values, in their order
+abbrev pub values_told : List (List ℕ) → List Edit → List Value → Data
+values_told names edits = each (value_told names edits)
 
 -- a method, by its class and its selector
 abbrev pub method_named : List (List ℕ) → List Edit → ClassId → Selector → Data

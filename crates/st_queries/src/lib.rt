@@ -1,19 +1,28 @@
-//! Queries: what an image answers to a question about it. A query changes nothing, and its answer is a plain function of the image
-//! ([`answering::answer`]).
+//! Queries: what an image answers to a question about it. A query changes nothing, and its answer is a plain function of the image.
 //!
-//! Each query has a file of its own. Most answers are lists, which are told row by row, by number ([`listing`]).
+//! What a query needs is copied from the image first ([`sights::see`]), and it is answered from that ([`answering::answer`]), which
+//! takes longer. Each query has a file of its own. Most answers are lists, which are told row by row, by number ([`listing`]).
 #![tactic(auto)]
 
 mod actors;
 pub mod answering;
+mod bodies;
 mod classes;
+mod edits;
+pub mod glances;
+pub mod hosts;
 mod implementors;
+pub mod inspecting;
+pub mod laws;
 mod listing;
+mod messages;
 mod methods;
-mod own_methods;
+pub mod own_methods;
 mod resolving;
 mod senders;
+pub mod sights;
 mod sources;
+mod status;
 mod texts;
 mod values;
 mod versions;

@@ -2,7 +2,7 @@
 ghost use Rattle.std.specs.Prelude.{◌≡◌, ◌<◌, ◌≤◌, ◌-◌, ℕ, IfOk};
 ghost use Rattle.serde_json.specs.View.{view};
 ghost use Rattle.st_wire.specs.Replies.{only as only_key};
-ghost use Rattle.st_queries.specs.Listing.{listed};
+ghost use Rattle.st_queries.specs.Listing.{each as each_of, listed};
 
 use st_wire::told::{Items, Members, Told};
 use std::alloc::{AllocError, Global};
@@ -41,6 +41,35 @@ pub(crate) fn list<R: Rows>(
         if let Some(told) = rows.row(alloc, number)? {
             items.push(told)?;
         }
+    }
+    Ok(items.told())
+}
+
+/// What is told of items of a type.
+pub(crate) trait Telling<T> {
+    ghost use Rattle.std.specs.Prelude.{◌≡◌, IfOk};
+    ghost use Rattle.serde_json.specs.Data.{Data};
+    ghost use Rattle.serde_json.specs.View.{view};
+
+    /// What is told of an item.
+    ghost tells: { Self → T → Data };
+
+    /// Tells it. Fails only if memory runs out.
+    fn tell(&self, alloc: Global, item: &T) -> Result<Told, AllocError>
+        ensures { IfOk result (λ told. view told ≡ tells self.now item.now) };
+}
+
+/// The list of what is told of each item. Fails only if memory runs out.
+pub(crate) fn each<T, R: Telling<T>>(
+    alloc: Global,
+    teller: &R,
+    list: &[T],
+) -> Result<Told, AllocError>
+    ensures { IfOk result (λ told. view told ≡ each_of (R.tells teller.now) list.now) }
+{
+    let mut items = Items::new(alloc);
+    for item in list {
+        items.push(teller.tell(alloc, item)?)?;
     }
     Ok(items.told())
 }

@@ -4,11 +4,12 @@ ghost use Rattle.std.specs.List.{range_with_len};
 ghost use Rattle.st_classes.specs.Classes.{class_count, is_class};
 ghost use Rattle.st_classes.specs.Kernel.{class as class_at};
 ghost use Rattle.st_classes.specs.Walks.{own as own_in};
-ghost use Rattle.st_queries.specs.OwnMethods.{installs_in, is_from, kernel_methods_in, standing as standing_in};
+ghost use Rattle.st_queries.specs.OwnMethods.{IfUser, installed_version, installs_in, is_from, kernel_methods_in, own_version as version_in, standing as standing_in};
 
 use st_classes::counted_rows::{ClassRows, CountedRows};
 use st_classes::edits::Edit;
 use st_classes::kernel::{Found, kernel_at};
+use st_classes::names::Names;
 use st_classes::values::{ClassId, Selector};
 use st_classes::version::Version;
 use std::alloc::{AllocError, Global};
@@ -23,6 +24,29 @@ pub(crate) fn own(version: &Version, class: ClassId, selector: Selector) -> Opti
 {
     let mut rows = CountedRows::new(version);
     rows.read(class, selector).own
+}
+
+/// The version of what was found: the number of edits with its install. 0 if nothing was installed.
+fn version_of(version: &Version, found: Option<Found>) -> u32
+    requires { IfUser found (λ m. m.0 < length version.now) }
+    ensures { result ≡ installed_version found }
+{
+    version.known();
+    match found {
+        Some(Found::User(method)) => method.0 + 1,
+        _ => 0,
+    }
+}
+
+/// The version of a class's own method for the selector with a text; 0 if none is installed.
+pub fn own_version(names: &Names, version: &Version, class: ClassId, text: &[u8]) -> u32
+    requires { is_class version.now class ≡ true }
+    ensures { result ≡ version_in names.now version.now class text.now }
+{
+    match names.find(text) {
+        Some(selector) => version_of(version, own(version, class, selector)),
+        None => 0,
+    }
 }
 
 /// Whether what was found is the method that was installed at a place.

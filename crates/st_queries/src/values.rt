@@ -1,9 +1,9 @@
 //! Values in answers, and the names of methods.
 ghost use Rattle.std.specs.Prelude.{◌≡◌, IfOk};
 ghost use Rattle.serde_json.specs.View.{view};
-ghost use Rattle.st_queries.specs.Values.{method_named as named_method, value_told};
+ghost use Rattle.st_queries.specs.Values.{method_named as named_method, value_told, values_told};
 
-use crate::listing::only;
+use crate::listing::{Telling, each, only};
 use crate::texts::{class_text, selector_text};
 use st_classes::names::Names;
 use st_classes::values::{ClassId, Selector, Value};
@@ -29,6 +29,28 @@ pub(crate) fn value(
         Value::Actor(actor) => only(alloc, "ref", Told::whole(actor.0.into())),
         Value::Local(place) => only(alloc, "local", Told::whole(place.into())),
     }
+}
+
+/// The names and the class table by which parts are told.
+#[derive(Clone, Copy)]
+pub(crate) struct Table<'a> {
+    pub(crate) names: &'a Names,
+    pub(crate) version: &'a Version,
+}
+
+impl<'a> Telling<Value> for Table<'a> {
+    ghost tells = { λ t v. value_told t.names.now t.version.now v };
+
+    fn tell(&self, alloc: Global, item: &Value) -> Result<Told, AllocError> {
+        value(alloc, self.names, self.version, *item)
+    }
+}
+
+/// Values, in their order.
+pub(crate) fn values(alloc: Global, table: Table<'_>, list: &[Value]) -> Result<Told, AllocError>
+    ensures { IfOk result (λ told. view told ≡ values_told table.entry.names.now table.entry.version.now list.now) }
+{
+    each(alloc, &table, list)
 }
 
 /// A method, by its class and its selector.

@@ -30,6 +30,7 @@ fn numbers_by_default(rt: HostRuntime) -> Result<(), Fail> {
         quantum: 256,
         capacity: 64,
         history: 1_000_000,
+        start: 0,
     };
     assert!(rt; ScriptSettings::DEFAULT == wanted);
     Ok(())

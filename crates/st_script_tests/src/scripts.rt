@@ -300,6 +300,7 @@ fn worked_scripts(rt: HostRuntime) -> Result<(), Fail> {
             quantum: 256,
             capacity: *capacity,
             history: *history,
+            start: 0,
         };
         assert!(rt; is_answered(rt.alloc(), settings, dialogue)?, "{dialogue}");
     }

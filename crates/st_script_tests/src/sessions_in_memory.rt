@@ -123,6 +123,7 @@ fn settings_out_of_range(rt: HostRuntime) -> Result<(), Fail> {
             quantum,
             capacity,
             history,
+            start: 0,
         };
         let end = Err(Refusal::BadArguments);
         assert!(rt; says(rt.alloc(), settings, b"{\"cmd\":\"run\"}\n", b"", end)?);

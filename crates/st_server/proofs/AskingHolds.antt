@@ -1,8 +1,11 @@
 -- What is done for a command in a hold of the lock is a list of events.
-use Rattle.std.proofs.Common.{◌≡◌, ℕ, List, [], ◌∷◌, Result, Ok, Err, inl, inr}
-use Rattle.std.specs.Prelude.{MatchResult}
+use Rattle.std.proofs.Common.{◌≡◌, ℕ, Bool, true, false, List, [], ◌∷◌, Result, Ok, Err, inl, inr, subst}
+use Rattle.std.specs.Prelude.{◌==◌, MatchBool, MatchResult}
+use Rattle.std.specs.declared.alloc.AllocError.{AllocError}
 use Rattle.st_classes.specs.declared.refusals.Refusal.{Refusal}
+use Rattle.st_classes.specs.declared.refusals.Refusal.TheVariants.{NoMemory, Stale}
 use Rattle.st_classes.specs.declared.values.ActorId.{ActorId}
+use Rattle.st_classes.specs.declared.values.ClassId.{ClassId}
 use Rattle.st_classes.specs.declared.values.Selector.{Selector}
 use Rattle.st_classes.specs.declared.values.Value.{Value}
 use Rattle.st_image.specs.Images.{ImageView}
@@ -15,6 +18,9 @@ use Rattle.st_pool.specs.Done.{Done, OfficeView}
 use Rattle.st_pool.specs.Holds.{IsHold, of_caller}
 use Rattle.st_pool.proofs.Calling.{calls_hold}
 use Rattle.st_pool.proofs.Holding.{hold_none, hold_then}
+use Rattle.st_queries.specs.declared.hosts.Host.{Host}
+use Rattle.st_queries.specs.Sights.{Sight, sight}
+use Rattle.st_wire.specs.declared.queries.Query.{Query}
 use Rattle.st_wire.specs.declared.commands.Argument.{Argument}
 use Rattle.st_wire.specs.declared.commands.Argument.TheVariants as argument
 use Rattle.st_wire.specs.declared.commands.Command.{Command}
@@ -22,8 +28,10 @@ use Rattle.st_wire.specs.declared.commands.Command.TheVariants as command
 use Rattle.st_wire.specs.declared.replies.Reply.{Reply}
 use Rattle.st_wire.specs.declared.replies.Reply.TheVariants as reply
 use Rattle.st_server.specs.ArgumentValues.{with_first}
-use Rattle.st_server.specs.CallOf.{Makes, RepliesTo, call_of}
-use Rattle.st_server.specs.CommandReplies.{Asks}
+use Rattle.st_server.specs.CallOf.{Makes, RepliesTo, call_of, class_in}
+use Rattle.st_server.specs.CommandReplies.{Asks, TellsOf, TellsSeen}
+use Rattle.st_server.specs.PoolReplies.{AsksInHold, SeesInHold}
+use Rattle.st_server.specs.Replacing.{ReplacesIn, version_for}
 use Rattle.st_server.specs.Posting.{AllResolve, Nothing, PostsArguments, PostsNamed, Resolves}
 
 abbrev image_in : OfficeView → ImageView
@@ -72,9 +80,42 @@ made_hold o p d e (Err f) r h = hold_none of_caller o p h.1
 makes_hold : (o p : OfficeView) (d e : Done) (c : Command) (r : Reply) → Makes image_in PoolCalls o d c r p e → IsHold of_caller o p
 makes_hold o p d e c r h = made_hold o p d e (call_of o.image c) r h
 
-pub asks_hold : (o p : OfficeView) (d e : Done) (c : Command) (r : Reply) → Asks image_in PoolCalls o d c r p e → IsHold of_caller o p
-asks_hold o p d e (command.Post a args text sender seq) r h = posts_hold o p d e a args text sender seq r h
-asks_hold o p d e (command.Outcome a turn) r h = hold_none of_caller o p h.1.0
-asks_hold o p d e (command.Stats class text) r h = hold_none of_caller o p h.1.0
-asks_hold o p d e (command.Query q) r h = hold_none of_caller o p h.1.0
-asks_hold o p d e c r h = makes_hold o p d e c r h
+read_hold : (o p : OfficeView) (d e : Done) (c : ClassId) (source : List ℕ) (b : Bool) (r s : Reply) → MatchBool b (RepliesTo (PoolCalls o d (call.Install c source)) r p e) ((r ≡ s) × Nothing o d p e) → IsHold of_caller o p
+read_hold o p d e c source true r s h = replies_hold o p d e (call.Install c source) r h
+read_hold o p d e c source false r s h = hold_none of_caller o p h.1.0
+
+replaces_in_hold : (o p : OfficeView) (d e : Done) (c : ClassId) (over : ℕ) (source : List ℕ) (r : Reply) → ReplacesIn image_in PoolCalls o d c over source r p e → IsHold of_caller o p
+replaces_in_hold o p d e c over source r (inl h) = read_hold o p d e c source (version_for o.image c h.0 == over) r (reply.Refused (Stale (version_for o.image c h.0))) h.2
+replaces_in_hold o p d e c over source r (inr h) = hold_none of_caller o p h.3.0
+
+replaced_hold : (o p : OfficeView) (d e : Done) (c : Result ClassId Refusal) (over : ℕ) (source : List ℕ) (r : Reply) → MatchResult c (λ c. ReplacesIn image_in PoolCalls o d c over source r p e) (λ f. (r ≡ reply.Refused f) × Nothing o d p e) → IsHold of_caller o p
+replaced_hold o p d e (Ok c) over source r h = replaces_in_hold o p d e c over source r h
+replaced_hold o p d e (Err f) over source r h = hold_none of_caller o p h.1.0
+
+pub asks_hold : (host : Host) (o p : OfficeView) (d e : Done) (c : Command) (r : Reply) → Asks image_in PoolCalls host o d c r p e → IsHold of_caller o p
+asks_hold host o p d e (command.Post a args text sender seq) r h = posts_hold o p d e a args text sender seq r h
+asks_hold host o p d e (command.Replace class over source) r h = replaced_hold o p d e (class_in o.image class) over source r h
+asks_hold host o p d e (command.Outcome a turn) r h = hold_none of_caller o p h.1.0
+asks_hold host o p d e (command.Wait a text ms turn) r h = hold_none of_caller o p h.1.0
+asks_hold host o p d e (command.Stats class text) r h = hold_none of_caller o p h.1.0
+asks_hold host o p d e (command.Query q) r h = hold_none of_caller o p h.1.0
+asks_hold host o p d e c r h = makes_hold o p d e c r h
+
+-- a query is answered from what was seen of an image in a hold that changed nothing
+told_asks : (host : Host) (o p : OfficeView) (d e : Done) (q : Query) (s : Sight) (r : Reply) → s ≡ sight o.image q → p ≡ o → e ≡ d → TellsOf s host q r → AsksInHold o d (command.Query q) r p e
+told_asks host o p d e q s r same stays mine told = record {
+  host = host;
+  asks = (subst (λ t. TellsOf t host q r) same told, (stays, mine));
+  hold = hold_none of_caller o p stays;
+}
+
+unseen_asks : (host : Host) (o p : OfficeView) (d e : Done) (q : Query) (r : Reply) → p ≡ o → e ≡ d → r ≡ reply.Refused NoMemory → AsksInHold o d (command.Query q) r p e
+unseen_asks host o p d e q r stays mine none = record {
+  host = host;
+  asks = (inr none, (stays, mine));
+  hold = hold_none of_caller o p stays;
+}
+
+pub seen_asks : (host : Host) (o p : OfficeView) (d e : Done) (q : Query) (s : Result Sight AllocError) (r : Reply) → SeesInHold o d q s p e → TellsSeen s host q r → AsksInHold o d (command.Query q) r p e
+seen_asks host o p d e q (Ok s) r h told = told_asks host o p d e q s r h.0 h.1 h.2 told
+seen_asks host o p d e q (Err f) r h none = unseen_asks host o p d e q r h.1 h.2 none

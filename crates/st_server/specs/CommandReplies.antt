@@ -1,10 +1,13 @@
 -- The reply to a command, and the image that it leaves.
-use Rattle.std.specs.Prelude.{◌≡◌, ℕ, zero, suc, ◌+◌, ◌⊎◌, List, Bool, true, false, Result, Ok, Err, MatchOption, MatchResult}
+use Rattle.std.specs.Prelude.{◌≡◌, ℕ, zero, suc, ◌+◌, ◌⊎◌, List, Bool, true, false, if◌then◌else◌, Result, Ok, Err, MatchOption, MatchResult}
+use Rattle.std.specs.Str.{bytes_eq}
+use Rattle.std.specs.declared.alloc.AllocError.{AllocError}
 use Rattle.serde_json.specs.Data.{Data}
 use Rattle.serde_json.specs.View.{view}
 use Rattle.serde_json.specs.declared.value.Value.{Value}
 use Rattle.st_classes.specs.declared.refusals.Refusal.{Refusal}
-use Rattle.st_classes.specs.declared.refusals.Refusal.TheVariants.{NoMemory, UnknownClass}
+use Rattle.st_classes.specs.declared.refusals.Refusal.TheVariants.{Expired, NoMemory, UnknownClass}
+use Rattle.st_classes.specs.declared.values.ActorId.{ActorId}
 use Rattle.st_classes.specs.Classes.{class_named}
 use Rattle.st_turn.specs.declared.body.Outcome.{Outcome}
 use Rattle.st_turn.specs.declared.body.Outcome.TheVariants as outcome
@@ -17,7 +20,10 @@ use Rattle.st_wire.specs.declared.replies.Reply.TheVariants as reply
 use Rattle.st_wire.specs.declared.replies.SiteReport.{SiteReport}
 use Rattle.st_wire.specs.declared.queries.Query.{Query}
 use Rattle.st_wire.specs.Replies.{ok}
-use Rattle.st_queries.specs.Answers.{told}
+use Rattle.st_queries.specs.declared.hosts.Host.{Host}
+use Rattle.st_queries.specs.Answers.{told, told_of}
+use Rattle.st_queries.specs.Hosts.{epoch}
+use Rattle.st_queries.specs.Sights.{Sight}
 use Rattle.st_server.specs.SiteReports.{StatesNamed}
 use Rattle.st_server.specs.Runners.{RunnerView, NextAdvances, NoneReady}
 use Rattle.st_calls.specs.declared.calls.Answer.{Answer}
@@ -26,6 +32,7 @@ use Rattle.st_calls.specs.Does.{Does}
 use Rattle.st_server.specs.ArgumentValues.{is_told_by_text, value_text}
 use Rattle.st_server.specs.CallOf.{Makes}
 use Rattle.st_server.specs.Posting.{Nothing, PostsNamed}
+use Rattle.st_server.specs.Replacing.{Replaces}
 
 -- a call, and then Next with its value on the image, or runner, that it left; if the call is refused, the refusal is
 -- the reply
@@ -56,6 +63,14 @@ copies_text _ = false
 abbrev pub Tells : ImageView → Result Outcome Refusal → Reply → Type 0
 Tells i result r = (r ≡ outcome_reply i result) ⊎ ((copies_text result ≡ true) × (r ≡ reply.Refused NoMemory))
 
+-- the outcome of a turn that is numbered in an epoch; in any other it has expired
+abbrev pub waited : ImageView → Host → List ℕ → ActorId → ℕ → Result Outcome Refusal
+waited i host text a turn = if bytes_eq text (epoch host) then image_outcome i a turn else Err Expired
+
+-- the reply to one who waits for it; memory can run out
+abbrev pub Waits : ImageView → Host → List ℕ → ActorId → ℕ → Reply → Type 0
+Waits i host text a turn r = Tells i (waited i host text a turn) r ⊎ (r ≡ reply.Refused NoMemory)
+
 -- ---- statistics
 
 -- the reply to a request for the call sites of a class's own method
@@ -71,24 +86,36 @@ abbrev pub Says : Result Data Refusal → Reply → Type 0
 Says (Ok d) r = (v : Value) × (r ≡ reply.Told v) × (view v ≡ ok d)
 Says (Err e) r = r ≡ reply.Refused e
 
+-- the reply to a query says what is told of what was seen for it; or memory ran out
+abbrev pub TellsOf : Sight → Host → Query → Reply → Type 0
+TellsOf s host q r = Says (told_of s host q) r ⊎ (r ≡ reply.Refused NoMemory)
+
+-- the same; or there was no memory to see it
+abbrev pub TellsSeen : Result Sight AllocError → Host → Query → Reply → Type 0
+TellsSeen (Ok s) host q r = TellsOf s host q r
+TellsSeen (Err e) host q r = r ≡ reply.Refused NoMemory
+
 -- the reply to a query says what is told of the image; or memory ran out
-abbrev pub Looks : ImageView → Query → Reply → Type 0
-Looks i q r = Says (told i q) r ⊎ (r ≡ reply.Refused NoMemory)
+abbrev pub Looks : ImageView → Host → Query → Reply → Type 0
+Looks i host q r = Says (told i host q) r ⊎ (r ≡ reply.Refused NoMemory)
 
 -- ---- a command that needs the image alone
 
 -- the reply to each command, whoever holds the image; a run needs a worker too, and is refused by BadCommand
 abbrev pub Asks : {H N : Type 0} → (H → ImageView) → (H → N → Call → Result Answer Refusal → H → N → Type 0)
-    → H → N → Command → Reply → H → N → Type 0
-Asks {H} {N} image Calls h n (command.Post a args text sender seq) r k m = PostsNamed image Calls h n a args text sender seq r k m
-Asks {H} {N} image Calls h n (command.Outcome a turn) r k m = Tells (image h) (image_outcome (image h) a turn) r × Nothing h n k m
-Asks {H} {N} image Calls h n (command.Stats class text) r k m = States (image h) class text r × Nothing h n k m
-Asks {H} {N} image Calls h n (command.Query q) r k m = Looks (image h) q r × Nothing h n k m
-Asks {H} {N} image Calls h n c r k m = Makes image Calls h n c r k m
+    → Host → H → N → Command → Reply → H → N → Type 0
+Asks {H} {N} image Calls host h n (command.Post a args text sender seq) r k m = PostsNamed image Calls h n a args text sender seq r k m
+Asks {H} {N} image Calls host h n (command.Replace class over source) r k m = Replaces image Calls h n class over source r k m
+Asks {H} {N} image Calls host h n (command.Outcome a turn) r k m = Tells (image h) (image_outcome (image h) a turn) r × Nothing h n k m
+Asks {H} {N} image Calls host h n (command.Wait a text ms turn) r k m = Waits (image h) host text a turn r × Nothing h n k m
+Asks {H} {N} image Calls host h n (command.Stats class text) r k m = States (image h) class text r × Nothing h n k m
+Asks {H} {N} image Calls host h n (command.Query q) r k m = Looks (image h) host q r × Nothing h n k m
+Asks {H} {N} image Calls host h n c r k m = Makes image Calls h n c r k m
 
--- the same of an image that is held by itself
-abbrev pub AsksImage : ImageView → Command → Reply → ImageView → Type 0
-AsksImage i c r j = Asks (λ x. x) (λ x n made a y m. Does x made a y) i (tt {0}) c r j (tt {0})
+-- the same of an image that is held by itself, by some program
+pub record AsksImage (i : ImageView) (c : Command) (r : Reply) (j : ImageView) : Type 0 where
+  pub host : Host
+  pub asks : Asks (λ x. x) (λ x n made a y m. Does x made a y) host i (tt {0}) c r j (tt {0})
 
 -- ---- a run: ready actors take a quantum each, in turn, until no quantum is left or no actor is ready
 

@@ -4,6 +4,7 @@ pub mod SiteReports
 pub mod Runners
 pub mod CallOf
 pub mod Posting
+pub mod Replacing
 pub mod CommandReplies
 pub mod PoolReplies
 pub mod Totals

@@ -1,17 +1,27 @@
 -- The reply to a command of a session over a pool.
+use Rattle.std.specs.Prelude.{◌≡◌, IfOk, Result}
+use Rattle.std.specs.declared.alloc.AllocError.{AllocError}
 use Rattle.st_image.specs.Images.{ImageView}
 use Rattle.st_calls.specs.Growth.{Amounts}
 use Rattle.st_pool.specs.Calling.{PoolCalls}
 use Rattle.st_pool.specs.Done.{Done, Finds, OfficeView}
 use Rattle.st_pool.specs.Holds.{IsHold, of_caller}
+use Rattle.st_queries.specs.declared.hosts.Host.{Host}
 use Rattle.st_wire.specs.declared.commands.Command.{Command}
+use Rattle.st_queries.specs.Sights.{Sight, sight}
+use Rattle.st_wire.specs.declared.queries.Query.{Query}
 use Rattle.st_wire.specs.declared.replies.Reply.{Reply}
 use Rattle.st_server.specs.CommandReplies.{Asks}
 
 -- the reply is that of the command, in one hold, in which calls are made alone; the calls of the command are made of what lies under the lock
 pub record AsksInHold (o : OfficeView) (d : Done) (c : Command) (r : Reply) (p : OfficeView) (e : Done) : Type 0 where
-  pub asks : Asks (λ x. x.image) PoolCalls o d c r p e
+  pub host : Host
+  pub asks : Asks (λ x. x.image) PoolCalls host o d c r p e
   pub hold : IsHold of_caller o p
+
+-- what was seen for a query, in a hold that changes nothing
+abbrev pub SeesInHold : OfficeView → Done → Query → Result Sight AllocError → OfficeView → Done → Type 0
+SeesInHold o d q r p e = IfOk r (λ s. s ≡ sight o.image q) × (p ≡ o) × (e ≡ d)
 
 -- the hold finds an image that goes on from the first one and has at least what the session has done
 abbrev pub Attends : Amounts → ImageView → Done → Command → Reply → Done → Type 0

@@ -6,6 +6,7 @@ use crate::attending::attend;
 use crate::images::Mailbox;
 use crate::polling::Polled;
 use crate::porters::{Porter, Witness};
+use crate::starts::Place;
 use st_classes::refusals::Refusal;
 use st_pool::accounts::Account;
 use st_pool::callers::Caller;
@@ -20,6 +21,7 @@ use std::sync::atomic::{AtomicU64, Ordering};
 use std::sync::{Mutex, Wait};
 use std::thread;
 use std::thread::{Scope, Threads};
+use std::time::Clock;
 
 /// The most sessions at a time. One more may be the operator's.
 const MOST_SESSIONS: u64 = 64;
@@ -40,8 +42,8 @@ pub(crate) struct Door<'a, P, W> {
     pub(crate) witness: &'a W,
 }
 
-/// What the sessions share: the image, the shares of ended sessions, room for what these have done, the number of open sessions, and
-/// who is told of their ends.
+/// What the sessions share: the image, the shares of ended sessions, room for what these have done, the number of open sessions, who is
+/// told of their ends, when the server began, in nanoseconds since 1970, and how many workers it has.
 #[derive(Drop)]
 pub(crate) struct Room<'a, K: Naming, W> {
     pub(crate) shared: &'a Shared<K, Mailbox>,
@@ -49,6 +51,8 @@ pub(crate) struct Room<'a, K: Naming, W> {
     pub(crate) accounts: &'a Mutex<Vec<Account>>,
     pub(crate) active: &'a AtomicU64,
     pub(crate) witness: &'a W,
+    pub(crate) start: u64,
+    pub(crate) workers: u64,
 }
 
 /// Reads and drops input that nobody will read, at most 131,072 bytes. With it unread, the client would see a failure at the end of
@@ -73,9 +77,10 @@ fn turn_away(mut stream: &UnixStream, line: &[u8]) {
 }
 
 /// Runs a session over a stream.
-fn converse<K: Naming, R: Wait>(
+fn converse<K: Naming, R: Wait + Clock>(
     rt: &R,
     alloc: Global,
+    place: Place<'_>,
     caller: Caller<'_, K, Mailbox>,
     stream: &UnixStream,
 ) -> (CallerShare<K>, Result<u64, Refusal>) {
@@ -87,7 +92,7 @@ fn converse<K: Naming, R: Wait>(
     };
     let mut input = Reader::new(Polled::new(stream));
     let mut output = Writer::new(buffered);
-    let (share, result) = attend(rt, alloc, caller, &mut input, &mut output);
+    let (share, result) = attend(rt, alloc, place, caller, &mut input, &mut output);
     match output.finish() {
         Ok(_) => (share, result),
         Err(_) => (share, Err(Refusal::WriteFault)),
@@ -95,20 +100,25 @@ fn converse<K: Naming, R: Wait>(
 }
 
 /// Runs a session with its own caller, and adds the caller's share to those of ended sessions. Room for it was made before.
-fn talk<K: Naming, W, R: Wait>(
+fn talk<K: Naming, W, R: Wait + Clock>(
     rt: &R,
     alloc: Global,
     room: &Room<'_, K, W>,
     stream: &UnixStream,
 ) -> Result<u64, Refusal> {
     let caller = room.shared.caller(rt, alloc)?;
-    let (share, result) = converse(rt, alloc, caller, stream);
+    let place = Place {
+        start: room.start,
+        sessions: room.active,
+        workers: room.workers,
+    };
+    let (share, result) = converse(rt, alloc, place, caller, stream);
     let _ = room.shares.lock(rt).push(share);
     result
 }
 
 /// Runs a session in its thread.
-fn host<K: Naming, W: Witness<R>, R: Wait>(
+fn host<K: Naming, W: Witness<R>, R: Wait + Clock>(
     rt: &R,
     alloc: Global,
     room: &Room<'_, K, W>,
@@ -181,7 +191,7 @@ fn accept<
     K: Naming + Send + Sync,
     P: Porter<R>,
     W: Witness<R> + Sync,
-    R: Threads + Wait + Sync,
+    R: Threads + Wait + Clock + Sync,
 >(
     scope: &Scope<'s, E>,
     rt: &'s R,
@@ -227,7 +237,7 @@ pub(crate) fn accept_all<
     K: Naming + Send + Sync,
     P: Porter<R>,
     W: Witness<R> + Sync,
-    R: Threads + Wait + Sync,
+    R: Threads + Wait + Clock + Sync,
 >(rt: &R, alloc: Global, door: Door<'_, P, W>, room: &Room<'_, K, W>) -> bool {
     thread::scope(thread::scope_env(), rt, |scope| -> bool {
         let is_well = accept(scope, rt, alloc, &door, room);

@@ -3,11 +3,12 @@ ghost use Rattle.std.specs.Prelude.{◌≡◌};
 ghost use Rattle.st_image.specs.GoingOn.{GoesOnIn};
 ghost use Rattle.st_server.specs.CallOf.{Makes, RepliesTo, answer_reply};
 ghost use Rattle.st_image.specs.Outcomes.{image_outcome};
-ghost use Rattle.st_server.specs.CommandReplies.{Asks, Looks, Tells};
+ghost use Rattle.st_server.specs.CommandReplies.{Asks, Looks, Tells, TellsOf, TellsSeen, Waits};
 
 use crate::calls_of::call_of;
 use crate::images::Image;
 use crate::posting::{Posting, post};
+use crate::replacing::replace;
 use crate::resolving::shown;
 use crate::statistics::stats;
 use st_calls::calls::{Answer, Call};
@@ -17,11 +18,13 @@ use st_classes::values::ActorId;
 use st_image::counts::Counts;
 use st_mailbox::ring_box::RingBox;
 use st_queries::answering::answer;
+use st_queries::hosts::{Host, epoch};
+use st_queries::sights::{Sight, see};
 use st_turn::body::Outcome;
 use st_wire::commands::Command;
 use st_wire::queries::Query;
 use st_wire::replies::Reply;
-use std::alloc::Global;
+use std::alloc::{AllocError, Global};
 
 /// The reply by what a call answered.
 pub(crate) fn reply_of(answer: Result<Answer, Refusal>) -> Reply
@@ -84,11 +87,24 @@ pub(crate) fn outcome(alloc: Global, image: &Image, actor: ActorId, turn: u64) -
     }
 }
 
-/// The reply to a query.
-fn look(alloc: Global, image: &Image, query: &Query) -> Reply
-    ensures { Looks image.now query.now result }
+/// The reply to one who waits for an outcome. It does not wait itself.
+fn wait(alloc: Global, image: &Image, host: Host, text: &[u8], actor: ActorId, turn: u64) -> Reply
+    ensures { Waits image.now host text.now actor turn result }
 {
-    match answer(alloc, image, query) {
+    let Ok(present) = epoch(alloc, host) else {
+        return Reply::Refused(Refusal::NoMemory);
+    };
+    if text != present.as_bytes() {
+        return Reply::Refused(Refusal::Expired);
+    }
+    outcome(alloc, image, actor, turn)
+}
+
+/// The reply to a query, from what was seen for it.
+pub(crate) fn tell(alloc: Global, sight: &Sight, host: Host, query: &Query) -> Reply
+    ensures { TellsOf sight.now host query.now result }
+{
+    match answer(alloc, sight, host, query) {
         Ok(told) => match told.ok(alloc) {
             Ok(told) => Reply::Told(told),
             Err(_) => Reply::Refused(Refusal::NoMemory),
@@ -97,15 +113,40 @@ fn look(alloc: Global, image: &Image, query: &Query) -> Reply
     }
 }
 
-/// The reply to a command that needs the image alone. A run needs a worker, and is refused here by BadCommand.
+/// The same; or that there was no memory to see what it needs.
+pub(crate) fn tell_seen(
+    alloc: Global,
+    seen: Result<Sight, AllocError>,
+    host: Host,
+    query: Query,
+) -> Reply
+    ensures { TellsSeen seen host query result }
+{
+    match seen {
+        Ok(sight) => tell(alloc, &sight, host, &query),
+        Err(_) => Reply::Refused(Refusal::NoMemory),
+    }
+}
+
+/// The reply to a query.
+fn look(alloc: Global, image: &Image, host: Host, query: Query) -> Reply
+    ensures { Looks image.now host query result }
+{
+    let seen = see(alloc, image, &query);
+    tell_seen(alloc, seen, host, query)
+}
+
+/// The reply to a command that needs the image alone, and what is known of the program that holds it. A run needs a worker, and is
+/// refused here by BadCommand. None waits.
 #[tactic(auto, using(st_calls::proofs::GoingThen::goes_then, st_calls::proofs::GoingThen::goes_by))]
 pub(crate) fn ask<H: Holder<RingBox>>(
     alloc: Global,
     holder: &mut H,
     mine: &mut H::Mine,
+    host: Host,
     command: Command,
 ) -> Reply
-    ensures asks { Asks H.image_of H.calls holder.old mine.old command result holder.new mine.new }
+    ensures asks { Asks H.image_of H.calls host holder.old mine.old command result holder.new mine.new }
     ensures later { GoesOnIn (H.image_of holder.old) (H.image_of holder.new) }
 {
     match command {
@@ -125,10 +166,21 @@ pub(crate) fn ask<H: Holder<RingBox>>(
             post(alloc, holder, mine, &posting, selector.as_slice())
         }
         Command::Outcome { actor, turn } => outcome(alloc, holder.image(), actor, turn),
+        Command::Replace {
+            class,
+            over,
+            source,
+        } => replace(alloc, holder, mine, class.as_slice(), over, source),
+        Command::Wait {
+            actor,
+            epoch,
+            ms: _,
+            turn,
+        } => wait(alloc, holder.image(), host, epoch.as_slice(), actor, turn),
         Command::Stats { class, selector } => {
             stats(alloc, holder.image(), class.as_slice(), selector.as_slice())
         }
-        Command::Query(query) => look(alloc, holder.image(), &query),
+        Command::Query(query) => look(alloc, holder.image(), host, query),
         command => perform(alloc, holder, mine, command),
     }
 }

@@ -14,6 +14,7 @@ use st_classes::refusals::Refusal;
 use st_classes::values::ActorId;
 use st_guard::caches::Caches;
 use st_image::leavings::Leavings;
+use st_queries::hosts::Host;
 use st_turn::body::Stop;
 use st_turn::claim::Claim;
 use st_wire::commands::Command;
@@ -29,6 +30,8 @@ pub struct Runner {
     worker: Worker,
     /// What the last commit left, for the next checkout.
     leavings: Leavings,
+    /// What is known of the program.
+    host: Host,
 }
 
 impl Model for Runner {
@@ -81,9 +84,18 @@ fn work(
     answer(ran, settled)
 }
 
+/// What is known of the program behind a reply. A checkpoint that was made is one more.
+fn behind(host: Host, reply: &Reply) -> Host {
+    match reply {
+        Reply::Counted { .. } => host.at(host.checkpoints.wrapping_add(1)),
+        _ => host,
+    }
+}
+
 impl Runner {
-    /// Makes a runner of an image and a worker with new caches. If memory runs out, the image is given back.
-    pub fn new(alloc: Global, image: Image) -> Result<Runner, Image>
+    /// Makes a runner of an image and a worker with new caches, in a program that began at `start`, in nanoseconds since 1970. If memory
+    /// runs out, the image is given back.
+    pub fn new(alloc: Global, start: u64, image: Image) -> Result<Runner, Image>
         ensures ok { IfOk result (λ r. (r.image ≡ image) × AreNew r.caches) }
         ensures err { IfErr result (λ i. i ≡ image) }
     {
@@ -92,6 +104,12 @@ impl Runner {
                 image,
                 worker,
                 leavings: Leavings::none(),
+                host: Host {
+                    start,
+                    checkpoints: 0,
+                    sessions: 1,
+                    workers: 1,
+                },
             }),
             Err(_) => Err(image),
         }
@@ -109,7 +127,8 @@ impl Runner {
         ensures caches { self.new.caches ≡ self.old.caches }
     {
         self.image.known();
-        let reply = ask(alloc, &mut self.image, &mut (), command);
+        let reply = ask(alloc, &mut self.image, &mut (), self.host, command);
+        self.host = behind(self.host, &reply);
         self.image.known();
         reply
     }

@@ -43,6 +43,7 @@ fn run_script<I: Input, O: Output>(
     input: &mut I,
     output: &mut O,
     quantum: Quantum,
+    start: u64,
     image: Image,
 ) -> (Image, Result<u64, Refusal>)
     ensures script { let before = input_view I.remaining I.failures I.reads input.old in
@@ -52,7 +53,7 @@ fn run_script<I: Input, O: Output>(
     ensures flushes { FlushesAsOftenAsReads (2 ^ 32) (I.reads input.old) (I.reads input.new) (O.flushes output.old) (O.flushes output.new) result.1 }
     ensures failures { O.failures output.new ≡ failures_after (end_of result.1) (O.failures output.old) }
 {
-    match Runner::new(alloc, image) {
+    match Runner::new(alloc, start, image) {
         Ok(runner) => {
             let (runner, result) = answer_input(alloc, input, output, quantum, runner);
             (runner.into_image(), result)
@@ -90,5 +91,5 @@ pub fn script_on<I: Input, O: Output>(
     if let Err(refusal) = image.set(settings.of_image()) {
         return (image, Err(refusal));
     }
-    run_script(alloc, input, output, quantum, image)
+    run_script(alloc, input, output, quantum, settings.start, image)
 }

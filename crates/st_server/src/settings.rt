@@ -3,7 +3,7 @@ ghost use Rattle.std.specs.Prelude.{◌≡◌};
 
 use st_image::settings::Settings;
 
-/// The steps of a quantum, the capacity of new actors' mailboxes, and the most items that the history holds.
+/// The steps of a quantum, the capacity of new actors' mailboxes, the most items that the history holds, and when the program began.
 #[derive(Clone, Copy, PartialEq, Eq, Debug)]
 pub struct ScriptSettings {
     /// From 1 to 1,024.
@@ -12,6 +12,8 @@ pub struct ScriptSettings {
     pub capacity: u32,
     /// From 1 to 1,000,000.
     pub history: u32,
+    /// In nanoseconds since 1970.
+    pub start: u64,
 }
 
 impl ScriptSettings {
@@ -19,6 +21,7 @@ impl ScriptSettings {
         quantum: 256,
         capacity: Settings::DEFAULT.capacity,
         history: Settings::DEFAULT.history,
+        start: 0,
     };
 
     /// The settings that belong to the image.

@@ -13,6 +13,7 @@ use crate::accepting::{Door, Room, accept_all};
 use crate::images::{Image, Mailbox, Worker};
 use crate::porters::{FaultList, OpenDoor, Porter, Witness};
 use crate::runner::new_worker;
+use crate::starts::now;
 use boxcar::Vec as Faults;
 use st_classes::refusals::Refusal;
 use st_image::settings::Settings;
@@ -32,6 +33,7 @@ use std::sync::atomic::AtomicU64;
 use std::sync::{Mutex, Wait};
 use std::thread;
 use std::thread::{JoinHandle, Scope, Threads};
+use std::time::Clock;
 
 /// The steps of a quantum: the maximum, since each quantum takes the lock once and adds an item to the history.
 const QUANTUM: u32 = 1024;
@@ -62,7 +64,7 @@ fn new_workers(alloc: Global, count: u32) -> Result<Vec<Worker>, AllocError>
 type Ended<K> = JoinHandle<Result<WorkerShare<K>, Refusal>>;
 
 /// Starts the workers, each in its own thread, up to the first that gets no thread.
-fn start<'s, E, K: Naming + Send + Sync, R: Threads + Wait + Sync>(
+fn start<'s, E, K: Naming + Send + Sync, R: Threads + Wait + Clock + Sync>(
     scope: &Scope<'s, E>,
     rt: &'s R,
     alloc: Global,
@@ -112,7 +114,7 @@ fn run_workers<
     K: Naming + Send + Sync,
     P: Porter<R>,
     W: Witness<R> + Sync,
-    R: Threads + Wait + Sync,
+    R: Threads + Wait + Clock + Sync,
 >(
     rt: &R,
     alloc: Global,
@@ -132,7 +134,12 @@ fn run_workers<
 }
 
 /// The same, with the shares of all workers in place of their threads.
-fn work<K: Naming + Send + Sync, P: Porter<R>, W: Witness<R> + Sync, R: Threads + Wait + Sync>(
+fn work<
+    K: Naming + Send + Sync,
+    P: Porter<R>,
+    W: Witness<R> + Sync,
+    R: Threads + Wait + Clock + Sync,
+>(
     rt: &R,
     alloc: Global,
     door: Door<'_, P, W>,
@@ -164,7 +171,12 @@ fn fault_of(are_accepted: bool) -> Option<Refusal>
 }
 
 /// Serves an image, and settles at the end.
-fn serve<K: Naming + Send + Sync, P: Porter<R>, W: Witness<R> + Sync, R: Threads + Wait + Sync>(
+fn serve<
+    K: Naming + Send + Sync,
+    P: Porter<R>,
+    W: Witness<R> + Sync,
+    R: Threads + Wait + Clock + Sync,
+>(
     rt: &R,
     alloc: Global,
     image: Image,
@@ -200,6 +212,8 @@ fn serve<K: Naming + Send + Sync, P: Porter<R>, W: Witness<R> + Sync, R: Threads
         accounts: &accounts,
         active: &active,
         witness: door.witness,
+        start: now(rt),
+        workers: workers.len() as u64,
     };
     let (workers, are_accepted) = work(rt, alloc, door, &room, workers)?;
     let callers = shares.into_inner();
@@ -244,7 +258,7 @@ fn is_served(workers: u32, sessions: Option<u32>) -> bool
 /// Refusals: `BadArguments` if a number is out of its range, or a share is missing at the end; `NoMemory` if there is no memory at
 /// the start, or no thread for a worker (room for what the end needs is made as sessions come); `Changed` if the history lacks
 /// something that the callers have done.
-pub fn serve_image<P: Porter<R>, W: Witness<R> + Sync, R: Threads + Wait + Sync>(
+pub fn serve_image<P: Porter<R>, W: Witness<R> + Sync, R: Threads + Wait + Clock + Sync>(
     rt: &R,
     alloc: Global,
     listener: UnixListener,
@@ -292,7 +306,7 @@ pub fn serve_image<P: Porter<R>, W: Witness<R> + Sync, R: Threads + Wait + Sync>
 /// Serves a new image with the default settings in the same way, lets all clients in, and answers the totals. A session that ends with
 /// a refusal adds it to `faults`, if there is memory; with `None` for `sessions` nothing is added. If accepting fails, it is refused by
 /// `ReadFault`.
-pub fn serve_on<R: Threads + Wait + Sync>(
+pub fn serve_on<R: Threads + Wait + Clock + Sync>(
     rt: &R,
     alloc: Global,
     listener: UnixListener,

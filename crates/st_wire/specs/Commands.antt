@@ -1,5 +1,5 @@
 -- The command of a line.
-use Rattle.std.specs.Prelude.{◌≡◌, ◌++◌, ℕ, List, [], ◌∷◌, codes, not, is_some, if◌then◌else◌, Option, Some, None, option_map, option_and_then}
+use Rattle.std.specs.Prelude.{◌≡◌, ◌++◌, ℕ, ◌^◌, ◌-◌, List, [], ◌∷◌, codes, not, is_some, if◌then◌else◌, Option, Some, None, option_map, option_and_then}
 use Rattle.std.specs.Str.{is_utf8, bytes_eq}
 use Rattle.serde_json.specs.Data.{Data}
 use Rattle.serde_json.specs.Read.{read}
@@ -8,8 +8,8 @@ use Rattle.st_classes.specs.declared.values.ActorId.{ActorId}
 use Rattle.st_classes.specs.Refusals.{Rule}
 use Rattle.st_wire.specs.declared.commands.Argument.{Argument}
 use Rattle.st_wire.specs.declared.commands.Command.{Command}
-use Rattle.st_wire.specs.declared.commands.Command.TheVariants.{Define, Method, Remove, Reparent, Actor, Post, Close, Run, Outcome, Stats, Checkpoint, Query}
-use Rattle.st_wire.specs.Fields.{text_at, texts_at, actor_at, sender_at, number_at, quanta_at, arguments_at}
+use Rattle.st_wire.specs.declared.commands.Command.TheVariants.{Define, Method, Replace, Remove, Reparent, Actor, Post, Close, Run, Outcome, Wait, Stats, Checkpoint, Query}
+use Rattle.st_wire.specs.Fields.{text_at, texts_at, actor_at, sender_at, number_at, quanta_at, arguments_at, whole_at}
 use Rattle.st_wire.specs.Keys.{has_just, of_keys}
 use Rattle.st_wire.specs.Queries.{query_in}
 
@@ -30,6 +30,15 @@ abbrev pub method_in : Data → Option Command
 method_in d =
     of_keys (codes "class" ∷ codes "cmd" ∷ codes "source" ∷ []) d
     (method_from (text_at (codes "class") d) (text_at (codes "source") d))
+
+abbrev pub replace_from : Option (List ℕ) → Option ℕ → Option (List ℕ) → Option Command
+replace_from (Some class) (Some over) (Some source) = Some (Replace class over source)
+replace_from _ _ _ = None
+
+abbrev pub replace_in : Data → Option Command
+replace_in d =
+    of_keys (codes "class" ∷ codes "cmd" ∷ codes "over" ∷ codes "source" ∷ []) d
+    (replace_from (text_at (codes "class") d) (whole_at (codes "over") 0 (2 ^ 32 - 1) d) (text_at (codes "source") d))
 
 abbrev pub remove_from : Option (List ℕ) → Option (List ℕ) → Option Command
 remove_from (Some class) (Some selector) = Some (Remove class selector)
@@ -84,6 +93,16 @@ outcome_in d =
     of_keys (codes "actor" ∷ codes "cmd" ∷ codes "turn" ∷ []) d
     (outcome_from (actor_at (codes "actor") d) (number_at (codes "turn") d))
 
+abbrev pub wait_from : Option ActorId → Option (List ℕ) → Option ℕ → Option ℕ → Option Command
+wait_from (Some actor) (Some epoch) (Some ms) (Some turn) = Some (Wait actor epoch ms turn)
+wait_from _ _ _ _ = None
+
+-- a minute at most
+abbrev pub wait_in : Data → Option Command
+wait_in d =
+    of_keys (codes "actor" ∷ codes "cmd" ∷ codes "epoch" ∷ codes "ms" ∷ codes "turn" ∷ []) d
+    (wait_from (actor_at (codes "actor") d) (text_at (codes "epoch") d) (whole_at (codes "ms") 0 60000 d) (number_at (codes "turn") d))
+
 abbrev pub stats_from : Option (List ℕ) → Option (List ℕ) → Option Command
 stats_from (Some class) (Some selector) = Some (Stats class selector)
 stats_from _ _ = None
@@ -100,14 +119,16 @@ checkpoint_in d = of_keys (codes "cmd" ∷ []) d (Some Checkpoint)
 abbrev pub question_in : Data → List ℕ → Option Command
 question_in d cmd =
     if bytes_eq cmd (codes "outcome") then outcome_in d
+    else (if bytes_eq cmd (codes "wait") then wait_in d
     else (if bytes_eq cmd (codes "stats") then stats_in d
-    else option_map Query (query_in d cmd))
+    else option_map Query (query_in d cmd)))
 
 -- the command of the form that `cmd` names
 abbrev pub form_in : Data → List ℕ → Option Command
 form_in d cmd =
     if bytes_eq cmd (codes "define") then define_in d
     else (if bytes_eq cmd (codes "method") then method_in d
+    else (if bytes_eq cmd (codes "replace") then replace_in d
     else (if bytes_eq cmd (codes "remove") then remove_in d
     else (if bytes_eq cmd (codes "reparent") then reparent_in d
     else (if bytes_eq cmd (codes "actor") then new_actor_in d
@@ -115,7 +136,7 @@ form_in d cmd =
     else (if bytes_eq cmd (codes "close") then close_in d
     else (if bytes_eq cmd (codes "run") then run_in d
     else (if bytes_eq cmd (codes "checkpoint") then checkpoint_in d
-    else question_in d cmd))))))))
+    else question_in d cmd)))))))))
 
 -- the command of an object, by its `cmd`
 abbrev pub command_in : Data → Option Command

@@ -3,8 +3,8 @@ use Rattle.std.specs.Prelude.{ℕ, ◌^◌, ◌-◌, List, [], ◌∷◌, codes,
 use Rattle.std.specs.Str.{bytes_eq}
 use Rattle.serde_json.specs.Data.{Data}
 use Rattle.st_wire.specs.declared.queries.Query.{Query}
-use Rattle.st_wire.specs.declared.queries.Query.TheVariants.{Classes, Methods, Source, Versions, Implementors, Senders, Actors}
-use Rattle.st_wire.specs.Fields.{text_at, whole_at}
+use Rattle.st_wire.specs.declared.queries.Query.TheVariants.{Classes, Methods, Source, Versions, Implementors, Senders, Edits, Actors, Inspect, Status}
+use Rattle.st_wire.specs.Fields.{actor_at, text_at, whole_at}
 use Rattle.st_wire.specs.Keys.{of_keys}
 
 -- a query of a class
@@ -24,6 +24,9 @@ abbrev pub of_place : (List ℕ → List ℕ → Query) → Data → Option Quer
 of_place query d = of_keys (codes "class" ∷ codes "cmd" ∷ codes "selector" ∷ []) d
     (place_from query (text_at (codes "class") d) (text_at (codes "selector") d))
 
+abbrev pub edits_in : Data → Option Query
+edits_in d = of_keys (codes "cmd" ∷ codes "from" ∷ []) d (option_map Edits (whole_at (codes "from") 0 (2 ^ 32 - 1) d))
+
 abbrev pub actors_from : Option ℕ → Option ℕ → Option Query
 actors_from (Some from) (Some most) = Some (Actors from most)
 actors_from _ _ = None
@@ -31,6 +34,12 @@ actors_from _ _ = None
 abbrev pub actors_in : Data → Option Query
 actors_in d = of_keys (codes "cmd" ∷ codes "from" ∷ codes "most" ∷ []) d
     (actors_from (whole_at (codes "from") 0 (2 ^ 32 - 1) d) (whole_at (codes "most") 1 4096 d))
+
+abbrev pub inspect_in : Data → Option Query
+inspect_in d = of_keys (codes "actor" ∷ codes "cmd" ∷ []) d (option_map Inspect (actor_at (codes "actor") d))
+
+abbrev pub status_in : Data → Option Query
+status_in d = of_keys (codes "cmd" ∷ []) d (Some Status)
 
 -- the query of the form that `cmd` names
 abbrev pub query_in : Data → List ℕ → Option Query
@@ -41,5 +50,8 @@ query_in d cmd =
     else (if bytes_eq cmd (codes "versions") then of_place Versions d
     else (if bytes_eq cmd (codes "implementors") then of_selector Implementors d
     else (if bytes_eq cmd (codes "senders") then of_selector Senders d
+    else (if bytes_eq cmd (codes "edits") then edits_in d
     else (if bytes_eq cmd (codes "actors") then actors_in d
-    else None))))))
+    else (if bytes_eq cmd (codes "inspect") then inspect_in d
+    else (if bytes_eq cmd (codes "status") then status_in d
+    else None)))))))))

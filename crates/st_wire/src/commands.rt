@@ -3,7 +3,7 @@ ghost use Rattle.std.specs.Prelude.{◌≡◌, Some};
 ghost use Rattle.serde_json.specs.View.{view};
 ghost use Rattle.st_classes.specs.Refusals.{Answers, first_of};
 ghost use Rattle.st_wire.specs.PartResults.{Reads};
-ghost use Rattle.st_wire.specs.Commands.{ReturnsMeanNothing, command_of, command_rules, command_in, define_in, method_in, remove_in, reparent_in, new_actor_in, post_in, close_in, run_in, outcome_in, stats_in, question_in, checkpoint_in};
+ghost use Rattle.st_wire.specs.Commands.{ReturnsMeanNothing, command_of, command_rules, command_in, define_in, method_in, replace_in, remove_in, reparent_in, new_actor_in, post_in, close_in, run_in, outcome_in, wait_in, stats_in, question_in, checkpoint_in};
 
 use crate::fields::{actor_at, list_at, quanta_at, sender_at, text_at, whole_at};
 use crate::keys::{has_just, just_keys};
@@ -42,6 +42,12 @@ pub enum Command {
         class: Seq<u8>,
         source: Seq<u8>,
     },
+    /// A method in a class, over the version that it has: that of the class's own method for the source's selector, and 0 if it has none.
+    Replace {
+        class: Seq<u8>,
+        over: u32,
+        source: Seq<u8>,
+    },
     /// Removes the class's own method for a selector.
     Remove {
         class: Seq<u8>,
@@ -75,6 +81,14 @@ pub enum Command {
     /// Asks how a turn of an actor ended.
     Outcome {
         actor: ActorId,
+        turn: u64,
+    },
+    /// Asks the same, and waits for the end of the turn, this many milliseconds at most: 60,000 or less. The epoch is a text that was
+    /// told.
+    Wait {
+        actor: ActorId,
+        epoch: Seq<u8>,
+        ms: u32,
         turn: u64,
     },
     /// Asks for the send sites of a method.
@@ -114,6 +128,7 @@ fn read_object(alloc: Global, object: &Value) -> Result<Command, Refusal>
     match object.get("cmd").and_then(Value::as_str) {
         Some("define") => define(alloc, object),
         Some("method") => method(alloc, object),
+        Some("replace") => replace(alloc, object),
         Some("remove") => remove(alloc, object),
         Some("reparent") => reparent(alloc, object),
         Some("actor") => new_actor(alloc, object),
@@ -132,6 +147,7 @@ fn question(alloc: Global, object: &Value, name: &str) -> Result<Command, Refusa
 {
     match name {
         "outcome" => outcome(object),
+        "wait" => wait(alloc, object),
         "stats" => stats(alloc, object),
         _ => Ok(Command::Query(read_query(alloc, object, name)?)),
     }
@@ -154,6 +170,17 @@ fn method(alloc: Global, object: &Value) -> Result<Command, Refusal>
     just_keys(object, &["class", "cmd", "source"])?;
     Ok(Command::Method {
         class: text_at(alloc, object, "class")?,
+        source: text_at(alloc, object, "source")?,
+    })
+}
+
+fn replace(alloc: Global, object: &Value) -> Result<Command, Refusal>
+    ensures { Reads (replace_in (view object.now)) result }
+{
+    just_keys(object, &["class", "cmd", "over", "source"])?;
+    Ok(Command::Replace {
+        class: text_at(alloc, object, "class")?,
+        over: whole_at(object, "over", 0, 4_294_967_295)? as u32,
         source: text_at(alloc, object, "source")?,
     })
 }
@@ -232,6 +259,18 @@ fn outcome(object: &Value) -> Result<Command, Refusal>
     just_keys(object, &["actor", "cmd", "turn"])?;
     Ok(Command::Outcome {
         actor: actor_at(object, "actor")?,
+        turn: whole_at(object, "turn", 0, u64::MAX)?,
+    })
+}
+
+fn wait(alloc: Global, object: &Value) -> Result<Command, Refusal>
+    ensures { Reads (wait_in (view object.now)) result }
+{
+    just_keys(object, &["actor", "cmd", "epoch", "ms", "turn"])?;
+    Ok(Command::Wait {
+        actor: actor_at(object, "actor")?,
+        epoch: text_at(alloc, object, "epoch")?,
+        ms: whole_at(object, "ms", 0, 60_000)? as u32,
         turn: whole_at(object, "turn", 0, u64::MAX)?,
     })
 }

@@ -5,13 +5,14 @@ ghost use Rattle.st_wire.specs.PartResults.{Reads};
 ghost use Rattle.st_wire.specs.Fields.{text_at as text_in};
 ghost use Rattle.st_wire.specs.Keys.{of_keys};
 ghost use Rattle.st_wire.specs.declared.queries.Query.TheVariants as forms;
-ghost use Rattle.st_wire.specs.Queries.{actors_in, of_place, query_in};
+ghost use Rattle.st_wire.specs.Queries.{actors_in, edits_in, inspect_in, of_place, query_in, status_in};
 
-use crate::fields::{text_at, whole_at};
+use crate::fields::{actor_at, text_at, whole_at};
 use crate::keys::just_keys;
 use serde_json::Value;
 use st_classes::refusals::Refusal;
 use st_classes::seq::Seq;
+use st_classes::values::ActorId;
 use std::alloc::Global;
 
 /// A question about an image. Its answer changes nothing.
@@ -29,8 +30,14 @@ pub enum Query {
     Implementors { selector: Seq<u8> },
     /// The methods that send a selector.
     Senders { selector: Seq<u8> },
+    /// The edits after the first ones, so many of which are left out; at most 256.
+    Edits { from: u32 },
     /// The actors from a number on, at most this many: 1 to 4,096.
     Actors { from: u32, most: u32 },
+    /// An actor, as an image file has it.
+    Inspect { actor: ActorId },
+    /// How much there is of what an image has.
+    Status,
 }
 
 /// The class that a query names, if that and its name are its keys.
@@ -69,6 +76,15 @@ fn versions(alloc: Global, object: &Value) -> Result<Query, Refusal>
     })
 }
 
+fn edits(object: &Value) -> Result<Query, Refusal>
+    ensures { Reads (edits_in (view object.now)) result }
+{
+    just_keys(object, &["cmd", "from"])?;
+    Ok(Query::Edits {
+        from: whole_at(object, "from", 0, 4_294_967_295)? as u32,
+    })
+}
+
 fn actors(object: &Value) -> Result<Query, Refusal>
     ensures { Reads (actors_in (view object.now)) result }
 {
@@ -77,6 +93,22 @@ fn actors(object: &Value) -> Result<Query, Refusal>
         from: whole_at(object, "from", 0, 4_294_967_295)? as u32,
         most: whole_at(object, "most", 1, 4_096)? as u32,
     })
+}
+
+fn inspect(object: &Value) -> Result<Query, Refusal>
+    ensures { Reads (inspect_in (view object.now)) result }
+{
+    just_keys(object, &["actor", "cmd"])?;
+    Ok(Query::Inspect {
+        actor: actor_at(object, "actor")?,
+    })
+}
+
+fn status(object: &Value) -> Result<Query, Refusal>
+    ensures { Reads (status_in (view object.now)) result }
+{
+    just_keys(object, &["cmd"])?;
+    Ok(Query::Status)
 }
 
 /// The query of the form that a name has.
@@ -99,7 +131,10 @@ pub(crate) fn read_query(alloc: Global, object: &Value, name: &str) -> Result<Qu
         "senders" => Ok(Query::Senders {
             selector: selector_of(alloc, object)?,
         }),
+        "edits" => edits(object),
         "actors" => actors(object),
+        "inspect" => inspect(object),
+        "status" => status(object),
         _ => Err(Refusal::BadCommand),
     }
 }

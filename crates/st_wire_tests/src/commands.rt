@@ -26,6 +26,8 @@ pub(crate) enum Wanted {
     Close(u32),
     Run(u32),
     Outcome(u32, u64),
+    Replace(&'static str, u32, &'static str),
+    Wait(u32, &'static str, u32, u64),
     Stats(&'static str, &'static str),
     Checkpoint,
     /// A query by its name, the class and the selector that it names, and its numbers.
@@ -106,6 +108,23 @@ const COMMANDS: &[(&str, Wanted)] = &[
         Wanted::Query("actors", "", "", 0, 1),
     ),
     (
+        r#"{"cmd":"edits","from":4294967295}"#,
+        Wanted::Query("edits", "", "", u32::MAX, 0),
+    ),
+    (
+        r#"{"actor":65536,"cmd":"inspect"}"#,
+        Wanted::Query("inspect", "", "", 65_536, 0),
+    ),
+    (r#"{"cmd":"status"}"#, Wanted::Query("status", "", "", 0, 0)),
+    (
+        r#"{"class":"M","cmd":"replace","over":4294967295,"source":"a ^1"}"#,
+        Wanted::Replace("M", u32::MAX, "a ^1"),
+    ),
+    (
+        r#"{"actor":3,"cmd":"wait","epoch":"e-0","ms":60000,"turn":18446744073709551615}"#,
+        Wanted::Wait(3, "e-0", 60_000, u64::MAX),
+    ),
+    (
         r#"{"actor":0,"cmd":"outcome","turn":18446744073709551615}"#,
         Wanted::Outcome(0, u64::MAX),
     ),
@@ -158,6 +177,23 @@ fn is_wanted(command: &Command, wanted: &Wanted) -> bool {
         (Command::Method { class, source }, Wanted::Method(holder, text)) => {
             is(class, holder) && is(source, text)
         },
+        (
+            Command::Replace {
+                class,
+                over,
+                source,
+            },
+            Wanted::Replace(holder, version, text),
+        ) => is(class, holder) && over == version && is(source, text),
+        (
+            Command::Wait {
+                actor,
+                epoch,
+                ms,
+                turn,
+            },
+            Wanted::Wait(number, text, most, place),
+        ) => actor.0 == *number && is(epoch, text) && ms == most && turn == place,
         (Command::Remove { class, selector }, Wanted::Remove(holder, name)) => {
             is(class, holder) && is(selector, name)
         },
@@ -214,7 +250,10 @@ fn is_query(query: &Query, name: &str, holder: &str, text: &str, first: u32, sec
         },
         Query::Implementors { selector } => name == "implementors" && is(selector, text),
         Query::Senders { selector } => name == "senders" && is(selector, text),
+        Query::Edits { from } => name == "edits" && *from == first,
         Query::Actors { from, most } => { name == "actors" && *from == first && *most == second },
+        Query::Inspect { actor } => name == "inspect" && actor.0 == first,
+        Query::Status => name == "status",
     }
 }
 

@@ -22,9 +22,8 @@ impl<M: Mailbox> Image<M> {
         ensures posts { IfOk result (λ e. e.posts ≡ (counts_of self.now).posts) }
         ensures steps { IfOk result (λ e. e.steps ≡ (counts_of self.now).steps) }
     {
-        self.token.shown().known();
         let counts = self.counted();
-        let edits = self.earlier.edits() + self.edits_made;
+        let edits = self.edits_made();
         self.earlier.with(alloc, &self.changes, edits, counts)
     }
 

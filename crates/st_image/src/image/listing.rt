@@ -1,4 +1,4 @@
-//! Image::clients and counted: the clients that have sent a message, and the counts of posts and steps.
+//! Image::clients, counted, edits_made and most_items: the clients that have sent a message, the counts, and the room that is left.
 use crate::counts::Counts;
 use crate::image::Image;
 use st_mailbox::mailboxes::Mailbox;
@@ -7,7 +7,7 @@ use std::alloc::{AllocError, Global};
 impl<M: Mailbox> Image<M> {
     ghost use Rattle.std.specs.Prelude.{◌≡◌, IfOk};
     ghost use Rattle.st_image.specs.Counts.{CanBeCounted};
-    ghost use Rattle.st_image.specs.Images.{counts_of, world};
+    ghost use Rattle.st_image.specs.Images.{counts_of, edits_made, world};
 
     /// The clients that have sent a message, in rising order, each with the number of its last message, which is at least 1.
     pub fn clients(&self, alloc: Global) -> Result<Vec<(u16, u64)>, AllocError>
@@ -27,5 +27,20 @@ impl<M: Mailbox> Image<M> {
             posts: earlier.posts + self.counts.posts,
             steps: earlier.steps + self.counts.steps,
         }
+    }
+
+    /// How many edits the run has accepted since the image was new or loaded; checkpoints do not change it.
+    pub fn edits_made(&self) -> u32
+        ensures { result ≡ edits_made self.now }
+    {
+        self.token.shown().known();
+        self.earlier.edits() + self.edits_made
+    }
+
+    /// The most items that the history holds.
+    pub fn most_items(&self) -> u32
+        ensures { result ≡ self.now.most_items }
+    {
+        self.settings.history
     }
 }

@@ -9,12 +9,14 @@ use crate::held::Held;
 use crate::naming::Naming;
 use crate::office::Office;
 use crate::shares::WorkerShare;
+use crate::waiting::Waiting;
 use st_calls::claims;
 use st_classes::refusals::Refusal;
 use st_classes::values::ActorId;
 use st_image::image::Image;
 use st_image::leavings::Leavings;
 use st_mailbox::mailboxes::Mailbox;
+use st_turn::body::{Body, Phase};
 use std::alloc::Global;
 
 /// What a worker finds under the lock.
@@ -53,6 +55,24 @@ fn has_steps(answer: &Result<u32, Refusal>) -> bool {
 /// Whether a commit found no memory or no room in the history.
 fn is_wanting(answer: &Result<u32, Refusal>) -> bool {
     matches!(answer, Err(Refusal::HistoryFull) | Err(Refusal::NoMemory))
+}
+
+/// Whether a body's last turn has ended.
+fn is_over(body: &Body) -> bool {
+    matches!(body.phase, Phase::Done(_))
+}
+
+/// Whether the last turn of an actor has ended.
+fn has_ended<M: Mailbox>(image: &Image<M>, actor: ActorId) -> bool {
+    match image.body(actor) {
+        Some(body) => is_over(body),
+        None => false,
+    }
+}
+
+/// Whether somebody waits and a turn of an actor has ended, by the last of its steps or by the one that the image took itself.
+fn is_news<M: Mailbox>(waiting: &Waiting, image: &Image<M>, actor: ActorId, ended: bool) -> bool {
+    waiting.has_watchers() && (ended || has_ended(image, actor))
 }
 
 /// Whether a worker takes more work in the hold of its commit. It does not if its claim was handed back, nor if memory ran out in a
@@ -149,10 +169,14 @@ impl<K: Naming, M: Mailbox> Office<K, M> {
         self.image.known();
         let is_known = precedes(&held.seen, &self.front);
         let Held { claim, seen: _ } = held;
+        let actor = claim.actor();
+        let ended = is_over(claim.after());
         let answer = claims::settle(alloc, &mut self.image, claim, is_known, leavings);
         self.books.run(mine, &answer);
         self.waiting.note_commit(has_steps(&answer));
         self.waiting.note_want(is_wanting(&answer));
+        let is_news = is_news(&self.waiting, &self.image, actor, ended);
+        self.waiting.note_news_if(is_news);
         answer
     }
 

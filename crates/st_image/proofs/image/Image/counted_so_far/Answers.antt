@@ -1,26 +1,16 @@
-use Rattle.std.proofs.Common.{arith, ◌≡◌, ℕ, ◌+◌, ◌*◌, ◌≤◌, List, length, refl, ap, ◌∙◌, slice_get}
-use Rattle.st_classes.specs.declared.edits.Edit.{Edit}
+use Rattle.std.proofs.Common.{arith, ◌≡◌, ℕ, ◌+◌, ◌*◌, ◌≤◌, refl, ap, ◌∙◌, slice_get}
 use Rattle.st_image.specs.Worlds.{World}
-use Rattle.st_image.specs.Counts.{edits_of, ran_of, weigh}
+use Rattle.st_image.specs.Counts.{ran_of, weigh}
 use Rattle.st_image.specs.declared.counts.Counts.{Counts}
 use Rattle.st_image.specs.Commits.{changed_at}
 use Rattle.st_image.specs.Earlier.{Earlier}
-use Rattle.st_image.specs.Images.{ImageView, counts_of, edits_made, world_of}
+use Rattle.st_image.specs.Images.{ImageView, counts_of, world_of}
 use Rattle.st_image.specs.Changes.{change_count, changes_in}
 use Rattle.st_image.specs.ActResults.{constants_of}
 use Rattle.st_image.specs.ImageInvariant.{turns_open}
 use Rattle.st_image.proofs.ChangeBounds.{changes_in_all, open_once}
 use Rattle.st_image.proofs.Lists.{ok_by}
-use Rattle.st_image.proofs.Renewal.{edits_bounded}
 use Rattle.st_image.proofs.image.Image.counted_so_far.Goals as goal
-
-pub overflow_add-edits : goal.overflow_add-edits
-overflow_add-edits g c =
-    let i = c.self.inside in
-    let w : World = world_of (constants_of i.names i.settings.capacity) i.base i.history.items in
-    let few : i.earlier.edits + weigh edits_of i.history.items ≤ length w.edits = edits_bounded (constants_of i.names i.settings.capacity) i.base w i.history.items i.earlier.edits c.self.invariant.before.edits c.self.invariant.image.lawful in
-    let table : length c.shown.result.now ≡ length w.edits = ap (λ (es : List Edit). length es) (c.shown.ensures ∙ c.self.invariant.image.shows.edits_are) in
-    omega (arith, few, table, c.known.ensures.few, c.self.invariant.image.counted, c.edits.ensures)
 
 pub with-requires : goal.with-requires
 with-requires g c = λ a.
@@ -35,12 +25,6 @@ returns-clause-changes g c =
     let i = c.self.inside in
     let now : (a : ℕ) → change_count i.earlier.changes a + change_count i.changes a ≡ changed_at c.args.self.now a = λ a. ap (λ (n : ℕ). change_count i.earlier.changes a + n) (c.self.invariant.counts a) ∙ ap (λ (v : ImageView). changed_at v a) c.self.view_is in
     ok_by c.with.result (λ (e : Earlier). (a : ℕ) → change_count e.changes a ≡ change_count i.earlier.changes a + change_count i.changes a) (λ (e : Earlier). (a : ℕ) → change_count e.changes a ≡ changed_at c.args.self.now a) (λ e h a. h a ∙ now a) c.with.ensures.changes
-
-pub returns-clause-edits : goal.returns-clause-edits
-returns-clause-edits g c =
-    let i = c.self.inside in
-    let made : i.earlier.edits + weigh edits_of i.history.items ≡ edits_made c.args.self.now = ap edits_made c.self.view_is in
-    ok_by c.with.result (λ (e : Earlier). e.edits ≡ c.edits.result + i.edits_made) (λ (e : Earlier). e.edits ≡ edits_made c.args.self.now) (λ e h. omega (arith, h, made, c.edits.ensures, c.self.invariant.image.counted)) c.with.ensures.edits
 
 pub returns-clause-posts : goal.returns-clause-posts
 returns-clause-posts g c = ok_by c.with.result (λ (e : Earlier). e.posts ≡ c.counted-counts.result.posts) (λ (e : Earlier). e.posts ≡ (counts_of c.args.self.now).posts) (λ e h. h ∙ ap (λ (x : Counts). x.posts) c.counted-counts.ensures.counts) c.with.ensures.posts

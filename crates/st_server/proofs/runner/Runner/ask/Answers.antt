@@ -1,5 +1,12 @@
+use Rattle.std.proofs.Common.{subst}
+use Rattle.st_server.specs.CommandReplies.{AsksImage}
+use Rattle.st_server.specs.Runners.{RunnerView}
 use Rattle.st_server.proofs.Growing.{keeps_on}
 use Rattle.st_server.proofs.runner.Runner.ask.Goals as goal
 
 pub invariant_of-self : goal.invariant_of-self
 invariant_of-self c = keeps_on c.self.inside.image c.ask-reply.new.holder c.self.inside.worker c.self.invariant c.ask-reply.ensures.later.edits
+
+pub returns-clause-asks : goal.returns-clause-asks
+returns-clause-asks c =
+    subst (λ (i : RunnerView). AsksImage i.image c.args.command c.ask-reply.result c.ask-reply.new.holder) c.self.view_is (record { host = c.self.inside.host; asks = c.ask-reply.ensures.asks })

@@ -1,0 +1,29 @@
+use Rattle.std.proofs.Common.{◌≡◌, ◌≤◌, ◌+◌, ◌-◌, ◌++◌, [], ◌∷◌, ◌∙◌, ℕ, Option, Some, None, sym, ap, arith, length, option_map, slice_get, Vec, Global}
+use Rattle.std.proofs.lemmas.List.{length-append}
+use Rattle.std.specs.List.{filter_map, range_with_len}
+use Rattle.st_image.specs.Images.{world}
+use Rattle.st_queries.specs.declared.glances.Glance.{Glance}
+use Rattle.st_queries.specs.Glances.{glance_of}
+use Rattle.st_queries.proofs.Rows.{next_none, next_there}
+use Rattle.st_queries.proofs.glances.glances.Goals as goal
+use Rattle.st_queries.proofs.glances.glances.Goals.{in-Some+in_ok-push, in_default}
+
+pub loop-number-preserved : goal.loop-number-preserved
+loop-number-preserved g c =
+    let row : ℕ → Option Glance = λ n. option_map glance_of (slice_get (world c.args.image.now).actors n) in
+    let n = c.loop-number.number in
+    let first = c.args.from in
+    let so_far = c.loop-number.invariant in
+    let place : first + (n - first) ≡ n = omega (arith, so_far.0) in
+    let more : n + 1 - first ≡ n - first + 1 = omega (arith, so_far.0) in
+    let items = c.loop-number.seen.items in (
+      omega (arith, so_far.0),
+      rw more (elim c.match-glance_at.branch [
+        | in-Some+in_ok-push w ↦ ap (λ (v : Vec Glance Global). v.items) w.seen-is ∙ w.in_ok-push.ensures.items ∙ next_there row first (n - first) n items w.in-Some.glance place (sym c.glance_at.ensures ∙ w.in-Some.is) so_far.1
+        | in_default w ↦ ap (λ (v : Vec Glance Global). v.items) w.seen-is ∙ next_none row first (n - first) n items place (sym c.glance_at.ensures ∙ w.in_default.is) so_far.1
+      ]),
+      rw more (elim c.match-glance_at.branch [
+        | in-Some+in_ok-push w ↦ rw (ap (λ (v : Vec Glance Global). v.items) w.seen-is, w.in_ok-push.ensures.items) (omega (arith, length-append items (w.in-Some.glance ∷ []), so_far.2))
+        | in_default w ↦ rw (ap (λ (v : Vec Glance Global). v.items) w.seen-is) (omega (arith, so_far.2))
+      ]),
+    )

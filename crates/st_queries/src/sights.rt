@@ -1,0 +1,91 @@
+//! What is seen of an image in one moment. It is copied under the lock, and the query is answered from it behind.
+ghost use Rattle.std.specs.Prelude.{◌≡◌, ◌<◌, IfOk, length};
+ghost use Rattle.st_image.specs.Images.{world};
+ghost use Rattle.st_queries.specs.Sights.{glances_for, inspected_for as inspected_by, sight};
+
+use crate::glances::{Glance, glances};
+use crate::inspecting::{Inspected, inspect};
+use st_classes::names::Names;
+use st_classes::token::Token;
+use st_image::counts::Counts;
+use st_image::image::Image;
+use st_mailbox::mailboxes::Mailbox;
+use st_wire::queries::Query;
+use std::alloc::{AllocError, Global};
+use std::marker::Model;
+
+/// What a query is answered from: the names and the class table, which are shared and not copied; what is seen of those actors that are
+/// asked for; a copy of the one that is inspected; and some numbers.
+#[derive(Drop)]
+pub struct Sight {
+    pub(crate) names: Names,
+    pub(crate) table: Token,
+    pub(crate) glances: Vec<Glance>,
+    pub(crate) inspected: Option<Inspected>,
+    pub(crate) actors: u32,
+    pub(crate) edits_made: u32,
+    pub(crate) items: usize,
+    pub(crate) most_items: u32,
+    pub(crate) counts: Counts,
+}
+
+impl Model for Sight {
+    ghost use Rattle.st_image.specs.CompiledEdits.{AllCompiled};
+    ghost use Rattle.st_queries.specs.Sights.{Sight as SightOf};
+
+    ghost Value = { SightOf };
+
+    ghost view = { λ s. record { names = s.names; edits = s.table; glances = s.glances.items; inspected = s.inspected; actors = s.actors; edits_made = s.edits_made; items = s.items; most_items = s.most_items; counts = s.counts } };
+
+    ghost use Rattle.std.specs.Prelude.{◌<◌, length};
+
+    ghost invariant = { λ s. AllCompiled s.names s.table × (length s.glances.items < 4294967296) };
+}
+
+/// What is seen of the actors that a query asks for.
+fn asked_for<M: Mailbox>(
+    alloc: Global,
+    image: &Image<M>,
+    query: &Query,
+) -> Result<Vec<Glance>, AllocError>
+    ensures seen { IfOk result (λ seen. seen.items ≡ glances_for query.now (world image.now).actors) }
+    ensures few { IfOk result (λ seen. length seen.items < 4294967296) }
+{
+    match query {
+        Query::Actors { from, most } => glances(alloc, image, *from, *most),
+        _ => Ok(Vec::new(alloc)),
+    }
+}
+
+/// A copy of the actor that a query inspects, if there is one.
+fn inspected_for<M: Mailbox>(
+    alloc: Global,
+    image: &Image<M>,
+    query: &Query,
+) -> Result<Option<Inspected>, AllocError>
+    ensures { IfOk result (λ seen. seen ≡ inspected_by query.now (world image.now).actors) }
+{
+    match query {
+        Query::Inspect { actor } => inspect(alloc, image, *actor),
+        _ => Ok(None),
+    }
+}
+
+/// What is seen of an image for a query. It takes the time of a copy of what is seen of the actors that are asked for. It fails only
+/// if memory runs out.
+pub fn see<M: Mailbox>(alloc: Global, image: &Image<M>, query: &Query) -> Result<Sight, AllocError>
+    ensures { IfOk result (λ s. s ≡ sight image.now query.now) }
+{
+    image.all_compiled();
+    Ok(Sight {
+        names: image.names().again()?,
+        table: image.token().again()?,
+        glances: asked_for(alloc, image, query)?,
+        inspected: inspected_for(alloc, image, query)?,
+        actors: image.actors(),
+        edits_made: image.edits_made(),
+        items: image.history().len(),
+        most_items: image.most_items(),
+        counts: image.counted(),
+    })
+}

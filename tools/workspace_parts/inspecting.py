@@ -1,0 +1,103 @@
+"""What `:inspect` shows of an actor: its instance variables, what waits in its mailbox, and where its turn stands. The image is asked each
+time, for the actor and for the sources of the methods that run."""
+
+import re
+
+from . import looks
+from .running import actor_of
+from .values import a_or_an, count, show
+from .wrong import Wrong
+
+# So many messages and frames are shown.
+MOST = 10
+ASKED = re.compile(r"(actor\s+[0-9]{1,9}|\S+)(?:\s+([0-9]{1,9}))?")
+
+
+def inspect(session, rest):
+    match = ASKED.fullmatch(rest)
+    if not match:
+        raise Wrong("write the name of an actor after it, or its number as in  actor 3; and behind it that of one of its objects")
+    name, place = match.groups()
+    shown = Inspected(session, actor_of(session, name))
+    session.tell(list(shown.object(int(place)) if place else shown.actor(name)))
+
+
+class Inspected:
+    """An actor as the image tells of it."""
+
+    def __init__(self, session, number):
+        self.session, self.number = session, number
+        self.told = looks.inspect(session, number)
+        self.objects = self.told["body"]["objects"]
+
+    def actor(self, name):
+        """The lines for the actor; `name` is what was typed for it."""
+        yield f"actor {self.number}, {a_or_an(self.told['class'])}"
+        yield from self.slots(0)
+        yield from self.mailbox()
+        yield from self.turn()
+        if len(self.objects) > 1:
+            yield f"{count(len(self.objects) - 1, 'further object')}; :inspect {name} 1  shows object 1"
+
+    def object(self, place):
+        """The lines for an object of the actor's own."""
+        if place >= len(self.objects):
+            raise Wrong(f"actor {self.number} has {count(len(self.objects), 'object')}, numbered from 0")
+        yield f"object {place} of actor {self.number}, {a_or_an(self.objects[place]['class'])}"
+        yield from self.slots(place)
+
+    def slots(self, place):
+        """The instance variables, inherited ones first."""
+        one = self.objects[place]
+        for name, value in zip(looks.slots(self.session, one["class"]), one["slots"]):
+            yield f"  {name} = {self.value(value)}"
+
+    def value(self, value):
+        """A value, of an object the number by which it is asked for."""
+        if isinstance(value, dict) and value.get("local"):
+            return f"object {value['local']}, {a_or_an(self.objects[value['local']]['class'])}"
+        return show(value, self.session.known, self.number)
+
+    def message(self, selector, arguments):
+        """A message as it is typed."""
+        values = [self.value(it) for it in arguments]
+        words = [f"{word}:" for word in selector.split(":")[:-1]] if ":" in selector else [selector]
+        return " ".join(f"{word} {value}" for word, value in zip(words, values)) if values else selector
+
+    def mailbox(self):
+        waiting = self.told["pending"]
+        yield f"mailbox: {'open' if self.told['open'] else 'closed'}, {len(waiting):,} of {count(self.told['capacity'], 'message')}"
+        for it in waiting[:MOST]:
+            sender = it["sender"]
+            by = f"sender {sender}" if isinstance(sender, int) else self.value(sender)
+            yield f"  {self.message(it['selector'], it['args'])}  from {by}, number {it['seq']}"
+        yield from more(waiting)
+
+    def turn(self):
+        """Where the turn stands. The frames are shown from the running one on, each with the one that waits for it behind it."""
+        phase = self.told["body"]["phase"]
+        if phase == "fresh":
+            yield "turn: none yet"
+            return
+        ((kind, of),) = phase.items()
+        frames = of[::-1] if kind == "frames" else []
+        yield f"turn {self.told['turn']}: {self.stand(kind, of, frames)}"
+        yield from (f"  called by {self.frame(it)}" for it in frames[1:MOST])
+        yield from more(frames)
+
+    def stand(self, kind, of, frames):
+        if frames:
+            return f"runs {self.frame(frames[0])}"
+        if kind == "start":
+            return f"begins {self.message(of['selector'], of['args'])}"
+        return f"fault {of}" if kind == "fault" else f"answered {self.value(of)}"
+
+    def frame(self, frame):
+        """The method of a frame, and what it runs in if that is not the actor itself."""
+        where = "" if frame["receiver"] == {"local": 0} else f"  in {self.value(frame['receiver'])}"
+        return " >> ".join(looks.installed(self.session, frame["method"])) + where
+
+
+def more(found):
+    if len(found) > MOST:
+        yield f"  and {len(found) - MOST:,} more"

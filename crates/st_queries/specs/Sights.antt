@@ -11,8 +11,8 @@ use Rattle.st_queries.specs.Inspecting.{inspected_of}
 use Rattle.st_queries.specs.declared.glances.Glance.{Glance}
 use Rattle.st_queries.specs.declared.inspecting.Inspected.{Inspected}
 
--- the names and the edits; what is seen of those actors that are asked for; the one that is inspected; and numbers: of the actors, of the edits that the run has
--- accepted, of the items of the history and of the most that it holds, and of the posts and steps
+-- the names and the edits; what is seen of those actors that are asked for; the one that is inspected; and numbers: of the actors, of
+-- the edits that the run has accepted, of the items of the history, of the most that it holds, and of the posts and steps
 pub record Sight : Type 0 where
   pub names : List (List ℕ)
   pub edits : List Edit

@@ -45,7 +45,8 @@ class Room:
         self.top = self.folder.name
         self.log = f"{self.top}/log"
         shutil.copy(f"{TOP}/actorimage", self.top)
-        shutil.copy(f"{TOP}/crates.txt", self.top)
+        for name in ("crates.txt", "HANDLES"):
+            shutil.copy(f"{TOP}/{name}", self.top)
         os.symlink(f"{TOP}/tools", f"{self.top}/tools")
         for name in crates():
             os.makedirs(f"{self.top}/crates/{name}/src")
@@ -95,7 +96,7 @@ def example(ending):
 
 
 def along_the_graph(program):
-    """Each crate is begun once, when those below it are done, up to two at a time; a second run builds nothing."""
+    """Each crate is begun once, when those below it are done, up to three at a time; a second run builds nothing, and no copy is left."""
     with Room(program) as room:
         out, err, status = room.run("script", text=example("jsonl"))
         assert (out, status) == (example("replies"), 0), (out, err, status)
@@ -108,7 +109,8 @@ def along_the_graph(program):
             else:
                 running.remove(name)
                 done.add(name)
-        assert done == below("actorimage") and most == 2, (done, most)
+        assert done == below("actorimage") and most == 3, (done, most)
+        assert os.listdir(f"{room.top}/look") == [], os.listdir(f"{room.top}/look")
         for name in done:
             assert f"actorimage: {name}: proving it\n" in err and f"actorimage:   {name}: 1 of 2\n" in err, (name, err)
         assert err.endswith(f", {len(done)} of {len(done)}\n"), err

@@ -1,11 +1,11 @@
 """Tries how a built program reads, checks and writes image files.
 
-    tools/image-files PROGRAM [TRIAL..]
+    tools/image-files [--kills N] PROGRAM [TRIAL..]
     tools/image-files --mutate N [--seed N] PROGRAM
 
 PROGRAM is `crates/actorimage/out/actorimage`. What it is to say of a file, and what it is to write, is what tools/inspect_parts
 and the second implementation say and write. A line for each kind of trial tells how many there were; at the first difference
-the status is 1. Where trials are named, those alone are run.
+the status is 1. Where trials are named, those alone are run. --kills says how often a server is killed while it saves.
 
 --mutate changes good files in N ways, each at one place, and tries no more than that. A changed file is refused by the place
 that tools/inspect says, or it is taken, and what is written of it then is right. It prints every kind of difference once, and
@@ -25,10 +25,12 @@ from itertools import repeat
 from inspect_parts.main import deeply
 
 from . import try_cuts, try_fewer, try_files, try_folders, try_full, try_going_on, try_held, try_limits, try_mutated, try_paths
-from . import try_commands, try_picked, try_random, try_refused, try_scripts, try_served, try_watched, try_whole
+from . import try_commands, try_kills, try_picked, try_random, try_refused, try_saves, try_scripts, try_served, try_unsaved, try_watched
+from . import try_whole
 from .program import Different, Program
 
 OF_FILES = (try_files, try_limits, try_full, try_cuts, try_paths, try_folders, try_whole, try_fewer)
+OF_SAVES = (try_saves, try_unsaved, try_kills)
 OF_SESSIONS = (try_going_on, try_served, try_commands, try_held, try_watched, try_refused, try_scripts, try_picked, try_random)
 SEED = 20241107
 # How many trials go on at once.
@@ -40,6 +42,7 @@ def arguments():
     parser = argparse.ArgumentParser(prog="tools/image-files", description=__doc__, formatter_class=plain)
     parser.add_argument("program", metavar="PROGRAM")
     parser.add_argument("trials", nargs="*", metavar="TRIAL", help="a trial by its name, as it stands before the colon of a line")
+    parser.add_argument("--kills", type=int, default=try_kills.KILLS, metavar="N", help="kill a server so often (%(default)s)")
     parser.add_argument("--mutate", type=int, metavar="N", help="change good files in N ways, and nothing else")
     parser.add_argument("--seed", type=int, default=SEED, metavar="N")
     given = parser.parse_args()
@@ -52,7 +55,7 @@ def arguments():
 
 
 def all_trials():
-    return [trial for part in OF_FILES + OF_SESSIONS for trial in part.TRIALS]
+    return [trial for part in OF_FILES + OF_SAVES + OF_SESSIONS for trial in part.TRIALS]
 
 
 def try_one(path, trial):
@@ -83,6 +86,7 @@ def try_all(path, names):
 def main():
     given = arguments()
     path = os.path.realpath(given.program)
+    try_kills.KILLS = given.kills
     if given.mutate is None:
         sys.exit(deeply(lambda: try_all(path, given.trials)))
     sys.exit(deeply(lambda: try_mutated.try_all(path, given.mutate, given.seed)))

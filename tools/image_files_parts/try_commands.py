@@ -24,6 +24,7 @@ COMMANDS = (
     {"actor": 0, "cmd": "outcome", "turn": 0},
     {"class": "M", "cmd": "stats", "selector": "a"},
     {"cmd": "checkpoint"},
+    {"cmd": "save"},
     {"cmd": "classes"},
     {"class": "M", "cmd": "methods"},
     {"class": "M", "cmd": "source", "selector": "a"},

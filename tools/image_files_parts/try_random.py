@@ -1,5 +1,5 @@
-"""Trials on random scripts, in which turns are cut by quanta, and methods are edited, replaced and looked at, in sessions of random
-lengths."""
+"""Trials on random scripts, in which turns are cut by quanta, methods are edited, replaced and looked at, and the image is saved, in
+sessions of random lengths."""
 
 import random
 
@@ -24,7 +24,7 @@ def at_random(program):
     rng = random.Random(SEED)
     sources, sessions = Sources(rng), 0
     for number in range(SCRIPTS):
-        script = CutTurns(rng, sources, aside=("define", "look", "replace")).grow(LINES)
+        script = CutTurns(rng, sources, aside=("define", "look", "replace", "save")).grow(LINES)
         lines = [line.encode() for line in script.lines]
         cut = Cut(program.within(str(number)), f"random script {number}", lines, script.quantum, script.capacity)
         sessions += cut.sessions(lengths(rng))

@@ -31,21 +31,21 @@ def not_begun(program, about, file, name, why="", socket_name="socket", **more):
 
 
 @contextlib.contextmanager
-def begun(program, file, sessions=1, name="socket"):
+def begun(program, file, sessions=1, name="socket", **more):
     """A server, which is killed where it is left, unless it has ended by then."""
     command = [program.path, *words(program, file, sessions, name)]
-    with subprocess.Popen(command, stdout=subprocess.PIPE, stderr=subprocess.PIPE) as server:
+    with subprocess.Popen(command, stdout=subprocess.PIPE, stderr=subprocess.PIPE, **more) as server:
         try:
             yield server
         finally:
             server.kill()
 
 
-def serve(program, file, talk, sessions=1):
+def serve(program, file, talk, sessions=1, name="socket", **more):
     """The end of a server for so many sessions, each of which is talked over its socket."""
-    with begun(program, file, sessions) as server:
+    with begun(program, file, sessions, name, **more) as server:
         for number in range(sessions):
-            with connected(server, program.at("socket")) as end, end.makefile("rb") as lines:
+            with connected(server, program.at(name)) as end, end.makefile("rb") as lines:
                 talk(number, end, lines)
                 end.shutdown(socket.SHUT_WR)
                 lines.read()

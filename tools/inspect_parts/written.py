@@ -16,7 +16,7 @@ def compact(file):
 
 
 class Written(Image):
-    """An image that keeps the order of its names, as a file has them."""
+    """An image that keeps the order of its names, as a file has them, and has a file to be saved in."""
 
     def __init__(self, quantum=1, capacity=64):
         super().__init__(quantum, capacity)
@@ -46,6 +46,9 @@ class Written(Image):
                 yield it["sym"]
             elif isinstance(it, dict) and it.get("class", "Object") not in self.classes.numbers:
                 return
+
+    def save(self, command):
+        return {"ok": {"bytes": len(compact(self.file()).encode())}}
 
     def file(self):
         return {

@@ -1,1 +1,1 @@
-"""What refuses memory to a program."""
+"""What refuses memory to a program, or the disk."""

@@ -29,6 +29,9 @@ LINES = [
 # Another session, of one edit with three new names.
 EDIT = ['{"class":"A","cmd":"method","source":"spare: x ^#other -> x"}']
 NAMES_OF_EDIT = ["go", "tag", "spare:", "other", "->"]
+# A session that saves in the middle, and a line that ends one by a refusal: then nothing is saved in the end.
+SAVE, ENDING = '{"cmd":"save"}', " " * 8193
+SAVING = [LINES[0], SAVE, *LINES[1:]]
 # Good files that are loaded and saved by a session without lines. Together they have edits, values and phases of all kinds.
 SAVED = ("loop", "message-waits", "moved", "varied")
 # A good file that is checked, and a text that is no file's, with what is told of each.
@@ -61,8 +64,8 @@ def goes_on(program, ended, wanted):
     return session.status == 0 and session.data == wanted.data
 
 
-def what_is_wrong(program, old, ended, wanted):
-    """What is wrong with the end of a session, or None."""
+def what_is_wrong(program, kept, ended, wanted):
+    """What is wrong with the end of a session, or None. What it may have kept of the file is the old one, or what it has saved."""
     if ended.names != ["image"]:
         return f"the folder holds {ended.names}"
     if ended.status == 0 and ended.replies == wanted.replies:
@@ -71,7 +74,7 @@ def what_is_wrong(program, old, ended, wanted):
         return None if goes_on(program, ended, wanted) else "a line that is asked again does not lead to the file that is wanted"
     if ended.status not in (1, 2) or "emory" not in ended.said:
         return f"it ended with status {ended.status} and said {ended.said!r}"
-    if ended.data not in (old, wanted.data):
+    if ended.data not in (*kept, wanted.data):
         return "the file is neither the old one nor the one that is wanted"
     if ended.replies != wanted.replies[: len(ended.replies)]:
         return f"the replies are {ended.replies}"
@@ -89,6 +92,7 @@ def told(what, wrong):
 def check_sessions(program, shim, every, file, lines, about):
     """Sessions of these lines on a good file."""
     old, wanted = read(file), Session(program, file, lines)
+    saved = [Session(program, file, lines[:place]).data for place, line in enumerate(lines) if line == SAVE]
     if wanted.status != 0:
         return told(f"sessions on {about}", [f"with ample memory it ended with status {wanted.status} and said {wanted.said!r}"])
     refused, kept, wrong = 0, 0, []
@@ -96,12 +100,48 @@ def check_sessions(program, shim, every, file, lines, about):
         ended = Session(program, file, lines, failing)
         refused += ended.status != 0
         kept += ended.data == old
-        why = what_is_wrong(program, old, ended, wanted)
+        why = what_is_wrong(program, (old, *saved), ended, wanted)
         if why:
             wrong.append(f"allocation {failing.at}: {why}")
     if not refused:
         wrong.append("no session was refused: nothing was tried")
     return told(f"sessions on {about}: {failing.at} allocations, {refused} sessions refused, {kept} left the file as it was", wrong)
+
+
+def unsaved_wrong(old, ended, wanted):
+    """What is wrong with the end of a session that posts, saves, and is refused then, or None: the file has what was saved, and is else as
+    it was."""
+    if ended.names != ["image"]:
+        return f"the folder holds {ended.names}"
+    if ended.replies == wanted.replies:
+        return None if ended.data == wanted.data else "the file is not what was saved"
+    if ended.replies[1:2] == [NO_MEMORY] or len(ended.replies) < 2:
+        fine = ended.status in (1, 2) and (len(ended.replies) == 3 or "emory" in ended.said)
+        # A save may be made whose reply finds no memory.
+        fits = ended.data == old or len(ended.replies) < 2 and ended.data == wanted.data
+        return None if fits and fine else f"{ended.replies} and {ended.said!r}, and the file is not as it was"
+    if ended.replies[0] == NO_MEMORY or len(ended.replies) == 2:
+        told = json.loads(ended.replies[1])
+        return None if told == {"ok": {"bytes": len(ended.data)}} else f"{told} is replied for {len(ended.data)} bytes"
+    return f"the replies are {ended.replies}"
+
+
+def check_unsaved(program, shim, every, file):
+    """Sessions that save and are refused then."""
+    lines = [LINES[0], SAVE, ENDING]
+    old, wanted = read(file), Session(program, file, lines)
+    refused, wrong = 0, []
+    if wanted.data != Session(program, file, lines[:1]).data or len(wanted.replies) != 3:
+        wrong.append(f"with ample memory the replies are {wanted.replies}")
+    for failing in Failing.each(shim, "saves", every):
+        ended = Session(program, file, lines, failing)
+        refused += NO_MEMORY in ended.replies[1:2]
+        why = unsaved_wrong(old, ended, wanted)
+        if why:
+            wrong.append(f"allocation {failing.at}: {why}")
+    if not refused:
+        wrong.append("no save was refused: nothing was tried")
+    return told(f"sessions that are refused behind a save: {failing.at} allocations, {refused} saves found no memory", wrong)
 
 
 def checked(program, file, failing=None):
@@ -143,10 +183,12 @@ def parts(program, shim, every, folder):
         print(f"an image file is not written: {said}")
         yield False
         return
-    for lines, wanted, about in ((LINES, NAMES, "an image file"), (EDIT, NAMES_OF_EDIT, "one that is edited")):
+    of_lines = ((LINES, NAMES, "an image file"), (EDIT, NAMES_OF_EDIT, "one that is edited"), (SAVING, NAMES, "one that is saved twice"))
+    for lines, wanted, about in of_lines:
         yield check_sessions(program, shim, every, good, lines, about)
         names = json.loads(Session(program, good, lines).data)["names"]
         yield told(f"the names {names}", [] if names == wanted else [f"they are to be {wanted}"])
+    yield check_unsaved(program, shim, every, good)
     files = good_files()
     for name in SAVED:
         yield check_sessions(program, shim, every, files[name], [], os.path.basename(files[name]))

@@ -60,11 +60,11 @@ int posix_memalign(void **place, size_t to, size_t size) {
 """
 
 
-def made_in(folder):
-    """The library, compiled in a folder."""
+def made_in(folder, text=SOURCE):
+    """The library of a text, compiled in a folder."""
     source, shim = os.path.join(folder, "shim.c"), os.path.join(folder, "shim.so")
     with open(source, "w") as out:
-        out.write(SOURCE)
+        out.write(text)
     subprocess.run(["gcc", "-shared", "-fPIC", "-O1", "-o", shim, source, "-ldl"], check=True)
     return shim
 

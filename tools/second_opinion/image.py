@@ -240,6 +240,10 @@ class Image:
             actor.forget()
         return {"ok": {"posts": self.posts, "steps": self.steps}}
 
+    def save(self, command):
+        """There is no file to save in."""
+        return {"error": "BadArguments"}
+
     def copy(self):
         """An image that goes its own way from here, with the same classes. All actors are at rest."""
         assert not self.ready, "an actor is not at rest"

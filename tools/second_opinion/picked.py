@@ -13,7 +13,7 @@ rules, and the second reader is held to them before it is compared with anything
     look classes          look methods C          look senders at:put:    look source C at:put:
     look actors 0 4096    the actors from 0 on, at most so many             look inspect 0        checkpoint
     look edits 3          replace C 7 source, over version 7
-    status                wait 0 1 20 E, for turn 1 of actor 0 of the epoch E, and 20 milliseconds
+    save                  status                wait 0 1 20 E, for turn 1 of actor 0 of the epoch E, and 20 milliseconds
 """
 
 import json
@@ -116,6 +116,9 @@ class Taker:
 
     def take_checkpoint(self, rest):
         self.script.add({"cmd": "checkpoint"})
+
+    def take_save(self, rest):
+        self.script.save()
 
     def take_status(self, rest):
         self.script.add({"cmd": "status"})

@@ -53,6 +53,23 @@ EPOCHS = {
         status
         {status(3, actors=2, classes=9, edits=5, history=0, names=27, posts=1, steps=4)}
     """,
+    "a script without a file is not saved, and nothing comes of that": f"""
+        save
+        > {{"error":"BadArguments"}}
+        class A Object
+        method A foo ^1
+        actor A
+        post 0 foo
+        run
+        status
+        {status(0, actors=1, classes=9, edits=2, history=6, names=23, posts=1, steps=3)}
+        save
+        > {{"error":"BadArguments"}}
+        status
+        {status(0, actors=1, classes=9, edits=2, history=6, names=23, posts=1, steps=3)}
+        outcome 0 1
+        > {{"ok":{{"answer":1}}}}
+    """,
     "what an actor makes and posts is no item, and its posts are not those of clients": f"""
         class A Object
         method A go ^A newActor post: #foo

@@ -108,6 +108,9 @@ class Script:
     def reparent(self, rng):
         self.add({"class": rng.choice(CLASSES_TO_MOVE), "cmd": "reparent", "super": rng.choice(CLASSES_ABOVE)})
 
+    def save(self):
+        self.add({"cmd": "save"})
+
     def post(self, number, selector, arguments):
         return self.send(1, len(self.lines) + 1, number, selector, arguments)
 
@@ -201,6 +204,8 @@ def random_script(rng, sources, size):
             replaces.in_vain()
         if apart.random() < 0.1:
             waits.ask()
+        if apart.random() < 0.05:
+            script.save()
         if class_name in ("A", "B", "C", "Object") or rng.random() < 0.2:
             for _ in range(rng.choice([1, 1, 2])):
                 number = {"B": rng.choice([1, 2]), "C": 2}.get(class_name, rng.choice([0, 1, 2]))
@@ -219,7 +224,7 @@ def random_script(rng, sources, size):
 class CutTurns:
     """A script in which turns of several actors are cut by quanta, with edits between them. What is drawn apart changes nothing of the
     rest: it is what `aside` names, which may be further definitions, questions for sends, looks at classes and actors, checkpoints,
-    installs that are to replace a version, and waits for turns.
+    saves, installs that are to replace a version, and waits for turns.
     `further` are the lines of this, and those of a run that is asked for quantum by quantum."""
 
     SELECTORS = "foo bar m m1 who + = foo: class".split()
@@ -264,6 +269,10 @@ class CutTurns:
         """Few: counts of sends begin at 0 behind it."""
         if self.apart.random() < 0.25:
             self.script.add({"cmd": "checkpoint"})
+
+    def save(self):
+        if self.apart.random() < 0.5:
+            self.script.save()
 
     def look_at_actors(self):
         """Often, where there are looks, behind what changes actors."""
@@ -361,7 +370,7 @@ class CutTurns:
 
 
 def cut_turns(rng, sources):
-    turns = CutTurns(rng, sources, aside=("define", "ask_sends", "look", "checkpoint", "replace", "wait"))
+    turns = CutTurns(rng, sources, aside=("define", "ask_sends", "look", "checkpoint", "replace", "save", "wait"))
     turns.grow(900)
     return turns.asked_in_the_end()
 

@@ -7,6 +7,7 @@ EPOCH = '        if command["epoch"] != self.epoch():\n            return {"erro
 LONG = '        if command["ms"] > LONGEST_WAIT:\n            return {"error": "BadCommand"}\n'
 POSTED = "    return boolean(actor.post(receiver.content, symbol.content, further))\n"
 EMPTIED = "        self.items = 0\n"
+UNSAVED = '        """There is no file to save in."""\n        return {"error": "BadArguments"}\n'
 
 WRONG_EPOCHS = [
     WrongRule("a run has no limit of its own for edits", "looking", LEFT, "EDITS_OF_A_TABLE - edits"),
@@ -22,6 +23,9 @@ WRONG_EPOCHS = [
     WrongRule("what actors post is counted", "kernel", POSTED, "    actor.image.posts += 1\n" + POSTED),
     WrongRule("counts begin anew at a checkpoint", "image", EMPTIED, EMPTIED + "        self.posts = self.steps = 0\n"),
     WrongRule("a history is never emptied", "image", EMPTIED, ""),
+    WrongRule("a save needs no file", "image", UNSAVED, '        return {"ok": {"bytes": 0}}\n'),
+    WrongRule("a save empties the history", "image", UNSAVED, EMPTIED + UNSAVED),
+    WrongRule("a save begins an epoch", "image", UNSAVED, "        self.checkpoints += 1\n" + UNSAVED),
     WrongRule("a beginning is no item", "image", "            actor.begin()\n            self.items += 1\n", "            actor.begin()\n"),
     WrongRule("a quantum is no item", "image", "        self.steps += steps\n        self.items += 1\n", "        self.steps += steps\n"),
     WrongRule("a close is no item", "image", '"post", "close")', '"post")'),

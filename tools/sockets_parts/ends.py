@@ -3,6 +3,7 @@
 import contextlib
 import os
 import re
+import shlex
 import shutil
 import signal
 import socket
@@ -23,6 +24,11 @@ def without_a_number(Server, program, *options):
     server = Server(program, 1)
     server.words = [program, "serve", "--workers", "1", *options, "--socket"]
     return server
+
+
+def listens(path):
+    """Whether a server listens there: it gives the socket's file its rights last."""
+    return os.path.exists(path) and os.stat(path).st_mode & 0o777 == 0o600
 
 
 def checked(program, file):
@@ -147,8 +153,16 @@ def units(program):
     return dict(zip(UNITS, found))
 
 
+def words_of(text, key, folder):
+    """The words that a unit runs, with its files in a folder."""
+    words = re.search(rf"^{key}=(.*)$", text, re.M)[1].replace("$$", "$").replace("%%", "%")
+    words = words.replace("/var/lib/actorimage/image", f"{folder}/image").replace("/run/actorimage/socket", f"{folder}/socket")
+    return shlex.split(words)
+
+
 def units_are_right(program, _Server, _post):
-    """systemd finds nothing wrong with the units, and the first one starts a server that ends with its image written."""
+    """systemd finds nothing wrong with the units. The first one starts a server that ends with its image written, and the last one has it
+    written, and keeps a copy."""
     texts = units(program)
     with tempfile.TemporaryDirectory() as folder:
         if shutil.which("systemd-analyze"):
@@ -158,11 +172,16 @@ def units_are_right(program, _Server, _post):
             words = ["systemd-analyze", "verify", "--man=no", *UNITS]
             verified = subprocess.run(words, cwd=folder, capture_output=True, text=True, timeout=60)
             assert (verified.stdout, verified.stderr, verified.returncode) == ("", "", 0), verified
-        start = re.search(r"^ExecStart=(.*)$", texts["actorimage.service"], re.M)[1]
         image = os.path.join(folder, "image")
-        words = start.replace("/var/lib/actorimage/image", image).replace("/run/actorimage/socket", os.path.join(folder, "socket")).split()
+        words = words_of(texts["actorimage.service"], "ExecStart", folder)
         process = subprocess.Popen(words, stdout=subprocess.PIPE, stderr=subprocess.PIPE, text=True)
-        soon(lambda: os.path.exists(os.path.join(folder, "socket")), "the unit's words start no server", 60)
+        soon(lambda: listens(os.path.join(folder, "socket")), "the unit's words start no server", 60)
+        for key in ("ExecStart", "ExecStartPost"):
+            words = words_of(texts["actorimage-save.service"], key, folder)
+            subprocess.run(words, cwd=folder, stdout=subprocess.DEVNULL, check=True, timeout=60)
+        (copy,) = (name for name in os.listdir(folder) if re.fullmatch("image[.][0-9]{2}", name))
+        assert checked(program, image) == checked(program, os.path.join(folder, copy)) != ""
+        os.remove(image)
         process.terminate()
         out, err = process.communicate(timeout=60)
         assert (process.returncode, out) == (0, '{"ok":{"posts":0,"steps":0}}\n') and os.path.exists(image), (out, err)

@@ -1,4 +1,4 @@
-"""A trial of epochs: while somebody makes checkpoints all the time, no client is told the answer of another message."""
+"""Trials of epochs: no client is told the answer of another message, and no epoch comes back with a later server."""
 
 import functools
 import random
@@ -58,4 +58,21 @@ def no_answer_is_that_of_another_message(program, Server, post):
         run_together(server, *(functools.partial(stage.posts, sender) for sender in (1, 2)), stage.makes_checkpoints)
 
 
-TRIALS = (no_answer_is_that_of_another_message,)
+def an_epoch_ends_with_its_server(program, Server, post):
+    """Three servers one after the other tell three epochs, and what one has told is no present one of another."""
+    told = []
+    for _ in range(3):
+        with Server(program, 1, 1) as server, server.client() as client:
+            client.make("A", [], "it: x ^x")
+            client.actor("A")
+            turn = client.done(**post(0, "it:", [1], 1, 1))["turn"]
+            epoch = client.done(cmd="status")["epoch"]
+            for past in told:
+                reply = client.ask(cmd="wait", actor=0, epoch=past, ms=0, turn=turn)
+                assert reply == {"error": "Expired"}, (past, epoch, reply)
+            assert client.done(cmd="wait", actor=0, epoch=epoch, ms=20_000, turn=turn) == {"answer": 1}
+            assert epoch not in told, (epoch, told)
+            told.append(epoch)
+
+
+TRIALS = (no_answer_is_that_of_another_message, an_epoch_ends_with_its_server)

@@ -42,15 +42,15 @@ REFUSALS = {
     "TooMany": "there would be too many {what}; do with those there are, or begin a new image",
     "UnknownActor": "there is no {actor}; :actors lists those there are",
     "UnknownClass": "no class is named {class}; define it first, as in  {class} : Object",
-    "WriteFault": "the program could not write its reply; start anew with :restart",
+    "WriteFault": "the image could not be written, for the reason above, and is not saved; its file stays, and the image goes on",
 }
 
 # What there are too many of, where it says more than "there would be too many of them".
 MOST = {
     "actors": "there are 65,536 actors, and no more can be made; let the old ones do more, or begin a new image",
     "classes": "there are 1,024 classes, and no more can be defined; do with those, or begin a new image",
-    "edits": "the classes were edited as often as they may, 2,048 times in a session and 4,096 times in all; :save FILE begins a "
-    "new session, and :sources FILE writes them for a new image",
+    "edits": "the classes were edited as often as they may, 2,048 times in a session and 4,096 times in all; with --image, :save "
+    "and then :restart begin a new session, and :sources FILE writes them for a new image",
     "names": "there are 8,192 selectors and symbols, and no more can be added; do with those, or begin a new image",
     "sessions": "the program serves as many sessions as it may; try again later",
     "slots": "an object would have over 64 variables; move some into a class of their own",

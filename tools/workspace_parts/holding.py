@@ -1,8 +1,8 @@
 """The hold on an image's file: while a workspace goes on, no other program saves to the file. Where the file was changed otherwise, the
-workspace's own program leaves it, and saves its image beside it.
+workspace's own program leaves it, and saves its image beside it at its end.
 
-The hold is the lock on the new file beside it, which a server has too. The program wants it when it saves, so it is given back
-before."""
+The hold is the lock on the new file beside it, which a server has too. The program wants it when it saves, and has it from then on, so it
+is given back before."""
 
 import contextlib
 import errno
@@ -22,8 +22,8 @@ HIGH = 100
 
 
 class Hold:
-    """`file` is the new file while it is held, `loaded` is a sum of what the image's file had when it was loaded, and `before` are the
-    images that were beside it before the program saves."""
+    """`file` is the new file while it is held, `loaded` is a sum of what the image's file had when it was loaded or saved, and `before`
+    are the images that were beside it before the program saves."""
 
     def __init__(self, name):
         self.place = os.path.realpath(name)
@@ -62,7 +62,7 @@ class Hold:
         self.loaded = sum_of(self.read())
 
     def is_changed(self):
-        """Whether the file has something else than was loaded."""
+        """Whether the file has something else than was loaded or saved."""
         return sum_of(self.read()) != self.loaded
 
     def about_to_save(self):

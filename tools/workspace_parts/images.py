@@ -1,5 +1,6 @@
 """Where what is typed goes: to a script that the workspace starts, or to an image that is served to many."""
 
+import contextlib
 import os
 import tempfile
 
@@ -12,11 +13,11 @@ from .turns import Turns
 from .wrong import Ended, Wrong
 
 
-# What is said of image files. What :save loses is lost where a workspace begins with a file, too.
+# What is said of image files.
 HELP = """\
 With --image FILE the workspace begins with the image of that file, and keeps it there when it ends; c := actor 0 names an actor
-of it. :save goes on in a new session on the image: statistics begin at 0, turns are numbered anew, and of the outcomes each
-actor's last one is kept, as that of turn 0. What was named stays.
+of it. Behind an end, or :restart, statistics begin at 0, turns are numbered anew, and of the outcomes each actor's last one is
+kept, as that of turn 0. What was named is not in the file.
 """.splitlines()
 
 
@@ -25,7 +26,7 @@ class OwnImage:
     for a script, `not_there` says why there is no such command, and `help` has lines that `:help` says besides. `kept` is the name of
     the file in which the image is kept, if one was given, and `path` is that of the file with which the program works. `loaded` is
     what was there when the program began. `hold` is that on the file which is kept. `is_beside` says whether the image was saved beside
-    the file that was named, and is kept there."""
+    the file in the end."""
 
     is_served = False
     advice, in_general, commands, not_there, help = {}, {}, {}, {}, HELP
@@ -68,19 +69,26 @@ class OwnImage:
         if self.hold:
             self.hold.about_to_save()
 
+    @contextlib.contextmanager
+    def saving(self):
+        """Lets the program save the file. It holds that itself then; if not, it is held here again."""
+        self.about_to_save()
+        try:
+            yield
+            if self.hold:
+                self.hold.see()
+        finally:
+            if self.hold:
+                self.hold.take()
+
     def is_changed(self):
-        """Whether the file has something else than the program has loaded."""
+        """Whether the file has something else than the program has loaded or saved."""
         return self.hold and self.hold.is_changed()
 
-    def goes_beside(self):
-        """Whether the program has left the file and saved its image beside it. That is where the image is kept from now on."""
-        place = self.hold and self.hold.saved_beside()
-        if not place:
-            return False
-        near = self.kept + place.removeprefix(self.path)
-        self.kept = near if os.path.realpath(near) == place else place
-        self.path, self.hold, self.is_beside = place, holding.Hold(place), True
-        return True
+    def is_kept_beside(self):
+        """Whether the program has left the file at its end, and saved its image beside it."""
+        self.is_beside = bool(self.hold and self.hold.saved_beside())
+        return self.is_beside
 
     def turns(self, connection, breaks):
         return Turns(connection, breaks)
@@ -108,6 +116,9 @@ class ServedImage:
 
     def about_to_save(self):
         """The server saves it."""
+
+    def saving(self):
+        return contextlib.nullcontext()
 
     def turns(self, connection, breaks):
         return ServedTurns(connection, breaks, self.sender)

@@ -46,6 +46,11 @@ def pending(session, command, reply):
     return None if turn.number <= told["accepted"] else f"{reply['error']}: {turn} has not ended; its message is not posted yet"
 
 
+def bad_arguments(_session, command, reply):
+    """Where the image has no file to be saved in, says so."""
+    return f"{reply['error']}: {NO_FILE}" if command["cmd"] == "save" else None
+
+
 def class_exists(session, command, reply):
     known = session.known
     name, old = command["name"], known.classes.get(command["name"])
@@ -65,6 +70,7 @@ ADD = "tools/add-variable FILE {} {}  gives it these too, in an image file that 
 MOVE = "name just these to put it under another class, and further ones in a class below it"
 
 
+NO_FILE = "the server was started without --image FILE, so nothing is saved;  :sources FILE  writes the classes and methods of this session"
 ABOUT_CLASSES = ("BadSource", "ClassExists", "UnknownClass")
 # What says more than its sentence in advice.py.
-OWN = {"ClassExists": class_exists, "NoSuchMethod": no_such_method, "Pending": pending}
+OWN = {"BadArguments": bad_arguments, "ClassExists": class_exists, "NoSuchMethod": no_such_method, "Pending": pending}

@@ -1,22 +1,18 @@
-"""The commands that write the image to a file, and go back to what was written. The program writes its file where its session
-ends, so a session ends here, and the next one goes on with the file."""
+"""The commands that write the image to its file, and go back to what was written."""
 
 import os
 
 from . import image_file
 from .learning import contents
-from .wrong import Died, Wrong
+from .values import count
+from .wrong import Died, Refused, Wrong
 
-OF_SERVER = (
-    "the server keeps this image; one that was started with --image FILE saves it when tools/stop ends it, and "
-    ":sources FILE writes the classes and methods of this session"
-)
-NOT_SAVED = "{} could not be written, for the reason above; nothing is lost, since all that it has not was done once more"
-NOT_KEPT = (
-    "{} could not be written, for the reason above; end the workspace again once it can, or now to lose what the file has not"
-)
-BESIDE = "from now on the file of this workspace is {}"
+OF_SERVER = "the server saves this image in its own file, at  :save  alone;  :sources FILE  writes the classes and methods of this session"
+# Where the server's file is not known.
+ITS_FILE = "the server's file"
+NOT_KEPT = "end the workspace again once {} can be written, or now to lose what it has not"
 LOST = "{} could not be written, for the reason above, and has what was saved last"
+CHANGED = "what was done since the image was saved last is lost, and {} has what another program wrote"
 
 
 def begin(session):
@@ -27,42 +23,50 @@ def begin(session):
 
 
 def end(session):
-    """Ends the session."""
+    """Ends the session. The program saves its image then, beside the file if that was changed."""
     if not session.close():
-        raise Died(LOST.format(session.image.kept))
+        raise Died((CHANGED if session.image.is_changed() else LOST).format(session.image.kept))
 
 
 def ends(session):
     """Whether the session ended, with what was to be kept. Else it goes on, and nothing is lost."""
-    if session.close():
-        return True
-    session.go_on(is_saved=False)
-    session.is_over = False
-    session.say(NOT_KEPT.format(session.image.kept))
-    return False
+    image = session.image
+    if image.kept and not image.is_changed():
+        try:
+            session.save()
+        except Refused as refused:
+            session.is_over = False
+            session.tell_refusal(refused)
+            session.say(NOT_KEPT.format(image.kept))
+            return False
+    end(session)
+    return True
 
 
 def save(session, rest):
     image = session.image
     if image.is_served:
-        raise Wrong(OF_SERVER)
-    name = os.path.expanduser(rest) or image.kept
+        if rest:
+            raise Wrong(OF_SERVER)
+        size, name = session.save(), session.log.connection.file or ITS_FILE
+    else:
+        name = os.path.expanduser(rest) or image.kept
+        size = save_own(session, name)
+    session.say(f"{name}: {count(size, 'byte')}")
+
+
+def save_own(session, name):
+    """Saves the image of the workspace's own program, and copies the file where another name was given. Answers its bytes."""
     if not name:
         raise Wrong("write the name of a file after it, as in  :save counter.image")
-    is_copy = os.path.realpath(name) != image.path
+    path = session.image.path
+    is_copy = os.path.realpath(name) != path
     if is_copy:
         check_target(name)
-    image_file.check_room(image.path)
-    before = image.kept
-    if not session.save():
-        raise Wrong(NOT_SAVED.format(image.kept or name))
-    if image.kept != before:
-        session.say(BESIDE.format(image.kept))
+    size = session.save()
     if is_copy:
-        image_file.copy(image.path, name)
-    else:
-        name = image.kept
-    session.say(f"{name}: {contents(image.loaded)}")
+        image_file.copy(path, name)
+    return size
 
 
 def check_target(name):

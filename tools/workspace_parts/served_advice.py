@@ -8,6 +8,7 @@ REFUSALS = {
     "Old": "another client posts under this number as well; type it again, or start with another --sender",
     "Pending": "turn {turn} of {actor} has not ended; ask again later",
     "UnknownActor": "there is no {actor}; :actors lists those there are",
+    "WriteFault": "the server could not write its image, and says why on its standard error; its file stays, and the image goes on",
     "actors": "there are 65,536 actors, and no more can be made; let the old ones do more",
     "classes": "there are 1,024 classes, and no more can be defined; do with those there are",
     "edits": "the classes were edited as often as they may, 2,048 times since the server's start or 4,096 times in all; the first is "
@@ -25,6 +26,7 @@ IN_GENERAL = {
     "TooMany": "there would be too many classes, variables, edits, names or actors; do with those there are, or let the server begin a "
     "new image",
     "UnknownActor": "no actor has this number; :actors lists those there are",
+    "WriteFault": REFUSALS["WriteFault"],
 }
 
 HELP = """\
@@ -39,7 +41,7 @@ others take effect here at the next send, and are not told; but a method that so
 is not written over: what is there now is shown, and what is typed again takes the place of that. c := actor 0 names any actor by its
 number. Where somebody has a checkpoint, turns of before are not told of any more.
 Where the connection breaks, the next entry at a terminal connects again, asks for the last message of this sender that the image
-has, and goes on behind it. The server saves its image when tools/stop ends it, if it was started with --image FILE.
+has, and goes on behind it. A server that was started with --image FILE saves its image at :save, and when tools/stop ends it.
 """.splitlines()
 
 # Commands that one might look for, and why they are not there.
@@ -56,7 +58,7 @@ COMMANDS = {
     "step": FOR_SCRIPT,
     "run": FOR_SCRIPT,
     "names": "lists what this session named",
-    "save": "is for a script; here the server saves its image at its end",
+    "save": "has the server write the image to its file now",
     "sources": "writes the classes and methods that this session knows to a file, for :load",
     "restart": "is for a script; here the image is the server's",
     "quit": "ends the workspace; the image goes on",

@@ -11,9 +11,8 @@ from .sources import marked
 from .statements import read_statements
 from .tokens import has_body, pattern
 from .values import show
-from .wrong import Died, Faulted, Lost, Refused, Stopped, Wrong
+from .wrong import Faulted, Lost, Refused, Stopped, Wrong
 
-CHANGED = "what was done since the image was saved last is lost, and {} has what another program wrote"
 OFFER = "a tenth of the history is left;  :checkpoint  empties it, and all goes on"
 
 
@@ -39,34 +38,15 @@ class Session:
         self.told = 0
         self.is_offered = False
         self.why = None
-        self.learn({})
-
-    def learn(self, names):
-        """What is known where a session of the program begins."""
         self.known = Known()
-        self.known.names = names
         self.turns = self.image.turns(self.log, self.breaks)
         if self.image.loaded:
             learn(self.image.loaded, self.known, self.turns)
 
     def save(self):
-        """Whether the image was saved. The program saves it where its session ends, and another one goes on."""
-        is_saved = self.end_saving()
-        self.go_on(is_saved)
-        return is_saved
-
-    def end_saving(self):
-        """Ends the program, and says whether it has saved the image: in its file, or beside it."""
-        self.image.about_to_save()
-        return self.log.connection.close() == 0 or self.image.goes_beside()
-
-    def go_on(self, is_saved):
-        """Goes on with the image after the program has ended. Nothing is done once more on what another program has written."""
-        if not is_saved and self.image.is_changed():
-            raise Died(CHANGED.format(self.image.kept))
-        self.log.go_on(self.image.connect(self), is_saved)
-        if is_saved:
-            self.learn(self.known.names)
+        """The bytes of the image's file, once the image is there."""
+        with self.image.saving():
+            return self.turns.ask({"cmd": "save"})["bytes"]
 
     def restart(self):
         """Begins anew with what was saved last, if it was to be kept."""
@@ -80,11 +60,12 @@ class Session:
         return self.turns.begin_again()
 
     def close(self):
-        """Ends the session, and says whether what was to be kept is kept."""
+        """Ends the session, and says whether what was to be kept is kept: in its file, or beside it."""
         if self.image.is_served or not self.image.kept:
             self.end()
             return True
-        return self.end_saving()
+        self.image.about_to_save()
+        return self.log.connection.close() == 0 or self.image.is_kept_beside()
 
     def end(self):
         self.image.about_to_save()

@@ -6,11 +6,11 @@ import subprocess
 import sys
 import tempfile
 
+from . import advice
 from .holding import TAKEN
 from .pretend import Terminal
-from .saving import BESIDE
+from .saving import CHANGED
 from .serving import Server
-from .session import CHANGED
 from .try_common import WORKSPACE, same
 from .try_images import ADD, NAME, OPTIONS, content, typed
 
@@ -53,30 +53,25 @@ def of_a_server(program):
 
 
 def changed(program):
-    """A file that was changed stays, at a save and at the end. What the workspace did is beside it, and goes on there."""
+    """A file that was changed stays, at a save and at the end. What the workspace did is beside it then."""
     with tempfile.TemporaryDirectory() as folder:
         typed(program, folder, ["C : Object"])
         other = content(folder).replace(b'"C"', b'"BCD"')
-        said = said_of(os.path.realpath(folder))
         with at_work(program, folder, 1) as terminal:
             same(terminal.ask("D : Object"), "class D, version 2\n")
             write(folder, other)
-            first = f"{BESIDE.format(KEPT)}\n{KEPT}: 2 classes, 0 methods, 0 actors\n"
-            same(terminal.ask(":save"), f"{said}{first}")
+            said = f"actorimage: the image is not saved: {changed_file(folder)}\nWriteFault: {advice.REFUSALS['WriteFault']}\n"
+            for line in (":save", ":save two.image"):
+                same(terminal.ask(line), said)
             same(terminal.ask("E : C"), "class E, version 3\n")
-            # What was saved beside is held as the file was, and :restart goes back to it.
-            same(typed(program, folder, [], "--image", KEPT)[1], f"tools/workspace: {TAKEN.format(KEPT)}\n")
-            same(terminal.ask(":save"), f"{KEPT}: 3 classes, 0 methods, 0 actors\n")
-            terminal.ask("F : C")
-            same(terminal.ask(":restart"), f"{KEPT} as it was saved last: 3 classes, 0 methods, 0 actors\n")
-            same(terminal.ask("G : C"), "class G, version 4\n")
-        same(sorted(it for it in os.listdir(folder) if it.startswith(NAME)), [NAME, KEPT])
+            same(typed(program, folder, ["F : Object"]), REFUSED)
+        same(sorted(it for it in os.listdir(folder) if it.endswith((".image", ".new", ".kept1"))), [NAME, KEPT])
         same(content(folder), other)
-        same(typed(program, folder, [":classes"], "--image", KEPT)[0][1:], ["C : Object", "D : Object", "E : C", "G : C"])
+        same(typed(program, folder, [":classes"], "--image", KEPT)[0][1:], ["C : Object", "D : Object", "E : C"])
 
 
 def changed_at_the_end(program):
-    """A file that was changed stays also where nothing was saved before the end, and where the image is saved to another name."""
+    """A file that was changed stays also where nothing was to be saved before the end, and where it was changed behind a save."""
     with tempfile.TemporaryDirectory() as folder:
         typed(program, folder, ["C : Object"])
         other = content(folder).replace(b'"C"', b'"BCD"')
@@ -85,16 +80,16 @@ def changed_at_the_end(program):
             write(folder, other)
         with at_work(program, folder, 1) as terminal:
             terminal.ask("E : Object")
+            terminal.ask(":save")
             write(folder, content(folder, KEPT))
-            said = said_of(os.path.realpath(folder), KEPT[:-1] + "2") + BESIDE.format(KEPT[:-1] + "2")
-            same(terminal.ask(":save two.image"), f"{said}\ntwo.image: 2 classes, 0 methods, 0 actors\n")
+            terminal.ask("F : Object")
         same(content(folder), content(folder, KEPT))
-        for name, wanted in ((KEPT, ["C : Object", "D : Object"]), ("two.image", ["BCD : Object", "E : Object"])):
+        for name, wanted in ((KEPT, ["C : Object", "D : Object"]), (KEPT[:-1] + "2", ["BCD : Object", "E : Object", "F : Object"])):
             same(typed(program, folder, [":classes"], "--image", name)[0][1:], wanted)
 
 
 def changed_and_not_written(program):
-    """Where the image cannot be saved and another one is in the file, nothing is done once more on that."""
+    """Where the image cannot be saved and another one is in the file, that stays, and it is said what is lost."""
     with tempfile.TemporaryDirectory() as folder:
         typed(program, folder, ["C : Object"])
         other = content(folder).replace(b'"C"', b'"BCD"')
@@ -105,15 +100,15 @@ def changed_and_not_written(program):
         # The workspace holds the file beside it.
         os.remove(os.path.join(folder, NAME + ".new"))
         os.mkdir(os.path.join(folder, NAME + ".new"))
-        terminal.type(":save\n")
+        same("WriteFault" in terminal.ask(":save"), True)
+        terminal.type(":quit\n")
         terminal.see(CHANGED.format(NAME) + "; the classes and methods of this session are in lost1.st, for  :load")
         same((terminal.process.wait(60), content(folder)), (1, other))
 
 
-def said_of(folder, kept=KEPT):
+def changed_file(folder):
     """What the program says of a file that was changed."""
-    name, place = os.path.join(folder, NAME), os.path.join(folder, kept)
-    return f"actorimage: WriteFault\n{name} was changed by another process, and is NOT replaced: this image is saved in {place}\n"
+    return f"{os.path.join(os.path.realpath(folder), NAME)} was changed by another process, and is NOT replaced"
 
 
 def write(folder, data):

@@ -3,33 +3,39 @@
 import os
 import tempfile
 
+from . import advice
 from .pretend import Terminal
+from .saving import LOST, NOT_KEPT, OF_SERVER
 from .serving import Server
 from .try_common import COUNTER, WORKSPACE, piped, same
 from .try_images import NAME, OPTIONS, content, typed
 from .try_served import typed as typed_to_server
 
 BUMPED = [*COUNTER, "c := Counter actor", "c start. c bump"]
-FULL = f"{NAME} could not be written, for the reason above"
+REFUSED = f"WriteFault: {advice.REFUSALS['WriteFault']}"
 ONE = "1 class, 2 methods, 1 actor"
 
 
+def size(folder, name=NAME):
+    """What is said of a file that was written."""
+    return f"{name}: {len(content(folder, name)):,} bytes"
+
+
 def saved(program):
-    """The image goes on after it was saved: names stay, and turns, statistics and the history begin anew."""
+    """The image goes on as it is after it was saved."""
     with tempfile.TemporaryDirectory() as folder:
         stats = ":stats Counter bump"
-        lines = [*BUMPED, ":post c bump", stats, ":save two.image", stats, ":run", "c bump", ":turn 0 of c"]
+        lines = [*BUMPED, ":post c bump", stats, ":save two.image", stats, ":run", "c bump", ":turn 2 of c"]
         found, said, status = typed(program, folder, lines)
+        told = "send  sends  site  global  walk  state\n+         1     0       0     1  mono"
         wanted = f"""turn 3 of actor 0 waits
-send  sends  site  global  walk  state
-+         1     0       0     1  mono
-two.image: {ONE}, 1 turn to run
-send  sends  site  global  walk  state
-+         0     0       0     0  empty
+{told}
+{size(folder, "two.image")}
+{told}
 1 quantum, 8 steps
-turn 1 of actor 0 answers 2
+turn 3 of actor 0 answers 2
 3
-turn 0 of actor 0 answers 1"""
+turn 2 of actor 0 answers 1"""
         same(found[4:], wanted.split("\n"))
         same((said, status, sorted(os.listdir(folder))), ("", 0, [NAME, "two.image"]))
         for name, number in ((NAME, "4"), ("two.image", "3")):
@@ -44,7 +50,7 @@ def without_option(program):
         ended = piped(program, lines, cwd=folder, env={**os.environ, "TMPDIR": other})
         printed = [line for line in ended.stdout.decode().splitlines() if not line.startswith("> ")]
         same(printed[0], "write the name of a file after it, as in  :save counter.image")
-        same(printed[4:6], [f"two.image: {ONE}", "2"])
+        same(printed[4:6], [size(folder, "two.image"), "2"])
         empty = "no class was defined yet; define one as in  Counter : Object | count |"
         same(printed[6:], ["a new image, without classes and actors", empty])
         same((os.listdir(folder), os.listdir(other), ended.returncode), (["two.image"], [], 0))
@@ -66,53 +72,54 @@ def no_image_there(program):
     with tempfile.TemporaryDirectory() as folder:
         lines = ["C : Object", ":sources c.st", ":save c.st", ":save nofolder/c", ":save two.image", ":load two.image"]
         found = typed(program, folder, lines)[0]
-        wanted = """c.st: 1 class, 0 methods
+        wanted = f"""c.st: 1 class, 0 methods
 c.st is there and is no image, so it stays; take another name
 nofolder/c cannot be written (No such file or directory)
-two.image: 1 class, 0 methods, 0 actors
+{size(folder, "two.image")}
 two.image is an image, and no definitions; start a workspace on it with  tools/workspace --image two.image"""
         same(found[2:], wanted.split("\n"))
         same(content(folder, "c.st"), b"C : Object\n")
 
 
 def not_written(program):
-    """Where the program cannot write its file, nothing is lost: what the file has not is done once more."""
+    """Where the program cannot write its file, the image goes on, and at the end nothing is lost but what the file has not."""
     with tempfile.TemporaryDirectory() as folder:
         typed(program, folder, BUMPED)
         before = content(folder)
         os.mkdir(os.path.join(folder, NAME + ".new"))
         lines = ["c := actor 0", "c bump", ":post c bump", ":save", ":save two.image", ":run", "c bump", ":turn 2 of c"]
         found, said, status = typed(program, folder, lines)
-        wanted = f"{FULL}; nothing is lost, since all that it has not was done once more"
         told = ["turn 2 of actor 0 answers 3", "4", "turn 2 of actor 0 answers 3"]
-        same(found[2:], ["2", "turn 2 of actor 0 waits", wanted, wanted, "1 quantum, 8 steps", *told])
+        same(found[2:], ["2", "turn 2 of actor 0 waits", REFUSED, REFUSED, "1 quantum, 8 steps", *told])
         kept = "the classes and methods of this session are in lost1.st, for  :load"
-        same((said.splitlines()[-1], status), (f"tools/workspace: {FULL}, and has what was saved last; {kept}", 1))
+        same((said.splitlines()[-1], status), (f"tools/workspace: {LOST.format(NAME)}; {kept}", 1))
         same(content(folder, "lost1.st").decode().splitlines(), COUNTER)
         same((content(folder), os.path.exists(os.path.join(folder, "two.image"))), (before, False))
 
 
 def fails_later(program):
-    """What was saved before is loaded, and only what came later is done once more."""
+    """Where a later save fails, the image goes on, and the next one saves it."""
     with tempfile.TemporaryDirectory() as folder:
         beside = os.path.join(folder, NAME + ".new")
         terminal = Terminal([WORKSPACE, "--program", program, *OPTIONS], folder, folder)
         terminal.see("\n> ")
         for line in [*BUMPED, "c bump"]:
             terminal.ask(line)
-        same(terminal.ask(":save"), f"{NAME}: {ONE}\n")
-        same(terminal.ask("c bump"), "3\n")
-        # The workspace holds the file beside it.
+        same(terminal.ask(":save"), size(folder) + "\n")
+        saved = content(folder)
+        # The program holds the file beside it.
         os.remove(beside)
         os.mkdir(beside)
-        same(FULL in terminal.ask(":save"), True)
-        same(terminal.ask("c bump"), "4\n")
-        same(FULL in terminal.ask(":save"), True)
-        same(terminal.ask(":turn 0 of c"), "turn 0 of actor 0 answers 2\n")
+        reason = f"actorimage: the image is not saved: {os.path.realpath(beside)} is there already, and is no file\n"
+        for answer in ("3", "4"):
+            same(terminal.ask("c bump"), answer + "\n")
+            same(terminal.ask(":save"), f"{reason}{REFUSED}\n")
+            same(content(folder), saved)
         os.rmdir(beside)
-        same(terminal.ask(":save"), f"{NAME}: {ONE}\n")
-        same(terminal.ask(":turn 0 of c"), "turn 0 of actor 0 answers 4\n")
-        same(terminal.end(), 0)
+        same(terminal.ask(":save"), size(folder) + "\n")
+        same(terminal.ask(":turn 4 of c"), "turn 4 of actor 0 answers 3\n")
+        same((terminal.end(), os.path.exists(beside)), (0, False))
+        same(typed(program, folder, ["c := actor 0", "c bump"])[0][-1], "5")
 
 
 def not_written_at_terminal(program):
@@ -125,7 +132,7 @@ def not_written_at_terminal(program):
             terminal.see("\n> ")
             terminal.ask("C : Object")
             terminal.type(typed_to_end)
-            terminal.see(f"{FULL}; end the workspace again once it can, or now to lose what the file has not\n> ")
+            terminal.see(f"{REFUSED}\n{NOT_KEPT.format(NAME)}\n> ")
             same(terminal.ask(":classes"), "C : Object\n")
             if is_mended:
                 os.rmdir(beside)
@@ -133,10 +140,10 @@ def not_written_at_terminal(program):
 
 
 def of_server(program):
-    """The image of a server is the server's to save; a workspace goes on with it, and a server with that of a workspace."""
+    """A server saves its image in its own file; a workspace goes on with it, and a server with that of a workspace."""
     with tempfile.TemporaryDirectory() as folder:
-        told = served(program, folder, [":save two.image", *BUMPED])
-        same(told[0].startswith("the server keeps this image; one that was started with --image FILE saves it"), True)
+        told = served(program, folder, [":save two.image", *BUMPED, ":save"])
+        same((told[0], told[-1]), (OF_SERVER, size(folder)))
         found = typed(program, folder, ["c := actor 0", "c bump", ":turn 0 of c"])[0]
         same(found, [f"{NAME}: {ONE}", "actor 0", "2", "turn 0 of actor 0 answers 1"])
         told = served(program, folder, ["c := actor 0", ":turn 0 of c", "c bump", ":actors"])

@@ -6,6 +6,7 @@ ghost use Rattle.std.specs.Prelude.{◌≡◌, [], IfOk};
 mod doors;
 mod failures;
 mod image_files;
+mod keeping;
 mod new_files;
 mod options;
 mod runs;
@@ -15,19 +16,20 @@ mod stamps;
 use crate::doors::{Doorkeeper, Reporter};
 use crate::failures::Failure;
 use crate::image_files::{Opened, Place, Unreadable, load_file, open_file};
+use crate::keeping::FileKeeper;
 use crate::new_files::{NewFile, hold};
 use crate::options::{Request, ScriptOptions, ServeOptions, invalid_utf8_error, parsed_request};
 use crate::runs::{begin_with, saved_at};
 use crate::socket_files::{SocketFile, bind};
-use crate::stamps::Stamp;
 use boxcar::Vec as Faults;
 use clap::Error;
 use st_classes::refusals::Refusal;
 use st_pool::totals::Totals;
 use st_server::checking::check_on;
 use st_server::images::Image;
+use st_server::keepers::Keeper;
 use st_server::porters::FaultList;
-use st_server::scripts::script_on;
+use st_server::scripts::script_with;
 use st_server::sockets::{Served, serve_image};
 use st_server::starts::now;
 use st_wire::names::refusal_name;
@@ -51,10 +53,12 @@ fn first_image(alloc: Global, file: Option<&File>) -> Result<Image, Refusal>
     begin_with(alloc, found)
 }
 
-/// Runs the commands of standard input on an image, and writes the replies to standard output.
-fn run_script<R: Input + Print + Clock + AllocGlobal>(
+/// Runs the commands of standard input on an image, and writes the replies to standard output. The keeper keeps the image where a
+/// command saves it.
+fn run_script<R: Input + Print + Clock + AllocGlobal, S: Keeper>(
     rt: &R,
     options: ScriptOptions<'_>,
+    keeper: &S,
     image: Image,
 ) -> (Image, Result<u64, Refusal>)
     requires { image.history ≡ [] }
@@ -66,41 +70,44 @@ fn run_script<R: Input + Print + Clock + AllocGlobal>(
     let mut input = Reader::new(rt.reader());
     let mut output = Writer::new(buffered);
     let settings = options.settings(now(rt));
-    let (image, result) = script_on(alloc, &mut input, &mut output, settings, image);
+    let (image, result) = script_with(alloc, &mut input, &mut output, settings, keeper, image);
     match output.finish() {
         Ok(_) => (image, result),
         Err(_) => (image, Err(Refusal::WriteFault)),
     }
 }
 
-/// Saves an image at a place, if one is given, by a new file that is held for that. `seen` is what was at the place at the start.
-fn save_at<R: Files<File = File>>(
-    rt: &R,
+/// Saves the image at the end of a run by the keeper that is given, or by none.
+fn end_keeping(
     alloc: Global,
-    place: Option<Place<'_>>,
-    seen: Option<Stamp>,
+    keeper: &FileKeeper<'_>,
+    saves: Option<&FileKeeper<'_>>,
     image: Image,
 ) -> Result<(), Failure> {
-    let held = hold_at(rt, alloc, place)?;
-    save_held(rt, alloc, held.as_ref(), seen, image)
+    match saves {
+        Some(keeper) => keeper.finish(alloc, image),
+        None => {
+            drop(image);
+            keeper.leave();
+            Ok(())
+        }
+    }
 }
 
-/// Runs a script on a new image or on the image of a file. That file then gets the image, unless the session is refused.
+/// Runs a script on a new image or on the image of a file. That file then gets the image, unless the session is refused. `program` is
+/// the program's runtime, by which the file is kept.
 fn script<R: Input + Print + Files<File = File> + Clock + AllocGlobal>(
     rt: &R,
+    program: &HostRuntime,
     options: ScriptOptions<'_>,
 ) -> Result<(), Failure> {
     let alloc = rt.alloc();
     let opened = open_at(rt, alloc, options.image)?;
-    let image = first_image(alloc, opened.file.as_ref())?;
-    let (image, ended) = run_script(rt, options, image);
-    save_at(
-        rt,
-        alloc,
-        saved_at(options.image, &ended),
-        opened.seen,
-        image,
-    )?;
+    let Opened { file, seen } = opened;
+    let image = first_image(alloc, file.as_ref())?;
+    let keeper = FileKeeper::new(program, path_of(options.image), None, seen, file);
+    let (image, ended) = run_script(rt, options, &keeper, image);
+    end_keeping(alloc, &keeper, saved_at(Some(&keeper), &ended), image)?;
     match ended {
         Ok(_) => Ok(()),
         Err(refusal) => Err(Failure::from(refusal)),
@@ -164,6 +171,7 @@ fn serve_bound<R: Threads + Wait + Files + Eprint + Clock + Sync>(
     options: ServeOptions<'_>,
     (listener, file): (UnixListener, SocketFile<'_>),
     faults: &Faults<Refusal>,
+    image_keeper: &FileKeeper<'_>,
     image: Image,
 ) -> Result<Served, Refusal> {
     if options.is_verbose {
@@ -178,6 +186,7 @@ fn serve_bound<R: Threads + Wait + Files + Eprint + Clock + Sync>(
         listener,
         &keeper,
         &reporter,
+        image_keeper,
         options.workers,
         options.sessions,
         image,
@@ -191,20 +200,29 @@ fn serve_bound<R: Threads + Wait + Files + Eprint + Clock + Sync>(
 fn serve_loaded<R: Threads + Wait + Net + Files + Eprint + Clock + AllocGlobal + Sync>(
     rt: &R,
     options: ServeOptions<'_>,
-    file: Option<&File>,
+    loaded: Result<Image, Refusal>,
     faults: &Faults<Refusal>,
+    keeper: &FileKeeper<'_>,
 ) -> Result<Served, Failure> {
     let alloc = rt.alloc();
-    let image = first_image(alloc, file)?;
+    let image = loaded?;
     match bind(rt, alloc, options.socket) {
         Ok(bound) => {
-            let served = serve_bound(rt, alloc, options, bound, faults, image)?;
+            let served = serve_bound(rt, alloc, options, bound, faults, keeper, image)?;
             Ok(served)
         }
         Err(failure) => {
             drop(image);
             Err(failure)
         }
+    }
+}
+
+/// The path of an image's place, if one is given.
+fn path_of(place: Option<Place<'_>>) -> Option<&str> {
+    match place {
+        Some(place) => Some(place.path),
+        None => None,
     }
 }
 
@@ -248,32 +266,15 @@ fn hold_at<R: Files<File = File>>(
     }
 }
 
-/// Saves an image by a new file that is held, if one is. `seen` is what was at its place at the start.
-fn save_held<R: Files<File = File>>(
+/// Saves the image of a server whose sessions have ended, if there is a place for it, and reports the end. Both are done even if
+/// accepting failed; the answer is then that refusal. Neither is done if serving was refused.
+fn end_serving<R: Print + Eprint + AllocGlobal>(
     rt: &R,
-    alloc: Global,
-    held: Option<&NewFile>,
-    seen: Option<Stamp>,
-    image: Image,
-) -> Result<(), Failure> {
-    let saved = match held {
-        Some(new) => new.save(rt, alloc, &image, seen),
-        None => Ok(()),
-    };
-    drop(image);
-    saved
-}
-
-/// Saves the image of a server whose sessions have ended, if a new file is held for it, and reports the end. Both are done even if
-/// accepting failed; the answer is then that refusal. Neither is done if serving was refused: then the new file is removed.
-fn end_serving<R: Files<File = File> + Print + Eprint + AllocGlobal>(
-    rt: &R,
-    held: Option<&NewFile>,
-    seen: Option<Stamp>,
+    keeper: &FileKeeper<'_>,
     faults: &Faults<Refusal>,
     ended: Result<Served, Failure>,
 ) -> Result<(), Failure> {
-    let kept = saved_at(held, &ended);
+    let saves = saved_at(Some(keeper), &ended);
     let Served {
         image,
         totals,
@@ -282,13 +283,11 @@ fn end_serving<R: Files<File = File> + Print + Eprint + AllocGlobal>(
     } = match ended {
         Ok(served) => served,
         Err(failure) => {
-            if let Some(new) = held {
-                new.remove(rt);
-            }
+            keeper.leave();
             return Err(failure);
         }
     };
-    let saved = save_held(rt, rt.alloc(), kept, seen, image);
+    let saved = end_keeping(rt.alloc(), keeper, saves, image);
     let told = tell_end(rt, faults, totals);
     saved?;
     told?;
@@ -302,23 +301,37 @@ fn end_serving<R: Files<File = File> + Print + Eprint + AllocGlobal>(
 /// if that is refused, nothing is served.
 fn serve_with<
     R: Threads + Wait + Net + Files<File = File> + Print + Eprint + Clock + AllocGlobal + Sync,
->(rt: &R, options: ServeOptions<'_>, faults: &Faults<Refusal>) -> Result<(), Failure> {
-    let held = hold_at(rt, rt.alloc(), options.image)?;
-    match lock_at(rt, rt.alloc(), options.image) {
+>(
+    rt: &R,
+    program: &HostRuntime,
+    options: ServeOptions<'_>,
+    faults: &Faults<Refusal>,
+) -> Result<(), Failure> {
+    let alloc = rt.alloc();
+    let held = hold_at(rt, alloc, options.image)?;
+    match lock_at(rt, alloc, options.image) {
         Ok(opened) => {
-            let ended = serve_loaded(rt, options, opened.file.as_ref(), faults);
-            end_serving(rt, held.as_ref(), opened.seen, faults, ended)
+            let Opened { file, seen } = opened;
+            let loaded = first_image(alloc, file.as_ref());
+            let keeper = FileKeeper::new(program, path_of(options.image), held, seen, file);
+            let ended = serve_loaded(rt, options, loaded, faults, &keeper);
+            end_serving(rt, &keeper, faults, ended)
         }
-        Err(failure) => end_serving(rt, held.as_ref(), None, faults, Err(failure)),
+        Err(failure) => {
+            if let Some(new) = &held {
+                new.remove(rt);
+            }
+            Err(failure)
+        }
     }
 }
 
 /// Serves a new image or the image of a file. That file gets the image when all sessions have ended.
 fn serve<
     R: Threads + Wait + Net + Files<File = File> + Print + Eprint + Clock + AllocGlobal + Sync,
->(rt: &R, options: ServeOptions<'_>) -> Result<(), Failure> {
+>(rt: &R, program: &HostRuntime, options: ServeOptions<'_>) -> Result<(), Failure> {
     match Faults::new(rt.alloc()) {
-        Ok(faults) => serve_with(rt, options, &faults),
+        Ok(faults) => serve_with(rt, program, options, &faults),
         Err(_) => Err(Failure::from(Refusal::NoMemory)),
     }
 }
@@ -364,8 +377,8 @@ fn main(rt: HostRuntime) -> io::Result<ExitCode> {
         Err(error) => return Ok(show_error(&rt, error)),
     };
     let result = match request {
-        Request::Script(options) => script(&rt, options).map(|_| 0),
-        Request::Serve(options) => serve(&rt, options).map(|_| 0),
+        Request::Script(options) => script(&rt, &rt, options).map(|_| 0),
+        Request::Serve(options) => serve(&rt, &rt, options).map(|_| 0),
         Request::Check(path) => Ok(check(&rt, path)),
     };
     match result {

@@ -1,9 +1,12 @@
 //! The new file beside an image's file. It is held by a lock, gets the text, and takes the old file's place.
+ghost use Rattle.std.specs.Prelude.{IfOk, Ok};
+ghost use Rattle.st_server.specs.Keepers.{Keeps};
+
 use crate::failures::Failure;
 use crate::stamps::{Stamp, has_changed};
 use st_classes::refusals::Refusal;
-use st_file::saving::save;
-use st_server::images::Image;
+use st_file::moments::Moment;
+use st_file::saving::save_moment;
 use st_wire::streams::Writer;
 use std::alloc::Global;
 use std::fs::{self, File, Files, Permissions, TryLockError};
@@ -147,6 +150,15 @@ pub fn hold<R: Files<File = File>>(rt: &R, alloc: Global, path: &str) -> Result<
         return Err(Failure::from(Refusal::WriteFault));
     }
     let place = place_of(rt, alloc, path)?;
+    hold_beside(rt, alloc, place)
+}
+
+/// The same beside the file at a path that is no link.
+pub fn hold_beside<R: Files<File = File>>(
+    rt: &R,
+    alloc: Global,
+    place: String,
+) -> Result<NewFile, Failure> {
     let path = beside(alloc, place.as_str())?;
     let file = held(rt, alloc, path.as_str(), place.as_str())?;
     Ok(NewFile { file, path, place })
@@ -189,61 +201,73 @@ impl<'a> Write for Written<'a> {
     }
 }
 
-/// Writes an image to an open file and waits until it is on the disk. A failure is said of the path.
-fn write_image(alloc: Global, file: &File, path: &str, image: &Image) -> Result<(), Failure> {
+/// Writes an image to an open file and waits until it is on the disk. The answer is how many bytes were written. A failure is said of the
+/// path.
+fn write_image(alloc: Global, file: &File, path: &str, moment: &Moment) -> Result<u64, Failure>
+    ensures { IfOk result (λ n. Keeps moment.now (Ok n)) }
+{
     let mut written = Written { file, error: None };
-    let saved = save(alloc, image, &mut Writer::new(&mut written));
-    if let Err(refusal) = saved {
-        return Err(match &written.error {
-            Some(error) => Failure::at(alloc, refusal, path, error),
-            None => Failure::from(refusal),
-        });
-    }
+    let saved = save_moment(alloc, moment, &mut Writer::new(&mut written));
+    let bytes = match saved {
+        Ok(bytes) => bytes,
+        Err(refusal) => {
+            return Err(match &written.error {
+                Some(error) => Failure::at(alloc, refusal, path, error),
+                None => Failure::from(refusal),
+            });
+        }
+    };
     match file.sync_all() {
-        Ok(()) => Ok(()),
+        Ok(()) => Ok(bytes),
         Err(error) => Err(Failure::at(alloc, Refusal::WriteFault, path, &error)),
     }
 }
 
-/// Waits until the names of a file's folder are on the disk, if that works.
-fn sync_folder<R: Files<File = File>>(rt: &R, path: &str) {
+/// Waits until the names of a file's folder are on the disk. If that fails, the answer says so. Where folders cannot be opened or have no
+/// such wait, nothing is done.
+fn sync_folder<R: Files<File = File>>(rt: &R, alloc: Global, path: &str) -> Option<Failure> {
     let folder = match path.rsplit_once('/') {
         Some(("", _)) => "/",
         Some((folder, _)) => folder,
         None => ".",
     };
-    if let Ok(folder) = File::open(rt, folder) {
-        let _ = folder.sync_all();
+    let Ok(opened) = File::open(rt, folder) else {
+        return None;
+    };
+    match opened.sync_all() {
+        Err(error) if error.kind() != ErrorKind::InvalidInput => Some(Failure::at(
+            alloc,
+            Refusal::WriteFault,
+            folder,
+            &error,
+        )),
+        _ => None,
     }
 }
 
 impl NewFile {
-    /// Whether an open file is the new one.
-    fn is_own<R: Files>(&self, rt: &R, file: &File) -> bool {
-        is_at(rt, file, self.path.as_str())
+    /// Whether the new file is at its path still.
+    fn is_there<R: Files>(&self, rt: &R) -> bool {
+        is_at(rt, &self.file, self.path.as_str())
     }
 
-    /// Removes the new file, if it is the one that is open.
-    fn remove_open<R: Files>(&self, rt: &R, file: &File) {
-        if self.is_own(rt, file) {
+    /// Removes the new file, if it is still the one that is held.
+    pub fn remove<R: Files>(&self, rt: &R) {
+        if self.is_there(rt) {
             let _ = fs::remove_file(rt, self.path.as_str());
         }
     }
 
-    /// Empties the new file, which is open, gives it the rights of the old one, and then writes an image to it.
-    fn fill<R: Files>(
-        &self,
-        rt: &R,
-        alloc: Global,
-        file: &File,
-        image: &Image,
-    ) -> Result<(), Failure> {
+    /// Empties the new file, gives it the rights of the old one, and then writes an image to it.
+    fn fill<R: Files>(&self, rt: &R, alloc: Global, moment: &Moment) -> Result<u64, Failure>
+        ensures { IfOk result (λ n. Keeps moment.now (Ok n)) }
+    {
         let place = self.place.as_str();
-        if let Err(error) = file.set_len(0) {
+        if let Err(error) = self.file.set_len(0) {
             return Err(Failure::at(alloc, Refusal::WriteFault, place, &error));
         }
-        take_rights(rt, file, place);
-        write_image(alloc, file, place, image)
+        take_rights(rt, &self.file, place);
+        write_image(alloc, &self.file, place, moment)
     }
 
     /// Moves the new file, which is filled, to a free name beside the old one. The answer is its path then.
@@ -260,86 +284,126 @@ impl NewFile {
         None
     }
 
-    /// Keeps the new file, which is filled and cannot take the old one's place, beside it. The answer says why, and where it is.
-    fn kept<R: Files<File = File>>(&self, rt: &R, alloc: Global, why: &str) -> Failure {
+    /// Says why the new file, which is filled, cannot take the old one's place, and where it is. It is kept beside it if it is the last;
+    /// else it is removed.
+    fn kept<R: Files<File = File>>(
+        &self,
+        rt: &R,
+        alloc: Global,
+        is_last: bool,
+        why: &str,
+    ) -> Failure {
+        let place = self.place.as_str();
+        if !is_last {
+            self.remove(rt);
+            return unwritten(alloc, place, why);
+        }
         let aside = self.moved_aside(rt, alloc);
         let path = match &aside {
             Some(path) => path.as_str(),
             None => self.path.as_str(),
         };
-        sync_folder(rt, path);
-        let place = self.place.as_str();
+        let _ = sync_folder(rt, alloc, path);
         Failure {
             refusal: Refusal::WriteFault,
             words: format!(in alloc; "{place} {why}: this image is saved in {path}").ok(),
         }
     }
 
-    /// Moves the new file, which is open and filled, into the old one's place. If that has changed since it was seen, or cannot be
-    /// replaced, the new file is kept beside it.
+    /// Moves the new file, which is filled, into the old one's place, unless that has changed since it was seen or cannot be replaced. If
+    /// it is there, but its name is not known to be on the disk, the answer says so.
     fn take_place<R: Files<File = File>>(
         &self,
         rt: &R,
         alloc: Global,
-        file: &File,
         seen: Option<Stamp>,
-    ) -> Result<(), Failure> {
+        is_last: bool,
+    ) -> Result<Option<Failure>, Failure> {
         let (path, place) = (self.path.as_str(), self.place.as_str());
-        if !self.is_own(rt, file) {
+        if !self.is_there(rt) {
             return Err(unwritten(alloc, path, "was taken away"));
         }
         if has_changed(rt, place, seen) {
-            let _ = file.set_permissions(Permissions::from_mode(OWNER_ALONE));
+            let _ = self
+                .file
+                .set_permissions(Permissions::from_mode(OWNER_ALONE));
             return Err(self.kept(
                 rt,
                 alloc,
+                is_last,
                 "was changed by another process, and is NOT replaced",
             ));
         }
         if fs::rename(rt, path, place).is_err() {
-            return Err(self.kept(rt, alloc, "can NOT be replaced"));
+            return Err(self.kept(rt, alloc, is_last, "can NOT be replaced"));
         }
-        sync_folder(rt, place);
-        Ok(())
+        Ok(sync_folder(rt, alloc, place))
     }
 
-    /// Saves an image by the new file, which is open and held. If its text is not written whole, the new file is gone then.
-    fn save_open<R: Files<File = File>>(
+    /// Writes an image to the new file, and moves that into the old one's place. If the text is not written whole, the new file is gone
+    /// then.
+    fn put<R: Files<File = File>>(
         &self,
         rt: &R,
         alloc: Global,
-        file: &File,
-        image: &Image,
+        moment: &Moment,
         seen: Option<Stamp>,
-    ) -> Result<(), Failure> {
-        if let Err(failure) = self.fill(rt, alloc, file, image) {
-            self.remove_open(rt, file);
-            return Err(failure);
+        is_last: bool,
+    ) -> Result<(u64, Option<Failure>), Failure>
+        ensures { IfOk result (λ r. Keeps moment.now (Ok r.0)) }
+    {
+        match self.fill(rt, alloc, moment) {
+            Ok(bytes) => {
+                let unsure = self.take_place(rt, alloc, seen, is_last)?;
+                Ok((bytes, unsure))
+            }
+            Err(failure) => {
+                self.remove(rt);
+                Err(failure)
+            }
         }
-        self.take_place(rt, alloc, file, seen)
+    }
+
+    /// The path of the file whose place it takes.
+    pub fn place(&self, alloc: Global) -> Result<String, Refusal> {
+        owned(alloc, self.place.as_str())
     }
 
     /// Saves an image: writes its text to the new file and moves that into the old one's place. So the file holds the old image or the
     /// new one, whenever the program is killed. If the new file was taken away or moved, another one is held in its stead.
     ///
     /// `WriteFault` says that the text was not written whole, and then the new file is gone; or that the old file has changed since it
-    /// was seen or cannot be replaced, and then the image is in a file beside it. After a refusal the old file is as it was.
+    /// was seen or cannot be replaced, and then the image is in a file beside it if no other save follows. After a refusal the old file
+    /// is as it was.
     pub fn save<R: Files<File = File>>(
-        &self,
+        mut self,
         rt: &R,
         alloc: Global,
-        image: &Image,
+        moment: &Moment,
         seen: Option<Stamp>,
-    ) -> Result<(), Failure> {
-        if self.is_own(rt, &self.file) {
-            return self.save_open(rt, alloc, &self.file, image, seen);
+        is_last: bool,
+    ) -> Result<Saved, Failure>
+        ensures { IfOk result (λ r. Keeps moment.now (Ok r.bytes)) }
+    {
+        if !self.is_there(rt) {
+            self.file = held(rt, alloc, self.path.as_str(), self.place.as_str())?;
         }
-        let file = held(rt, alloc, self.path.as_str(), self.place.as_str())?;
-        self.save_open(rt, alloc, &file, image, seen)
+        let (bytes, unsure) = self.put(rt, alloc, moment, seen, is_last)?;
+        Ok(Saved {
+            bytes,
+            file: self.file,
+            unsure,
+        })
     }
+}
 
-    /// Removes the new file, if it is still the one that is held.
-    pub fn remove<R: Files>(&self, rt: &R) {
-        self.remove_open(rt, &self.file);
-    }
+/// An image that is in its file.
+#[derive(Drop)]
+pub struct Saved {
+    /// How many bytes the file has.
+    pub bytes: u64,
+    /// The file, which stays locked while it is open.
+    pub file: File,
+    /// Why the file's name may not be on the disk, if that is so.
+    pub unsure: Option<Failure>,
 }

@@ -110,7 +110,7 @@ fn number_option<'a>(
 
 fn script_command<'a>(alloc: Global) -> Result<Command<'a>, AllocError> {
     let image =
-        "Keeps the image in a file: begins with it where it is there, and saves to it when the input has ended";
+        "Keeps the image in a file: begins with it where it is there, and saves to it at each save and when the input has ended";
     let quantum = "Steps of a quantum, 1 to 1024 [default: 256]";
     let capacity = "Messages that a new actor's mailbox holds, 1 to 1024 [default: 64]";
     Command::new(alloc, "script")
@@ -127,7 +127,7 @@ fn serve_command<'a>(alloc: Global) -> Result<Command<'a>, AllocError> {
     let sessions =
         "Ends after so many sessions, 1 to 1000000: waits for their ends, saves, and tells what they did together";
     let image =
-        "Keeps the image in a file: begins with it where it is there, and saves to it at the end, which --sessions or tools/stop brings";
+        "Keeps the image in a file: begins with it where it is there, and saves to it at each save and at the end, which --sessions or tools/stop brings";
     let verbose = "Says on standard error what is served, and names each session that ends badly";
     Command::new(alloc, "serve")
         .about("Serves one image to sessions over a Unix socket")

@@ -1,14 +1,11 @@
 -- The document of an image, and its clients.
-use Rattle.std.proofs.Common.{◌≡◌, ℕ, suc, List, [], ◌∷◌, true, Option, Some, None, Result, Ok, Err, IfOk, option_map, refl, ap, sym, ◌∙◌, map, codes}
+use Rattle.std.proofs.Common.{◌≡◌, ℕ, suc, List, [], ◌∷◌, true, Option, Some, None, Result, Ok, Err, IfOk, option_map, refl, ap, sym, ◌∙◌, codes}
 use Rattle.std.specs.Prelude.{All}
 use Rattle.std.proofs.lemmas.List.Elements.{All-cons, All-nil}
 use Rattle.serde_json.specs.Data.{Data}
 use Rattle.st_image.specs.declared.counts.Counts.{Counts}
-use Rattle.st_image.specs.Images.{ImageView, counts_of, world}
-use Rattle.st_image.specs.Loaded.{AreBaseActors, AreBaseSenders}
-use Rattle.st_image.specs.Loading.{Reloads}
-use Rattle.st_image.specs.Parts.{part_of, rebase}
 use Rattle.st_image.specs.WorldInvariant.{AreClientsFrom}
+use Rattle.st_image.specs.Worlds.{WorldActor}
 use Rattle.st_image.specs.declared.edit_text.EditText.{EditText}
 use Rattle.st_wire.specs.Fields.{texts_at, whole_at}
 use Rattle.st_wire.specs.Replies.{keys_rise}
@@ -16,31 +13,26 @@ use Rattle.st_file.specs.declared.texts.ActorText.{ActorText}
 use Rattle.st_file.specs.declared.texts.ImageText.{ImageText}
 use Rattle.st_file.specs.Describes.{Describes}
 use Rattle.st_file.specs.Shapes.{actor_in, client_in, counts_in, edit_in, image_from, image_in, list_at}
-use Rattle.st_file.specs.Saving.{IsDocument, TellsImage}
+use Rattle.st_file.specs.Moments.{MomentView}
+use Rattle.st_file.specs.Saving.{IsDocument, TellsMoment}
 use Rattle.st_file.specs.Tellable.{HasSent}
-use Rattle.st_image.proofs.Rebasing.{rebase_is}
 
--- a value that says what tells an image describes it
-pub told_describes : (v : Data) (i : ImageView) (t : ImageText) → image_in v ≡ Some t → TellsImage i t
-    → Reloads i.names (world i).edits
-    → AreBaseActors i.names (world i).edits (map part_of (world i).actors)
-    → AreBaseSenders (world i).edits (map part_of (world i).actors) (world i).clients
-    → Describes v i.names (rebase (world i)) (counts_of i)
-told_describes v i t shape tells reloads actors senders =
-    let edits = (world i).edits in
-    let parts = map part_of (world i).actors in
+-- a value that says what tells a moment's image describes it
+told_describes : (v : Data) (m : MomentView) (t : ImageText) → image_in v ≡ Some t → TellsMoment m t → Describes v m.names m.base m.counts
+told_describes v m t shape tells =
+    let edits = m.base.edits in
     record {
       text = t;
-      named = record { names = i.names; edits = [] };
-      loaded = record { names = i.names; edits = edits };
-      parts = parts;
+      named = record { names = m.names; edits = [] };
+      loaded = record { names = m.names; edits = edits };
+      parts = tells.parts;
       shape = shape;
-      names_load = rw tells.names reloads.named;
-      edits_load = rw tells.edits reloads.edited;
-      actors = record { meant = tells.actors; fit = actors };
-      senders = rw tells.senders senders;
+      names_load = rw tells.names tells.reloads.named;
+      edits_load = rw tells.edits tells.reloads.edited;
+      actors = record { meant = tells.actors; fit = tells.fit };
+      senders = rw tells.senders tells.in_order;
       names_are = refl;
-      world_is = rw tells.senders (rebase_is (world i));
+      world_is = rw tells.senders (ap (λ (actors : List WorldActor). record m.base { actors = actors }) tells.of_parts);
       counts_are = sym tells.counts;
     }
 
@@ -62,13 +54,11 @@ told_names v t h =
     let senders = list_at client_in (codes "senders") v in
     names_from actors edits counts names senders t h
 
--- a value that says what tells an image, with its keys in order, is the image's document
-pub told_document : (v : Data) (i : ImageView) (t : ImageText) → (image_in v ≡ Some t) × (whole_at (codes "format") 1 2 v ≡ Some 2) → keys_rise v ≡ true → TellsImage i t
-    → Describes v i.names (rebase (world i)) (counts_of i)
-    → IsDocument v i
-told_document v i t shape ordered tells describes = record {
+-- a value that says what tells a moment's image, with its keys in order, is the image's document
+pub told_document : (v : Data) (m : MomentView) (t : ImageText) → (image_in v ≡ Some t) × (whole_at (codes "format") 1 2 v ≡ Some 2) → keys_rise v ≡ true → TellsMoment m t → IsDocument v m
+told_document v m t shape ordered tells = record {
   format = shape.1;
-  describes = describes;
+  describes = told_describes v m t shape.0 tells;
   names = told_names v t shape.0 ∙ ap Some tells.names;
   ordered = ordered;
 }

@@ -3,33 +3,34 @@ use Rattle.std.specs.Prelude.{◌≡◌, ◌⊎◌, ℕ, List, Some, Result, Ok,
 use Rattle.serde_json.specs.Data.{Data}
 use Rattle.st_classes.specs.declared.refusals.Refusal.{Refusal}
 use Rattle.st_classes.specs.declared.refusals.Refusal.TheVariants.{NoMemory}
-use Rattle.st_image.specs.Images.{ImageView, counts_of, world}
+use Rattle.st_image.specs.Images.{ImageView}
 use Rattle.st_image.specs.Loaded.{image_at}
-use Rattle.st_image.specs.Parts.{rebase}
 use Rattle.st_wire.specs.Streams.{InputView}
 use Rattle.st_file.specs.Describes.{LoadsImage}
 use Rattle.st_file.specs.Files.{LoadsFile, LoadsText}
 use Rattle.st_file.specs.Inputs.{StopsShort}
+use Rattle.st_file.specs.Moments.{MomentView}
 use Rattle.st_file.specs.Saving.{IsDocument, Saves}
 
--- memory ran out, or the result has the names and the counts of i, begins with i's present world, and nothing has happened in it yet
-abbrev pub IsAgain : ImageView → Result ImageView Refusal → Type 0
-IsAgain i (Ok j) = j ≡ image_at i.names (rebase (world i)) (counts_of i)
-IsAgain i (Err e) = e ≡ NoMemory
+-- memory ran out, or the result is the image at that moment: it has its names and its counts, begins with its world, and nothing has
+-- happened in it yet
+abbrev pub IsAgain : MomentView → Result ImageView Refusal → Type 0
+IsAgain m (Ok j) = j ≡ image_at m.names m.base m.counts
+IsAgain m (Err e) = e ≡ NoMemory
 
--- the document of an image loads as that image again
+-- the document of an image at a moment loads as that image
 abbrev pub DocumentsLoad : Type 0
-DocumentsLoad = (i : ImageView) (v : Data) (result : Result ImageView Refusal) → IsDocument v i → LoadsImage v result → IsAgain i result
+DocumentsLoad = (m : MomentView) (v : Data) (result : Result ImageView Refusal) → IsDocument v m → LoadsImage v result → IsAgain m result
 
 -- so does the text that was saved
 abbrev pub TextsLoad : Type 0
-TextsLoad = (i : ImageView) (text : List ℕ) (result : Result ImageView Refusal) → Saves i text (Ok tt) → LoadsText text result
-    → IsAgain i result
+TextsLoad = (m : MomentView) (text : List ℕ) (result : Result ImageView Refusal) → Saves m text (Ok (tt {0})) → LoadsText text result
+    → IsAgain m result
 
 -- so does an input that has that text left, unless it is not read to its end
 abbrev pub FilesLoad : Type 0
-FilesLoad = (i : ImageView) (text : List ℕ) (before after : InputView) (result : Result ImageView Refusal)
-    → Saves i text (Ok tt)
+FilesLoad = (m : MomentView) (text : List ℕ) (before after : InputView) (result : Result ImageView Refusal)
+    → Saves m text (Ok (tt {0}))
     → before.remaining ≡ Some text
     → LoadsFile before after result
-    → IsAgain i result ⊎ ((e : Refusal) × (result ≡ Err e) × StopsShort before after e)
+    → IsAgain m result ⊎ ((e : Refusal) × (result ≡ Err e) × StopsShort before after e)

@@ -9,8 +9,10 @@ use st_classes::refusals::Refusal;
 use st_pool::naming::Naming;
 use st_pool::shares::CallerShare;
 use st_pool::totals::Totals;
-use st_server::attending::attend;
+use st_server::attending::{Desk, attend};
+use st_server::keepers::Nobody;
 use st_server::starts::Place;
+use st_server::turns::Turns;
 use st_wire::streams::{MemoryInput, Writer};
 use std::alloc::{AllocError, Global};
 use std::io::{self, ErrorKind, Write};
@@ -82,7 +84,12 @@ fn talk<K: Naming, R: Wait + Clock>(
         sessions: &sessions,
         workers: 1,
     };
-    attend(rt, alloc, place, caller, &mut input, &mut output)
+    let turns = Turns::new();
+    let desk = Desk {
+        keeper: &Nobody,
+        turns: &turns,
+    };
+    attend(rt, alloc, place, desk, caller, &mut input, &mut output)
 }
 
 /// The thread of the session's caller.

@@ -8,19 +8,20 @@ use Rattle.st_turn.specs.declared.body.Outcome.TheVariants.{Answer, Fault}
 use Rattle.st_image.specs.Loading.{class_text}
 use Rattle.st_wire.specs.Names.{fault_name}
 use Rattle.st_wire.specs.Replies.{only, whole}
+use Rattle.st_file.specs.ValueJson.{value_json}
 use Rattle.st_queries.specs.declared.glances.Glance.{Glance}
 use Rattle.st_queries.specs.declared.glances.Stand.{Stand}
 use Rattle.st_queries.specs.declared.glances.Stand.TheVariants.{Fresh, Started, Running, Ended}
 use Rattle.st_queries.specs.Listing.{listed}
 use Rattle.st_queries.specs.Sights.{Sight}
-use Rattle.st_queries.specs.Values.{method_named, value_told}
+use Rattle.st_queries.specs.MethodNames.{method_named}
 
 -- the phase of a turn: `"fresh"`, `"start"`, `"frames"`, or how it ended
 abbrev pub phase_told : List (List ℕ) → List Edit → Stand → Data
 phase_told names edits Fresh = string (codes "fresh")
 phase_told names edits Started = string (codes "start")
 phase_told names edits (Running m) = string (codes "frames")
-phase_told names edits (Ended (Answer v)) = only (codes "answer") (value_told names edits v)
+phase_told names edits (Ended (Answer v)) = only (codes "answer") (value_json names edits v)
 phase_told names edits (Ended (Fault f)) = only (codes "fault") (string (fault_name f))
 
 -- an installed method by its name; null without one

@@ -24,16 +24,17 @@ use Rattle.st_image.specs.Loading.{class_text, selector_text}
 use Rattle.st_wire.specs.Replies.{only, whole}
 use Rattle.st_wire.specs.declared.queries.Query.{Query}
 use Rattle.st_wire.specs.declared.queries.Query.TheVariants as query
+use Rattle.st_file.specs.ListJson.{texts}
 use Rattle.st_queries.specs.declared.hosts.Host.{Host}
 use Rattle.st_queries.specs.Actors.{actors_told}
 use Rattle.st_queries.specs.Edits.{edits_told}
 use Rattle.st_queries.specs.Inspecting.{inspected_told}
-use Rattle.st_queries.specs.Listing.{listed, texts}
+use Rattle.st_queries.specs.Listing.{listed}
 use Rattle.st_queries.specs.OwnMethods.{method_count, standing}
 use Rattle.st_queries.specs.Resolving.{and_then, class_in, selector_in}
 use Rattle.st_queries.specs.Sights.{Sight, sight}
 use Rattle.st_queries.specs.Status.{status_told}
-use Rattle.st_queries.specs.Values.{method_named}
+use Rattle.st_queries.specs.MethodNames.{method_named}
 
 -- ---- classes
 
@@ -182,7 +183,8 @@ told_of s host query.Status = Ok (status_told s host)
 abbrev pub told : ImageView → Host → Query → Result Data Refusal
 told i host q = told_of (sight i q) host q
 
--- the answer is that; or memory ran out
+-- the answer is that; memory can run out only where something is told
 abbrev pub IsAnswer : Result Data Refusal → Result Value Refusal → Type 0
-IsAnswer said (Ok v) = said ≡ Ok (view v)
-IsAnswer said (Err e) = (said ≡ Err e) ⊎ (e ≡ NoMemory)
+IsAnswer (Ok d) (Ok v) = view v ≡ d
+IsAnswer (Ok d) (Err e) = e ≡ NoMemory
+IsAnswer (Err e) r = r ≡ Err e

@@ -1,7 +1,7 @@
 pub mod Resolving
 pub mod Listing
 pub mod OwnMethods
-pub mod Values
+pub mod MethodNames
 pub mod Glances
 pub mod Inspecting
 pub mod Hosts

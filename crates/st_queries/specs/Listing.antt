@@ -1,17 +1,9 @@
 -- Lists in answers.
-use Rattle.std.specs.Prelude.{ℕ, List, map, Option}
+use Rattle.std.specs.Prelude.{ℕ, Option}
 use Rattle.std.specs.List.{filter_map, range_with_len}
-use Rattle.serde_json.specs.Data.{Data, array, string}
+use Rattle.serde_json.specs.Data.{Data, array}
 use Rattle.serde_json.specs.View.{items_of}
 
 -- what is told of n numbers, from the first one on, in their order; some have nothing to tell
 abbrev pub listed : (ℕ → Option Data) → ℕ → ℕ → Data
 listed row first n = array (items_of (filter_map row (range_with_len first n)))
-
--- what is told of each item, in their order
-abbrev pub each : {T : Type 0} → (T → Data) → List T → Data
-each tell xs = array (items_of (map tell xs))
-
--- texts, in their order
-abbrev pub texts : List (List ℕ) → Data
-texts = each string

@@ -1,7 +1,7 @@
 //! Bodies, as image files have them.
 ghost use Rattle.std.specs.Prelude.{◌≡◌, IfOk};
 ghost use Rattle.serde_json.specs.View.{view};
-ghost use Rattle.st_queries.specs.Inspecting.{body_told, frame_told, frames_told, object_told, start_told, turn_told};
+ghost use Rattle.st_file.specs.BodyJson.{body_json, frame_json, frames_json, object_json, phase_json, start_json};
 
 use crate::listing::{Telling, each, only};
 use crate::texts::{class_text, selector_text};
@@ -15,7 +15,7 @@ use st_wire::told::{Items, Members, Told};
 use std::alloc::{AllocError, Global};
 
 impl<'a> Telling<Object> for Table<'a> {
-    ghost tells = { λ t o. object_told t.names.now t.version.now o };
+    ghost tells = { λ t o. object_json t.names.now t.version.now o };
 
     fn tell(&self, alloc: Global, item: &Object) -> Result<Told, AllocError> {
         let mut members = Members::new(alloc);
@@ -27,7 +27,7 @@ impl<'a> Telling<Object> for Table<'a> {
 
 /// A frame.
 fn frame(alloc: Global, table: Table<'_>, frame: &FrameRef<'_>) -> Result<Told, AllocError>
-    ensures { IfOk result (λ told. view told ≡ frame_told table.entry.names.now table.entry.version.now frame.now) }
+    ensures { IfOk result (λ told. view told ≡ frame_json table.entry.names.now table.entry.version.now frame.now) }
 {
     let mut members = Members::new(alloc);
     members.put(alloc, "method", Told::whole(frame.method.0.into()))?;
@@ -44,7 +44,7 @@ fn frame(alloc: Global, table: Table<'_>, frame: &FrameRef<'_>) -> Result<Told, 
 
 /// The frames of a turn, from the first to the running one.
 fn frames(alloc: Global, table: Table<'_>, stack: &Stack) -> Result<Told, AllocError>
-    ensures { IfOk result (λ told. view told ≡ frames_told table.entry.names.now table.entry.version.now stack.now) }
+    ensures { IfOk result (λ told. view told ≡ frames_json table.entry.names.now table.entry.version.now stack.now) }
 {
     let mut items = Items::new(alloc);
     for place in 0..stack.waiting() {
@@ -64,7 +64,7 @@ fn start(
     selector: Selector,
     args: &[Value],
 ) -> Result<Told, AllocError>
-    ensures { IfOk result (λ told. view told ≡ start_told table.entry.names.now table.entry.version.now selector args.now) }
+    ensures { IfOk result (λ told. view told ≡ start_json table.entry.names.now table.entry.version.now selector args.now) }
 {
     let mut members = Members::new(alloc);
     members.put(alloc, "args", values(alloc, table, args)?)?;
@@ -78,7 +78,7 @@ fn start(
 
 /// Where a turn stands.
 fn turn(alloc: Global, table: Table<'_>, phase: &Phase) -> Result<Told, AllocError>
-    ensures { IfOk result (λ told. view told ≡ turn_told table.entry.names.now table.entry.version.now phase.now) }
+    ensures { IfOk result (λ told. view told ≡ phase_json table.entry.names.now table.entry.version.now phase.now) }
 {
     match phase {
         Phase::Fresh => Told::word(alloc, "fresh"),
@@ -99,7 +99,7 @@ fn turn(alloc: Global, table: Table<'_>, phase: &Phase) -> Result<Told, AllocErr
 
 /// A body.
 pub(crate) fn body(alloc: Global, table: Table<'_>, body: &Body) -> Result<Told, AllocError>
-    ensures { IfOk result (λ told. view told ≡ body_told table.entry.names.now table.entry.version.now body.now) }
+    ensures { IfOk result (λ told. view told ≡ body_json table.entry.names.now table.entry.version.now body.now) }
 {
     let mut members = Members::new(alloc);
     members.put(

@@ -6,7 +6,7 @@ ghost use Rattle.st_classes.specs.Classes.{class_count, inherited as inherited_b
 ghost use Rattle.st_classes.specs.Kernel.{class as class_at};
 ghost use Rattle.st_queries.specs.OwnMethods.{installs_in, method_count as count_of};
 ghost use Rattle.st_queries.specs.Answers.{added_slots as added_of, class_told, classes_told, parent_told};
-ghost use Rattle.st_queries.specs.Listing as listing;
+ghost use Rattle.st_file.specs.ListJson as lists;
 
 use crate::listing::{Rows, list, only};
 use crate::own_methods::{installs, kernel_methods};
@@ -41,7 +41,7 @@ fn inherited(version: &Version, class: ClassId) -> usize
 /// The instance variables that a class adds to the inherited ones.
 fn added_slots(alloc: Global, version: &Version, class: ClassId) -> Result<Told, AllocError>
     requires { is_class version.now class ≡ true }
-    ensures { IfOk result (λ told. view told ≡ listing.texts (added_of version.now class)) }
+    ensures { IfOk result (λ told. view told ≡ lists.texts (added_of version.now class)) }
 {
     version.known();
     texts(alloc, version.slots(class), inherited(version, class))

@@ -4,7 +4,8 @@ ghost use Rattle.std.specs.Str.{is_utf8};
 ghost use Rattle.serde_json.specs.View.{view};
 ghost use Rattle.st_file.specs.Tellable.{IsText};
 ghost use Rattle.st_image.specs.CompiledEdits.{AllCompiled};
-ghost use Rattle.st_queries.specs.Edits.{defined, edit_told, edits_behind, installed as installed_in, removed as removed_in, reparented as reparented_in};
+ghost use Rattle.st_file.specs.EditJson.{define_json, edit_json, install_json, remove_json, reparent_json};
+ghost use Rattle.st_queries.specs.Edits.{edits_behind};
 
 use crate::listing::{Rows, list, only};
 use crate::texts::{class_text, selector_text, texts};
@@ -29,7 +30,7 @@ fn define(
 ) -> Result<Told, AllocError>
     requires name { is_utf8 name.now ≡ true }
     requires slots { All IsText slots.now }
-    ensures { IfOk result (λ told. view told ≡ defined version.now name.now parent slots.now) }
+    ensures { IfOk result (λ told. view told ≡ define_json version.now name.now parent slots.now) }
 {
     let mut members = Members::new(alloc);
     members.put(alloc, "name", Told::text(alloc, name)?)?;
@@ -46,7 +47,7 @@ fn install(
     source: &[u8],
 ) -> Result<Told, AllocError>
     requires { is_utf8 source.now ≡ true }
-    ensures { IfOk result (λ told. view told ≡ installed_in version.now class source.now) }
+    ensures { IfOk result (λ told. view told ≡ install_json version.now class source.now) }
 {
     let mut members = Members::new(alloc);
     members.put(alloc, "class", class_text(alloc, version, class)?)?;
@@ -62,7 +63,7 @@ fn removal(
     class: ClassId,
     selector: Selector,
 ) -> Result<Told, AllocError>
-    ensures { IfOk result (λ told. view told ≡ removed_in names.now version.now class selector) }
+    ensures { IfOk result (λ told. view told ≡ remove_json names.now version.now class selector) }
 {
     let mut members = Members::new(alloc);
     members.put(alloc, "class", class_text(alloc, version, class)?)?;
@@ -77,7 +78,7 @@ fn reparent(
     class: ClassId,
     parent: ClassId,
 ) -> Result<Told, AllocError>
-    ensures { IfOk result (λ told. view told ≡ reparented_in version.now class parent) }
+    ensures { IfOk result (λ told. view told ≡ reparent_json version.now class parent) }
 {
     let mut members = Members::new(alloc);
     members.put(alloc, "class", class_text(alloc, version, class)?)?;
@@ -95,7 +96,7 @@ struct EditRows<'a> {
 impl<'a> Rows for EditRows<'a> {
     ghost is_row = { λ e n. AllCompiled e.names.now e.version.now };
 
-    ghost row_of = { λ e n. option_map (edit_told e.names.now e.version.now) (slice_get e.version.now n) };
+    ghost row_of = { λ e n. option_map (edit_json e.names.now e.version.now) (slice_get e.version.now n) };
 
     fn row(&self, alloc: Global, number: u32) -> Result<Option<Told>, AllocError> {
         let (names, version) = (self.names, self.version);

@@ -2,7 +2,8 @@
 ghost use Rattle.std.specs.Prelude.{◌≡◌, ◌<◌, ◌≤◌, ◌-◌, ℕ, IfOk};
 ghost use Rattle.serde_json.specs.View.{view};
 ghost use Rattle.st_wire.specs.Replies.{only as only_key};
-ghost use Rattle.st_queries.specs.Listing.{each as each_of, listed};
+ghost use Rattle.st_file.specs.ListJson.{each as each_of};
+ghost use Rattle.st_queries.specs.Listing.{listed};
 
 use st_wire::told::{Items, Members, Told};
 use std::alloc::{AllocError, Global};

@@ -1,7 +1,7 @@
 //! Messages, as image files have them.
 ghost use Rattle.std.specs.Prelude.{◌≡◌, IfOk};
 ghost use Rattle.serde_json.specs.View.{view};
-ghost use Rattle.st_queries.specs.Inspecting.{message_told, sender_told};
+ghost use Rattle.st_file.specs.MessageJson.{message_json, sender_json};
 
 use crate::listing::{Telling, only};
 use crate::texts::selector_text;
@@ -12,7 +12,7 @@ use std::alloc::{AllocError, Global};
 
 /// A client by its number, or an actor.
 fn sender(alloc: Global, sender: Sender) -> Result<Told, AllocError>
-    ensures { IfOk result (λ told. view told ≡ sender_told sender) }
+    ensures { IfOk result (λ told. view told ≡ sender_json sender) }
 {
     match sender {
         Sender::Client(client) => Ok(Told::whole(client.into())),
@@ -21,7 +21,7 @@ fn sender(alloc: Global, sender: Sender) -> Result<Told, AllocError>
 }
 
 impl<'a> Telling<Message> for Table<'a> {
-    ghost tells = { λ t m. message_told t.names.now t.version.now m };
+    ghost tells = { λ t m. message_json t.names.now t.version.now m };
 
     fn tell(&self, alloc: Global, item: &Message) -> Result<Told, AllocError> {
         let mut members = Members::new(alloc);

@@ -6,7 +6,7 @@ ghost use Rattle.serde_json.specs.View.{view};
 ghost use Rattle.st_classes.specs.Classes.{is_class};
 ghost use Rattle.st_image.specs.Loading as spec;
 ghost use Rattle.st_file.specs.Tellable.{IsText};
-ghost use Rattle.st_queries.specs.Listing as listing;
+ghost use Rattle.st_file.specs.ListJson as lists;
 
 use st_classes::names::Names;
 use st_classes::seq::Seq;
@@ -50,7 +50,7 @@ pub(crate) fn selector_text(
 /// The list of these texts, but for the first ones.
 pub(crate) fn texts(alloc: Global, list: &[Seq<u8>], first: usize) -> Result<Told, AllocError>
     requires { All IsText list.now }
-    ensures { IfOk result (λ told. view told ≡ listing.texts (drop first list.now)) }
+    ensures { IfOk result (λ told. view told ≡ lists.texts (drop first list.now)) }
 {
     let mut items = Items::new(alloc);
     for place in first..list.len() {

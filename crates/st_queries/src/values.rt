@@ -1,7 +1,8 @@
 //! Values in answers, and the names of methods.
 ghost use Rattle.std.specs.Prelude.{◌≡◌, IfOk};
 ghost use Rattle.serde_json.specs.View.{view};
-ghost use Rattle.st_queries.specs.Values.{method_named as named_method, value_told, values_told};
+ghost use Rattle.st_file.specs.ValueJson.{value_json, values_json};
+ghost use Rattle.st_queries.specs.MethodNames.{method_named as named_method};
 
 use crate::listing::{Telling, each, only};
 use crate::texts::{class_text, selector_text};
@@ -18,7 +19,7 @@ pub(crate) fn value(
     version: &Version,
     value: Value,
 ) -> Result<Told, AllocError>
-    ensures { IfOk result (λ told. view told ≡ value_told names.now version.now value) }
+    ensures { IfOk result (λ told. view told ≡ value_json names.now version.now value) }
 {
     match value {
         Value::Int(number) => Ok(Told::integer(number)),
@@ -39,7 +40,7 @@ pub(crate) struct Table<'a> {
 }
 
 impl<'a> Telling<Value> for Table<'a> {
-    ghost tells = { λ t v. value_told t.names.now t.version.now v };
+    ghost tells = { λ t v. value_json t.names.now t.version.now v };
 
     fn tell(&self, alloc: Global, item: &Value) -> Result<Told, AllocError> {
         value(alloc, self.names, self.version, *item)
@@ -48,7 +49,7 @@ impl<'a> Telling<Value> for Table<'a> {
 
 /// Values, in their order.
 pub(crate) fn values(alloc: Global, table: Table<'_>, list: &[Value]) -> Result<Told, AllocError>
-    ensures { IfOk result (λ told. view told ≡ values_told table.entry.names.now table.entry.version.now list.now) }
+    ensures { IfOk result (λ told. view told ≡ values_json table.entry.names.now table.entry.version.now list.now) }
 {
     each(alloc, &table, list)
 }

@@ -196,6 +196,19 @@ const SCRIPTS: &[Script] = &[
 {"actor":0,"cmd":"close"}
 {"error":"Closed"}"#,
     ),
+    // A script whose image nobody keeps cannot save it, also where the history is full.
+    (
+        64,
+        1,
+        r#"{"cmd":"save"}
+{"error":"BadArguments"}
+{"class":"Object","cmd":"actor"}
+{"ok":{"actor":0}}
+{"cmd":"save"}
+{"error":"BadArguments"}
+{"cmd":"save","image":"i"}
+{"error":"BadCommand"}"#,
+    ),
     // A checkpoint makes room in a history that is full.
     (
         64,

@@ -20,7 +20,7 @@ const PENDING: &[u8] = b"{\"error\":\"Pending\"}\n";
 
 const ANSWER: &[u8] = b"{\"ok\":{\"answer\":14}}";
 
-/// Lines, and their replies. Workers run the actors, so a `run` is no command.
+/// Lines, and their replies. Workers run the actors, so a `run` is no command, and nobody keeps the image, so it cannot be saved.
 const SCRIPT: &[(&str, &str)] = &[
     (
         "{\"cmd\":\"define\",\"name\":\"M\",\"slots\":[],\"super\":\"Object\"}\n",
@@ -39,6 +39,7 @@ const SCRIPT: &[(&str, &str)] = &[
         "{\"ok\":{\"turn\":1}}\n",
     ),
     ("{\"cmd\":\"run\"}\n", "{\"error\":\"BadCommand\"}\n"),
+    ("{\"cmd\":\"save\"}\n", "{\"error\":\"BadArguments\"}\n"),
 ];
 
 /// The table behind a function without a contract, so that the proof of a test carries none of it.

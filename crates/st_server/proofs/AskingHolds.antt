@@ -105,7 +105,7 @@ asks_hold host o p d e c r h = makes_hold o p d e c r h
 told_asks : (host : Host) (o p : OfficeView) (d e : Done) (q : Query) (s : Sight) (r : Reply) → s ≡ sight o.image q → p ≡ o → e ≡ d → TellsOf s host q r → AsksInHold o d (command.Query q) r p e
 told_asks host o p d e q s r same stays mine told = record {
   host = host;
-  asks = (subst (λ t. TellsOf t host q r) same told, (stays, mine));
+  asks = (inl (subst (λ t. TellsOf t host q r) same told), (stays, mine));
   hold = hold_none of_caller o p stays;
 }
 

@@ -1,6 +1,7 @@
 pub mod Names
 pub mod Reports
 pub mod Growing
+pub mod Keeping
 pub mod Claims
 pub mod SomeSteps
 pub mod Quanta

@@ -31,6 +31,8 @@ use Rattle.st_calls.specs.declared.calls.Call.{Call}
 use Rattle.st_calls.specs.Does.{Does}
 use Rattle.st_server.specs.ArgumentValues.{is_told_by_text, value_text}
 use Rattle.st_server.specs.CallOf.{Makes}
+use Rattle.st_file.specs.Moments.{moment_of}
+use Rattle.st_server.specs.Keepers.{SavesMoment}
 use Rattle.st_server.specs.Posting.{Nothing, PostsNamed}
 use Rattle.st_server.specs.Replacing.{Replaces}
 
@@ -81,27 +83,28 @@ States i class text r = MatchOption (class_named (world i).edits class)
 
 -- ---- queries
 
--- the reply says this: a value at the key `ok`, or a refusal
+-- the reply says this: a value at the key `ok`, if memory does not run out; or a refusal
 abbrev pub Says : Result Data Refusal → Reply → Type 0
-Says (Ok d) r = (v : Value) × (r ≡ reply.Told v) × (view v ≡ ok d)
+Says (Ok d) r = ((v : Value) × (r ≡ reply.Told v) × (view v ≡ ok d)) ⊎ (r ≡ reply.Refused NoMemory)
 Says (Err e) r = r ≡ reply.Refused e
 
--- the reply to a query says what is told of what was seen for it; or memory ran out
+-- the reply to a query says what is told of what was seen for it
 abbrev pub TellsOf : Sight → Host → Query → Reply → Type 0
-TellsOf s host q r = Says (told_of s host q) r ⊎ (r ≡ reply.Refused NoMemory)
+TellsOf s host q r = Says (told_of s host q) r
 
 -- the same; or there was no memory to see it
 abbrev pub TellsSeen : Result Sight AllocError → Host → Query → Reply → Type 0
 TellsSeen (Ok s) host q r = TellsOf s host q r
 TellsSeen (Err e) host q r = r ≡ reply.Refused NoMemory
 
--- the reply to a query says what is told of the image; or memory ran out
+-- the reply to a query says what is told of the image; or there was no memory to see it
 abbrev pub Looks : ImageView → Host → Query → Reply → Type 0
 Looks i host q r = Says (told i host q) r ⊎ (r ≡ reply.Refused NoMemory)
 
 -- ---- a command that needs the image alone
 
--- the reply to each command, whoever holds the image; a run needs a worker too, and is refused by BadCommand
+-- the reply to each command, whoever holds the image; a run needs a worker too, and saving somebody who keeps images: both are refused
+-- by BadCommand
 abbrev pub Asks : {H N : Type 0} → (H → ImageView) → (H → N → Call → Result Answer Refusal → H → N → Type 0)
     → Host → H → N → Command → Reply → H → N → Type 0
 Asks {H} {N} image Calls host h n (command.Post a args text sender seq) r k m = PostsNamed image Calls h n a args text sender seq r k m
@@ -127,7 +130,9 @@ Runs quantum (suc left) i q s r j = (NoneReady i × (r ≡ reply.Ran q s) × (j 
 
 -- ---- any command
 
--- a run is served by the worker's steps; any other command needs the image alone, and leaves the worker as it is
+-- a run is served by the worker's steps, and an image that is to be saved by whoever keeps images; any other command needs the image
+-- alone, and leaves the worker as it is
 abbrev pub Serves : ℕ → RunnerView → Command → Reply → RunnerView → Type 0
 Serves quantum i (command.Run quanta) r j = Runs quantum quanta i 0 0 r j
+Serves quantum i command.Save r j = SavesMoment (moment_of i.image) r × (j ≡ i)
 Serves quantum i c r j = AsksImage i.image c r j.image × (j.caches ≡ i.caches)

@@ -5,6 +5,7 @@ pub mod Runners
 pub mod CallOf
 pub mod Posting
 pub mod Replacing
+pub mod Keepers
 pub mod CommandReplies
 pub mod PoolReplies
 pub mod Totals

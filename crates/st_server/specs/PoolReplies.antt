@@ -11,7 +11,10 @@ use Rattle.st_wire.specs.declared.commands.Command.{Command}
 use Rattle.st_queries.specs.Sights.{Sight, sight}
 use Rattle.st_wire.specs.declared.queries.Query.{Query}
 use Rattle.st_wire.specs.declared.replies.Reply.{Reply}
+use Rattle.st_wire.specs.declared.commands.Command.TheVariants as command
+use Rattle.st_file.specs.Moments.{MomentView, moment_of}
 use Rattle.st_server.specs.CommandReplies.{Asks}
+use Rattle.st_server.specs.Keepers.{SavesMoment}
 
 -- the reply is that of the command, in one hold, in which calls are made alone; the calls of the command are made of what lies under the lock
 pub record AsksInHold (o : OfficeView) (d : Done) (c : Command) (r : Reply) (p : OfficeView) (e : Done) : Type 0 where
@@ -23,6 +26,23 @@ pub record AsksInHold (o : OfficeView) (d : Done) (c : Command) (r : Reply) (p :
 abbrev pub SeesInHold : OfficeView → Done → Query → Result Sight AllocError → OfficeView → Done → Type 0
 SeesInHold o d q r p e = IfOk r (λ s. s ≡ sight o.image q) × (p ≡ o) × (e ≡ d)
 
+-- what was copied of an image to save it, in a hold that changes nothing
+abbrev pub CopiesInHold : OfficeView → Done → Result MomentView AllocError → OfficeView → Done → Type 0
+CopiesInHold o d r p e = IfOk r (λ m. m ≡ moment_of o.image) × (p ≡ o) × (e ≡ d)
+
+-- such a hold finds an image that goes on from the first one and has at least what the session has done
+abbrev pub AsksFound : Amounts → ImageView → Done → Command → Reply → Done → Type 0
+AsksFound start first d c r e = (o : OfficeView) × (p : OfficeView) × Finds start first d o × AsksInHold o d c r p e
+
+-- an image is saved as it was in a hold that changes nothing
+abbrev pub SavesInHold : OfficeView → Done → Reply → OfficeView → Done → Type 0
+SavesInHold o d r p e = SavesMoment (moment_of o.image) r × (p ≡ o) × (e ≡ d)
+
+-- what a command does in a hold
+abbrev pub ServesInHold : OfficeView → Done → Command → Reply → OfficeView → Done → Type 0
+ServesInHold o d command.Save r p e = SavesInHold o d r p e
+ServesInHold o d c r p e = AsksInHold o d c r p e
+
 -- the hold finds an image that goes on from the first one and has at least what the session has done
 abbrev pub Attends : Amounts → ImageView → Done → Command → Reply → Done → Type 0
-Attends start first d c r e = (o : OfficeView) × (p : OfficeView) × Finds start first d o × AsksInHold o d c r p e
+Attends start first d c r e = (o : OfficeView) × (p : OfficeView) × Finds start first d o × ServesInHold o d c r p e

@@ -2,11 +2,13 @@
 ghost use Rattle.std.specs.Prelude.{◌≡◌, ◌⊎◌, ◌↔◌, IsTrue};
 ghost use Rattle.std.specs.declared.io.ErrorKind.TheVariants.{ConnectionAborted, Interrupted};
 
-use crate::attending::attend;
+use crate::attending::{Desk, attend};
 use crate::images::Mailbox;
+use crate::keepers::Keeper;
 use crate::polling::Polled;
 use crate::porters::{Porter, Witness};
 use crate::starts::Place;
+use crate::turns::Turns;
 use st_classes::refusals::Refusal;
 use st_pool::accounts::Account;
 use st_pool::callers::Caller;
@@ -33,24 +35,29 @@ const TOO_MANY: &[u8] = b"{\"error\":\"TooMany\",\"what\":\"sessions\"}\n";
 /// without a line.
 const NO_MEMORY: &[u8] = b"{\"error\":\"NoMemory\"}\n";
 
-/// Where sessions come from, how many are accepted, if they are counted, who is asked to let them in, and who is told of their ends.
+/// Where sessions come from, how many are accepted, if they are counted, who is asked to let them in, who is told of their ends, and who
+/// keeps the image where one of them wants it saved.
 #[derive(Drop)]
-pub(crate) struct Door<'a, P, W> {
+pub(crate) struct Door<'a, P, W, S> {
     pub(crate) listener: UnixListener,
     pub(crate) sessions: Option<u32>,
     pub(crate) porter: &'a P,
     pub(crate) witness: &'a W,
+    pub(crate) keeper: &'a S,
 }
 
 /// What the sessions share: the image, the shares of ended sessions, room for what these have done, the number of open sessions, who is
-/// told of their ends, when the server began, in nanoseconds since 1970, and how many workers it has.
+/// told of their ends, who keeps the image, the turns that they take, when the server began, in nanoseconds since 1970, and how many workers
+/// it has.
 #[derive(Drop)]
-pub(crate) struct Room<'a, K: Naming, W> {
+pub(crate) struct Room<'a, K: Naming, W, S> {
     pub(crate) shared: &'a Shared<K, Mailbox>,
     pub(crate) shares: &'a Mutex<Vec<CallerShare<K>>>,
     pub(crate) accounts: &'a Mutex<Vec<Account>>,
     pub(crate) active: &'a AtomicU64,
     pub(crate) witness: &'a W,
+    pub(crate) keeper: &'a S,
+    pub(crate) turns: &'a Turns,
     pub(crate) start: u64,
     pub(crate) workers: u64,
 }
@@ -77,10 +84,11 @@ fn turn_away(mut stream: &UnixStream, line: &[u8]) {
 }
 
 /// Runs a session over a stream.
-fn converse<K: Naming, R: Wait + Clock>(
+fn converse<K: Naming, S: Keeper, R: Wait + Clock>(
     rt: &R,
     alloc: Global,
     place: Place<'_>,
+    desk: Desk<'_, S>,
     caller: Caller<'_, K, Mailbox>,
     stream: &UnixStream,
 ) -> (CallerShare<K>, Result<u64, Refusal>) {
@@ -92,7 +100,7 @@ fn converse<K: Naming, R: Wait + Clock>(
     };
     let mut input = Reader::new(Polled::new(stream));
     let mut output = Writer::new(buffered);
-    let (share, result) = attend(rt, alloc, place, caller, &mut input, &mut output);
+    let (share, result) = attend(rt, alloc, place, desk, caller, &mut input, &mut output);
     match output.finish() {
         Ok(_) => (share, result),
         Err(_) => (share, Err(Refusal::WriteFault)),
@@ -100,10 +108,10 @@ fn converse<K: Naming, R: Wait + Clock>(
 }
 
 /// Runs a session with its own caller, and adds the caller's share to those of ended sessions. Room for it was made before.
-fn talk<K: Naming, W, R: Wait + Clock>(
+fn talk<K: Naming, W, S: Keeper, R: Wait + Clock>(
     rt: &R,
     alloc: Global,
-    room: &Room<'_, K, W>,
+    room: &Room<'_, K, W, S>,
     stream: &UnixStream,
 ) -> Result<u64, Refusal> {
     let caller = room.shared.caller(rt, alloc)?;
@@ -112,16 +120,20 @@ fn talk<K: Naming, W, R: Wait + Clock>(
         sessions: room.active,
         workers: room.workers,
     };
-    let (share, result) = converse(rt, alloc, place, caller, stream);
+    let desk = Desk {
+        keeper: room.keeper,
+        turns: room.turns,
+    };
+    let (share, result) = converse(rt, alloc, place, desk, caller, stream);
     let _ = room.shares.lock(rt).push(share);
     result
 }
 
 /// Runs a session in its thread.
-fn host<K: Naming, W: Witness<R>, R: Wait + Clock>(
+fn host<K: Naming, W: Witness<R>, S: Keeper, R: Wait + Clock>(
     rt: &R,
     alloc: Global,
-    room: &Room<'_, K, W>,
+    room: &Room<'_, K, W, S>,
     stream: UnixStream,
 ) {
     let ended = talk(rt, alloc, room, &stream);
@@ -137,7 +149,7 @@ fn host<K: Naming, W: Witness<R>, R: Wait + Clock>(
 }
 
 /// Makes room for the shares of as many sessions as can be open, and for the accounts of these and of all that have ended.
-fn make_room<K: Naming, W, R: Wait>(rt: &R, room: &Room<'_, K, W>) -> bool {
+fn make_room<K: Naming, W, S, R: Wait>(rt: &R, room: &Room<'_, K, W, S>) -> bool {
     let mut shares = room.shares.lock(rt);
     if shares.reserve(MOST_SESSIONS as usize + 1).is_err() {
         return false;
@@ -148,9 +160,9 @@ fn make_room<K: Naming, W, R: Wait>(rt: &R, room: &Room<'_, K, W>) -> bool {
 }
 
 /// Whether there is no place for a client.
-fn is_full<K: Naming, P: Porter<R>, W, R>(
+fn is_full<K: Naming, P: Porter<R>, W, S, R>(
     rt: &R,
-    room: &Room<'_, K, W>,
+    room: &Room<'_, K, W, S>,
     porter: &P,
     client: &UnixStream,
 ) -> bool {
@@ -159,9 +171,9 @@ fn is_full<K: Naming, P: Porter<R>, W, R>(
 }
 
 /// Whether there is a place for a client, and room for what its session does. If not, it is told so.
-fn has_place<K: Naming, P: Porter<R>, W, R: Wait>(
+fn has_place<K: Naming, P: Porter<R>, W, S, R: Wait>(
     rt: &R,
-    room: &Room<'_, K, W>,
+    room: &Room<'_, K, W, S>,
     porter: &P,
     client: &UnixStream,
 ) -> bool {
@@ -191,13 +203,14 @@ fn accept<
     K: Naming + Send + Sync,
     P: Porter<R>,
     W: Witness<R> + Sync,
+    S: Keeper + Sync,
     R: Threads + Wait + Clock + Sync,
 >(
     scope: &Scope<'s, E>,
     rt: &'s R,
     alloc: Global,
-    door: &Door<'_, P, W>,
-    room: &'s Room<'_, K, W>,
+    door: &Door<'_, P, W, S>,
+    room: &'s Room<'_, K, W, S>,
 ) -> bool {
     let porter = door.porter;
     let mut left = door.sessions;
@@ -237,8 +250,9 @@ pub(crate) fn accept_all<
     K: Naming + Send + Sync,
     P: Porter<R>,
     W: Witness<R> + Sync,
+    S: Keeper + Sync,
     R: Threads + Wait + Clock + Sync,
->(rt: &R, alloc: Global, door: Door<'_, P, W>, room: &Room<'_, K, W>) -> bool {
+>(rt: &R, alloc: Global, door: Door<'_, P, W, S>, room: &Room<'_, K, W, S>) -> bool {
     thread::scope(thread::scope_env(), rt, |scope| -> bool {
         let is_well = accept(scope, rt, alloc, &door, room);
         // The open sessions go on, and whoever connects from here on is refused by the system.

@@ -4,14 +4,17 @@ ghost use Rattle.std.specs.Io.KnownBytes.{Appends};
 ghost use Rattle.st_wire.specs.Streams.{input_view};
 ghost use Rattle.st_session.specs.Sessions.{Replies, end_of, failures_after};
 ghost use Rattle.st_session.specs.DeviceSessions.{DeviceSession, FlushesAsOftenAsReads};
-ghost use Rattle.st_server.specs.PoolReplies.{Attends};
+ghost use Rattle.st_server.specs.PoolReplies.{AsksFound, Attends};
 ghost use Rattle.st_wire.specs.declared.commands.Command.TheVariants as commands;
 
 use crate::asking::{ask, tell_seen};
 use crate::images::Mailbox;
+use crate::keepers::{Keeper, keep};
 use crate::starts::Place;
+use crate::turns::Turns;
 use crate::waits::TurnEnd;
 use st_classes::refusals::Refusal;
+use st_file::moments::Moment;
 use st_pool::callers::Caller;
 use st_pool::holds::Job;
 use st_pool::naming::Naming;
@@ -78,14 +81,43 @@ impl<'a, K: Naming> Job<K, Mailbox> for Seeing<'a> {
     }
 }
 
+/// What the file of an image says, which is copied in one hold of the lock.
+#[derive(Drop)]
+struct Copying;
+
+impl<K: Naming> Job<K, Mailbox> for Copying {
+    ghost use Rattle.st_server.specs.PoolReplies.{CopiesInHold};
+
+    type Out = Result<Moment, AllocError>;
+
+    ghost done = { λ s o d r p e. CopiesInHold o d r p e };
+
+    fn run(
+        self,
+        alloc: Global,
+        office: &mut Office<K, Mailbox>,
+        _mine: &mut CallerShare<K>,
+    ) -> Result<Moment, AllocError> {
+        Moment::of(alloc, office.image())
+    }
+}
+
+/// Who keeps the images of a server, and the turns that its sessions take.
+#[derive(Drop)]
+pub struct Desk<'a, S: Keeper> {
+    pub keeper: &'a S,
+    pub turns: &'a Turns,
+}
+
 /// A caller that answers commands. Contracts see what it has done.
-struct PoolHandler<'a, R: Wait + Clock, K: Naming> {
+struct PoolHandler<'a, R: Wait + Clock, K: Naming, S: Keeper> {
     rt: &'a R,
     caller: Caller<'a, K, Mailbox>,
     place: Place<'a>,
+    desk: Desk<'a, S>,
 }
 
-impl<'a, R: Wait + Clock, K: Naming> Model for PoolHandler<'a, R, K> {
+impl<'a, R: Wait + Clock, K: Naming, S: Keeper> Model for PoolHandler<'a, R, K, S> {
     ghost use Rattle.st_pool.specs.Done.{Done};
 
     ghost Value = { Done };
@@ -93,20 +125,38 @@ impl<'a, R: Wait + Clock, K: Naming> Model for PoolHandler<'a, R, K> {
     ghost view = { λ h. h.caller };
 }
 
-impl<'a, R: Wait + Clock, K: Naming> PoolHandler<'a, R, K> {
-    /// The reply to a query. It is answered behind the hold in which what it needs is copied.
+impl<'a, R: Wait + Clock, K: Naming, S: Keeper> PoolHandler<'a, R, K, S> {
+    /// The reply to a query. It is answered behind the hold in which what it needs is copied, in a turn of its own.
     fn reply_to_query(&mut self, alloc: Global, query: Query) -> Reply
         ensures { Attends K.start K.first self.old (commands.Query query) result self.new }
     {
+        let _turn = self.desk.turns.query(self.rt);
         let host = self.place.host();
         let (seen, checkpoints) = self.caller.hold(self.rt, alloc, Seeing { query: &query });
         tell_seen(alloc, seen, host.at(checkpoints), query)
     }
 
+    /// The reply to one who wants the image saved. It is written behind the hold in which what it is then is copied. Who else wants it
+    /// saved meanwhile waits with his hold.
+    fn save(&mut self, alloc: Global) -> Reply
+        ensures { Attends K.start K.first self.old commands.Save result self.new }
+    {
+        let turn = self.desk.turns.save(self.rt);
+        let moment = self.caller.hold(self.rt, alloc, Copying);
+        let reply = keep(alloc, self.desk.keeper, moment);
+        drop(turn);
+        self.desk.keeper.tell();
+        reply
+    }
+
     /// The reply to a command that is answered in a hold.
     fn ask(&mut self, alloc: Global, command: Command) -> Reply
-        ensures { Attends K.start K.first self.old command result self.new }
+        ensures { AsksFound K.start K.first self.old command result self.new }
     {
+        if let Command::Post { args, .. } = &command {
+            // If there is no room yet, the hold asks for it again, and refuses the post.
+            let _ = self.caller.make_room(args.len());
+        }
         let host = self.place.host();
         match TurnEnd::of(alloc, host, &command) {
             Some((end, most)) => {
@@ -118,29 +168,25 @@ impl<'a, R: Wait + Clock, K: Naming> PoolHandler<'a, R, K> {
     }
 }
 
-impl<'a, R: Wait + Clock, K: Naming> Handler for PoolHandler<'a, R, K> {
+impl<'a, R: Wait + Clock, K: Naming, S: Keeper> Handler for PoolHandler<'a, R, K, S> {
     ghost answers = { Attends K.start K.first };
 
     fn reply(&mut self, alloc: Global, command: Command) -> Reply {
         match command {
             Command::Query(query) => self.reply_to_query(alloc, query),
-            command => {
-                if let Command::Post { args, .. } = &command {
-                    // If there is no room yet, the hold asks for it again, and refuses the post.
-                    let _ = self.caller.make_room(args.len());
-                }
-                self.ask(alloc, command)
-            }
+            Command::Save => self.save(alloc),
+            command => self.ask(alloc, command),
         }
     }
 }
 
 /// Answers the lines of an input for a caller. The caller ends with the session, however that ends. The answer is the caller's
 /// share, and how many lines there were or why the session ended: `WriteFault` only if a write or a flush failed.
-pub fn attend<R: Wait + Clock, K: Naming, I: Input, O: Output>(
+pub fn attend<R: Wait + Clock, K: Naming, S: Keeper, I: Input, O: Output>(
     rt: &R,
     alloc: Global,
     place: Place<'_>,
+    desk: Desk<'_, S>,
     caller: Caller<'_, K, Mailbox>,
     input: &mut I,
     output: &mut O,
@@ -152,12 +198,18 @@ pub fn attend<R: Wait + Clock, K: Naming, I: Input, O: Output>(
     ensures flushes { FlushesAsOftenAsReads (2 ^ 32) (I.reads input.old) (I.reads input.new) (O.flushes output.old) (O.flushes output.new) result.1 }
     ensures failures { O.failures output.new ≡ failures_after (end_of result.1) (O.failures output.old) }
 {
-    let mut handler = PoolHandler { rt, caller, place };
+    let mut handler = PoolHandler {
+        rt,
+        caller,
+        place,
+        desk,
+    };
     let result = session(&mut handler, alloc, input, output);
     let PoolHandler {
         rt: _,
         caller,
         place: _,
+        desk: _,
     } = handler;
     (caller.end(), result)
 }

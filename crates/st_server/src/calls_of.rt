@@ -68,5 +68,6 @@ pub(crate) fn call_of(image: &Image<RingBox>, command: Command) -> Result<Call, 
         Command::Stats { .. } => Err(Refusal::BadCommand),
         Command::Query(_) => Err(Refusal::BadCommand),
         Command::Run { .. } => Err(Refusal::BadCommand),
+        Command::Save => Err(Refusal::BadCommand),
     }
 }

@@ -121,6 +121,12 @@ impl Runner {
         self.image
     }
 
+    pub(crate) fn image(&self) -> &Image
+        ensures { result.now ≡ self.now.image }
+    {
+        &self.image
+    }
+
     /// The reply to a command that needs the image alone.
     pub(crate) fn ask(&mut self, alloc: Global, command: Command) -> Reply
         ensures asks { AsksImage self.old.image command result self.new.image }

@@ -2,6 +2,7 @@
 ghost use Rattle.std.specs.Prelude.{◌≡◌};
 ghost use Rattle.st_server.specs.CommandReplies.{Runs, Serves};
 
+use crate::keepers::{Keeper, save};
 use crate::quantum::Quantum;
 use crate::runner::Runner;
 use st_session::handlers::Handler;
@@ -29,26 +30,34 @@ fn run(alloc: Global, runner: &mut Runner, quantum: Quantum, quanta: u32) -> Rep
     Reply::Ran { quanta, steps }
 }
 
-fn serve(alloc: Global, runner: &mut Runner, quantum: Quantum, command: Command) -> Reply
+fn serve<S: Keeper>(
+    alloc: Global,
+    runner: &mut Runner,
+    quantum: Quantum,
+    keeper: &S,
+    command: Command,
+) -> Reply
     ensures { Serves quantum runner.old command result runner.new }
 {
     match command {
         Command::Run { quanta } => run(alloc, runner, quantum, quanta),
+        Command::Save => save(alloc, keeper, runner.image()),
         command => runner.ask(alloc, command),
     }
 }
 
-/// An image and its worker, as the handler of a session.
+/// An image and its worker, as the handler of a session, and who keeps the image where it is saved.
 #[derive(Drop)]
-pub struct ImageHandler {
+pub struct ImageHandler<'a, S: Keeper> {
     pub runner: Runner,
     pub quantum: Quantum,
+    pub keeper: &'a S,
 }
 
-impl Handler for ImageHandler {
+impl<'a, S: Keeper> Handler for ImageHandler<'a, S> {
     ghost answers = { λ i c r j. Serves i.quantum i.runner c r j.runner × (j.quantum ≡ i.quantum) };
 
     fn reply(&mut self, alloc: Global, command: Command) -> Reply {
-        serve(alloc, &mut self.runner, self.quantum, command)
+        serve(alloc, &mut self.runner, self.quantum, self.keeper, command)
     }
 }

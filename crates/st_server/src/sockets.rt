@@ -11,9 +11,11 @@ ghost use Rattle.st_server.specs.Serving.{AreInRange, HaveServed};
 
 use crate::accepting::{Door, Room, accept_all};
 use crate::images::{Image, Mailbox, Worker};
+use crate::keepers::{Keeper, Nobody};
 use crate::porters::{FaultList, OpenDoor, Porter, Witness};
 use crate::runner::new_worker;
 use crate::starts::now;
+use crate::turns::Turns;
 use boxcar::Vec as Faults;
 use st_classes::refusals::Refusal;
 use st_image::settings::Settings;
@@ -114,12 +116,13 @@ fn run_workers<
     K: Naming + Send + Sync,
     P: Porter<R>,
     W: Witness<R> + Sync,
+    S: Keeper + Sync,
     R: Threads + Wait + Clock + Sync,
 >(
     rt: &R,
     alloc: Global,
-    door: Door<'_, P, W>,
-    room: &Room<'_, K, W>,
+    door: Door<'_, P, W, S>,
+    room: &Room<'_, K, W, S>,
     workers: Vec<Worker>,
 ) -> (Vec<Ended<K>>, bool) {
     let shared = room.shared;
@@ -138,12 +141,13 @@ fn work<
     K: Naming + Send + Sync,
     P: Porter<R>,
     W: Witness<R> + Sync,
+    S: Keeper + Sync,
     R: Threads + Wait + Clock + Sync,
 >(
     rt: &R,
     alloc: Global,
-    door: Door<'_, P, W>,
-    room: &Room<'_, K, W>,
+    door: Door<'_, P, W, S>,
+    room: &Room<'_, K, W, S>,
     workers: Vec<Worker>,
 ) -> Result<(Vec<WorkerShare<K>>, bool), Refusal>
     ensures all { IfOk result (λ r. vec_len r.0 ≡ vec_len workers) }
@@ -175,6 +179,7 @@ fn serve<
     K: Naming + Send + Sync,
     P: Porter<R>,
     W: Witness<R> + Sync,
+    S: Keeper + Sync,
     R: Threads + Wait + Clock + Sync,
 >(
     rt: &R,
@@ -182,7 +187,7 @@ fn serve<
     image: Image,
     blanks: Blanks,
     opened: Opened,
-    door: Door<'_, P, W>,
+    door: Door<'_, P, W, S>,
     workers: Vec<Worker>,
 ) -> Result<Served, Refusal>
     requires posts { blanks.posts.name ≡ K.posts }
@@ -206,12 +211,15 @@ fn serve<
     let accounts = Mutex::new(Vec::new(alloc));
     let steps = Vec::with_capacity(alloc, workers.len())?;
     let active = AtomicU64::new(0);
+    let turns = Turns::new();
     let room = Room {
         shared: &shared,
         shares: &shares,
         accounts: &accounts,
         active: &active,
         witness: door.witness,
+        keeper: door.keeper,
+        turns: &turns,
         start: now(rt),
         workers: workers.len() as u64,
     };
@@ -249,7 +257,8 @@ fn is_served(workers: u32, sessions: Option<u32>) -> bool
 /// answers the image, what each session and each worker has done, and the totals of that: what the image has counted beyond its counts
 /// at the start. With `None`, serving goes on. The image is what a list of events has made of the one that was handed in (`IsRun`).
 ///
-/// The witness is told of each session that ends with a refusal. If the porter lets in nobody any more, the call ends as behind the
+/// The witness is told of each session that ends with a refusal, and the keeper is asked to keep the image where a session wants it
+/// saved, by one session at a time. If the porter lets in nobody any more, the call ends as behind the
 /// last session. If accepting fails and the porter does not try again, it ends so too, and the fault is `ReadFault`.
 ///
 /// The listener is let go as soon as no more sessions are accepted, so clients that come while the open ones go on are refused by
@@ -258,12 +267,18 @@ fn is_served(workers: u32, sessions: Option<u32>) -> bool
 /// Refusals: `BadArguments` if a number is out of its range, or a share is missing at the end; `NoMemory` if there is no memory at
 /// the start, or no thread for a worker (room for what the end needs is made as sessions come); `Changed` if the history lacks
 /// something that the callers have done.
-pub fn serve_image<P: Porter<R>, W: Witness<R> + Sync, R: Threads + Wait + Clock + Sync>(
+pub fn serve_image<
+    P: Porter<R>,
+    W: Witness<R> + Sync,
+    S: Keeper + Sync,
+    R: Threads + Wait + Clock + Sync,
+>(
     rt: &R,
     alloc: Global,
     listener: UnixListener,
     porter: &P,
     witness: &W,
+    keeper: &S,
     workers: u32,
     sessions: Option<u32>,
     image: Image,
@@ -291,8 +306,9 @@ pub fn serve_image<P: Porter<R>, W: Witness<R> + Sync, R: Threads + Wait + Clock
         sessions,
         porter,
         witness,
+        keeper,
     };
-    serve::<Brand, P, W, R>(
+    serve::<Brand, P, W, S, R>(
         rt,
         alloc,
         image,
@@ -326,7 +342,7 @@ pub fn serve_on<R: Threads + Wait + Clock + Sync>(
         totals,
         fault,
     } = serve_image(
-        rt, alloc, listener, &OpenDoor, &witness, workers, sessions, image,
+        rt, alloc, listener, &OpenDoor, &witness, &Nobody, workers, sessions, image,
     )?;
     image.known();
     drop((image, accounts));

@@ -59,6 +59,7 @@ keys_in_order (reply.Turn n) in_parts = refl
 keys_in_order reply.Closed in_parts = refl
 keys_in_order (reply.Ran quanta steps) in_parts = refl
 keys_in_order (reply.Counted posts steps) in_parts = refl
+keys_in_order (reply.Saved n) in_parts = refl
 keys_in_order (reply.Checked actors classes edits) in_parts = refl
 keys_in_order (reply.Answer value) in_parts = in_answer value
 keys_in_order (reply.Fault fault) in_parts = refl

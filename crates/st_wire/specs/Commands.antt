@@ -8,7 +8,7 @@ use Rattle.st_classes.specs.declared.values.ActorId.{ActorId}
 use Rattle.st_classes.specs.Refusals.{Rule}
 use Rattle.st_wire.specs.declared.commands.Argument.{Argument}
 use Rattle.st_wire.specs.declared.commands.Command.{Command}
-use Rattle.st_wire.specs.declared.commands.Command.TheVariants.{Define, Method, Replace, Remove, Reparent, Actor, Post, Close, Run, Outcome, Wait, Stats, Checkpoint, Query}
+use Rattle.st_wire.specs.declared.commands.Command.TheVariants.{Define, Method, Replace, Remove, Reparent, Actor, Post, Close, Run, Outcome, Wait, Stats, Checkpoint, Save, Query}
 use Rattle.st_wire.specs.Fields.{text_at, texts_at, actor_at, sender_at, number_at, quanta_at, arguments_at, whole_at}
 use Rattle.st_wire.specs.Keys.{has_just, of_keys}
 use Rattle.st_wire.specs.Queries.{query_in}
@@ -115,13 +115,17 @@ stats_in d =
 abbrev pub checkpoint_in : Data → Option Command
 checkpoint_in d = of_keys (codes "cmd" ∷ []) d (Some Checkpoint)
 
--- a command that only reads
+abbrev pub save_in : Data → Option Command
+save_in d = of_keys (codes "cmd" ∷ []) d (Some Save)
+
+-- a command that changes nothing of an image
 abbrev pub question_in : Data → List ℕ → Option Command
 question_in d cmd =
     if bytes_eq cmd (codes "outcome") then outcome_in d
     else (if bytes_eq cmd (codes "wait") then wait_in d
     else (if bytes_eq cmd (codes "stats") then stats_in d
-    else option_map Query (query_in d cmd)))
+    else (if bytes_eq cmd (codes "save") then save_in d
+    else option_map Query (query_in d cmd))))
 
 -- the command of the form that `cmd` names
 abbrev pub form_in : Data → List ℕ → Option Command

@@ -70,6 +70,7 @@ reply_data (reply.Ran quanta steps) =
     ok (object (member (codes "quanta") (whole quanta) (member (codes "steps") (whole steps) no_members)))
 reply_data (reply.Counted posts steps) =
     ok (object (member (codes "posts") (whole posts) (member (codes "steps") (whole steps) no_members)))
+reply_data (reply.Saved n) = ok (only (codes "bytes") (whole n))
 reply_data (reply.Checked actors classes edits) =
     ok (object
     (member (codes "actors") (whole actors)

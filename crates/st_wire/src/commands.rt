@@ -3,7 +3,7 @@ ghost use Rattle.std.specs.Prelude.{◌≡◌, Some};
 ghost use Rattle.serde_json.specs.View.{view};
 ghost use Rattle.st_classes.specs.Refusals.{Answers, first_of};
 ghost use Rattle.st_wire.specs.PartResults.{Reads};
-ghost use Rattle.st_wire.specs.Commands.{ReturnsMeanNothing, command_of, command_rules, command_in, define_in, method_in, replace_in, remove_in, reparent_in, new_actor_in, post_in, close_in, run_in, outcome_in, wait_in, stats_in, question_in, checkpoint_in};
+ghost use Rattle.st_wire.specs.Commands.{ReturnsMeanNothing, command_of, command_rules, command_in, define_in, method_in, replace_in, remove_in, reparent_in, new_actor_in, post_in, close_in, run_in, outcome_in, wait_in, stats_in, question_in, checkpoint_in, save_in};
 
 use crate::fields::{actor_at, list_at, quanta_at, sender_at, text_at, whole_at};
 use crate::keys::{has_just, just_keys};
@@ -98,6 +98,8 @@ pub enum Command {
     },
     /// Begins a new history with the current world.
     Checkpoint,
+    /// Writes the image to its file.
+    Save,
     /// Looks at the image.
     Query(Query),
 }
@@ -141,7 +143,7 @@ fn read_object(alloc: Global, object: &Value) -> Result<Command, Refusal>
     }
 }
 
-/// The command of a form that only reads, by its name.
+/// The command of a form that changes nothing of an image, by its name.
 fn question(alloc: Global, object: &Value, name: &str) -> Result<Command, Refusal>
     ensures { Reads (question_in (view object.now) name.now) result }
 {
@@ -149,6 +151,7 @@ fn question(alloc: Global, object: &Value, name: &str) -> Result<Command, Refusa
         "outcome" => outcome(object),
         "wait" => wait(alloc, object),
         "stats" => stats(alloc, object),
+        "save" => save(object),
         _ => Ok(Command::Query(read_query(alloc, object, name)?)),
     }
 }
@@ -290,4 +293,11 @@ fn checkpoint(object: &Value) -> Result<Command, Refusal>
 {
     just_keys(object, &["cmd"])?;
     Ok(Command::Checkpoint)
+}
+
+fn save(object: &Value) -> Result<Command, Refusal>
+    ensures { Reads (save_in (view object.now)) result }
+{
+    just_keys(object, &["cmd"])?;
+    Ok(Command::Save)
 }

@@ -73,6 +73,8 @@ pub enum Reply {
         posts: u64,
         steps: u64,
     },
+    /// The bytes of the file in which the image is now.
+    Saved(u64),
     /// What an image file holds. The kernel's classes count too.
     Checked {
         actors: u32,
@@ -134,6 +136,7 @@ impl Reply {
             Reply::Counted { posts, steps } => {
                 write_two(writer, "posts", *posts, "steps", *steps)
             }
+            Reply::Saved(bytes) => write_number(writer, "bytes", *bytes),
             Reply::Checked {
                 actors,
                 classes,

@@ -30,6 +30,7 @@ pub(crate) enum Wanted {
     Wait(u32, &'static str, u32, u64),
     Stats(&'static str, &'static str),
     Checkpoint,
+    Save,
     /// A query by its name, the class and the selector that it names, and its numbers.
     Query(&'static str, &'static str, &'static str, u32, u32),
 }
@@ -75,6 +76,7 @@ const COMMANDS: &[(&str, Wanted)] = &[
         Wanted::Stats("M", "at:put:"),
     ),
     (r#"{"cmd":"checkpoint"}"#, Wanted::Checkpoint),
+    (r#"{"cmd":"save"}"#, Wanted::Save),
     (
         r#"{"cmd":"classes"}"#,
         Wanted::Query("classes", "", "", 0, 0),
@@ -226,6 +228,7 @@ fn is_wanted(command: &Command, wanted: &Wanted) -> bool {
             is(class, holder) && is(selector, name)
         },
         (Command::Checkpoint, Wanted::Checkpoint) => true,
+        (Command::Save, Wanted::Save) => true,
         (Command::Query(query), Wanted::Query(name, class, selector, first, second)) => {
             is_query(query, name, class, selector, *first, *second)
         },

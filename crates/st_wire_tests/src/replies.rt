@@ -15,6 +15,7 @@ enum Said {
     Closed,
     Ran(u32, u64),
     Counted(u64, u64),
+    Saved(u64),
     Checked(u32, u32, u32),
     Int(i64),
     Bool(bool),
@@ -35,6 +36,7 @@ const REPLIES: &[(Said, &str)] = &[
     (Said::Closed, r#"{"ok":{}}"#),
     (Said::Ran(1, 7), r#"{"ok":{"quanta":1,"steps":7}}"#),
     (Said::Counted(2, 14), r#"{"ok":{"posts":2,"steps":14}}"#),
+    (Said::Saved(95), r#"{"ok":{"bytes":95}}"#),
     (
         Said::Checked(1, 9, 5),
         r#"{"ok":{"actors":1,"classes":9,"edits":5}}"#,
@@ -349,6 +351,7 @@ fn reply_of(said: &Said) -> Reply {
             posts: *posts,
             steps: *steps,
         },
+        Said::Saved(bytes) => Reply::Saved(*bytes),
         Said::Checked(actors, classes, edits) => Reply::Checked {
             actors: *actors,
             classes: *classes,

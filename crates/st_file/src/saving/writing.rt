@@ -1,5 +1,5 @@
 //! Writes the value of a file.
-ghost use Rattle.std.specs.Prelude.{◌≡◌, ◌≤◌, ℕ, List, false, IfOk, MatchResult, OnOk, OnErr};
+ghost use Rattle.std.specs.Prelude.{◌≡◌, ◌≤◌, ℕ, List, length, false, IfOk, MatchResult, OnOk, OnErr};
 ghost use Rattle.std.specs.Io.KnownBytes.{Appends};
 ghost use mathlib.Core.List.{IsPrefix};
 ghost use Rattle.serde_json.specs.Data.{depth};
@@ -39,23 +39,24 @@ fn write_line<O: Output>(output: &mut O, line: &[u8]) -> Result<(), WriteFailed>
     }
 }
 
-/// Writes the line of a value and flushes the output. Fails with `NoMemory` before anything is written, or with `WriteFault` if the
-/// output failed. After `WriteFault` a prefix of the line is written, which is all of it if only the flush failed.
+/// Writes the line of a value and flushes the output. The answer is how many bytes it has. Fails with `NoMemory` before anything is
+/// written, or with `WriteFault` if the output failed. After `WriteFault` a prefix of the line is written, which is all of it if only the
+/// flush failed.
 pub(crate) fn write_value<O: Output>(
     alloc: Global,
     output: &mut O,
     value: &Value,
-) -> Result<(), Refusal>
+) -> Result<u64, Refusal>
     requires whole { has_float (view value.now) ≡ false }
     requires shallow { depth (view value.now) ≤ max_depth }
     ensures written { (part : List ℕ) × Appends (O.contents output.old) (O.contents output.new) part
-        × Writes (IsLineOf (view value.now)) part result }
+        × Writes (IsLineOf (view value.now)) part result × IfOk result (λ n. n ≡ length part) }
     ensures failures { O.failures output.new ≡ failures_after result (O.failures output.old) }
     ensures flushed { OnOk result (O.flushes output.new ≡ one_more (O.flushes output.old)) }
 {
     let line = line_of(alloc, value)?;
     match write_line(output, &line) {
-        Ok(()) => Ok(()),
+        Ok(()) => Ok(line.len() as u64),
         Err(_) => Err(Refusal::WriteFault),
     }
 }

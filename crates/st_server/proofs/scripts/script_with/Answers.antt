@@ -2,7 +2,7 @@ use Rattle.std.proofs.Common.{[]}
 use Rattle.std.proofs.KnownBytes.{Appends-nil}
 use Rattle.st_wire.specs.Streams.{input_view}
 use Rattle.st_server.proofs.Scripting.{refuses_quantum, refuses_settings, keeps_settings}
-use Rattle.st_server.proofs.scripts.script_on.Goals as goal
+use Rattle.st_server.proofs.scripts.script_with.Goals as goal
 
 pub returns-in_default-clause-script : goal.returns-in_default-clause-script
 returns-in_default-clause-script g c =

@@ -1,0 +1,82 @@
+//! An image at one moment, as plain data.
+use crate::part_texts::tell_actors;
+use crate::saving::tables::{edit_texts, name_texts};
+use crate::texts::ImageText;
+use st_classes::names::Names;
+use st_classes::seq::Seq;
+use st_classes::token::Token;
+use st_image::actor_part::ActorPart;
+use st_image::counts::Counts;
+use st_image::image::Image;
+use st_image::loader::reloads;
+use st_mailbox::mailboxes::Mailbox;
+use std::alloc::{AllocError, Global};
+use std::marker::Model;
+
+/// All that the file of an image says of it at one moment. The image may go on meanwhile.
+#[derive(Drop)]
+pub struct Moment {
+    names: Names,
+    table: Token,
+    parts: Vec<ActorPart>,
+    clients: Vec<(u16, u64)>,
+    counts: Counts,
+}
+
+impl Model for Moment {
+    ghost use Rattle.st_image.specs.Parts.{world_of_parts};
+    ghost use Rattle.st_file.specs.Moments.{AreOfImage, MomentView};
+
+    ghost Value = { MomentView };
+
+    ghost view = { λ m. record { names = m.names; base = world_of_parts m.table m.parts.items m.clients.items; counts = m.counts } };
+
+    ghost invariant = { λ m. AreOfImage m.names m.table m.parts.items m.clients.items m.counts };
+}
+
+impl Moment {
+    ghost use Rattle.std.specs.Prelude.{◌≡◌, IfOk};
+    ghost use Rattle.st_file.specs.Moments.{moment_of};
+    ghost use Rattle.st_file.specs.Saving.{TellsMoment};
+    ghost use Rattle.st_file.specs.Tellable.{ImageIsText};
+
+    /// What an image is now. The actors with their bodies and pending messages are copied, and the clients' numbers; the names and the
+    /// class table are shared. Fails only if memory runs out.
+    pub fn of<M: Mailbox>(alloc: Global, image: &Image<M>) -> Result<Moment, AllocError>
+        ensures { IfOk result (λ m. m ≡ moment_of image.now) }
+    {
+        image.known();
+        image.all_compiled();
+        image.can_be_base();
+        let counts = image.counted();
+        let names = image.names().again()?;
+        let table = image.token().again()?;
+        let clients = image.clients(alloc)?;
+        let parts = image.parts(alloc)?;
+        Ok(Moment {
+            names,
+            table,
+            parts,
+            clients,
+            counts,
+        })
+    }
+
+    /// What its file says. Fails only if memory runs out.
+    pub(crate) fn text(&self, alloc: Global) -> Result<ImageText, AllocError>
+        ensures tells { IfOk result (λ t. TellsMoment self.now t) }
+        ensures text { IfOk result (λ t. ImageIsText t) }
+    {
+        reloads();
+        self.names.known();
+        let version = self.table.shown();
+        let senders = Vec::from_slice(alloc, &self.clients)?;
+        Ok(ImageText {
+            actors: tell_actors(alloc, &self.names, version, &self.parts)?,
+            counts: self.counts,
+            edits: edit_texts(alloc, &self.names, version)?,
+            names: name_texts(alloc, &self.names)?,
+            senders: Seq::from_vec(senders),
+        })
+    }
+}

@@ -1,0 +1,234 @@
+"""Trials of saves of a served image: several at once beside posts, those that wait for others, and tools/save."""
+
+import contextlib
+import fcntl
+import functools
+import json
+import os
+import select
+import socket
+import subprocess
+import tempfile
+import threading
+import time
+
+from sockets_parts.together import run_together
+
+TOOLS = os.path.dirname(os.path.dirname(os.path.realpath(__file__)))
+SAVE, STOP = os.path.join(TOOLS, "save"), os.path.join(TOOLS, "stop")
+# How many sessions save and how many post, and how often each of them does.
+TOGETHER, SAVES, POSTS = 8, 6, 60
+# A save is long that takes so many seconds; then what comes in the midst of it can be told from what comes behind it.
+LONG, ROUNDS = 0.2, 3
+LINK = "fill | i | i := 0. [i < 400] whileTrue: [Link new. i := i + 1]. ^i"
+
+
+def image_in(file):
+    with open(file, "rb") as it:
+        return json.loads(it.read())
+
+
+@contextlib.contextmanager
+def served(program, Server, sessions, workers=2):
+    """A server that keeps its image in a file, and the path of that."""
+    with tempfile.TemporaryDirectory() as folder:
+        file = os.path.join(os.path.realpath(folder), "image")
+        with Server(program, sessions, workers, "--image", file) as server:
+            yield server, file
+
+
+class Stage:
+    """What the sessions know of one another: the last number of each sender that was accepted, and how many actors there are."""
+
+    def __init__(self, server, post, file):
+        self.server, self.post, self.file = server, post, file
+        self.accepted = {sender: 0 for sender in range(1, TOGETHER + 1)}
+        self.actors, self.is_over = 1, False
+        self.saved, self.seen = 0, []
+
+    def posts(self, sender, client):
+        for seq in range(1, POSTS + 1):
+            turn = client.done(**self.post(0, "a", [], sender, seq))["turn"]
+            self.accepted[sender] = seq
+            client.wait(0, turn)
+
+    def saves(self, client):
+        """What was answered before a save is in the file behind it."""
+        for _ in range(SAVES):
+            self.actors = max(self.actors, client.actor("M") + 1)
+            actors, accepted = self.actors, dict(self.accepted)
+            assert client.done(cmd="save")["bytes"] > 0
+            self.saved += 1
+            image = image_in(self.file)
+            assert len(image["actors"]) >= actors, (len(image["actors"]), actors)
+            assert len(image["edits"]) == 2, image["edits"]
+            found = dict(image["senders"])
+            assert all(found.get(sender, 0) >= last for sender, last in accepted.items()), (found, accepted)
+
+    def watch(self):
+        """Looks all the time at the file, whose image is never an older one than before, and at the new files that are open."""
+        actors = 0
+        while not self.is_over:
+            self.seen.append(new_files(self.server.process.pid))
+            with contextlib.suppress(FileNotFoundError):
+                count = len(image_in(self.file)["actors"])
+                assert count >= actors, f"a file with {actors} actors was replaced by one with {count}"
+                actors = count
+
+
+def new_files(process):
+    """How many new files beside an image's a process has open."""
+    folder, found = f"/proc/{process}/fd", []
+    for number in os.listdir(folder):
+        with contextlib.suppress(OSError):
+            found.append(os.readlink(f"{folder}/{number}").removesuffix(" (deleted)"))
+    return sum(it.endswith(".new") for it in found)
+
+
+def saves_among_posts(program, Server, post):
+    """Sessions save at once, and others post: each save is answered, each post is accepted, and the file is newer with each save."""
+    with served(program, Server, 2 * TOGETHER + 1) as (server, file):
+        with server.client() as client:
+            client.make("M", [], "a ^3 + 4 * 2")
+            assert client.actor("M") == 0
+        stage, wrong = Stage(server, post, file), []
+
+        def watch():
+            try:
+                stage.watch()
+            except BaseException as error:
+                wrong.append(repr(error))
+
+        watcher = threading.Thread(target=watch)
+        watcher.start()
+        run_together(server, *[functools.partial(stage.posts, it) for it in stage.accepted], *[stage.saves] * TOGETHER)
+        totals, names = server.ended()
+        stage.is_over = True
+        watcher.join()
+        assert not wrong, wrong
+        assert set(stage.seen) <= {0, 1} and 1 in stage.seen, set(stage.seen)
+        assert stage.saved == TOGETHER * SAVES and totals["posts"] == TOGETHER * POSTS and names == [], (stage.saved, totals, names)
+        image = image_in(file)
+        assert image["senders"] == [[it, POSTS] for it in range(1, TOGETHER + 1)] and len(image["actors"]) == stage.saved + 1
+
+
+def is_answered(client):
+    """Whether a reply has come that is not read."""
+    return bool(select.select([client.socket], [], [], 0)[0])
+
+
+def seconds_of_a_save(client):
+    began = time.monotonic()
+    client.done(cmd="save")
+    return time.monotonic() - began
+
+
+def is_copied_behind(seconds, file, one, two, other):
+    """Whether a save that waits for another one saves what came in between; None where the first one ended too soon to tell. A save takes
+    so many seconds."""
+    one.send({"cmd": "save"})
+    time.sleep(0.2 * seconds)
+    two.send({"cmd": "save"})
+    time.sleep(0.3 * seconds)
+    number = other.actor("M")
+    is_told = not is_answered(one)
+    assert one.reply()["ok"] and two.reply()["ok"]
+    return len(image_in(file)["actors"]) > number if is_told else None
+
+
+def saves_take_turns(program, Server, post):
+    """A save that waits for another one copies nothing before: what was answered while it waited is in its file."""
+    with served(program, Server, 3) as (server, file), contextlib.ExitStack() as clients:
+        one, two, other = (clients.enter_context(server.client()) for _ in range(3))
+        one.make("Link", [])
+        one.make("M", [], LINK)
+        while (seconds := seconds_of_a_save(one)) < LONG:
+            for seq in range(1, 21):
+                number = one.actor("M")
+                turn = one.done(**post(number, "fill", [], 1, 1_000 * number + seq))["turn"]
+                assert one.wait(number, turn) == {"ok": {"answer": 400}}
+        found = []
+        while found.count(True) < ROUNDS:
+            found.append(is_copied_behind(seconds, file, one, two, other))
+            assert found[-1] is not False, "a save that waited has left out what came meanwhile"
+            assert len(found) < 10 * ROUNDS, "no save takes long enough to tell"
+        clients.close()
+        assert server.ended()[1] == []
+
+
+def saved_by_the_tool(program, Server, _post):
+    """tools/save prints the bytes, also while 64 sessions are open, and says why nothing was saved."""
+    with served(program, Server, 1000) as (server, file), contextlib.ExitStack() as others:
+        client = others.enter_context(server.client())
+        client.make("M", [])
+        for _ in range(63):
+            others.enter_context(server.client()).ask(cmd="run")
+        saved = asked(server.path, "--seconds", "60")
+        assert (saved.stdout, saved.stderr, saved.returncode) == (f"{os.path.getsize(file)}\n", "", 0), saved
+        assert [it["define"]["name"] for it in image_in(file)["edits"]] == ["M"]
+        os.utime(file, (0, 0))
+        refused = asked(server.path)
+        assert (refused.stdout, refused.returncode) == ("", 1) and refused.stderr.startswith("tools/save: WriteFault: "), refused
+        said = f"actorimage: the image is not saved: {file} was changed by another process, and is NOT replaced\n"
+        assert server.process.stderr.readline() == said
+    with Server(program, 1, 1) as server:
+        none = asked(server.path)
+        said = "tools/save: BadArguments: the server was started without --image, so it has no file to save in\n"
+        assert (none.stdout, none.stderr, none.returncode) == ("", said, 1), none
+        path = server.path
+    none = asked(path)
+    assert (none.stderr, none.returncode) == (f"tools/save: no server listens at {path} (No such file or directory)\n", 1), none
+    with tempfile.TemporaryDirectory() as folder, socket.socket(socket.AF_UNIX) as listener:
+        listener.bind(os.path.join(folder, "socket"))
+        listener.listen()
+        silent = asked(os.path.join(folder, "socket"), "--seconds", "0.2")
+        assert (silent.stdout, silent.returncode) == ("", 1) and "timed out" in silent.stderr, silent
+
+
+def refused_saves_that_nobody_reads(program, Server, _post):
+    """Where nobody reads why a save was refused, and there is room for no more of it, at most that session waits: others save, and are
+    told."""
+    with served(program, Server, 2) as (server, file), server.client() as client, server.client() as other:
+        # The least that a pipe holds.
+        fcntl.fcntl(server.process.stderr, fcntl.F_SETPIPE_SZ, 4096)
+        client.done(cmd="save")
+        os.utime(file, (0, 0))
+        client.socket.settimeout(3)
+        with contextlib.suppress(TimeoutError):
+            for _ in range(100):
+                assert client.ask(cmd="save") == {"error": "WriteFault"}
+        other.socket.settimeout(20)
+        for _ in range(3):
+            assert other.ask(cmd="save") == {"error": "WriteFault"}
+        client.leave()
+        other.leave()
+        out, err = server.process.communicate(timeout=60)
+        assert out == '{"ok":{"posts":0,"steps":0}}\n' and "the image is not saved" in err, (out, err)
+
+
+def stopped_behind_a_save(program, Server, _post):
+    """Whether the end has saved the image is told by tools/stop also where sessions save while it waits for them."""
+    for is_in_the_way in (False, True):
+        with served(program, Server, 1000) as (server, file), server.client() as client:
+            client.make("M", [])
+            stop = subprocess.Popen([STOP, server.path], stderr=subprocess.PIPE, text=True)
+            assert stop.stderr.readline() == "tools/stop: waits for the sessions of others to end\n"
+            saved = client.done(cmd="save")["bytes"]
+            client.make("N", [])
+            if is_in_the_way:
+                os.remove(file + ".new")
+                os.mkdir(file + ".new")
+            # The tool looks at the file now and then.
+            time.sleep(0.5)
+            client.leave()
+            said = stop.communicate(timeout=60)[1].splitlines()[-1]
+            told = f"and its image is NOT saved: {file} is as it was before" if is_in_the_way else f"and {file} is written"
+            assert (said, stop.returncode) == (f"tools/stop: the server has ended, {told}", int(is_in_the_way)), said
+            assert (os.path.getsize(file) == saved) is is_in_the_way
+
+
+def asked(*words):
+    return subprocess.run([SAVE, *words], capture_output=True, text=True, timeout=120)
+
+
+TRIALS = (saves_among_posts, saves_take_turns, saved_by_the_tool, refused_saves_that_nobody_reads, stopped_behind_a_save)

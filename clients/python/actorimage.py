@@ -539,24 +539,30 @@ class Image:
 
     def ask_all(self, commands: Iterable[Reply], window: int = 100) -> Iterator[Union[Reply, Refused]]:
         """Sends many commands, at most `window` of them before a reply that is not read yet, and gives each reply's `ok`, or its
-        refusal, which is not raised. Other threads wait until all was given."""
+        refusal, which is not raised. Where `commands` raises, what was sent before has its replies first. Other threads wait until all
+        was given."""
         if not isinstance(window, int) or window < 1:
             raise ValueError(f"{window!r} cannot be a window: one command at least is sent before its reply is read")
         with self._lock:
-            line = self._ready()
+            line, failed = self._ready(), None
             try:
                 coming = iter(commands)
                 while True:
                     # What is read may decide whether there is another command.
                     if self._waiting == window:
                         yield self._read(line)
-                    command = next(coming, None)
+                    try:
+                        command = next(coming, None)
+                    except Exception as error:
+                        command, failed = None, error
                     if command is None:
                         break
                     line.write(command)
                     self._waiting += 1
                 while self._waiting:
                     yield self._read(line)
+                if failed:
+                    raise failed
             finally:
                 # After a break in a loop the rest is passed over, so that the next command gets its own reply.
                 while self._waiting and line is self._line:
@@ -777,8 +783,9 @@ class Sender:
     ) -> Iterator[Union[Turn, Refused]]:
         """Posts many messages, each an actor, a selector and arguments, at most `window` of them ahead of the replies that are read.
         Gives for each its turn, or its refusal. The number of a refused one stays unused. A message behind one that was refused as
-        `Full` may be accepted. With `stop_at_full` none is taken from `messages` once `Full` was read; those that were sent ahead, none
-        with a window of 1, have their replies still."""
+        `Full` may be accepted. One that cannot be sent, as behind the last number that there is, raises once all before it have their
+        replies. With `stop_at_full` none is taken from `messages` once `Full` was read; those that were sent ahead, none with a window
+        of 1, have their replies still."""
         actors: list[Actor] = []
         is_full = False
 

@@ -11,7 +11,8 @@ import tempfile
 import time
 
 TOP = os.path.dirname(os.path.dirname(os.path.dirname(os.path.realpath(__file__))))
-# A run writes down its crate, its words and its process, and its crate again at its end. The program is the one that is tried.
+# A run writes down its crate, its words and its process, and its crate again at its end, and leaves a folder for what it made. The
+# program is the one that is tried.
 RT = """#!/usr/bin/env bash
 crate=$(basename "$PWD")
 echo "begins $crate $$ $*" >>"$LOG"
@@ -19,7 +20,8 @@ echo "begins $crate $$ $*" >>"$LOG"
 echo "so far: 1 of 2"
 [ "$crate" != "$FAILS" ] || { echo "error: no proof"; exit 1; }
 sleep "$PAUSE"
-[ "$1" != run ] || { mkdir -p out && cp "$PROGRAM" out/actorimage; }
+mkdir -p out/rlib
+[ "$1" != run ] || cp "$PROGRAM" out/actorimage
 echo "ends $crate" >>"$LOG"
 """
 
@@ -123,7 +125,7 @@ def has_ended(process):
     try:
         with open(f"/proc/{process}/stat", encoding="utf-8") as file:
             return file.read().rpartition(")")[2].split()[0] == "Z"
-    except FileNotFoundError:
+    except (FileNotFoundError, ProcessLookupError):
         return True
 
 
@@ -196,6 +198,8 @@ TRIALS = (along_the_graph, names_what_failed, ends_all_at_an_interrupt, keeps_a_
 
 
 def main():
+    # Who runs this in the background may have it ignored.
+    signal.signal(signal.SIGINT, signal.default_int_handler)
     for trial in TRIALS:
         trial(os.path.realpath(sys.argv[1]))
 

@@ -107,7 +107,10 @@ def old_methods_go(program):
     same("the edits", json.loads(read(new))["edits"], LEFT)
     same("a file that is there", tool(EDITS, path, new).status, 1)
     same("the turn and the next message", program.replies("fewer edits", new, MORE)[3:], ANSWERS)
-    return "1 file"
+    one = program.at("one")
+    same("the session of one line", program.script(one, LINES[0]).status, 0)
+    same("what is said of one edit", tool(EDITS, one, one + "2").out, b"%s2: 1 edit, of 1 in %s\n" % (os.fsencode(one), os.fsencode(one)))
+    return "2 files"
 
 
 def lines_of_symbols():

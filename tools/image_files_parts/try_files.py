@@ -52,6 +52,44 @@ def anew(program):
     return f"{len(texts)} files"
 
 
+def turned(value):
+    """A JSON value with the keys of each object in the other order."""
+    if isinstance(value, dict):
+        return {key: turned(value[key]) for key in reversed(list(value))}
+    return [turned(each) for each in value] if isinstance(value, list) else value
+
+
+def escaped(text):
+    """A JSON text in which each letter e of a text is written by its number."""
+    return text.replace("e", "\\u0065").replace("fals\\u0065", "false").replace("tru\\u0065", "true")
+
+
+def first_turned(value):
+    """An image's value whose first actor has its keys in the other order. Those of the image stand in theirs."""
+    actors = value["actors"]
+    return value | {"actors": [turned(actors[0]), *actors[1:]]} if actors else value
+
+
+def otherwise(program):
+    """What a file says does not depend on spaces, on escapes, or on the order of keys; nor does what is saved of it."""
+    count = 0
+    for name, path in good_files().items():
+        value = json.loads(read(path))
+        wanted = try_file(program, name, read(path)).text
+        texts = {
+            "with spaces": json.dumps(value, indent=2, ensure_ascii=False),
+            "with escapes": escaped(json.dumps(value, ensure_ascii=False)),
+            "with all keys turned": json.dumps(turned(value), ensure_ascii=False),
+            "with an actor turned": json.dumps(first_turned(value), ensure_ascii=False),
+        }
+        for about, text in texts.items():
+            said = try_file(program, name, text.encode())
+            same(f"{name} {about}: is it good", said.place, None)
+            same(f"{name} {about}: what is saved", said.text, wanted)
+            count += 1
+    return f"{count} texts"
+
+
 def malformed(program):
     """Each malformed file is refused by the place that stands beside it."""
     for path in bad_files():
@@ -88,4 +126,4 @@ def written(program):
     return f"{len(scripts()) + 1} files"
 
 
-TRIALS = (good, anew, malformed, changed, written)
+TRIALS = (good, anew, otherwise, malformed, changed, written)

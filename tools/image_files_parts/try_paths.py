@@ -60,7 +60,7 @@ def refused_sessions(program):
 
 
 def not_there(program):
-    """No file and a folder cannot be checked. A session begins with no file, and not with a folder."""
+    """No file and a folder cannot be checked. A session begins with no file, and not with a folder or a pipe, at which nobody writes."""
     same("check of no file", program.check(program.at("none")), UNREAD)
     same("check of a folder", program.check(program.folder), UNREAD)
     same("check of a file as a folder", program.check(os.path.join(program.put("file", before()), "none")), UNREAD)
@@ -68,8 +68,11 @@ def not_there(program):
     wanted = refusal("ReadFault", f"{program.at('folder')} is a folder")
     same("a folder as the file", program.script(program.at("folder"), DEFINE), wanted)
     same("the folder", os.listdir(program.at("folder")), [])
-    alone(program, "file", "folder")
-    return "4 paths"
+    os.mkfifo(program.at("pipe"))
+    wanted = refusal("ReadFault", f"{program.at('pipe')} is no file")
+    same("a pipe as the file", program.script(program.at("pipe"), DEFINE), wanted)
+    alone(program, "file", "folder", "pipe")
+    return "5 paths"
 
 
 def links(program):
@@ -85,8 +88,12 @@ def links(program):
         same(f"a link {name}: what is saved", read(program.at(where)), after())
     same("a link in the folder leads to", leads_to(program.at("folder", "near")), "far")
     same("files in the folder of the file", sorted(os.listdir(program.at("folder"))), ["far", "near"])
-    alone(program, "folder", "file", *ways)
-    return f"{len(ways)} links"
+    os.symlink("nowhere", program.at("lost"))
+    begun = Ended(0, b'{"ok":{"version":1}}\n', b"")
+    same("a link that leads nowhere", program.script(program.at("lost"), DEFINE), begun)
+    same("a link that leads nowhere is one", leads_to(program.at("lost")), None)
+    alone(program, "folder", "file", "lost", *ways)
+    return f"{len(ways) + 1} links"
 
 
 def rights(program):

@@ -4,7 +4,9 @@ import argparse
 import os
 import sys
 
+from . import words
 from .deep import deeply
+from .held import refuse_journal
 from .reading import read_image
 from .refused import BadImage
 from .written import compact
@@ -38,6 +40,7 @@ def world(image):
 
 def written(fewer, count, name, new):
     """Writes the new file, and answers the two counts."""
+    refuse_journal(os.path.realpath(name))
     with open(name, "rb") as file:
         image = read_image(file.read())
     text = compact(fewer(image))
@@ -61,8 +64,8 @@ def told(fewer, count, name, new):
         return None, f"{error.filename or new}: {error.strerror}"
 
 
-def run(tool, doc, what, fewer, count):
-    """What a tool does: it writes the file that `fewer` makes of an image, and says how many there are now of what it counts."""
+def run(tool, doc, thing, fewer, count, counted_with=""):
+    """What a tool does: it writes the file that `fewer` makes of an image, and says how many there are now of the things that it counts."""
     plain = argparse.RawDescriptionHelpFormatter
     parser = argparse.ArgumentParser(prog=tool, description=doc, formatter_class=plain, usage=argparse.SUPPRESS)
     parser.add_argument("file", metavar="FILE", help="an image file")
@@ -72,4 +75,4 @@ def run(tool, doc, what, fewer, count):
     if error:
         sys.exit(f"{tool}: {error}")
     after, before = counts
-    print(f"{given.new}: {after:,} {what}, of {before:,} in {given.file}")
+    print(f"{given.new}: {words.count(after, thing)}{counted_with}, of {before:,} in {given.file}")

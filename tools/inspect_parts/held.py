@@ -6,13 +6,21 @@ import fcntl
 import os
 
 BESIDE = ".new"
+JOURNAL = ".journal"
 HOW = os.O_WRONLY | os.O_CREAT | os.O_NOFOLLOW | os.O_CLOEXEC
+
+
+def refuse_journal(path):
+    """`OSError` where the journal of an image is there: what it tells is not in the file, and goes on from the file as it is."""
+    if os.path.lexists(path + JOURNAL):
+        raise OSError(errno.EBUSY, "its journal is there: serve it with --journal, and end that server", path)
 
 
 @contextlib.contextmanager
 def new_file(path):
     """The empty new file beside the one at a path. It takes that one's place, and its rights, where nothing is raised. `OSError` if it
-    cannot be held."""
+    cannot be held, or the file has a journal."""
+    refuse_journal(path)
     name = path + BESIDE
     with open(os.open(name, HOW, 0o666), "wb") as file:
         hold(file, name)

@@ -1,4 +1,4 @@
-"""What is counted of call sites: a place for each instruction of a method, and no more."""
+"""What is counted of call sites: places for the instructions of a method that has sent something, and no more."""
 
 from scripts_parts.commands import actor, answer, define, made, method
 from scripts_parts.limits import name
@@ -9,6 +9,9 @@ from .session import Session, site
 FEW, MANY = 20, 520
 # The bytes that a method may take, with its source, its code and its places. Some thousand places would take more.
 METHOD = 64 * 1024
+# The sends of a long method, and the bytes that one may take that never runs: its source, its code, and a row without places. A place for
+# each of its instructions would take 6,500 bytes more.
+SENDS, IDLE = 100, 12 * 1024
 
 
 def methods(count):
@@ -23,11 +26,32 @@ def methods(count):
     return session
 
 
-def memory_of_tallies(program):
-    each = (program.measured(methods(MANY)) - program.measured(methods(FEW))) / (MANY - FEW)
-    if each > METHOD:
-        raise Wrong(f"a method takes {each:,.0f} bytes, over {METHOD:,}")
+def bytes_of_each(program, image, most):
+    """The bytes that one method of an image takes, which are to be no more than the most."""
+    each = (program.measured(image(MANY)) - program.measured(image(FEW))) / (MANY - FEW)
+    if each > most:
+        raise Wrong(f"a method takes {each:,.0f} bytes, over {most:,}")
     return f"{each:,.0f} bytes for each of {MANY - FEW} methods"
 
 
-TRIALS = (memory_of_tallies,)
+def memory_of_tallies(program):
+    return bytes_of_each(program, methods, METHOD)
+
+
+def idle_methods(count):
+    """So many long methods, of which none runs, and a short one behind them that does."""
+    session = Session(f"{count} methods that never run")
+    session.edit(define("M"))
+    for number in range(count):
+        session.edit(method("M", f"{name('m', number)} ^0{' + 1' * SENDS}"))
+    session.edit(method("M", "last ^1 + 1"))
+    session.ask(actor("M"), made(0))
+    session.turn("last", steps=5, ending=answer(2))
+    return session
+
+
+def memory_of_idle_methods(program):
+    return bytes_of_each(program, idle_methods, IDLE)
+
+
+TRIALS = (memory_of_tallies, memory_of_idle_methods)

@@ -124,7 +124,7 @@ def supervised_in_vain(program, Server, _post):
             client.make("M", [])
             them.process.terminate()
             out, err, status = them.ended()
-            said = "the server has not ended after 1.5 seconds: it is killed, and what was done since its start is NOT saved"
+            said = "the server has not ended after 1.5 seconds: it is killed, and what was done since its image was saved last is NOT saved"
             assert (out, status) == ("", 1) and not os.path.exists(file), (out, status)
             assert err.splitlines()[-1] == f"tools/supervise: {said}", err
     with tempfile.TemporaryDirectory() as folder:

@@ -28,6 +28,17 @@ def ticks(server):
     return int(fields[11]) + int(fields[12])
 
 
+def rests(server):
+    """Whether the server soon does nothing for a second."""
+    for _ in range(5):
+        time.sleep(0.2)
+        before = ticks(server)
+        time.sleep(1)
+        if ticks(server) <= before + 5:
+            return True
+    return False
+
+
 def switches(server):
     """How often a thread of the server went to sleep."""
     count = 0
@@ -56,10 +67,7 @@ def each_worker_has_a_thread(program, Server, _post):
 def idle_workers_sleep(program, Server, _post):
     with Server(program, 1, 16) as server:
         soon(lambda: len(threads(server)) == 17, "16 workers have no thread each")
-        time.sleep(0.2)
-        before = ticks(server)
-        time.sleep(1)
-        assert ticks(server) <= before + 5, f"workers with nothing to do run for {ticks(server) - before} ticks in a second"
+        assert rests(server), "workers with nothing to do run"
 
 
 def idle_sessions_sleep(program, Server, _post):
@@ -67,10 +75,7 @@ def idle_sessions_sleep(program, Server, _post):
     with Server(program, 16) as server, contextlib.ExitStack() as stack:
         for client in [stack.enter_context(server.client()) for _ in range(16)]:
             assert client.ask(cmd="outcome", actor=0, turn=1) == {"error": "UnknownActor"}
-        time.sleep(0.2)
-        before = ticks(server)
-        time.sleep(1)
-        assert ticks(server) <= before + 5, f"sessions with nothing to do run for {ticks(server) - before} ticks in a second"
+        assert rests(server), "sessions with nothing to do run"
 
 
 def a_post_wakes_one(program, Server, post):
@@ -157,9 +162,7 @@ def few_descriptors(program, Server, _post):
                     more = [clients.enter_context(server.client()) for _ in range(DESCRIPTORS)]
                     for client in more:
                         client.send({"cmd": "run"})
-                    before = ticks(server)
-                    time.sleep(1)
-                    assert ticks(server) <= before + 5, "a server runs while it has no descriptors"
+                    assert rests(server), "a server runs while it has no descriptors"
                     assert unread(more[0]) and not unread(more[-1]), "the server has more descriptors than it may"
                     assert first.ask(cmd="run") == {"error": "BadCommand"}
                     first.leave()

@@ -6,7 +6,7 @@ import random
 import threading
 import time
 
-from sockets_parts.resources import soon, threads, ticks
+from sockets_parts.resources import rests, soon, threads
 from sockets_parts.together import run_together
 
 # How many turns are waited for, and for how long at most.
@@ -133,10 +133,7 @@ def others_go_on_beside_waits(program, Server, post):
         waiting = [others.enter_context(server.client()) for _ in range(48)]
         for it in waiting:
             it.send({"cmd": "wait", "actor": 0, "epoch": of, "ms": LONG, "turn": 1})
-        time.sleep(0.3)
-        before = ticks(server)
-        time.sleep(1)
-        assert ticks(server) <= before + 5, f"sessions that wait run for {ticks(server) - before} ticks in a second"
+        assert rests(server), "sessions that wait run"
         began = time.monotonic()
         for number in range(1, 201):
             client.done(cmd="method", **{"class": "A"}, source=f"b ^{number}")

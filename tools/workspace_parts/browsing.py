@@ -66,6 +66,10 @@ def selector_of(rest):
     """The selector that is written after a command, as a symbol or without its sign."""
     if not rest:
         raise Wrong("write the name of a message after it, as in  bump  or  at:put:")
+    match = METHOD.fullmatch(rest)
+    if match:
+        name = rest if ":" in match[1] else match[2]
+        raise Wrong(f"write the name of a message alone after it, as in  {''.join(name.split())}")
     return rest.removeprefix("#")
 
 

@@ -32,7 +32,8 @@ def do(session, command):
     if command.name in session.image.not_there:
         raise Wrong(session.image.not_there[command.name])
     if command.name not in COMMANDS:
-        raise Wrong(f"there is no command :{command.name}{near(command.name, COMMANDS)}; :help lists them")
+        typed = f":{command.name}"
+        raise Wrong(f"there is no command {typed}{near(typed, [f':{name}' for name in COMMANDS])}; :help lists them")
     known = COMMANDS[command.name]
     if command.rest and known.form == f":{command.name}":
         raise Wrong(f"nothing comes after this command; take out {command.rest}")
@@ -83,7 +84,7 @@ COMMANDS = {
         Described(":post c work: 100", "sends a message, and leaves its turn to :step and :run", running.post),
         Described(":step 1", "takes quanta; one if no number is given", running.step),
         Described(":run", "takes quanta until nothing is left to do", running.run),
-        Described(":turn 3 of c", "shows how a turn ended", running.turn),
+        Described(":turn 3 of c", "shows how a turn ended; as  :turn of c  the last one that the actor began", running.turn),
         Described(":close c", "closes an actor's mailbox", running.close),
         Described(":checkpoint", "empties the history; turns are numbered anew, and statistics begin at 0", running.checkpoint),
         Described(":remove Counter bump", "removes a method", browsing.remove),
@@ -92,7 +93,7 @@ COMMANDS = {
         Described(":versions Counter bump", "lists what was installed and removed for a method of a class", browsing.versions),
         Described(":revert Counter bump 3", "writes a method again as it was in a version", browsing.revert),
         Described(":implementors bump", "lists the classes that have a method of their own", browsing.implementors),
-        Described(":senders bump", "lists the methods that send a message", browsing.senders),
+        Described(":senders bump", "lists the methods that send a message, but not those that post it", browsing.senders),
         Described(":actors 7", "lists the actors from a number on, with what they run; alone, from the first", browsing.actors),
         Described(":inspect c", "shows an actor: variables, mailbox, turn; as  :inspect c 1  an object of its own", inspecting.inspect),
         Described(":names", "lists what was named", browsing.names),

@@ -55,7 +55,7 @@ def load(session, rest):
         done = load_lines(session, lines)
     finally:
         session.loading.pop()
-    session.tell_unknown(loading.written)
+    session.tell_unknown(loading.written, of_file=True)
     done["Definition"] -= loading.there
     done["refused"] -= loading.expected
     said = [count(done[kind], thing) for kind, thing in (("Definition", "class"), ("Method", "method")) if done[kind]]

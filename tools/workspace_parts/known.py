@@ -62,6 +62,10 @@ class Known:
         """A class that has a method may be one that another session defined."""
         self.classes.setdefault(name, KnownClass(name, None, [])).methods[selector] = source
 
+    def source(self, name, selector):
+        """The source of a method of a class's own; empty if none is known."""
+        return self.classes[name].methods.get(selector, "") if name in self.classes else ""
+
     def note_shown(self, name, selector, found):
         """Takes note of what a class was shown to run, if it is its own."""
         is_own = found and found["class"] == name

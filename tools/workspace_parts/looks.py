@@ -3,6 +3,7 @@ noted, for Tab, for :sources, and for what is said of refusals."""
 
 from second_opinion.language import KERNEL_SELECTORS
 
+from .known import KnownClass
 from .tokens import pattern
 from .wrong import Refused
 
@@ -12,6 +13,12 @@ def classes(session):
     rows = session.turns.ask({"cmd": "classes"})["classes"]
     session.known.note_classes(rows)
     return rows
+
+
+def class_there(session, name):
+    """A class that there is. It is not noted: a file puts only those under another one that this session knows."""
+    rows = session.turns.ask({"cmd": "classes"})["classes"]
+    return next(KnownClass(it["name"], it["super"], it["slots"]) for it in rows if it["name"] == name)
 
 
 def user_classes(session):
@@ -32,10 +39,22 @@ def source(session, name, selector):
     except Refused as refused:
         if refused.reply["error"] != "NoSuchMethod":
             raise
-        return None
-    if "source" in found:
+        found = None
+    if found is None or found["class"] != name:
+        forget_removed(session, name, [selector])
+    if found and "source" in found:
         session.known.install(found["class"], selector, found["source"])
+        # Tab brings it.
+        session.known.versions.setdefault((found["class"], selector), found["version"])
     return found
+
+
+def forget_removed(session, name, selectors):
+    """Takes note of methods that the class has no more. One that the image never had stays known: a server may have begun a new image."""
+    known = session.known.classes.get(name)
+    for selector in selectors:
+        if known and selector in known.methods and "removed" in (versions(session, name, selector) or [{}])[-1]:
+            known.methods.pop(selector)
 
 
 def shown_source(session, name, selector):
@@ -47,7 +66,10 @@ def shown_source(session, name, selector):
 
 def own_sources(session, name):
     """The sources of the methods that a class has of its own, but for the kernel's. One that is removed meanwhile is none."""
-    found = [shown_source(session, name, it["selector"]) for it in methods(session, name) if "version" in it]
+    own = [it["selector"] for it in methods(session, name) if "version" in it]
+    known = session.known.classes.get(name)
+    forget_removed(session, name, [it for it in (known.methods if known else ()) if it not in own])
+    found = [shown_source(session, name, it) for it in own]
     return [it["source"] for it in found if it and it["class"] == name and "source" in it]
 
 

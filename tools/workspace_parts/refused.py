@@ -3,6 +3,7 @@
 from . import advice, looks
 from .known import KERNEL, near
 from .sources import bad_source
+from .statements import RESERVED
 from .turns import Turn
 
 
@@ -51,6 +52,12 @@ def bad_arguments(_session, command, reply):
     return f"{reply['error']}: {NO_FILE}" if command["cmd"] == "save" else None
 
 
+def bad_name(_session, command, reply):
+    """Where it is a word of the language, says so."""
+    name = advice.bad_name(command) if command["cmd"] == "define" else None
+    return f"{reply['error']}: {name} is a word of the language; take another name" if name in RESERVED else None
+
+
 def class_exists(session, command, reply):
     known = session.known
     name, old = command["name"], known.classes.get(command["name"])
@@ -66,11 +73,23 @@ def class_exists(session, command, reply):
     return f"{reply['error']}: there is already  {old.written()}  and its variables stay; {advised}"
 
 
+def stale(_session, command, reply):
+    return f"{reply['error']}: {NOT_REMOVED}" if command["cmd"] == "remove" else None
+
+
 ADD = "tools/add-variable FILE {} {}  gives it these too, in an image file that no program has"
 MOVE = "name just these to put it under another class, and further ones in a class below it"
 
 
+NOT_REMOVED = "somebody has changed this method since it was shown or written here, and nothing is removed; type it again to remove it"
 NO_FILE = "the server was started without --image FILE, so nothing is saved;  :sources FILE  writes the classes and methods of this session"
 ABOUT_CLASSES = ("BadSource", "ClassExists", "UnknownClass")
 # What says more than its sentence in advice.py.
-OWN = {"BadArguments": bad_arguments, "ClassExists": class_exists, "NoSuchMethod": no_such_method, "Pending": pending}
+OWN = {
+    "BadArguments": bad_arguments,
+    "BadName": bad_name,
+    "ClassExists": class_exists,
+    "NoSuchMethod": no_such_method,
+    "Pending": pending,
+    "Stale": stale,
+}

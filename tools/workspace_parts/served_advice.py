@@ -58,7 +58,7 @@ COMMANDS = {
     "step": FOR_SCRIPT,
     "run": FOR_SCRIPT,
     "names": "lists what this session named",
-    "save": "has the server write the image to its file now",
+    "save": "has the server write the image to its own file now; nothing comes after it",
     "sources": "writes the classes and methods that this session knows to a file, for :load",
     "restart": "is for a script; here the image is the server's",
     "quit": "ends the workspace; the image goes on",

@@ -9,9 +9,9 @@ from .refused import lines as refused_lines
 from .sending import Sending
 from .sources import marked
 from .statements import read_statements
-from .tokens import has_body, pattern
+from .tokens import has_body, pattern, posted
 from .values import show
-from .wrong import Faulted, Lost, Refused, Stopped, Wrong
+from .wrong import Died, Faulted, Lost, Refused, Stopped, Wrong
 
 OFFER = "a tenth of the history is left;  :checkpoint  empties it, and all goes on"
 
@@ -148,10 +148,21 @@ class Session:
             if found.name in self.known.classes:
                 raise
             self.loading[-1].there += 1
+            self.tell_there(found)
             return
+        except Died:
+            self.known.define(found.name, found.parent, found.slots)
+            raise
         self.known.define(found.name, found.parent, found.slots)
         if not self.loading:
             self.say(f"class {found.name}, version {version}")
+
+    def tell_there(self, found):
+        """Tells how a class stands that the image has otherwise than the file that is being loaded."""
+        there = looks.class_there(self, found.name)
+        if (there.parent, there.slots) != (found.parent, found.slots):
+            self.tell_where()
+            self.say(f"{there.written()}  is there already, and stays as it is")
 
     def is_moved(self, found):
         """Whether a definition is that of a class which was defined before, but for the class above it."""
@@ -190,7 +201,8 @@ class Session:
         self.write(found.holder, selector, found.source)
 
     def write(self, name, selector, source):
-        """Writes a method, and answers its version. Where one was shown or written before, it takes the place of that one alone."""
+        """Writes a method, and answers its version. Where one was shown or written before, it takes the place of that one alone. What was
+        typed when the program died is known too, so that it is kept."""
         command = {"cmd": "method", "class": name, "source": source}
         if (name, selector) in self.known.versions:
             command.update(cmd="replace", over=self.known.versions[name, selector])
@@ -200,6 +212,9 @@ class Session:
             if refused.reply["error"] == "Stale":
                 refused.more = shown.now(self, name, selector)
             raise
+        except Died:
+            self.known.install(name, selector, source)
+            raise
         self.known.install(name, selector, source)
         self.known.versions[name, selector] = version
         if self.loading:
@@ -208,10 +223,13 @@ class Session:
             self.tell_unknown([(name, selector)])
         return version
 
-    def tell_unknown(self, methods):
-        """Tells which of the messages that methods send no class has a method for."""
-        sent = dict.fromkeys(it for method in methods for it in looks.sent(self, *method))
-        self.tell([f"no class has a method {it}" for it in sent if not looks.implementors(self, it)])
+    def tell_unknown(self, methods, of_file=False):
+        """Tells which of the messages that methods send or post no class has a method for, and of those of a file also where."""
+        sent = {}
+        for method in methods:
+            for it in [*looks.sent(self, *method), *posted(self.known.source(*method))]:
+                sent.setdefault(it, f"; {method[0]} >> {method[1]} sends it" if of_file else "")
+        self.tell([f"no class has a method {it}{place}" for it, place in sent.items() if not looks.implementors(self, it)])
 
     def show(self, found, selector):
         """Shows a method whose pattern alone was typed; a file that has no more of one is wrong there."""
@@ -221,10 +239,27 @@ class Session:
         self.tell(shown.shown(self, found, selector, head))
 
     def remove(self, class_name, selector):
-        self.turns.ask({"cmd": "remove", "class": class_name, "selector": selector})
+        """Removes a method, and tells if methods send it that no class has any more."""
+        command = {"cmd": "remove", "class": class_name, "selector": selector}
+        if self.image.is_served:
+            self.look_before(command)
+        self.turns.ask(command)
         self.known.versions[class_name, selector] = 0
         if class_name in self.known.classes:
             self.known.classes[class_name].methods.pop(selector, None)
+        if looks.senders(self, selector) and not looks.implementors(self, selector):
+            self.say(f"no class has a method {selector} any more; :senders {selector}  lists those that send it")
+
+    def look_before(self, command):
+        """Refused where somebody has changed a method that was shown or written here, so that it is not removed unseen."""
+        place = command["class"], command["selector"]
+        seen = self.known.versions.get(place)
+        now = shown.now(self, *place) if seen else []
+        version = self.known.versions.get(place)
+        if version and version != seen:
+            refused = Refused(command, {"error": "Stale", "version": version})
+            refused.more = now
+            raise refused
 
     def make_actor(self, class_name):
         number = self.turns.ask({"cmd": "actor", "class": class_name})["actor"]

@@ -96,6 +96,12 @@ def arguments(source):
     return [token.text for token in words[1:] if token.kind == "word"]
 
 
+def posted(source):
+    """The selectors of the messages that a source posts, as far as they stand there as symbols."""
+    found = tokens(source)
+    return [it.text[1:] for before, it in zip(found, found[1:]) if before.text == "post:" and it.kind == "symbol"]
+
+
 def body(source):
     """What stands after the pattern and the temporaries of a source."""
     return source[temporaries(source)[1] :]

@@ -74,10 +74,11 @@ IS_FAULT = "{} is expected, and the answer is fault notUnderstood"
 
 
 def helped(program):
-    """The tools that try the program say how they are used."""
-    for name in ("transcripts", "listings", "replies"):
-        ended = subprocess.run([os.path.join(TOP, "tools", name), "--help"], capture_output=True, text=True, timeout=60)
-        same((f"tools/{name} " in ended.stdout, "PROGRAM" in ended.stdout, ended.stderr, ended.returncode), (True, True, "", 0))
+    """Each tool says how it is used."""
+    tools = os.path.join(TOP, "tools")
+    for name in sorted(it for it in os.listdir(tools) if os.path.isfile(os.path.join(tools, it))):
+        ended = subprocess.run([os.path.join(tools, name), "--help"], capture_output=True, text=True, timeout=60)
+        same((name, f"tools/{name}" in ended.stdout, ended.stderr, ended.returncode), (name, True, "", 0))
 
 
 def interrupted(program):
@@ -130,19 +131,21 @@ def no_file(program):
 
 
 def lost_program(program):
-    """A program that ends in the middle, or replies what is no reply. What was typed so far is kept."""
-    greeting = """read line; echo '{"error":"UnknownActor"}'; read line; """
+    """A program that ends in the middle, or replies what is no reply. What was typed so far is kept, with what it was typed into last."""
+    greeting, version = """read line; echo '{"error":"UnknownActor"}'; read line; """, """echo '{"ok":{"version":1}}'; read line; """
     kept = "; the classes and methods of this session are in lost1.st, for  :load"
-    with tempfile.TemporaryDirectory() as folder:
-        for before, more, wanted in (
-            ("", "exit 3", "the program ended with status 3; start the workspace again"),
-            ("", "echo no", "the program ended with status 0; start the workspace again"),
-            ("""echo '{"ok":{"version":1}}'; read line; """, "exit 3", "the program ended with status 3; start the workspace again" + kept),
-        ):
-            ended = piped(shell_program(folder, greeting + before + more), ["C : Object | a |", "C actor"], cwd=folder)
+    again = "; start the workspace again"
+    made, written = "C : Object | a |\n", "C >> m  ^a\n"
+    for before, more, wanted, lines in (
+        ("", "exit 3", f"the program ended with status 3{again}{kept}", made),
+        ("", "echo no", f"the program ended with status 0{again}{kept}", made),
+        (version, "exit 3", f"the program ended with status 3{again}{kept}", made + written),
+    ):
+        with tempfile.TemporaryDirectory() as folder:
+            ended = piped(shell_program(folder, greeting + before + more), [made.strip(), written.strip(), "C actor"], cwd=folder)
             same((ended.stderr.decode(), ended.returncode), (f"tools/workspace: {wanted}\n", 1))
-        with open(os.path.join(folder, "lost1.st"), encoding="utf-8") as file:
-            same(file.read(), "C : Object | a |\n")
+            with open(os.path.join(folder, "lost1.st"), encoding="utf-8") as file:
+                same(file.read(), lines)
 
 
 def too_long(program):

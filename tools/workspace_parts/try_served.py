@@ -133,9 +133,11 @@ def loaded_again(program):
         same(loads(*lines), (["all.st: 25 classes, 25 methods"], 0))
         same(loads(*lines, "D : C0", "D >> m ^a"), (["all.st: 1 class, 26 methods, 25 classes there already"], 0))
         lines = ["E : Object", "E >> m  ^self later: self zork", "E >> later: n  ^n"]
-        same(loads(*lines), (["no class has a method zork", "all.st: 1 class, 2 methods"], 0))
+        same(loads(*lines), (["no class has a method zork; E >> m sends it", "all.st: 1 class, 2 methods"], 0))
         said, status = loads("C1 : Object | b |", "C1 >> n  ^(b", "C1 >> m  ^30")
+        same(said[:2], ["all.st, line 1:", "C1 : Object | a |  is there already, and stays as it is"])
         same((said[-1], status), ("all.st: 1 method, 1 refused, 1 class there already", 1))
+        same(loads("D : Object")[0], ["all.st, line 1:", "D : C0  is there already, and stays as it is", "all.st: 1 class there already"])
         same(typed(folder, ["c := C1 actor", "c m"]).stdout.decode().split("\n")[-2], "30")
 
 

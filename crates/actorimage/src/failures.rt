@@ -1,6 +1,6 @@
 //! Why the program ends by a refusal.
 use st_classes::refusals::Refusal;
-use std::alloc::Global;
+use std::alloc::{AllocError, Global};
 use std::io::Error;
 
 /// The refusal by which the program ends, and in words what it was about, if that is known and there was memory for the words.
@@ -16,6 +16,12 @@ impl From<Refusal> for Failure {
             refusal,
             words: None,
         }
+    }
+}
+
+impl From<AllocError> for Failure {
+    fn from(_: AllocError) -> Failure {
+        Failure::from(Refusal::NoMemory)
     }
 }
 

@@ -6,6 +6,7 @@ ghost use Rattle.st_wire.specs.Streams.{input_view};
 ghost use Rattle.st_file.specs.Files.{LoadsFile};
 ghost use Rattle.actorimage.specs.Runs as spec;
 
+use crate::digests::digest_of;
 use crate::failures::Failure;
 use crate::new_files::HELD_BY_ANOTHER;
 use crate::runs::found_as;
@@ -15,8 +16,8 @@ use st_file::files::load;
 use st_server::images::Image;
 use st_wire::streams::{Input, Reader};
 use std::alloc::Global;
-use std::fs::{File, Files, TryLockError};
-use std::io::{self, ErrorKind, Read};
+use std::fs::{self, File, Files, TryLockError};
+use std::io::{self, ErrorKind, Read, Seek};
 
 /// Stands for a file that cannot be opened: each read fails.
 #[derive(Drop)]
@@ -50,6 +51,24 @@ pub fn load_file(alloc: Global, file: Option<&File>) -> Result<Option<Image>, Re
     }
 }
 
+/// The digest of an image's file, or none if there is no file. The file can be read again then.
+pub fn digest_of_file(
+    alloc: Global,
+    path: &str,
+    file: Option<&File>,
+) -> Result<Option<String>, Failure> {
+    let Some(mut file) = file else {
+        return Ok(None);
+    };
+    match digest_of(alloc, &mut file) {
+        Ok(digest) => match file.rewind() {
+            Ok(()) => Ok(Some(digest)),
+            Err(error) => Err(unread(alloc, path, &error)),
+        },
+        Err(error) => Err(unread(alloc, path, &error)),
+    }
+}
+
 /// Where the image of a run is kept.
 #[derive(Clone, Copy)]
 pub struct Place<'a> {
@@ -57,6 +76,14 @@ pub struct Place<'a> {
     pub path: &'a str,
     /// Whether the file is to be there when the run begins.
     pub must_exist: bool,
+}
+
+/// The path of an image's place, if one is given.
+pub fn path_of(place: Option<Place<'_>>) -> Option<&str> {
+    match place {
+        Some(place) => Some(place.path),
+        None => None,
+    }
 }
 
 /// What is at an image's place when a run begins: the file, if one is there, and what the system says of it.
@@ -94,31 +121,48 @@ fn unread(alloc: Global, path: &str, error: &io::Error) -> Failure {
     Failure::at(alloc, Refusal::ReadFault, path, error)
 }
 
-/// Opens the file at an image's place. `ReadFault` says that it cannot be read, or is not there and must be.
-pub fn open_file<R: Files<File = File>>(
-    rt: &R,
-    alloc: Global,
-    place: Place<'_>,
-) -> Result<Opened, Failure> {
-    let path = place.path;
+/// What is at an image's place where no file can be opened: nothing, or a link that leads nowhere.
+fn without_file<R: Files>(rt: &R, path: &str) -> Opened {
+    match fs::symlink_metadata(rt, path) {
+        Ok(link) => Opened {
+            file: None,
+            seen: Some(Stamp::of(&link)),
+        },
+        Err(_) => Opened::nothing(),
+    }
+}
+
+/// Opens a file.
+fn open_there<R: Files<File = File>>(rt: &R, alloc: Global, path: &str) -> Result<Opened, Failure> {
     let file = match File::open(rt, path) {
         Ok(file) => file,
-        Err(error) if error.kind() == ErrorKind::NotFound && !place.must_exist => {
-            return Ok(Opened::nothing());
-        }
         Err(error) => return Err(unread(alloc, path, &error)),
     };
     match file.metadata() {
-        Ok(found) if found.is_dir() => Err(Failure::of(
-            alloc,
-            Refusal::ReadFault,
-            path,
-            "is a folder",
-        )),
         Ok(found) => Ok(Opened {
             seen: Some(Stamp::of(&found)),
             file: Some(file),
         }),
         Err(error) => Err(unread(alloc, path, &error)),
     }
+}
+
+/// Opens the file at an image's place. `ReadFault` says that it cannot be read, is no file, or is not there and must be. Who opens a pipe
+/// waits until somebody writes into it, so what is there is asked first.
+pub fn open_file<R: Files<File = File>>(
+    rt: &R,
+    alloc: Global,
+    place: Place<'_>,
+) -> Result<Opened, Failure> {
+    let path = place.path;
+    let what = match fs::metadata(rt, path) {
+        Ok(found) if found.is_file() => return open_there(rt, alloc, path),
+        Ok(found) if found.is_dir() => "is a folder",
+        Ok(_) => "is no file",
+        Err(error) if error.kind() == ErrorKind::NotFound && !place.must_exist => {
+            return Ok(without_file(rt, path));
+        }
+        Err(error) => return Err(unread(alloc, path, &error)),
+    };
+    Err(Failure::of(alloc, Refusal::ReadFault, path, what))
 }

@@ -1,32 +1,43 @@
 //! The file in which a run keeps its image.
-ghost use Rattle.std.specs.Prelude.{◌⊎◌, ◌≡◌, IfOk, Ok};
-ghost use Rattle.st_classes.specs.declared.refusals.Refusal.TheVariants.{NoMemory, WriteFault};
-ghost use Rattle.st_server.specs.Keepers.{Keeps};
+ghost use Rattle.std.specs.Prelude.{IfOk, Ok};
+ghost use Rattle.st_server.specs.Keepers.{IsFault, Keeps};
 
 use crate::failures::Failure;
-use crate::new_files::{NewFile, Saved, hold, hold_beside};
+use crate::journals::Journal;
+use crate::new_files::{NewFile, hold, hold_beside};
 use crate::stamps::Stamp;
 use st_classes::refusals::Refusal;
 use st_file::moments::Moment;
 use st_server::images::Image;
-use st_server::keepers::Keeper;
+use st_server::keepers::{JournalSettings, Keeper};
 use st_wire::names::refusal_name;
 use std::alloc::Global;
 use std::fs::{File, Files};
 use std::sync::Mutex;
 use std::sync::atomic::{AtomicBool, Ordering};
 
+/// An image that is written to the new file, and has not taken its file's place.
+#[derive(Drop)]
+struct Ready {
+    new: NewFile,
+    digest: String,
+}
+
 /// What a run has of its image's file between two saves.
 #[derive(Drop)]
 struct Held {
     /// The new file, if it is held.
     new: Option<NewFile>,
+    /// The new file, if an image was written to it.
+    ready: Option<Ready>,
     /// The path of the file, once a new one was held beside it. A link that led there may lead elsewhere since.
     place: Option<String>,
     /// What this run has seen of the file: at its start, and after each save.
     seen: Option<Stamp>,
     /// The file that it has loaded or saved last. If it is locked, it stays so while it is open.
     last: Option<File>,
+    /// The digest of the text that it has saved last.
+    digest: Option<String>,
 }
 
 impl Held {
@@ -69,35 +80,84 @@ impl Held {
         }
     }
 
-    /// Saves an image in the file at a path. If it is not the last, another new file is held then for the next.
-    fn save<R: Files<File = File>>(
+    /// Writes an image beside the file at a path.
+    fn write<R: Files<File = File>>(
         &mut self,
         rt: &R,
         alloc: Global,
         path: &str,
         moment: &Moment,
-        is_last: bool,
     ) -> Result<u64, Failure>
         ensures { IfOk result (λ n. Keeps moment.now (Ok n)) }
     {
-        let new = self.placed(rt, alloc, path)?;
-        let saved = new.save(rt, alloc, moment, self.seen, is_last);
+        let mut new = self.placed(rt, alloc, path)?;
+        match new.write(rt, alloc, moment) {
+            Ok((bytes, digest)) => {
+                self.ready = Some(Ready { new, digest });
+                Ok(bytes)
+            }
+            Err(failure) => {
+                self.new = self.taken(rt, alloc, path).ok();
+                Err(failure)
+            }
+        }
+    }
+
+    /// Moves the image that was written into the file's place, and lets the journal go on from it behind so many bytes. If it is not the
+    /// last, another new file is held then for the next.
+    fn replace<R: Files<File = File>>(
+        &mut self,
+        rt: &R,
+        alloc: Global,
+        path: &str,
+        journal: &mut Option<Journal>,
+        from: u64,
+        is_last: bool,
+    ) -> Result<(), Failure> {
+        let Some(ready) = self.ready.take() else {
+            return Err(Failure::from(Refusal::WriteFault));
+        };
+        let replaced = self.settle(rt, alloc, ready, journal, from, is_last);
         if !is_last {
             self.new = self.taken(rt, alloc, path).ok();
         }
-        let Saved {
-            bytes,
-            file,
-            unsure,
-        } = saved?;
+        replaced
+    }
+
+    /// The same, without a new file for the next.
+    fn settle<R: Files<File = File>>(
+        &mut self,
+        rt: &R,
+        alloc: Global,
+        ready: Ready,
+        journal: &mut Option<Journal>,
+        from: u64,
+        is_last: bool,
+    ) -> Result<(), Failure> {
+        let Ready { new, digest } = ready;
+        if let Some(journal) = journal {
+            if let Err(failure) = journal.write_new(rt, alloc, digest.as_str(), from) {
+                new.remove(rt);
+                return Err(failure);
+            }
+        }
+        let unsure = new.take_place(rt, alloc, self.seen, is_last)?;
+        let file = new.into_file();
         self.seen = match file.metadata() {
             Ok(found) => Some(Stamp::of(&found)),
             Err(_) => None,
         };
         self.last = Some(file);
-        match unsure {
-            Some(failure) => Err(failure),
-            None => Ok(bytes),
+        self.digest = Some(digest);
+        if let Some(failure) = unsure {
+            if let Some(journal) = journal {
+                journal.doubt();
+            }
+            return Err(failure);
+        }
+        match journal {
+            Some(journal) => journal.take_place(rt, alloc),
+            None => Ok(()),
         }
     }
 }
@@ -109,7 +169,10 @@ pub struct FileKeeper<'a> {
     rt: &'a HostRuntime,
     path: Option<&'a str>,
     held: Mutex<Held>,
-    /// Why the image could not be saved last, if that was not said yet.
+    journal: Mutex<Option<Journal>>,
+    /// How the journal is kept, if there is one.
+    settings: Option<JournalSettings>,
+    /// Why the image could not be saved last, or its journal not be written, if that was not said yet.
     why: Mutex<Option<String>>,
     /// Whether somebody says why an image could not be saved.
     is_telling: AtomicBool,
@@ -117,7 +180,7 @@ pub struct FileKeeper<'a> {
 
 /// The refusal of a save: that there was no memory, or that the file could not be written, whatever was in the way.
 fn refused(refusal: Refusal) -> Refusal
-    ensures { (result ≡ NoMemory) ⊎ (result ≡ WriteFault) }
+    ensures { IsFault result }
 {
     match refusal {
         Refusal::NoMemory => Refusal::NoMemory,
@@ -148,32 +211,58 @@ impl<'a> FileKeeper<'a> {
             path,
             held: Mutex::new(Held {
                 new,
+                ready: None,
                 place: None,
                 seen,
                 last: loaded,
+                digest: None,
             }),
+            journal: Mutex::new(None),
+            settings: None,
             why: Mutex::new(None),
             is_telling: AtomicBool::new(false),
         }
     }
 
-    /// Saves an image in the file at a path, unless somebody else does.
+    /// Writes an image beside the file at a path, unless somebody else does.
+    fn write_at(&self, alloc: Global, path: &str, moment: &Moment) -> Result<u64, Failure>
+        ensures { IfOk result (λ n. Keeps moment.now (Ok n)) }
+    {
+        match self.held.try_lock() {
+            Some(mut held) => held.write(self.rt, alloc, path, moment),
+            None => Err(Failure::from(Refusal::WriteFault)),
+        }
+    }
+
+    /// Moves the image that was written into the place of the file at a path, unless somebody else does.
+    fn replace_at(
+        &self,
+        alloc: Global,
+        path: &str,
+        from: u64,
+        is_last: bool,
+    ) -> Result<(), Failure> {
+        let (Some(mut held), Some(mut journal)) =
+            (self.held.try_lock(), self.journal.try_lock())
+        else {
+            return Err(Failure::from(Refusal::WriteFault));
+        };
+        held.replace(self.rt, alloc, path, &mut journal, from, is_last)
+    }
+
+    /// Saves an image in the file at a path. What its journal tells led to it.
     fn save(
         &self,
         alloc: Global,
         path: &str,
         moment: &Moment,
         is_last: bool,
-    ) -> Result<u64, Failure>
-        ensures { IfOk result (λ n. Keeps moment.now (Ok n)) }
-    {
-        match self.held.try_lock() {
-            Some(mut held) => held.save(self.rt, alloc, path, moment, is_last),
-            None => Err(Failure::from(Refusal::WriteFault)),
-        }
+    ) -> Result<(), Failure> {
+        self.write_at(alloc, path, moment)?;
+        self.replace_at(alloc, path, self.end(), is_last)
     }
 
-    /// Saves the image at the end of a run. It is let go before its text is written.
+    /// Saves the image at the end of a run. It is let go before its text is written. Then its journal is removed, if there is one.
     pub fn finish(&self, alloc: Global, image: Image) -> Result<(), Failure> {
         let Some(path) = self.path else {
             drop(image);
@@ -184,12 +273,61 @@ impl<'a> FileKeeper<'a> {
         match moment {
             Ok(moment) => {
                 self.save(alloc, path, &moment, true)?;
+                self.remove_journal();
                 Ok(())
             }
             Err(_) => {
                 self.leave();
                 Err(Failure::from(Refusal::NoMemory))
             }
+        }
+    }
+
+    /// Removes the journal, if there is one: it tells nothing that is not in the image.
+    fn remove_journal(&self) {
+        if let Some(mut journal) = self.journal.try_lock() {
+            if let Some(journal) = journal.take() {
+                journal.remove(self.rt);
+            }
+        }
+    }
+
+    /// Saves the image with which a run begins. The answer is the digest of its text.
+    pub fn save_first(&self, alloc: Global, image: &Image) -> Result<String, Failure> {
+        let Some(path) = self.path else {
+            return Err(Failure::from(Refusal::BadArguments));
+        };
+        let moment = Moment::of(alloc, image)?;
+        self.save(alloc, path, &moment, false)?;
+        let digest = match self.held.try_lock() {
+            Some(mut held) => held.digest.take(),
+            None => None,
+        };
+        match digest {
+            Some(digest) => Ok(digest),
+            None => Err(Failure::from(Refusal::WriteFault)),
+        }
+    }
+
+    /// From now on what happens is told in a journal, which is kept so.
+    pub fn with_journal(self, journal: Journal, settings: JournalSettings) -> FileKeeper<'a> {
+        let FileKeeper {
+            rt,
+            path,
+            held,
+            journal: _,
+            settings: _,
+            why,
+            is_telling,
+        } = self;
+        FileKeeper {
+            rt,
+            path,
+            held,
+            journal: Mutex::new(Some(journal)),
+            settings: Some(settings),
+            why,
+            is_telling,
         }
     }
 
@@ -201,22 +339,64 @@ impl<'a> FileKeeper<'a> {
             }
         }
     }
+
+    /// What a failure is to sessions. Why it came is kept for who asks next.
+    fn refusal_of(&self, alloc: Global, failure: Failure) -> Refusal
+        ensures { IsFault result }
+    {
+        let refusal = refused(failure.refusal);
+        if let Some(mut why) = self.why.try_lock() {
+            *why = words_of(alloc, failure);
+        }
+        refusal
+    }
 }
 
 impl<'a> Keeper for FileKeeper<'a> {
-    fn keep(&self, alloc: Global, moment: &Moment) -> Result<u64, Refusal> {
+    fn write(&self, alloc: Global, moment: &Moment) -> Result<u64, Refusal> {
         let Some(path) = self.path else {
             return Err(Refusal::BadArguments);
         };
-        match self.save(alloc, path, moment, false) {
+        match self.write_at(alloc, path, moment) {
             Ok(bytes) => Ok(bytes),
-            Err(failure) => {
-                let refusal = refused(failure.refusal);
-                if let Some(mut why) = self.why.try_lock() {
-                    *why = words_of(alloc, failure);
-                }
-                Err(refusal)
-            }
+            Err(failure) => Err(self.refusal_of(alloc, failure)),
+        }
+    }
+
+    fn replace(&self, alloc: Global, from: u64) -> Result<(), Refusal> {
+        let Some(path) = self.path else {
+            return Err(Refusal::WriteFault);
+        };
+        match self.replace_at(alloc, path, from, false) {
+            Ok(()) => Ok(()),
+            Err(failure) => Err(self.refusal_of(alloc, failure)),
+        }
+    }
+
+    fn journal(&self) -> Option<JournalSettings> {
+        self.settings
+    }
+
+    fn append(&self, alloc: Global, batch: &[u8]) -> Result<(), Refusal> {
+        let Some(mut journal) = self.journal.try_lock() else {
+            return Err(Refusal::WriteFault);
+        };
+        let Some(journal) = &mut *journal else {
+            return Err(Refusal::WriteFault);
+        };
+        match journal.append(self.rt, alloc, batch) {
+            Ok(()) => Ok(()),
+            Err(failure) => Err(self.refusal_of(alloc, failure)),
+        }
+    }
+
+    fn end(&self) -> u64 {
+        match self.journal.try_lock() {
+            Some(journal) => match &*journal {
+                Some(journal) => journal.end(),
+                None => 0,
+            },
+            None => 0,
         }
     }
 

@@ -3,10 +3,13 @@
 
 ghost use Rattle.std.specs.Prelude.{◌≡◌, [], IfOk};
 
+mod digests;
 mod doors;
 mod failures;
 mod image_files;
+mod journals;
 mod keeping;
+mod loading;
 mod new_files;
 mod options;
 mod runs;
@@ -15,9 +18,11 @@ mod stamps;
 
 use crate::doors::{Doorkeeper, Reporter};
 use crate::failures::Failure;
-use crate::image_files::{Opened, Place, Unreadable, load_file, open_file};
+use crate::image_files::{Opened, Place, Unreadable, load_file, open_file, path_of};
+use crate::journals::refuse_journal;
 use crate::keeping::FileKeeper;
-use crate::new_files::{NewFile, hold};
+use crate::loading::begin_keeping;
+use crate::new_files::{NewFile, hold, place_of};
 use crate::options::{Request, ScriptOptions, ServeOptions, invalid_utf8_error, parsed_request};
 use crate::runs::{begin_with, saved_at};
 use crate::socket_files::{SocketFile, bind};
@@ -104,6 +109,9 @@ fn script<R: Input + Print + Files<File = File> + Clock + AllocGlobal>(
     let alloc = rt.alloc();
     let opened = open_at(rt, alloc, options.image)?;
     let Opened { file, seen } = opened;
+    if let Some(path) = path_of(options.image) {
+        refuse_journal(rt, alloc, place_of(rt, alloc, path)?.as_str())?;
+    }
     let image = first_image(alloc, file.as_ref())?;
     let keeper = FileKeeper::new(program, path_of(options.image), None, seen, file);
     let (image, ended) = run_script(rt, options, &keeper, image);
@@ -157,11 +165,14 @@ fn tell_end<R: Print + Eprint + AllocGlobal>(
     }
 }
 
-/// Says on standard error what is served.
+/// Says on standard error what is served. An image has the kernel's classes, so it never has just one.
 fn tell_start<R: Eprint>(rt: &R, socket: &str, image: &Image) {
     let actors = image.actors();
+    let ending = if actors == 1 { "" } else { "s" };
     let classes = image.version().classes();
-    let _ = eprintln!(rt; "actorimage: serving {socket}, {actors} actors, {classes} classes");
+    let _ = eprintln!(rt;
+        "actorimage: serving {socket}, {actors} actor{ending}, {classes} classes"
+    );
 }
 
 /// Serves sessions over a socket, and removes its file at the end.
@@ -200,7 +211,7 @@ fn serve_bound<R: Threads + Wait + Files + Eprint + Clock + Sync>(
 fn serve_loaded<R: Threads + Wait + Net + Files + Eprint + Clock + AllocGlobal + Sync>(
     rt: &R,
     options: ServeOptions<'_>,
-    loaded: Result<Image, Refusal>,
+    loaded: Result<Image, Failure>,
     faults: &Faults<Refusal>,
     keeper: &FileKeeper<'_>,
 ) -> Result<Served, Failure> {
@@ -215,14 +226,6 @@ fn serve_loaded<R: Threads + Wait + Net + Files + Eprint + Clock + AllocGlobal +
             drop(image);
             Err(failure)
         }
-    }
-}
-
-/// The path of an image's place, if one is given.
-fn path_of(place: Option<Place<'_>>) -> Option<&str> {
-    match place {
-        Some(place) => Some(place.path),
-        None => None,
     }
 }
 
@@ -311,9 +314,7 @@ fn serve_with<
     let held = hold_at(rt, alloc, options.image)?;
     match lock_at(rt, alloc, options.image) {
         Ok(opened) => {
-            let Opened { file, seen } = opened;
-            let loaded = first_image(alloc, file.as_ref());
-            let keeper = FileKeeper::new(program, path_of(options.image), held, seen, file);
+            let (keeper, loaded) = begin_keeping(rt, program, alloc, options, held, opened);
             let ended = serve_loaded(rt, options, loaded, faults, &keeper);
             end_serving(rt, &keeper, faults, ended)
         }

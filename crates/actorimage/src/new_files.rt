@@ -2,6 +2,7 @@
 ghost use Rattle.std.specs.Prelude.{IfOk, Ok};
 ghost use Rattle.st_server.specs.Keepers.{Keeps};
 
+use crate::digests::WrittenDigest;
 use crate::failures::Failure;
 use crate::stamps::{Stamp, has_changed};
 use st_classes::refusals::Refusal;
@@ -44,7 +45,7 @@ fn owned(alloc: Global, path: &str) -> Result<String, Refusal> {
 }
 
 /// The path of the file to which a path leads. If none is there, it is the path itself.
-fn place_of<R: Files>(rt: &R, alloc: Global, path: &str) -> Result<String, Refusal> {
+pub fn place_of<R: Files>(rt: &R, alloc: Global, path: &str) -> Result<String, Refusal> {
     match rt.canonicalize(alloc, path) {
         Ok(place) => owned(alloc, place.as_str()),
         Err(error) if error.kind() == ErrorKind::OutOfMemory => Err(Refusal::NoMemory),
@@ -201,13 +202,19 @@ impl<'a> Write for Written<'a> {
     }
 }
 
-/// Writes an image to an open file and waits until it is on the disk. The answer is how many bytes were written. A failure is said of the
-/// path.
-fn write_image(alloc: Global, file: &File, path: &str, moment: &Moment) -> Result<u64, Failure>
-    ensures { IfOk result (λ n. Keeps moment.now (Ok n)) }
+/// Writes an image to an open file and waits until it is on the disk. The answer is how many bytes were written, and their digest. A
+/// failure is said of the path.
+fn write_image(
+    alloc: Global,
+    file: &File,
+    path: &str,
+    moment: &Moment,
+) -> Result<(u64, String), Failure>
+    ensures { IfOk result (λ r. Keeps moment.now (Ok r.0)) }
 {
-    let mut written = Written { file, error: None };
-    let saved = save_moment(alloc, moment, &mut Writer::new(&mut written));
+    let mut output = WrittenDigest::new(Written { file, error: None });
+    let saved = save_moment(alloc, moment, &mut Writer::new(&mut output));
+    let (written, digest) = output.digest(alloc);
     let bytes = match saved {
         Ok(bytes) => bytes,
         Err(refusal) => {
@@ -217,15 +224,18 @@ fn write_image(alloc: Global, file: &File, path: &str, moment: &Moment) -> Resul
             });
         }
     };
+    let Ok(digest) = digest else {
+        return Err(Failure::from(Refusal::NoMemory));
+    };
     match file.sync_all() {
-        Ok(()) => Ok(bytes),
+        Ok(()) => Ok((bytes, digest)),
         Err(error) => Err(Failure::at(alloc, Refusal::WriteFault, path, &error)),
     }
 }
 
 /// Waits until the names of a file's folder are on the disk. If that fails, the answer says so. Where folders cannot be opened or have no
 /// such wait, nothing is done.
-fn sync_folder<R: Files<File = File>>(rt: &R, alloc: Global, path: &str) -> Option<Failure> {
+pub fn sync_folder<R: Files<File = File>>(rt: &R, alloc: Global, path: &str) -> Option<Failure> {
     let folder = match path.rsplit_once('/') {
         Some(("", _)) => "/",
         Some((folder, _)) => folder,
@@ -259,8 +269,13 @@ impl NewFile {
     }
 
     /// Empties the new file, gives it the rights of the old one, and then writes an image to it.
-    fn fill<R: Files>(&self, rt: &R, alloc: Global, moment: &Moment) -> Result<u64, Failure>
-        ensures { IfOk result (λ n. Keeps moment.now (Ok n)) }
+    fn fill<R: Files>(
+        &self,
+        rt: &R,
+        alloc: Global,
+        moment: &Moment,
+    ) -> Result<(u64, String), Failure>
+        ensures { IfOk result (λ r. Keeps moment.now (Ok r.0)) }
     {
         let place = self.place.as_str();
         if let Err(error) = self.file.set_len(0) {
@@ -310,9 +325,35 @@ impl NewFile {
         }
     }
 
-    /// Moves the new file, which is filled, into the old one's place, unless that has changed since it was seen or cannot be replaced. If
-    /// it is there, but its name is not known to be on the disk, the answer says so.
-    fn take_place<R: Files<File = File>>(
+    /// Writes an image's text to the new file. If the new file was taken away or moved, another one is held in its stead. The answer is how
+    /// many bytes the text has, and its digest. If the text is not written whole, the new file is gone then.
+    pub fn write<R: Files<File = File>>(
+        &mut self,
+        rt: &R,
+        alloc: Global,
+        moment: &Moment,
+    ) -> Result<(u64, String), Failure>
+        ensures { IfOk result (λ r. Keeps moment.now (Ok r.0)) }
+    {
+        if !self.is_there(rt) {
+            self.file = held(rt, alloc, self.path.as_str(), self.place.as_str())?;
+        }
+        match self.fill(rt, alloc, moment) {
+            Ok(written) => Ok(written),
+            Err(failure) => {
+                self.remove(rt);
+                Err(failure)
+            }
+        }
+    }
+
+    /// Moves the new file, which is filled, into the old one's place, unless that has changed since it was seen or cannot be replaced. So
+    /// the file holds the old image or the new one, whenever the program is killed. The answer has why its name may not be on the disk, if
+    /// that is so.
+    ///
+    /// `WriteFault` says that it cannot take the place. Then it is in a file beside it if no other save follows, and the old file is as it
+    /// was.
+    pub fn take_place<R: Files<File = File>>(
         &self,
         rt: &R,
         alloc: Global,
@@ -340,70 +381,13 @@ impl NewFile {
         Ok(sync_folder(rt, alloc, place))
     }
 
-    /// Writes an image to the new file, and moves that into the old one's place. If the text is not written whole, the new file is gone
-    /// then.
-    fn put<R: Files<File = File>>(
-        &self,
-        rt: &R,
-        alloc: Global,
-        moment: &Moment,
-        seen: Option<Stamp>,
-        is_last: bool,
-    ) -> Result<(u64, Option<Failure>), Failure>
-        ensures { IfOk result (λ r. Keeps moment.now (Ok r.0)) }
-    {
-        match self.fill(rt, alloc, moment) {
-            Ok(bytes) => {
-                let unsure = self.take_place(rt, alloc, seen, is_last)?;
-                Ok((bytes, unsure))
-            }
-            Err(failure) => {
-                self.remove(rt);
-                Err(failure)
-            }
-        }
-    }
-
     /// The path of the file whose place it takes.
     pub fn place(&self, alloc: Global) -> Result<String, Refusal> {
         owned(alloc, self.place.as_str())
     }
 
-    /// Saves an image: writes its text to the new file and moves that into the old one's place. So the file holds the old image or the
-    /// new one, whenever the program is killed. If the new file was taken away or moved, another one is held in its stead.
-    ///
-    /// `WriteFault` says that the text was not written whole, and then the new file is gone; or that the old file has changed since it
-    /// was seen or cannot be replaced, and then the image is in a file beside it if no other save follows. After a refusal the old file
-    /// is as it was.
-    pub fn save<R: Files<File = File>>(
-        mut self,
-        rt: &R,
-        alloc: Global,
-        moment: &Moment,
-        seen: Option<Stamp>,
-        is_last: bool,
-    ) -> Result<Saved, Failure>
-        ensures { IfOk result (λ r. Keeps moment.now (Ok r.bytes)) }
-    {
-        if !self.is_there(rt) {
-            self.file = held(rt, alloc, self.path.as_str(), self.place.as_str())?;
-        }
-        let (bytes, unsure) = self.put(rt, alloc, moment, seen, is_last)?;
-        Ok(Saved {
-            bytes,
-            file: self.file,
-            unsure,
-        })
-    }
-}
-
-/// An image that is in its file.
-#[derive(Drop)]
-pub struct Saved {
-    /// How many bytes the file has.
-    pub bytes: u64,
     /// The file, which stays locked while it is open.
-    pub file: File,
-    /// Why the file's name may not be on the disk, if that is so.
-    pub unsure: Option<Failure>,
+    pub fn into_file(self) -> File {
+        self.file
+    }
 }

@@ -4,6 +4,7 @@ ghost use Rattle.std.specs.Prelude.{◌≡◌, unwrap_or};
 use crate::image_files::Place;
 use clap::error::ErrorKind;
 use clap::{Arg, ArgAction, ArgMatches, Command, Error, value_parser};
+use st_server::keepers::JournalSettings;
 use st_server::settings::ScriptSettings;
 use std::alloc::{AllocError, Global};
 
@@ -58,6 +59,8 @@ pub struct ServeOptions<'a> {
     pub sessions: Option<u32>,
     /// Where the image is kept, if it is kept in a file.
     pub image: Option<Place<'a>>,
+    /// How the image's journal is kept, if there is one. The pause is from 0 to 60,000, and the other number from 1 to 65,536.
+    pub journal: Option<JournalSettings>,
     /// Whether standard error says what is served, and which sessions end badly.
     pub is_verbose: bool,
 }
@@ -128,6 +131,9 @@ fn serve_command<'a>(alloc: Global) -> Result<Command<'a>, AllocError> {
         "Ends after so many sessions, 1 to 1000000: waits for their ends, saves, and tells what they did together";
     let image =
         "Keeps the image in a file: begins with it where it is there, and saves to it at each save and at the end, which --sessions or tools/stop brings";
+    let journal = "Keeps a journal beside the image's file, from which what has happened is done again after a crash";
+    let sync = "Milliseconds after which what happens is in the journal on the disk, 0 to 60000; with 0 before each reply [default: 1000]";
+    let save_after = "Saves the image when the journal has so many megabytes, or tells 31,250,000 times as many steps, 1 to 65536 [default: 64]";
     let verbose = "Says on standard error what is served, and names each session that ends badly";
     Command::new(alloc, "serve")
         .about("Serves one image to sessions over a Unix socket")
@@ -136,6 +142,15 @@ fn serve_command<'a>(alloc: Global) -> Result<Command<'a>, AllocError> {
         .arg(number_option(alloc, "sessions", "K", sessions, 1_000_000))?
         .arg(option(alloc, "image", "FILE", image))?
         .arg(must_exist(alloc)?)?
+        .arg(flag(alloc, "journal", journal).requires_arg("image")?)?
+        .arg(
+            option(alloc, "sync", "MS", sync)
+                .value_parser(value_parser!(u32).range(0..=60_000))
+                .requires_arg("journal")?,
+        )?
+        .arg(
+            number_option(alloc, "save-after", "MB", save_after, 65_536).requires_arg("journal")?,
+        )?
         .arg(flag(alloc, "verbose", verbose))
 }
 
@@ -203,12 +218,23 @@ fn script_options<'a>(matches: &ArgMatches<'a>) -> ScriptOptions<'a> {
     }
 }
 
+/// How a journal is kept.
+fn journal_settings(matches: &ArgMatches<'_>) -> JournalSettings {
+    JournalSettings {
+        pause: matches.get_one::<u32>("sync").unwrap_or(1000),
+        save_after: matches.get_one::<u32>("save-after").unwrap_or(64),
+    }
+}
+
 fn serve_options<'a>(matches: &ArgMatches<'a>) -> ServeOptions<'a> {
     ServeOptions {
         socket: matches.get_str("socket").unwrap_or(""),
         workers: matches.get_one::<u32>("workers").unwrap_or(1),
         sessions: matches.get_one::<u32>("sessions"),
         image: image_place(matches),
+        journal: matches
+            .get_flag("journal")
+            .then_some(journal_settings(matches)),
         is_verbose: matches.get_flag("verbose"),
     }
 }

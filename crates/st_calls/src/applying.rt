@@ -1,5 +1,5 @@
 //! Making a call.
-ghost use Rattle.std.specs.Prelude.{◌≡◌};
+ghost use Rattle.std.specs.Prelude.{◌≡◌, OnOk};
 ghost use Rattle.st_image.specs.GoingOn.{GoesOnIn};
 ghost use Rattle.st_calls.specs.declared.calls.Answer.TheVariants as answers;
 ghost use Rattle.st_calls.specs.declared.calls.Call.TheVariants as calls;
@@ -10,6 +10,7 @@ use crate::calls::{Answer, Call};
 use st_classes::refusals::Refusal;
 use st_classes::values::{ActorId, Selector};
 use st_image::image::Image;
+use st_image::items::Item;
 use st_mailbox::mailboxes::Mailbox;
 use std::alloc::Global;
 
@@ -58,14 +59,44 @@ fn closed(answer: Result<(), Refusal>) -> Result<Answer, Refusal>
     }
 }
 
-/// Makes a checkpoint, and answers what the image has counted.
-fn checkpoint<M: Mailbox>(alloc: Global, image: &mut Image<M>) -> Result<Answer, Refusal>
-    ensures { Does image.old calls.Checkpoint result image.new }
+/// Makes a checkpoint, and answers what the image has counted. The history that is emptied takes the place of what is in `past`.
+fn emptied_into<M: Mailbox>(
+    alloc: Global,
+    image: &mut Image<M>,
+    past: &mut Vec<Item>,
+) -> Result<Answer, Refusal>
+    ensures does { Does image.old calls.Checkpoint result image.new }
+    ensures past { OnOk result (past.new.items ≡ image.old.history) }
 {
-    match image.checkpoint(alloc) {
+    match image.checkpoint_into(alloc, past) {
         Ok(()) => Ok(Answer::Counted(image.counted())),
         Err(_) => Err(Refusal::NoMemory),
     }
+}
+
+/// Makes a checkpoint, and drops the history that it empties.
+fn checkpoint<M: Mailbox>(alloc: Global, image: &mut Image<M>) -> Result<Answer, Refusal>
+    ensures { Does image.old calls.Checkpoint result image.new }
+{
+    let mut past = Vec::new(alloc);
+    emptied_into(alloc, image, &mut past)
+}
+
+/// Makes a checkpoint as [`apply`] does. The history that is emptied takes the place of what is in `past`.
+pub fn checkpoint_into<M: Mailbox>(
+    alloc: Global,
+    image: &mut Image<M>,
+    past: &mut Vec<Item>,
+) -> Result<Answer, Refusal>
+    ensures does { Does image.old calls.Checkpoint result image.new }
+    ensures past { OnOk result (past.new.items ≡ image.old.history) }
+    ensures later { GoesOnIn image.old image.new }
+    ensures grows { Grows (posts_by result) (edits_by result) 0 image.old image.new }
+{
+    image.known();
+    let answer = emptied_into(alloc, image, past);
+    image.known();
+    answer
 }
 
 /// Makes a call.

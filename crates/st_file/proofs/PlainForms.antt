@@ -53,7 +53,7 @@ items_plain json deep f (x ∷ xs) =
       ordered = rw (one.ordered, rest.ordered) refl;
     }
 
-each_plain : {P : Type 0} (json : P → Data) (deep : ℕ) → ((x : P) → IsPlain deep (json x)) → (xs : List P) → IsPlain (suc deep) (each json xs)
+pub each_plain : {P : Type 0} (json : P → Data) (deep : ℕ) → ((x : P) → IsPlain deep (json x)) → (xs : List P) → IsPlain (suc deep) (each json xs)
 each_plain json deep f xs =
     let items = items_plain json deep f xs in
     record { shallow = omega (arith, items.shallow); whole = items.whole; ordered = items.ordered }
@@ -62,7 +62,7 @@ sender_plain : (s : Sender) → IsPlain 1 (sender_json s)
 sender_plain (sender.Client n) = record { shallow = omega arith; whole = refl; ordered = refl }
 sender_plain (sender.Actor a) = record { shallow = omega arith; whole = refl; ordered = refl }
 
-text_plain : (s : List ℕ) → IsPlain 0 (string s)
+pub text_plain : (s : List ℕ) → IsPlain 0 (string s)
 text_plain s = record { shallow = omega arith; whole = refl; ordered = refl }
 
 module _ (names : List (List ℕ)) (edits : List Edit) where
@@ -79,7 +79,7 @@ module _ (names : List (List ℕ)) (edits : List Edit) where
   values_plain : (vs : List Value) → IsPlain 2 (values_json names edits vs)
   values_plain vs = each_plain (value_json names edits) 1 value_plain vs
 
-  message_plain : (m : Message) → IsPlain 3 (message_json names edits m)
+  pub message_plain : (m : Message) → IsPlain 3 (message_json names edits m)
   message_plain m =
       let args = values_plain m.args in
       let from = sender_plain m.sender in
@@ -168,11 +168,11 @@ module _ (names : List (List ℕ)) (edits : List Edit) where
 
 -- ---- numbers
 
-items_whole : {P : Type 0} (json : P → Data) (A : P → Type 0) → ((x : P) → A x → HasWholeNumbers (json x)) → (xs : List P) → All A xs → ItemsHaveWholeNumbers (items_of (map json xs))
+pub items_whole : {P : Type 0} (json : P → Data) (A : P → Type 0) → ((x : P) → A x → HasWholeNumbers (json x)) → (xs : List P) → All A xs → ItemsHaveWholeNumbers (items_of (map json xs))
 items_whole json A f [] h = tt
 items_whole json A f (x ∷ xs) h = (f x (All-head A x xs h), items_whole json A f xs (All-tail A x xs h))
 
-texts_whole : (ts : List (List ℕ)) → HasWholeNumbers (texts ts)
+pub texts_whole : (ts : List (List ℕ)) → HasWholeNumbers (texts ts)
 texts_whole [] = tt
 texts_whole (t ∷ ts) = (tt, texts_whole ts)
 
@@ -194,7 +194,7 @@ module _ (names : List (List ℕ)) (edits : List Edit) where
   values_whole : (vs : List Value) → All ValueIsInRange vs → HasWholeNumbers (values_json names edits vs)
   values_whole vs h = items_whole (value_json names edits) ValueIsInRange value_whole vs h
 
-  message_whole : (m : Message) → MessageIsInRange m → HasWholeNumbers (message_json names edits m)
+  pub message_whole : (m : Message) → MessageIsInRange m → HasWholeNumbers (message_json names edits m)
   message_whole m h = (values_whole m.args h.args, (tt, (sender_whole m.sender h.sender, (h.seq, tt))))
 
   object_whole : (o : Object) → ObjectIsInRange o → HasWholeNumbers (object_json names edits o)

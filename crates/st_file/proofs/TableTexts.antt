@@ -71,7 +71,7 @@ define_is_text edits lawful place name parent slots at =
     let good = and_parts (is_class_name name) (list_all is_slot_name slots) (not-false (are_names name slots) r.1.0) in
     (class_name_is_text name good.0, class_is_text edits parent lawful, All-weaker (λ (t : List ℕ). is_slot_name t ≡ true) IsText slot_is_text slots (AllPass-from_list_all is_slot_name slots good.1))
 
-edit_is_text : (names : List (List ℕ)) (edits : List Edit) → AreNames names → AreLawful edits → AllCompiled names edits → (place : ℕ) (e : Edit) → slice_get edits place ≡ Some e → EditIsText (edit_text names edits e)
+pub edit_is_text : (names : List (List ℕ)) (edits : List Edit) → AreNames names → AreLawful edits → AllCompiled names edits → (place : ℕ) (e : Edit) → slice_get edits place ≡ Some e → EditIsText (edit_text names edits e)
 edit_is_text names edits are lawful compiled place (Define name parent slots) at = define_is_text edits lawful place name parent slots at
 edit_is_text names edits are lawful compiled place (Install c m) at =
     let from = compiled place c m at in

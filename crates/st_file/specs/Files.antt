@@ -20,11 +20,15 @@ without_newline (b ∷ c ∷ bs) = b ∷ without_newline (c ∷ bs)
 abbrev pub document_of : List ℕ → Option Data
 document_of text = value_of (without_newline text)
 
--- the text is JSON, and its value is loaded; or the text is not JSON; or memory ran out
-abbrev pub LoadsText : List ℕ → Result ImageView Refusal → Type 0
-LoadsText text result = ((v : Data) × (document_of text ≡ Some v) × LoadsImage v result)
-    ⊎ ((document_of text ≡ None) × (result ≡ Err (BadImage place.Json)))
+-- the bytes are JSON, and their value is loaded; or they are not JSON; or memory ran out
+abbrev pub LoadsBytes : List ℕ → Result ImageView Refusal → Type 0
+LoadsBytes bytes result = ((v : Data) × (value_of bytes ≡ Some v) × LoadsImage v result)
+    ⊎ ((value_of bytes ≡ None) × (result ≡ Err (BadImage place.Json)))
     ⊎ (result ≡ Err NoMemory)
+
+-- a text is loaded, without the newline at its end
+abbrev pub LoadsText : List ℕ → Result ImageView Refusal → Type 0
+LoadsText text result = LoadsBytes (without_newline text) result
 
 -- the input was read to its end, and its text is loaded; or it was not, and the refusal says why
 abbrev pub LoadsFile : InputView → InputView → Result ImageView Refusal → Type 0

@@ -6,6 +6,7 @@ pub mod Describes
 pub mod EditJson
 pub mod Files
 pub mod Forms
+pub mod ImageJson
 pub mod Inputs
 pub mod Layers
 pub mod ListJson
@@ -13,10 +14,10 @@ pub mod Meanings
 pub mod MessageJson
 pub mod Moments
 pub mod Named
-pub mod Objects
 pub mod Ranges
 pub mod Saving
-pub mod Says
 pub mod Shapes
+pub mod Streaming
 pub mod Tellable
+pub mod TextWriters
 pub mod ValueJson

@@ -1,8 +1,7 @@
 -- What is kept of an image at one moment: all that its file says.
 use Rattle.std.specs.Prelude.{ℕ, List}
 use Rattle.st_classes.specs.declared.edits.Edit.{Edit}
-use Rattle.st_classes.specs.EditLists.{AreLawful}
-use Rattle.st_classes.specs.EditLists.{AllSuit}
+use Rattle.st_classes.specs.EditLists.{AllSuit, AreLawful}
 use Rattle.st_image.specs.declared.actor_part.ActorPart.{ActorPart}
 use Rattle.st_image.specs.declared.counts.Counts.{Counts}
 use Rattle.st_image.specs.CompiledEdits.{AllCompiled}

@@ -1,5 +1,5 @@
 -- Numbers of the parts of an image that are within the bounds of their Rust types.
-use Rattle.std.specs.Prelude.{◌<◌, ◌^◌, All, FitsSigned}
+use Rattle.std.specs.Prelude.{ℕ, ◌<◌, ◌^◌, All, FitsSigned}
 use Rattle.std.specs.Int.{w64}
 use Rattle.st_classes.specs.declared.values.Value.{Value}
 use Rattle.st_classes.specs.declared.values.Value.TheVariants as value
@@ -59,3 +59,7 @@ pub record ActorIsInRange (a : ActorPart) : Type 0 where
   pub last : a.last < 2 ^ 64
   pub body : BodyIsInRange a.body
   pub pending : All MessageIsInRange a.pending
+
+pub record ClientIsInRange (c : ℕ × ℕ) : Type 0 where
+  pub client : c.0 < 2 ^ 16
+  pub last : c.1 < 2 ^ 64

@@ -1,8 +1,9 @@
 -- An image as texts, and how its file is written.
-use Rattle.std.specs.Prelude.{◌≡◌, ◌⊎◌, ℕ, List, [], ◌∷◌, ◌++◌, codes, true, Some, Result, Ok, Err, drop, map}
+use Rattle.std.specs.Prelude.{◌≡◌, ◌≤◌, ◌⊎◌, ℕ, false, List, [], ◌∷◌, ◌++◌, codes, true, Some, Result, Ok, Err, drop, map}
 use mathlib.Core.List.{IsPrefix}
-use Rattle.serde_json.specs.Data.{Data}
-use Rattle.serde_json.specs.Written.{compact_text}
+use Rattle.serde_json.specs.Data.{Data, depth}
+use Rattle.serde_json.specs.Read.{read}
+use Rattle.serde_json.specs.Written.{compact_text, has_float}
 use Rattle.st_classes.specs.declared.refusals.Refusal.{Refusal}
 use Rattle.st_classes.specs.declared.refusals.Refusal.TheVariants.{NoMemory, WriteFault}
 use Rattle.st_wire.specs.Fields.{texts_at, whole_at}
@@ -58,6 +59,14 @@ pub record IsLineOf (v : Data) (text : List ℕ) : Type 0 where
 -- a text is that of an image's file: the line of the image's document
 abbrev pub IsFileOf : MomentView → List ℕ → Type 0
 IsFileOf m text = (v : Data) × IsDocument v m × IsLineOf v text
+
+-- a value is what is written of an image at a moment: the image's document, whose text is read as it; it nests nine deep at most and has
+-- no float
+pub record IsWrittenAs (v : Data) (m : MomentView) : Type 0 where
+  pub document : IsDocument v m
+  pub again : read (compact_text v) ≡ Some v
+  pub shallow : depth v ≤ 9
+  pub whole : has_float v ≡ false
 
 -- such a text is written whole; or memory ran out, and nothing is written; or the device failed, perhaps after the last byte, and a
 -- prefix of such a text is written

@@ -13,12 +13,12 @@ use st_classes::values::ActorId;
 use std::alloc::Global;
 
 /// The refusal of a value that does not have the form of an image file.
-pub(crate) const SHAPE: Refusal = Refusal::BadImage {
+pub const SHAPE: Refusal = Refusal::BadImage {
     place: ImagePlace::Shape,
 };
 
 /// A type that can be read from a JSON value.
-pub(crate) trait Readable: Drop {
+pub trait Readable: Drop {
     ghost use Rattle.std.specs.Prelude.{Option};
     ghost use Rattle.serde_json.specs.Data.{Data};
 
@@ -56,11 +56,7 @@ fn each<T: Readable>(alloc: Global, values: &Vec<Value>) -> Result<Seq<T>, Refus
 }
 
 /// Reads each item of the array at a key.
-pub(crate) fn list_at<T: Readable>(
-    alloc: Global,
-    object: &Value,
-    key: &str,
-) -> Result<Seq<T>, Refusal>
+pub fn list_at<T: Readable>(alloc: Global, object: &Value, key: &str) -> Result<Seq<T>, Refusal>
     ensures { Finds Shape (shapes.list_at T.form key.now (view object.now)) result }
 {
     match object.get(key).and_then(Value::as_array) {
@@ -70,7 +66,7 @@ pub(crate) fn list_at<T: Readable>(
 }
 
 /// Reads the value at a key.
-pub(crate) fn one_at<T: Readable>(alloc: Global, object: &Value, key: &str) -> Result<T, Refusal>
+pub fn one_at<T: Readable>(alloc: Global, object: &Value, key: &str) -> Result<T, Refusal>
     ensures { Finds Shape (shapes.one_at T.form key.now (view object.now)) result }
 {
     match object.get(key) {
@@ -80,14 +76,14 @@ pub(crate) fn one_at<T: Readable>(alloc: Global, object: &Value, key: &str) -> R
 }
 
 /// Reads the text at a key.
-pub(crate) fn text_at(alloc: Global, object: &Value, key: &str) -> Result<Seq<u8>, Refusal>
+pub fn text_at(alloc: Global, object: &Value, key: &str) -> Result<Seq<u8>, Refusal>
     ensures { Finds Shape (spec.text_at key.now (view object.now)) result }
 {
     one_at(alloc, object, key)
 }
 
 /// The number of items of an array; 0 for any other value.
-pub(crate) fn count(array: &Value) -> usize
+pub fn count(array: &Value) -> usize
     ensures { result ≡ shapes.count (view array.now) }
 {
     match array.as_array() {
@@ -97,7 +93,7 @@ pub(crate) fn count(array: &Value) -> usize
 }
 
 /// Checks that a number is in a range, both ends included.
-fn within(number: Option<u64>, least: u64, most: u64) -> Result<u64, Refusal>
+pub fn within(number: Option<u64>, least: u64, most: u64) -> Result<u64, Refusal>
     ensures read { Finds Shape (spec.within least most number) result }
     ensures within { IfOk result (λ n. n ≤ most) }
 {
@@ -108,7 +104,7 @@ fn within(number: Option<u64>, least: u64, most: u64) -> Result<u64, Refusal>
 }
 
 /// Reads the whole number at a key, which must be in a range, both ends included.
-pub(crate) fn whole_at(object: &Value, key: &str, least: u64, most: u64) -> Result<u64, Refusal>
+pub fn whole_at(object: &Value, key: &str, least: u64, most: u64) -> Result<u64, Refusal>
     ensures read { Finds Shape (spec.whole_at key.now least most (view object.now)) result }
     ensures within { IfOk result (λ n. n ≤ most) }
 {
@@ -116,14 +112,14 @@ pub(crate) fn whole_at(object: &Value, key: &str, least: u64, most: u64) -> Resu
 }
 
 /// Reads the unsigned 64-bit number at a key.
-pub(crate) fn number_at(object: &Value, key: &str) -> Result<u64, Refusal>
+pub fn number_at(object: &Value, key: &str) -> Result<u64, Refusal>
     ensures { Finds Shape (spec.number_at key.now (view object.now)) result }
 {
     whole_at(object, key, 0, u64::MAX)
 }
 
 /// Reads the actor's number at a key.
-pub(crate) fn actor_at(object: &Value, key: &str) -> Result<ActorId, Refusal>
+pub fn actor_at(object: &Value, key: &str) -> Result<ActorId, Refusal>
     ensures { Finds Shape (spec.actor_at key.now (view object.now)) result }
 {
     let number = whole_at(object, key, 0, 4_294_967_295)?;
@@ -131,7 +127,7 @@ pub(crate) fn actor_at(object: &Value, key: &str) -> Result<ActorId, Refusal>
 }
 
 /// Checks a client's number, which has 16 bits.
-pub(crate) fn client_number(number: Option<u64>) -> Result<u16, Refusal>
+pub fn client_number(number: Option<u64>) -> Result<u16, Refusal>
     ensures { Finds Shape (spec.within 0 65535 number) result }
 {
     let number = within(number, 0, 65_535)?;
@@ -139,7 +135,7 @@ pub(crate) fn client_number(number: Option<u64>) -> Result<u16, Refusal>
 }
 
 /// Checks the number of a client's last message, which is at least 1.
-pub(crate) fn last_number(number: Option<u64>) -> Result<u64, Refusal>
+pub fn last_number(number: Option<u64>) -> Result<u64, Refusal>
     ensures { Finds Shape (spec.within 1 18446744073709551615 number) result }
 {
     within(number, 1, u64::MAX)

@@ -6,14 +6,16 @@ ghost use Rattle.st_classes.specs.declared.refusals.ImagePlace.TheVariants as pl
 ghost use Rattle.st_wire.specs.Commands.{value_of};
 ghost use Rattle.st_wire.specs.Streams.{input_view};
 ghost use Rattle.st_file.specs.Files as spec;
-ghost use Rattle.st_file.specs.Files.{LoadsFile, LoadsText};
+ghost use Rattle.st_file.specs.Files.{LoadsBytes, LoadsFile, LoadsText};
 
 use crate::images::image_of;
 use crate::inputs::read_all;
+use crate::streaming::stream;
 use serde_json::{Category, Value};
 use st_classes::refusals::{ImagePlace, Refusal};
 use st_image::image::Image;
 use st_mailbox::mailboxes::Mailbox;
+use st_wire::misses::Miss;
 use st_wire::streams::Input;
 use std::alloc::Global;
 
@@ -33,17 +35,32 @@ pub fn load<M: Mailbox, I: Input>(alloc: Global, input: &mut I) -> Result<Image<
 
 /// Loads the image from a text, whose last byte may be a newline. If the text is not JSON, the refusal is `BadImage` with the place
 /// `Json`. Otherwise the result is the image that its value describes, or the refusal of the value.
+///
+/// Of a text in the form in which images are saved there is the JSON value of one actor at a time, beside the parts of which the image is
+/// made; of any other, that of the whole.
 pub fn image_of_bytes<M: Mailbox>(alloc: Global, text: &[u8]) -> Result<Image<M>, Refusal>
     ensures { LoadsText text.now result }
 {
-    match value_of_bytes(alloc, without_newline(text)) {
+    let text = without_newline(text);
+    match stream(alloc, text) {
+        Ok(image) => Ok(image),
+        Err(Miss::NoMemory) => Err(Refusal::NoMemory),
+        Err(Miss::Undecided) => image_of_value(alloc, text),
+    }
+}
+
+/// As [`image_of_bytes`], by the JSON value of the whole text.
+fn image_of_value<M: Mailbox>(alloc: Global, text: &[u8]) -> Result<Image<M>, Refusal>
+    ensures { LoadsBytes text.now result }
+{
+    match value_of_bytes(alloc, text) {
         Ok(value) => image_of(alloc, &value),
         Err(refusal) => Err(refusal),
     }
 }
 
 /// A text without the newline at its end, if it has one.
-fn without_newline(text: &[u8]) -> &[u8]
+pub(crate) fn without_newline(text: &[u8]) -> &[u8]
     ensures { result.now ≡ spec.without_newline text.now }
 {
     let Some((last, front)) = text.split_last() else {
@@ -53,7 +70,7 @@ fn without_newline(text: &[u8]) -> &[u8]
 }
 
 /// The JSON value of a text.
-fn value_of_bytes(alloc: Global, text: &[u8]) -> Result<Value, Refusal>
+pub fn value_of_bytes(alloc: Global, text: &[u8]) -> Result<Value, Refusal>
     ensures value { IfOk result (λ v. value_of text.now ≡ Some (view v)) }
     ensures none { IfErr result (λ e. (e ≡ NoMemory) ⊎ ((e ≡ BadImage place.Json) × (value_of text.now ≡ None))) }
 {

@@ -55,7 +55,7 @@ fn load_value<M: Mailbox>(alloc: Global, value: &Value) -> Result<Image<M>, Refu
 }
 
 /// Loads the names and the class table of a file.
-fn load_table(alloc: Global, text: &ImageText) -> Result<Loader, Refusal>
+pub(crate) fn load_table(alloc: Global, text: &ImageText) -> Result<Loader, Refusal>
     ensures { LoadsTable text.now result }
 {
     let mut loader = Loader::new(alloc)?;

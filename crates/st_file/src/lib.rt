@@ -2,28 +2,29 @@
 //!
 //! A file is read in layers. [`reading`] turns a JSON value into [`texts`]. The loader of st_image takes the names and the edits, in
 //! order. [`resolving`] finds what the texts of the actors mean, and the loader makes the image of them. [`images::image_of`] does all
-//! this with a JSON value, and [`files::load`] with the bytes of an input.
+//! this with a JSON value, and [`files::load`] with the bytes of an input. A text in the form in which images are saved is read by
+//! [`streaming`] instead, actor by actor, in the same layers.
 //!
-//! To save, [`moments`] copies what an image is at one moment, [`part_texts`] turns actors into texts that mean them again, [`telling`]
-//! makes a JSON value of texts, and [`saving`] does all this and writes the text to an output. [`again`] says that a saved image loads again.
-//! [`forms`] says that the JSON value of an actor is read as this actor, and that of an edit as its text.
+//! To save, [`moments`] copies what an image is at one moment, and [`saving`] writes the text of its JSON value to an output, part by part.
+//! [`again`] says that a saved image loads again. [`forms`] says that the JSON value of an actor is read as this actor, and that of an edit
+//! as its text.
+//!
+//! What reads and writes single parts ([`fields`], [`reading`], [`resolving`], [`saving`]) is public for st_journal, whose lines have them in
+//! the same form.
 #![tactic(auto)]
 
 pub mod again;
-mod copies;
 mod faults;
-mod fields;
+pub mod fields;
 pub mod files;
 pub mod forms;
 pub mod images;
 mod inputs;
 mod loading;
 pub mod moments;
-mod objects;
-mod part_texts;
 mod ranges;
-mod reading;
-mod resolving;
+pub mod reading;
+pub mod resolving;
 pub mod saving;
-mod telling;
-mod texts;
+mod streaming;
+pub mod texts;

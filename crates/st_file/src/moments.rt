@@ -1,15 +1,15 @@
 //! An image at one moment, as plain data.
-use crate::part_texts::tell_actors;
-use crate::saving::tables::{edit_texts, name_texts};
-use crate::texts::ImageText;
+use crate::ranges::all_in_range;
+use crate::saving::images::image;
+use crate::saving::text_writer::TextWriter;
 use st_classes::names::Names;
-use st_classes::seq::Seq;
 use st_classes::token::Token;
 use st_image::actor_part::ActorPart;
 use st_image::counts::Counts;
 use st_image::image::Image;
 use st_image::loader::reloads;
 use st_mailbox::mailboxes::Mailbox;
+use st_wire::streams::Output;
 use std::alloc::{AllocError, Global};
 use std::marker::Model;
 
@@ -37,8 +37,10 @@ impl Model for Moment {
 impl Moment {
     ghost use Rattle.std.specs.Prelude.{◌≡◌, IfOk};
     ghost use Rattle.st_file.specs.Moments.{moment_of};
-    ghost use Rattle.st_file.specs.Saving.{TellsMoment};
-    ghost use Rattle.st_file.specs.Tellable.{ImageIsText};
+    ghost use Rattle.serde_json.specs.Data.{Data};
+    ghost use Rattle.serde_json.specs.Written.{compact_text};
+    ghost use Rattle.st_file.specs.Saving.{IsWrittenAs};
+    ghost use Rattle.st_file.specs.TextWriters.{Puts};
 
     /// What an image is now. The actors with their bodies and pending messages are copied, and the clients' numbers; the names and the
     /// class table are shared. Fails only if memory runs out.
@@ -62,21 +64,24 @@ impl Moment {
         })
     }
 
-    /// What its file says. Fails only if memory runs out.
-    pub(crate) fn text(&self, alloc: Global) -> Result<ImageText, AllocError>
-        ensures tells { IfOk result (λ t. TellsMoment self.now t) }
-        ensures text { IfOk result (λ t. ImageIsText t) }
+    /// Writes the text of its document.
+    pub(crate) fn write<O: Output>(&self, writer: &mut TextWriter, output: &mut O)
+        ensures { (v : Data) × IsWrittenAs v self.now × Puts O.contents O.failures O.flushes output.old output.new writer.old writer.new (compact_text v) }
     {
         reloads();
         self.names.known();
+        all_in_range(&self.parts);
+        all_in_range(&self.clients);
         let version = self.table.shown();
-        let senders = Vec::from_slice(alloc, &self.clients)?;
-        Ok(ImageText {
-            actors: tell_actors(alloc, &self.names, version, &self.parts)?,
-            counts: self.counts,
-            edits: edit_texts(alloc, &self.names, version)?,
-            names: name_texts(alloc, &self.names)?,
-            senders: Seq::from_vec(senders),
-        })
+        version.known();
+        image(
+            writer,
+            output,
+            &self.names,
+            version,
+            &self.parts,
+            &self.clients,
+            self.counts,
+        );
     }
 }

@@ -2,7 +2,7 @@
 //!
 //! That a number is within the bounds of its type is known once it is read. So these functions read each number of a part.
 ghost use Rattle.std.specs.Prelude.{◌<◌, ◌^◌, All};
-ghost use Rattle.st_file.specs.Ranges.{ActorIsInRange, BodyIsInRange, FrameIsInRange, FramesAreInRange, MessageIsInRange, ObjectIsInRange, PhaseIsInRange, SenderIsInRange, ValueIsInRange};
+ghost use Rattle.st_file.specs.Ranges.{ActorIsInRange, BodyIsInRange, ClientIsInRange, FrameIsInRange, FramesAreInRange, MessageIsInRange, ObjectIsInRange, PhaseIsInRange, SenderIsInRange, ValueIsInRange};
 
 use st_classes::values::Value;
 use st_image::actor_part::ActorPart;
@@ -22,7 +22,7 @@ pub(crate) trait Bounded {
 }
 
 /// All of some parts.
-fn all_in_range<P: Bounded>(parts: &[P])
+pub(crate) fn all_in_range<P: Bounded>(parts: &[P])
     ensures { All P.is_in_range parts.now }
 {
     for part in parts {
@@ -145,5 +145,13 @@ impl Bounded for ActorPart {
         let _last = self.last;
         self.body.in_range();
         all_in_range(self.pending.as_slice());
+    }
+}
+
+impl Bounded for (u16, u64) {
+    ghost is_in_range = { ClientIsInRange };
+
+    fn in_range(&self) {
+        let (_client, _last) = *self;
     }
 }

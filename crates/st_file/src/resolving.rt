@@ -24,7 +24,7 @@ const ACTORS: Refusal = Refusal::BadImage {
 };
 
 /// A text that can mean a part of an image.
-pub(crate) trait Means<P: Drop> {
+pub trait Means<P: Drop> {
     ghost use Rattle.std.specs.Prelude.{ℕ, List, Option};
     ghost use Rattle.st_classes.specs.declared.edits.Edit.{Edit};
 
@@ -69,14 +69,14 @@ fn meant<P: Drop>(part: Option<P>) -> Result<P, Refusal>
 }
 
 /// The class with this name.
-fn class_of(version: &Version, text: &[u8]) -> Result<ClassId, Refusal>
+pub fn class_of(version: &Version, text: &[u8]) -> Result<ClassId, Refusal>
     ensures { Finds Actors (class_named version.now text.now) result }
 {
     meant(version.class_named(text))
 }
 
 /// The selector with this text.
-fn selector_of(names: &Names, text: &[u8]) -> Result<Selector, Refusal>
+pub fn selector_of(names: &Names, text: &[u8]) -> Result<Selector, Refusal>
     ensures { Finds Actors (spec.selector_of names.now text.now) result }
 {
     meant(names.find(text))

@@ -1,7 +1,7 @@
 -- Images at a base: nothing has happened yet, and what is kept is the base's.
-use Rattle.std.proofs.Common.{arith, ◌≡◌, ℕ, zero, suc, ◌+◌, ◌<◌, ◌≤◌, ◌++◌, [], ◌∷◌, List, length, map, drop, take, get_or, Option, Some, None, refl, ap, sym, ◌∙◌, subst, slice_get}
+use Rattle.std.proofs.Common.{arith, ◌≡◌, ℕ, zero, suc, ◌+◌, ◌≤◌, ◌++◌, [], ◌∷◌, List, length, map, drop, Option, Some, None, refl, ap, sym, ◌∙◌, subst, slice_get}
 use Rattle.std.specs.Prelude.{All, option_map, replicate}
-use Rattle.std.proofs.lemmas.List.{length-map, map-append, replicate-append-replicate, take-append-drop}
+use Rattle.std.proofs.lemmas.List.{length-map, replicate-append-replicate, take-append-drop}
 use Rattle.std.proofs.lemmas.List.Elements.{All-map, All-nil, All-weaker}
 use Rattle.std.proofs.lemmas.Option.{slice_get-map}
 use Rattle.st_classes.specs.declared.edits.Edit.{Edit}
@@ -26,7 +26,6 @@ use Rattle.st_image.specs.declared.items.Item.{Item}
 use Rattle.st_turn.specs.declared.tally.Tally.{Tally}
 use Rattle.st_image.specs.Loaded.{AreBaseActors, AreBaseSenders, loaded_image}
 use Rattle.st_image.proofs.Posting.{seen, standing_of}
-use Rattle.st_image.proofs.Filling.{first_more}
 use Rattle.st_image.proofs.Starting.{starts_self}
 
 -- the numbers that are set by default
@@ -90,10 +89,7 @@ few_messages names edits n p h = omega (arith, h.within, h.few_messages)
 few_kept : (names : List (List ℕ)) (edits : List Edit) (parts : List ActorPart) → AreBaseActors names edits parts → All (λ (k : ActorView). k.accepted ≤ 0 + 1024) (kept_parts parts)
 few_kept names edits parts h = All-map (λ (k : ActorView). k.accepted ≤ 0 + 1024) (λ (p : ActorPart). actor_view (actor_of p)) parts (All-weaker (λ (p : ActorPart). IsWorldActor names edits (length parts) (actor_of p)) (λ (p : ActorPart). (actor_view (actor_of p)).accepted ≤ 0 + 1024) (few_messages names edits (length parts)) parts h.each)
 
--- one part more of the first ones
-pub parts_more : (parts : List ActorPart) (n : ℕ) (p : ActorPart) → n < length parts → p ≡ get_or parts n p → kept_parts (take (n + 1) parts) ≡ kept_parts (take n parts) ++ actor_view (actor_of p) ∷ []
-parts_more parts n p h e = ap kept_parts (first_more parts n p h e) ∙ map-append (λ (q : ActorPart). actor_view (actor_of q)) (take n parts) (p ∷ [])
-
+-- one actor more of whom no claim is out
 pub none_more : (n : ℕ) → replicate {A = ℕ} (n + 1) 0 ≡ replicate n 0 ++ 0 ∷ []
 none_more n = sym (replicate-append-replicate {A = ℕ} n 1 0)
 

@@ -1,5 +1,6 @@
 pub mod Lists
 pub mod Places
+pub mod Placing
 pub mod Changing
 pub mod Replays
 pub mod Stepping
@@ -28,7 +29,6 @@ pub mod OwnSteps
 pub mod AskedSteps
 pub mod Counting
 pub mod ClaimSends
-pub mod Covering
 pub mod Sends
 pub mod CompiledEdits
 pub mod Naming

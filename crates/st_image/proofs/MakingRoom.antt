@@ -14,7 +14,7 @@ use Rattle.st_image.specs.Worlds.{Constants, World}
 use Rattle.st_image.specs.ActorViews.{ActorView}
 use Rattle.st_image.specs.ActResults.{FewAccepted}
 use Rattle.st_image.specs.ImageInvariant.{HoldsImage}
-use Rattle.st_image.specs.Tallies.{CountsSends, Covers, SameTallies}
+use Rattle.st_image.specs.Tallies.{CountsSends, SameTallies}
 use Rattle.st_image.proofs.CountingChanges.{counts_same}
 
 sends_same : (c : Constants) (base : World) (h : List Item) (rows rows' : List (List Tally)) → SameTallies rows rows' → CountsSends c base h rows → CountsSends c base h rows'
@@ -24,14 +24,13 @@ sends_same c base h rows rows' same k = record {
 }
 
 -- more room changes nothing that holds of an image
-pub with_room : (base : World) (names : List (List ℕ)) (edits : List Edit) (actors : List ActorView) (h : List Item) (made : ℕ) (s : Settings) (clients : List ℕ) (rows rows' : List (List Tally)) (covered covered' : ℕ) (changes changes' : List ℕ) (counted : Counts) (earlier : Earlier)
-    → HoldsImage base names edits actors h made s clients rows covered changes counted earlier → ((a : ℕ) → change_count changes' a ≡ change_count changes a) → SameTallies rows rows' → Covers rows' covered' edits
-    → HoldsImage base names edits actors h made s clients rows' covered' changes' counted earlier
-with_room base names edits actors h made s clients rows rows' covered covered' changes changes' counted earlier v same tallies covers = record {
+pub with_room : (base : World) (names : List (List ℕ)) (edits : List Edit) (actors : List ActorView) (h : List Item) (made : ℕ) (s : Settings) (clients : List ℕ) (rows rows' : List (List Tally)) (changes changes' : List ℕ) (counted : Counts) (earlier : Earlier)
+    → HoldsImage base names edits actors h made s clients rows changes counted earlier → ((a : ℕ) → change_count changes' a ≡ change_count changes a) → SameTallies rows rows'
+    → HoldsImage base names edits actors h made s clients rows' changes' counted earlier
+with_room base names edits actors h made s clients rows rows' changes changes' counted earlier v same tallies = record {
   image = v.image;
   numbers_of_clients = v.numbers_of_clients;
   sends = sends_same _ base h rows rows' tallies v.sends;
-  places = covers;
   counts = counts_same changes changes' h same v.counts;
   totals = v.totals;
   compiled = v.compiled;

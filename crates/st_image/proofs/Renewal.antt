@@ -6,7 +6,6 @@ use Rattle.std.proofs.lemmas.List.{length-map}
 use Rattle.std.proofs.lemmas.List.Elements.{All-map, All-nil, All-weaker}
 use Rattle.std.proofs.lemmas.Option.{slice_get-map}
 use Rattle.st_classes.specs.declared.edits.Edit.{Edit}
-use Rattle.st_image.specs.declared.actor_part.ActorPart.{ActorPart}
 use Rattle.st_image.specs.declared.items.Item.{Item}
 use Rattle.st_image.specs.declared.items.Item.TheVariants.{Edited, Created, Posted, Closed, Begun, Ran}
 use Rattle.st_image.specs.declared.settings.Settings.{Settings}
@@ -124,14 +123,6 @@ edits_bounded c base w h earlier few e =
     omega (arith, all, length-append base.edits (edits_among h), edits_counted h, few)
 
 -- ---- the base
-
-pub base_by : (w : World) (base : World) (edits : List Edit) (parts : List ActorPart) (clients : List (ℕ × ℕ)) → base ≡ world_of_parts edits parts clients → edits ≡ w.edits → parts ≡ map part_of w.actors → clients ≡ w.clients → base ≡ rebase w
-base_by w base edits parts clients is e p c =
-    is
-    ∙ ap (λ (es : List Edit). world_of_parts es parts clients) e
-    ∙ ap (λ (ps : List ActorPart). world_of_parts w.edits ps clients) p
-    ∙ ap (λ (cs : List (ℕ × ℕ)). world_of_parts w.edits (map part_of w.actors) cs) c
-    ∙ sym (rebase_is w)
 
 pub order_anew : (w : World) → InSendingOrder (world_of_parts w.edits (map part_of w.actors) w.clients) → InSendingOrder (rebase w)
 order_anew w order = subst InSendingOrder (sym (rebase_is w)) order

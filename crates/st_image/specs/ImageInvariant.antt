@@ -24,7 +24,7 @@ use Rattle.st_image.specs.declared.counts.Counts.{Counts}
 use Rattle.st_image.specs.ActorViews.{ActorView, Shows}
 use Rattle.st_image.specs.ActResults.{constants_of}
 use Rattle.st_turn.specs.declared.tally.Tally.{Tally}
-use Rattle.st_image.specs.Tallies.{CountsSends, Covers}
+use Rattle.st_image.specs.Tallies.{CountsSends}
 
 -- the history leads from the base to the world that is kept, and all numbers are within their limits
 pub record IsImage (base : World) (names : List (List ℕ)) (edits : List Edit) (actors : List ActorView)
@@ -53,16 +53,15 @@ pub record FitsBase (e : Earlier) (base : World) : Type 0 where
   pub edits : e.edits ≤ length base.edits
   pub changes : (a : ℕ) → change_count e.changes a ≤ 2 * e.steps + turns_open (slice_get base.actors a)
 
--- The history leads to what is kept. The numbers of clients are those that it leads to. The tallies count its sends, and have places for
--- the methods of the edits that are covered. Each actor's count of changes is how often the history changed its body. The posts and the
--- steps of the history are counted. The methods of the table are compiled from their sources. What was counted before the base fits it.
+-- The history leads to what is kept. The numbers of clients are those that it leads to. The tallies count its sends. Each actor's count of
+-- changes is how often the history changed its body. The posts and the steps of the history are counted. The methods of the table are
+-- compiled from their sources. What was counted before the base fits it.
 pub record HoldsImage (base : World) (names : List (List ℕ)) (edits : List Edit) (actors : List ActorView)
     (history : List Item) (made : ℕ) (s : Settings) (clients : List ℕ) (tallies : List (List Tally))
-    (covered : ℕ) (changes : List ℕ) (counted : Counts) (earlier : Earlier) : Type 0 where
+    (changes : List ℕ) (counted : Counts) (earlier : Earlier) : Type 0 where
   pub image : IsImage base names edits actors history made s
   pub numbers_of_clients : KeepsClients clients base.clients history
   pub sends : CountsSends (constants_of names s.capacity) base history tallies
-  pub places : Covers tallies covered edits
   pub counts : CountsChanges changes history
   pub totals : CountsItems counted earlier history
   pub compiled : AllCompiled names edits

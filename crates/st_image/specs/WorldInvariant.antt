@@ -83,14 +83,15 @@ NamesMayGrow = (names more : List (List ℕ)) (capacity : ℕ) (base w : World) 
 
 -- ---- turns and results
 
--- the number of an actor's first turn: 0 if in the base it is in a turn or has ended one, else 1
+-- the number of the first turn of an actor that begins with such a body: 0 if it is in a turn or has ended one, else 1
+abbrev pub first_of_phase : Phase → ℕ
+first_of_phase Fresh = 1
+first_of_phase _ = 0
+
+-- the number of an actor's first turn, where it is an actor of the base or a later one
 abbrev pub first_turn : Option WorldActor → ℕ
 first_turn None = 1
 first_turn (Some b) = first_of_phase b.body.phase
-  where
-    first_of_phase : Phase → ℕ
-    first_of_phase Fresh = 1
-    first_of_phase _ = 0
 
 -- each turn of an actor, from its first one on, has one result, except for one that is going on
 abbrev pub HasTurns : ℕ → WorldActor → Type 0

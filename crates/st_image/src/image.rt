@@ -116,8 +116,6 @@ pub struct Image<M: Mailbox> {
     edits_made: u32,
     settings: Settings,
     tallies: Tallies,
-    /// The tallies have places for all code of the methods that the first edits install; this is the number of these edits.
-    covered: u32,
     changes: Changes,
     earlier: Earlier,
     // Each quantum writes what follows, so it lies together: a processor that holds a lock on the image waits for fewer lines of memory.
@@ -138,7 +136,7 @@ impl<M: Mailbox> Model for Image<M> {
 
     ghost view = { λ i. record { base = i.base; names = i.names; history = i.history.items; capacity = i.settings.capacity; most_items = i.settings.history; standing = record { next_from = i.next_from; claims_out = trimmed i.actors.out; tallies = i.tallies; earlier = i.earlier } } };
 
-    ghost invariant = { λ i. HoldsImage i.base i.names i.token i.actors.list i.history.items i.edits_made i.settings i.clients i.tallies i.covered i.changes i.counts i.earlier };
+    ghost invariant = { λ i. HoldsImage i.base i.names i.token i.actors.list i.history.items i.edits_made i.settings i.clients i.tallies i.changes i.counts i.earlier };
 }
 
 impl<M: Mailbox> Image<M> {
@@ -170,7 +168,7 @@ impl<M: Mailbox> Image<M> {
         }
         let first = KernelParts::of(alloc)?;
         Ok(Image {
-            base: Base::new(first.table, Vec::new(alloc), Vec::new(alloc)),
+            base: Base::new(alloc, first.table, &[]),
             names: first.names,
             token: first.token,
             actors: Actors::new(alloc),
@@ -180,7 +178,6 @@ impl<M: Mailbox> Image<M> {
             settings,
             next_from: 0,
             tallies: Tallies::new(alloc),
-            covered: 0,
             changes: Changes::new(alloc),
             counts: Counts { posts: 0, steps: 0 },
             earlier: Earlier::counted(alloc, Counts { posts: 0, steps: 0 }),

@@ -18,7 +18,7 @@ mod fitting;
 pub mod image;
 pub mod items;
 pub mod leavings;
-mod letting_go;
+pub mod letting_go;
 pub mod loader;
 mod results;
 mod senders;

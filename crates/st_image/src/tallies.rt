@@ -1,13 +1,12 @@
 //! Tallies of call sites: the sends that were committed.
-ghost use Rattle.std.specs.Prelude.{◌≡◌, ◌<◌, ◌≤◌, ◌+◌, ◌^◌, ℕ, [], length, slice_set, true, None, OnOk, All};
+ghost use Rattle.std.specs.Prelude.{◌≡◌, ◌<◌, ◌≤◌, ◌+◌, ◌^◌, ℕ, [], length, nat_lt, slice_set, true, None, OnOk, All};
 ghost use Rattle.std.specs.List.{slice_index_or};
 ghost use Rattle.st_classes.specs.declared.keys.SiteId.{SiteId as SiteIdOf};
 ghost use Rattle.st_turn.specs.Tallies.{after_sums, no_tally, sends_of, with_act, with_sum};
-ghost use Rattle.st_image.specs.Tallies.{ChangesTally, Covers, HasPlaces, KeepsPlaces, SameTallies, Summed, Tallied, has_place, tally_at};
+ghost use Rattle.st_image.specs.Tallies.{ChangesTally, HasPlaces, KeepsPlaces, SameTallies, Summed, Tallied, has_place, tally_at};
 
 use st_classes::keys::SiteId;
 use st_classes::values::{MethodId, Selector};
-use st_classes::version::Version;
 use st_turn::sends::Sends;
 use st_turn::sums::SiteSum;
 use st_turn::tally::Tally;
@@ -56,6 +55,14 @@ impl TallyRow {
             Some(tally) => *tally,
             None => Tally::none(),
         }
+    }
+
+    /// Whether there is such a place.
+    #[inline]
+    fn has(&self, place: u16) -> bool
+        ensures { result ≡ nat_lt place (length self.now) }
+    {
+        usize::from(place) < self.tallies.len()
     }
 
     /// Makes this many places, where there are fewer. No tally changes.
@@ -175,50 +182,53 @@ impl Tallies {
         row.make_places(places)
     }
 
-    /// Makes the places of the method that the first edit past those covered installs, if it installs one. No tally changes.
-    fn cover_next(&mut self, version: &Version, covered: u32) -> Result<(), AllocError>
-        requires covers { Covers self.old covered version.now }
-        requires more { covered < length version.now }
-        ensures same { SameTallies self.old self.new }
-        ensures covers { Covers self.new covered version.now }
-        ensures ok { OnOk result (Covers self.new (covered + 1) version.now) }
+    /// Whether a site has a place.
+    #[inline]
+    fn has(&self, site: SiteId) -> bool
+        ensures { result ≡ has_place self.now site }
     {
-        let id = MethodId(covered);
-        match version.method(id) {
-            Some(method) => self.make_row(id, method.code().len()),
-            None => Ok(()),
+        match self.rows.get(site.method.0 as usize) {
+            Some(row) => row.has(site.place),
+            None => false,
         }
     }
 
-    /// As `cover`, where edits were made since.
-    #[cold]
-    #[inline(never)]
-    fn cover_rest(&mut self, version: &Version, covered: &mut u32) -> Result<(), AllocError>
-        requires { Covers self.old covered.old version.now }
+    /// Makes a place for a site, where it has none. No tally changes.
+    #[inline]
+    fn make_place(&mut self, site: SiteId) -> Result<(), AllocError>
         ensures same { SameTallies self.old self.new }
-        ensures covers { Covers self.new covered.new version.now }
-        ensures ok { OnOk result (covered.new ≡ length version.now) }
+        ensures keeps { KeepsPlaces self.old self.new }
+        ensures ok { OnOk result (has_place self.new site ≡ true) }
     {
-        'edits: while *covered < version.edits() {
-            self.cover_next(version, *covered)?;
-            *covered += 1;
+        if self.has(site) {
+            return Ok(());
+        }
+        self.make_row(site.method, usize::from(site.place) + 1)
+    }
+
+    /// Makes a place for the site of each sum, where it has none. No tally changes.
+    fn make_places(&mut self, sums: &[SiteSum]) -> Result<(), AllocError>
+        ensures same { SameTallies self.old self.new }
+        ensures ok { OnOk result (All (λ m. has_place self.new m.site ≡ true) sums.now) }
+    {
+        'sums: for place in 0..sums.len() {
+            self.make_place(sums[place].site)?;
         }
         Ok(())
     }
 
-    /// Makes a place for each instruction of the methods that were installed since the edits that are covered, and covers all edits.
-    /// It takes no time where none was made since. For want of memory it covers some of them. No tally changes.
-    #[inline]
-    pub(crate) fn cover(&mut self, version: &Version, covered: &mut u32) -> Result<(), AllocError>
-        requires { Covers self.old covered.old version.now }
+    /// Makes a place for the site of each send of a claim, and for that of an act behind them, where they have none. So what there is to
+    /// count with grows by the sites that send, and not by the methods that are installed. For want of memory it makes some of the
+    /// places. No tally changes.
+    pub(crate) fn make_room(&mut self, sends: &Sends, act: Option<SiteId>) -> Result<(), AllocError>
         ensures same { SameTallies self.old self.new }
-        ensures covers { Covers self.new covered.new version.now }
-        ensures ok { OnOk result (covered.new ≡ length version.now) }
+        ensures ok { OnOk result (HasPlaces self.new sends.now.items act) }
     {
-        if *covered == version.edits() {
-            return Ok(());
+        self.make_places(sends.sums())?;
+        match act {
+            Some(site) => self.make_place(site),
+            None => Ok(()),
         }
-        self.cover_rest(version, covered)
     }
 
     /// Counts an act.

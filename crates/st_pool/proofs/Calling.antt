@@ -1,13 +1,15 @@
 -- Calls in a hold.
 use Rattle.std.proofs.Common.{◌≡◌, ℕ, ◌+◌, ◌++◌, List, [], Option, None, Some, Result, Ok, Err, Bool, true, ap, sym, subst, ◌∙◌, refl, arith, inl, inr}
-use Rattle.std.specs.Prelude.{◌∷◌, MatchOption, MatchResult, is_ok, length}
+use Rattle.std.proofs.lemmas.Bool.Decides.{nat_tests}
+use Rattle.std.specs.Prelude.{◌≤◌, ◌∷◌, MatchOption, MatchResult, false, is_ok, length, nat_lt}
 use Rattle.st_classes.specs.Refusals.{first_of}
 use Rattle.st_classes.specs.declared.refusals.Refusal.{Refusal}
-use Rattle.st_classes.specs.declared.refusals.Refusal.TheVariants.{BadCommand}
+use Rattle.st_classes.specs.declared.refusals.Refusal.TheVariants.{BadCommand, NoMemory}
 use Rattle.st_classes.specs.declared.values.ActorId.{ActorId}
 use Rattle.st_classes.specs.declared.values.ClassId.{ClassId}
 use Rattle.st_classes.specs.declared.values.Selector.{Selector}
 use Rattle.st_classes.specs.declared.values.Value.{Value}
+use Rattle.st_image.specs.Counts.{most_counted}
 use Rattle.st_image.specs.declared.counts.Counts.{Counts}
 use Rattle.st_image.specs.Calls.{Closes, Creates, Defines, InstallsIn, Interns, Posts, Removes, Reparents}
 use Rattle.st_image.specs.Checkpoints.{MakesCheckpoint}
@@ -57,6 +59,14 @@ checkpoint_told o j (Err f) v e = cc
 
 pub checkpoint_booked : (o : OfficeView) (v : Answer) (j : ImageView) → Does o.image call.Checkpoint (Ok v) j → booked o (Ok v) ≡ record o.books { emptied = o.books.emptied + length o.image.history }
 checkpoint_booked o v j h = checkpoint_told o j h.0 v h.1
+
+-- a checkpoint for whose history there is no room
+no_more : (n : ℕ) → n ≤ most_counted → nat_lt most_counted n ≡ false
+no_more n few = grind (arith, nat_tests)
+
+pub checkpoint_without_room : (o p : OfficeView) (d e : Done) → o.books.emptied + length o.image.history ≤ most_counted → p ≡ o → e ≡ d → MakesCounted o d call.Checkpoint (Err NoMemory) p e
+checkpoint_without_room o p d e few same_office same_done =
+    rw (no_more (o.books.emptied + length o.image.history) few, same_office, same_done) (inr ((Err NoMemory, refl, (refl, refl)), refl), refl)
 
 -- ---- a call that is neither a post nor a checkpoint
 

@@ -1,4 +1,5 @@
 //! What is done in one hold of the lock.
+ghost use Rattle.std.specs.Prelude.{◌≡◌};
 ghost use Rattle.st_pool.specs.Done.{Done, OfficeView};
 
 use crate::naming::Naming;
@@ -19,6 +20,15 @@ pub trait Job<K: Naming, M: Mailbox> {
 
     fn run(self, alloc: Global, office: &mut Office<K, M>, mine: &mut CallerShare<K>) -> Self::Out
         ensures { done self office.old mine.old result office.new mine.new };
+}
+
+/// What is read in one hold of the lock, by one who makes no call.
+pub trait Reading<K: Naming, M: Mailbox> {
+    /// What comes of it.
+    type Out;
+
+    fn read(self, alloc: Global, office: &mut Office<K, M>) -> Self::Out
+        ensures { office.new ≡ office.old };
 }
 
 /// What a hold of the lock waits for. It is looked at after each commit that has ended a turn, and after each checkpoint.

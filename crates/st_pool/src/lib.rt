@@ -17,6 +17,7 @@ pub mod held;
 pub mod holds;
 pub mod naming;
 pub mod office;
+pub(crate) mod past;
 pub mod receipts;
 mod seats;
 pub mod settling;

@@ -9,10 +9,11 @@ mod working;
 use crate::books::{Blanks, Books, PARTS};
 use crate::front::{Front, Head, Opened};
 use crate::naming::Naming;
+use crate::past::Past;
 use crate::receipts::Receipt;
 use crate::shares::{CallerShare, WorkerShare, copied};
 use crate::waiting::Waiting;
-use st_calls::applying::{apply, intern};
+use st_calls::applying::{apply, checkpoint_into, intern};
 use st_calls::calls::{Answer, Call};
 use st_calls::holders::Holder;
 use st_classes::refusals::{Limited, Refusal};
@@ -20,6 +21,7 @@ use st_classes::seq::Seq;
 use st_classes::values::{ActorId, Selector, Values};
 use st_image::counts::MOST_COUNTED;
 use st_image::image::Image;
+use st_image::items::Item;
 use st_mailbox::mailboxes::Mailbox;
 use st_mailbox::messages::{Message, Sender};
 use std::alloc::Global;
@@ -37,6 +39,8 @@ pub struct Office<K: Naming, M: Mailbox> {
     front: Option<Front<K>>,
     /// How many checkpoints there have been, modulo 2^64.
     checkpoints: u64,
+    /// The histories that they have emptied, if anybody reads them.
+    past: Past,
     /// The workers and callers that wait, and what they wait for.
     pub(crate) waiting: Waiting,
 }
@@ -90,6 +94,7 @@ impl<K: Naming, M: Mailbox> Office<K, M> {
             head,
             front: Some(front),
             checkpoints: 0,
+            past: Past::none(),
             waiting: Waiting::none(),
         }
     }
@@ -199,8 +204,13 @@ impl<K: Naming, M: Mailbox> Office<K, M> {
         if MOST_COUNTED < self.books.emptied() + count {
             return Err(Refusal::HistoryFull);
         }
-        match apply(alloc, &mut self.image, Call::Checkpoint) {
+        if self.past.make_room().is_err() {
+            return Err(Refusal::NoMemory);
+        }
+        let mut history = Vec::new(alloc);
+        match checkpoint_into(alloc, &mut self.image, &mut history) {
             Ok(answer) => {
+                self.past.add(history);
                 self.books.empty(mine, count);
                 self.checkpoints = self.checkpoints.wrapping_add(1);
                 self.waiting.note_move();
@@ -290,6 +300,20 @@ impl<K: Naming, M: Mailbox> Office<K, M> {
     /// How many checkpoints there have been since the image was shared, modulo 2^64. The turns are numbered anew by each.
     pub fn checkpoints(&self) -> u64 {
         self.checkpoints
+    }
+
+    /// From now on the histories that checkpoints empty are kept, until they are taken.
+    pub(crate) fn keep_past(&mut self, alloc: Global)
+        ensures { self.new ≡ self.old }
+    {
+        self.past.keep(alloc);
+    }
+
+    /// Takes the oldest history that a checkpoint has emptied and nobody has taken.
+    pub fn take_past(&mut self) -> Option<Vec<Item>>
+        ensures { self.new ≡ self.old }
+    {
+        self.past.take()
     }
 
     /// Whether callers that wait are to be told that a turn has ended, or the turns have been numbered anew.

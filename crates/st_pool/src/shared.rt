@@ -8,7 +8,7 @@ ghost use Rattle.st_pool.specs.Done.{nothing_done};
 use crate::books::Blanks;
 use crate::callers::Caller;
 use crate::front::Opened;
-use crate::holds::Condition;
+use crate::holds::{Condition, Reading};
 use crate::naming::Naming;
 use crate::office::Office;
 use st_classes::refusals::Refusal;
@@ -78,6 +78,17 @@ impl<K: Naming, M: Mailbox> Shared<K, M> {
     {
         let share = self.enter(rt).give(alloc)?;
         Ok(Caller::new(self, share))
+    }
+
+    /// From now on the histories that checkpoints empty are kept, until a reading takes them.
+    pub fn keep_past<R: Wait>(&self, rt: &R, alloc: Global) {
+        self.enter(rt).keep_past(alloc);
+    }
+
+    /// Reads something in one hold of the lock, in which nothing changes. No worker is woken.
+    pub fn read<R: Wait, J: Reading<K, M>>(&self, rt: &R, alloc: Global, reading: J) -> J::Out {
+        let mut office = self.enter(rt);
+        reading.read(alloc, &mut office)
     }
 
     /// Looks for the lock this often, with this many pauses after each look.

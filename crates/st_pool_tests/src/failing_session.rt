@@ -11,6 +11,7 @@ use st_pool::shares::CallerShare;
 use st_pool::totals::Totals;
 use st_server::attending::{Desk, attend};
 use st_server::keepers::Nobody;
+use st_server::recording::Recorder;
 use st_server::starts::Place;
 use st_server::turns::Turns;
 use st_wire::streams::{MemoryInput, Writer};
@@ -73,6 +74,7 @@ fn lines(alloc: Global) -> Result<Vec<u8>, AllocError> {
 fn talk<K: Naming, R: Wait + Clock>(
     rt: &R,
     alloc: Global,
+    stage: &Stage<K>,
     caller: Caller<'_, K>,
     lines: Vec<u8>,
 ) -> (CallerShare<K>, Result<u64, Refusal>) {
@@ -85,8 +87,10 @@ fn talk<K: Naming, R: Wait + Clock>(
         workers: 1,
     };
     let turns = Turns::new();
+    let recorder = Recorder::new(alloc, &stage.shared, &Nobody, 0, 0);
     let desk = Desk {
         keeper: &Nobody,
+        recorder: &recorder,
         turns: &turns,
     };
     attend(rt, alloc, place, desk, caller, &mut input, &mut output)
@@ -100,7 +104,7 @@ pub fn talk_and_fail<K: Naming, R: Wait + Clock>(
     caller: Caller<'_, K>,
 ) {
     let lines = lines(alloc).unwrap_or(Vec::new(alloc));
-    let (share, end) = talk(rt, alloc, caller, lines);
+    let (share, end) = talk(rt, alloc, stage, caller, lines);
     if end != Err(Refusal::WriteFault) || !has_receipts(&share, TALKING, POSTED) {
         stage.marks.note_wrong();
     }

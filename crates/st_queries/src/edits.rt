@@ -8,7 +8,8 @@ ghost use Rattle.st_file.specs.EditJson.{define_json, edit_json, install_json, r
 ghost use Rattle.st_queries.specs.Edits.{edits_behind};
 
 use crate::listing::{Rows, list, only};
-use crate::texts::{class_text, selector_text, texts};
+use crate::texts::{class_text, texts};
+use crate::values::method_named;
 use st_classes::edits::Edit;
 use st_classes::names::Names;
 use st_classes::seq::Seq;
@@ -65,10 +66,11 @@ fn removal(
 ) -> Result<Told, AllocError>
     ensures { IfOk result (λ told. view told ≡ remove_json names.now version.now class selector) }
 {
-    let mut members = Members::new(alloc);
-    members.put(alloc, "class", class_text(alloc, version, class)?)?;
-    members.put(alloc, "selector", selector_text(alloc, names, selector)?)?;
-    only(alloc, "remove", members.told())
+    only(
+        alloc,
+        "remove",
+        method_named(alloc, names, version, class, selector)?,
+    )
 }
 
 /// A class got another superclass.

@@ -1,7 +1,6 @@
 -- What was copied of an image is saved, and other commands are answered in their holds.
-use Rattle.std.proofs.Common.{◌≡◌, ◌∙◌, Result, Ok, Err, IfOk, refl, inl, inr, subst}
-use Rattle.std.specs.declared.alloc.AllocError.{AllocError}
-use Rattle.st_classes.specs.declared.refusals.Refusal.TheVariants.{NoMemory}
+use Rattle.std.proofs.Common.{◌≡◌, ◌∙◌, ◌⊎◌, Result, Ok, Err, IfErr, IfOk, refl, inl, inr, subst, sym}
+use Rattle.st_classes.specs.declared.refusals.Refusal.{Refusal}
 use Rattle.st_image.specs.Images.{ImageView}
 use Rattle.st_calls.specs.Growth.{Amounts}
 use Rattle.st_pool.specs.Done.{Done, OfficeView}
@@ -9,12 +8,28 @@ use Rattle.st_file.specs.Moments.{MomentView, moment_of}
 use Rattle.st_wire.specs.declared.commands.Command.{Command}
 use Rattle.st_wire.specs.declared.commands.Command.TheVariants as command
 use Rattle.st_wire.specs.declared.replies.Reply.{Reply}
-use Rattle.st_server.specs.Keepers.{SavesMoment, SavesSeen}
-use Rattle.st_server.specs.PoolReplies.{AsksFound, AsksInHold, Attends, ServesInHold}
+use Rattle.st_server.specs.Keepers.{IsFault, Replaces, SavesMoment, SavesSeen, StaysOrFails}
+use Rattle.st_server.specs.PoolReplies.{AsksFound, AsksInHold, Attends, CopiesInHold, ServesInHold}
 
-pub seen_saves : (i : ImageView) (seen : Result MomentView AllocError) (r : Reply) → IfOk seen (λ m. m ≡ moment_of i) → SavesSeen seen r → SavesMoment (moment_of i) r
-seen_saves i (Ok m) r same saves = subst (λ (x : MomentView). SavesMoment x r) same saves
-seen_saves i (Err e) r same is = inr (NoMemory, inr (inl refl), is)
+seen_saves : (i : ImageView) (seen : Result MomentView Refusal) (r : Reply) → IfOk seen (λ m. m ≡ moment_of i) → IfErr seen IsFault → SavesSeen seen r → SavesMoment (moment_of i) r
+seen_saves i (Ok m) r same fault saves = subst (λ (x : MomentView). SavesMoment x r) same saves
+seen_saves i (Err e) r same fault is = inr (e, inr fault, is)
+
+-- what was written may not be kept
+replaced_saves : (m : MomentView) (before r : Reply) → SavesMoment m before → Replaces before r → SavesMoment m r
+replaced_saves m before r saves (inl same) = subst (λ (x : Reply). SavesMoment m x) (sym same) saves
+replaced_saves m before r saves (inr fault) = inr (fault.0, inr fault.1, fault.2)
+
+-- an image is copied, written and kept
+pub copied_saves : (i : ImageView) (seen : Result MomentView Refusal) (written r : Reply) → IfOk seen (λ m. m ≡ moment_of i) → IfErr seen IsFault → SavesSeen seen written → Replaces written r
+    → SavesMoment (moment_of i) r
+copied_saves i seen written r same fault saves replaces = replaced_saves (moment_of i) written r (seen_saves i seen written same fault saves) replaces
+
+-- what was copied in a hold counts, or counts for nothing
+pub settled_copy : (o p : OfficeView) (d e : Done) (before r : Result MomentView Refusal) → CopiesInHold o d before p e → StaysOrFails before r → CopiesInHold o d r p e
+settled_copy o p d e before r copies (inl same) = subst (λ (x : Result MomentView Refusal). CopiesInHold o d x p e) (sym same) copies
+settled_copy o p d e before r copies (inr fault) =
+    subst (λ (x : Result MomentView Refusal). CopiesInHold o d x p e) (sym fault.2) (tt, fault.1, copies.2, copies.3)
 
 -- a command that saves nothing is answered in its hold
 serves_hold : (o p : OfficeView) (d e : Done) (c : Command) (r : Reply) → (c ≡ command.Save → ⊥) → AsksInHold o d c r p e → ServesInHold o d c r p e

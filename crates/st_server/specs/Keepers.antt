@@ -1,6 +1,5 @@
 -- The reply to one who wants an image saved.
 use Rattle.std.specs.Prelude.{◌≡◌, ◌⊎◌, ℕ, List, length, Result, Ok, Err}
-use Rattle.std.specs.declared.alloc.AllocError.{AllocError}
 use Rattle.st_classes.specs.declared.refusals.Refusal.{Refusal}
 use Rattle.st_classes.specs.declared.refusals.Refusal.TheVariants.{BadArguments, NoMemory, WriteFault}
 use Rattle.st_file.specs.Moments.{MomentView}
@@ -8,17 +7,29 @@ use Rattle.st_file.specs.Saving.{IsFileOf}
 use Rattle.st_wire.specs.declared.replies.Reply.{Reply}
 use Rattle.st_wire.specs.declared.replies.Reply.TheVariants as reply
 
+-- why something could not be kept
+abbrev pub IsFault : Refusal → Type 0
+IsFault e = (e ≡ NoMemory) ⊎ (e ≡ WriteFault)
+
 -- an image is kept as it was at a moment, in a file of so many bytes; or why it is not
 abbrev pub Keeps : MomentView → Result ℕ Refusal → Type 0
 Keeps m (Ok n) = (text : List ℕ) × IsFileOf m text × (n ≡ length text)
-Keeps m (Err e) = (e ≡ BadArguments) ⊎ (e ≡ NoMemory) ⊎ (e ≡ WriteFault)
+Keeps m (Err e) = (e ≡ BadArguments) ⊎ IsFault e
 
 -- the reply says so
 abbrev pub SavesMoment : MomentView → Reply → Type 0
 SavesMoment m r = ((n : ℕ) × Keeps m (Ok n) × (r ≡ reply.Saved n))
     ⊎ ((e : Refusal) × Keeps m (Err e) × (r ≡ reply.Refused e))
 
--- the same, of what was copied; or there was no memory to copy it
-abbrev pub SavesSeen : Result MomentView AllocError → Reply → Type 0
+-- the same, of what was copied; or why it could not be copied
+abbrev pub SavesSeen : Result MomentView Refusal → Reply → Type 0
 SavesSeen (Ok m) r = SavesMoment m r
-SavesSeen (Err e) r = r ≡ reply.Refused NoMemory
+SavesSeen (Err e) r = r ≡ reply.Refused e
+
+-- the reply stays, or says that what was written could not be kept
+abbrev pub Replaces : Reply → Reply → Type 0
+Replaces before r = (r ≡ before) ⊎ ((e : Refusal) × IsFault e × (r ≡ reply.Refused e))
+
+-- what was copied stays, or its copy counts for nothing
+abbrev pub StaysOrFails : Result MomentView Refusal → Result MomentView Refusal → Type 0
+StaysOrFails before r = (r ≡ before) ⊎ ((e : Refusal) × IsFault e × (r ≡ Err e))

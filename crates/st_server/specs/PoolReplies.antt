@@ -1,6 +1,7 @@
 -- The reply to a command of a session over a pool.
-use Rattle.std.specs.Prelude.{◌≡◌, IfOk, Result}
+use Rattle.std.specs.Prelude.{◌≡◌, IfErr, IfOk, Result}
 use Rattle.std.specs.declared.alloc.AllocError.{AllocError}
+use Rattle.st_classes.specs.declared.refusals.Refusal.{Refusal}
 use Rattle.st_image.specs.Images.{ImageView}
 use Rattle.st_calls.specs.Growth.{Amounts}
 use Rattle.st_pool.specs.Calling.{PoolCalls}
@@ -14,7 +15,7 @@ use Rattle.st_wire.specs.declared.replies.Reply.{Reply}
 use Rattle.st_wire.specs.declared.commands.Command.TheVariants as command
 use Rattle.st_file.specs.Moments.{MomentView, moment_of}
 use Rattle.st_server.specs.CommandReplies.{Asks}
-use Rattle.st_server.specs.Keepers.{SavesMoment}
+use Rattle.st_server.specs.Keepers.{IsFault, SavesMoment}
 
 -- the reply is that of the command, in one hold, in which calls are made alone; the calls of the command are made of what lies under the lock
 pub record AsksInHold (o : OfficeView) (d : Done) (c : Command) (r : Reply) (p : OfficeView) (e : Done) : Type 0 where
@@ -27,10 +28,14 @@ abbrev pub SeesInHold : OfficeView → Done → Query → Result Sight AllocErro
 SeesInHold o d q r p e = IfOk r (λ s. s ≡ sight o.image q) × (p ≡ o) × (e ≡ d)
 
 -- what was copied of an image to save it, in a hold that changes nothing
-abbrev pub CopiesInHold : OfficeView → Done → Result MomentView AllocError → OfficeView → Done → Type 0
-CopiesInHold o d r p e = IfOk r (λ m. m ≡ moment_of o.image) × (p ≡ o) × (e ≡ d)
+abbrev pub CopiesInHold : OfficeView → Done → Result MomentView Refusal → OfficeView → Done → Type 0
+CopiesInHold o d r p e = IfOk r (λ m. m ≡ moment_of o.image) × IfErr r IsFault × (p ≡ o) × (e ≡ d)
 
--- such a hold finds an image that goes on from the first one and has at least what the session has done
+-- the same, in a hold of a session
+abbrev pub CopiesFound : Amounts → ImageView → Done → Result MomentView Refusal → Done → Type 0
+CopiesFound start first d r e = (o : OfficeView) × (p : OfficeView) × Finds start first d o × CopiesInHold o d r p e
+
+-- the hold in which a command is asked finds an image that goes on from the first one and has at least what the session has done
 abbrev pub AsksFound : Amounts → ImageView → Done → Command → Reply → Done → Type 0
 AsksFound start first d c r e = (o : OfficeView) × (p : OfficeView) × Finds start first d o × AsksInHold o d c r p e
 
@@ -38,11 +43,11 @@ AsksFound start first d c r e = (o : OfficeView) × (p : OfficeView) × Finds st
 abbrev pub SavesInHold : OfficeView → Done → Reply → OfficeView → Done → Type 0
 SavesInHold o d r p e = SavesMoment (moment_of o.image) r × (p ≡ o) × (e ≡ d)
 
--- what a command does in a hold
+-- what a command does in a hold: `save` copies what is saved behind it, and any other is asked
 abbrev pub ServesInHold : OfficeView → Done → Command → Reply → OfficeView → Done → Type 0
 ServesInHold o d command.Save r p e = SavesInHold o d r p e
 ServesInHold o d c r p e = AsksInHold o d c r p e
 
--- the hold finds an image that goes on from the first one and has at least what the session has done
+-- the same of any command of a session
 abbrev pub Attends : Amounts → ImageView → Done → Command → Reply → Done → Type 0
 Attends start first d c r e = (o : OfficeView) × (p : OfficeView) × Finds start first d o × ServesInHold o d c r p e

@@ -3,10 +3,12 @@ ghost use Rattle.std.specs.Prelude.{◌≡◌, ◌⊎◌, ◌↔◌, IsTrue};
 ghost use Rattle.std.specs.declared.io.ErrorKind.TheVariants.{ConnectionAborted, Interrupted};
 
 use crate::attending::{Desk, attend};
+use crate::awaiting::Awaiting;
 use crate::images::Mailbox;
 use crate::keepers::Keeper;
 use crate::polling::Polled;
 use crate::porters::{Porter, Witness};
+use crate::recording::Recorder;
 use crate::starts::Place;
 use crate::turns::Turns;
 use st_classes::refusals::Refusal;
@@ -47,16 +49,17 @@ pub(crate) struct Door<'a, P, W, S> {
 }
 
 /// What the sessions share: the image, the shares of ended sessions, room for what these have done, the number of open sessions, who is
-/// told of their ends, who keeps the image, the turns that they take, when the server began, in nanoseconds since 1970, and how many workers
+/// told of their ends, who keeps the image, who goes on with its journal, the turns that they take, when the server began, in nanoseconds since 1970, and how many workers
 /// it has.
 #[derive(Drop)]
-pub(crate) struct Room<'a, K: Naming, W, S> {
+pub(crate) struct Room<'a, K: Naming, W, S: Keeper> {
     pub(crate) shared: &'a Shared<K, Mailbox>,
     pub(crate) shares: &'a Mutex<Vec<CallerShare<K>>>,
     pub(crate) accounts: &'a Mutex<Vec<Account>>,
     pub(crate) active: &'a AtomicU64,
     pub(crate) witness: &'a W,
     pub(crate) keeper: &'a S,
+    pub(crate) recorder: &'a Recorder<'a, K, S>,
     pub(crate) turns: &'a Turns,
     pub(crate) start: u64,
     pub(crate) workers: u64,
@@ -88,13 +91,19 @@ fn converse<K: Naming, S: Keeper, R: Wait + Clock>(
     rt: &R,
     alloc: Global,
     place: Place<'_>,
-    desk: Desk<'_, S>,
+    desk: Desk<'_, K, S>,
     caller: Caller<'_, K, Mailbox>,
     stream: &UnixStream,
 ) -> (CallerShare<K>, Result<u64, Refusal>) {
     // If the stream stays in the mode in which reads block, the session goes on without looks.
     let _ = stream.set_nonblocking(true);
-    let Ok(buffered) = BufWriter::new(alloc, Polled::new(stream)) else {
+    let awaiting = Awaiting {
+        rt,
+        alloc,
+        recorder: desk.recorder,
+        output: Polled::new(stream),
+    };
+    let Ok(buffered) = BufWriter::new(alloc, awaiting) else {
         turn_away(stream, NO_MEMORY);
         return (caller.end(), Err(Refusal::NoMemory));
     };
@@ -122,6 +131,7 @@ fn talk<K: Naming, W, S: Keeper, R: Wait + Clock>(
     };
     let desk = Desk {
         keeper: room.keeper,
+        recorder: room.recorder,
         turns: room.turns,
     };
     let (share, result) = converse(rt, alloc, place, desk, caller, stream);
@@ -149,7 +159,7 @@ fn host<K: Naming, W: Witness<R>, S: Keeper, R: Wait + Clock>(
 }
 
 /// Makes room for the shares of as many sessions as can be open, and for the accounts of these and of all that have ended.
-fn make_room<K: Naming, W, S, R: Wait>(rt: &R, room: &Room<'_, K, W, S>) -> bool {
+fn make_room<K: Naming, W, S: Keeper, R: Wait>(rt: &R, room: &Room<'_, K, W, S>) -> bool {
     let mut shares = room.shares.lock(rt);
     if shares.reserve(MOST_SESSIONS as usize + 1).is_err() {
         return false;
@@ -160,7 +170,7 @@ fn make_room<K: Naming, W, S, R: Wait>(rt: &R, room: &Room<'_, K, W, S>) -> bool
 }
 
 /// Whether there is no place for a client.
-fn is_full<K: Naming, P: Porter<R>, W, S, R>(
+fn is_full<K: Naming, P: Porter<R>, W, S: Keeper, R>(
     rt: &R,
     room: &Room<'_, K, W, S>,
     porter: &P,
@@ -171,7 +181,7 @@ fn is_full<K: Naming, P: Porter<R>, W, S, R>(
 }
 
 /// Whether there is a place for a client, and room for what its session does. If not, it is told so.
-fn has_place<K: Naming, P: Porter<R>, W, S, R: Wait>(
+fn has_place<K: Naming, P: Porter<R>, W, S: Keeper, R: Wait>(
     rt: &R,
     room: &Room<'_, K, W, S>,
     porter: &P,

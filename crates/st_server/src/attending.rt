@@ -4,12 +4,14 @@ ghost use Rattle.std.specs.Io.KnownBytes.{Appends};
 ghost use Rattle.st_wire.specs.Streams.{input_view};
 ghost use Rattle.st_session.specs.Sessions.{Replies, end_of, failures_after};
 ghost use Rattle.st_session.specs.DeviceSessions.{DeviceSession, FlushesAsOftenAsReads};
-ghost use Rattle.st_server.specs.PoolReplies.{AsksFound, Attends};
+ghost use Rattle.st_server.specs.Keepers.{IsFault, Replaces};
+ghost use Rattle.st_server.specs.PoolReplies.{AsksFound, Attends, CopiesFound};
 ghost use Rattle.st_wire.specs.declared.commands.Command.TheVariants as commands;
 
 use crate::asking::{ask, tell_seen};
 use crate::images::Mailbox;
-use crate::keepers::{Keeper, keep};
+use crate::keepers::{Keeper, copied, replaced, written};
+use crate::recording::{Copied, CopyingBehind, Progress, Recorder};
 use crate::starts::Place;
 use crate::turns::Turns;
 use crate::waits::TurnEnd;
@@ -32,6 +34,9 @@ use std::alloc::{AllocError, Global};
 use std::marker::Model;
 use std::sync::Wait;
 use std::time::{Clock, Duration};
+
+/// How often an image is copied, until nothing has happened that the journal has not told.
+const COPIES: u32 = 16;
 
 /// A command, which is answered in one hold of the lock, for a program that is known but for its checkpoints.
 #[derive(Drop)]
@@ -88,7 +93,7 @@ struct Copying;
 impl<K: Naming> Job<K, Mailbox> for Copying {
     ghost use Rattle.st_server.specs.PoolReplies.{CopiesInHold};
 
-    type Out = Result<Moment, AllocError>;
+    type Out = Result<Moment, Refusal>;
 
     ghost done = { λ s o d r p e. CopiesInHold o d r p e };
 
@@ -97,15 +102,33 @@ impl<K: Naming> Job<K, Mailbox> for Copying {
         alloc: Global,
         office: &mut Office<K, Mailbox>,
         _mine: &mut CallerShare<K>,
-    ) -> Result<Moment, AllocError> {
-        Moment::of(alloc, office.image())
+    ) -> Result<Moment, Refusal> {
+        copied(alloc, office.image())
     }
 }
 
-/// Who keeps the images of a server, and the turns that its sessions take.
+impl<K: Naming> Job<K, Mailbox> for CopyingBehind {
+    ghost use Rattle.st_server.specs.PoolReplies.{CopiesInHold};
+
+    type Out = Copied;
+
+    ghost done = { λ s o d r p e. CopiesInHold o d r.0 p e };
+
+    fn run(
+        self,
+        alloc: Global,
+        office: &mut Office<K, Mailbox>,
+        _mine: &mut CallerShare<K>,
+    ) -> Copied {
+        self.copy_in(alloc, office)
+    }
+}
+
+/// Who keeps the images of a server and who goes on with its journal, and the turns that its sessions take.
 #[derive(Drop)]
-pub struct Desk<'a, S: Keeper> {
+pub struct Desk<'a, K: Naming, S: Keeper> {
     pub keeper: &'a S,
+    pub recorder: &'a Recorder<'a, K, S>,
     pub turns: &'a Turns,
 }
 
@@ -114,7 +137,7 @@ struct PoolHandler<'a, R: Wait + Clock, K: Naming, S: Keeper> {
     rt: &'a R,
     caller: Caller<'a, K, Mailbox>,
     place: Place<'a>,
-    desk: Desk<'a, S>,
+    desk: Desk<'a, K, S>,
 }
 
 impl<'a, R: Wait + Clock, K: Naming, S: Keeper> Model for PoolHandler<'a, R, K, S> {
@@ -136,14 +159,60 @@ impl<'a, R: Wait + Clock, K: Naming, S: Keeper> PoolHandler<'a, R, K, S> {
         tell_seen(alloc, seen, host.at(checkpoints), query)
     }
 
+    /// What the image is now, and where the journal ends that tells all that led there; none if more had happened by then than it told.
+    fn copy_behind(
+        &mut self,
+        alloc: Global,
+        progress: &mut Progress,
+    ) -> (Result<Moment, Refusal>, Option<u64>)
+        ensures copies { CopiesFound K.start K.first self.old result.0 self.new }
+        ensures same { self.new ≡ self.old }
+    {
+        let recorder = self.desk.recorder;
+        let told = recorder.round(self.rt, alloc, progress);
+        let behind = recorder.behind(progress);
+        let copied = self.caller.hold(self.rt, alloc, CopyingBehind { behind });
+        recorder.settle(alloc, progress, told, copied)
+    }
+
+    /// What the image is now, and where the journal ends that tells all that led there, if there is one.
+    fn copy(&mut self, alloc: Global) -> (Result<Moment, Refusal>, u64)
+        ensures { CopiesFound K.start K.first self.old result.0 self.new }
+    {
+        let recorder = self.desk.recorder;
+        if !recorder.is_kept() {
+            return (self.caller.hold(self.rt, alloc, Copying), 0);
+        }
+        let mut progress = recorder.lock(self.rt);
+        for _ in 0..COPIES {
+            let (moment, end) = self.copy_behind(alloc, &mut progress);
+            if let Some(end) = end {
+                return (moment, end);
+            }
+        }
+        let (_, _) = self.copy_behind(alloc, &mut progress);
+        (Err(Refusal::NoMemory), 0)
+    }
+
+    /// The reply once the image that was written is kept, if it was written. Nobody goes on with the journal meanwhile.
+    fn replace(&self, alloc: Global, from: u64, reply: Reply) -> Reply
+        ensures { Replaces reply result }
+    {
+        let progress = self.desk.recorder.lock(self.rt);
+        let reply = replaced(alloc, self.desk.keeper, from, reply);
+        drop(progress);
+        reply
+    }
+
     /// The reply to one who wants the image saved. It is written behind the hold in which what it is then is copied. Who else wants it
     /// saved meanwhile waits with his hold.
     fn save(&mut self, alloc: Global) -> Reply
         ensures { Attends K.start K.first self.old commands.Save result self.new }
     {
         let turn = self.desk.turns.save(self.rt);
-        let moment = self.caller.hold(self.rt, alloc, Copying);
-        let reply = keep(alloc, self.desk.keeper, moment);
+        let (moment, from) = self.copy(alloc);
+        let reply = written(alloc, self.desk.keeper, moment);
+        let reply = self.replace(alloc, from, reply);
         drop(turn);
         self.desk.keeper.tell();
         reply
@@ -186,7 +255,7 @@ pub fn attend<R: Wait + Clock, K: Naming, S: Keeper, I: Input, O: Output>(
     rt: &R,
     alloc: Global,
     place: Place<'_>,
-    desk: Desk<'_, S>,
+    desk: Desk<'_, K, S>,
     caller: Caller<'_, K, Mailbox>,
     input: &mut I,
     output: &mut O,

@@ -1,26 +1,57 @@
 //! Who keeps the images that are saved.
-ghost use Rattle.st_server.specs.Keepers.{SavesMoment, SavesSeen};
+ghost use Rattle.std.specs.Prelude.{◌≡◌, IfErr, IfOk};
+ghost use Rattle.st_server.specs.Keepers.{IsFault, Replaces, SavesMoment, SavesSeen};
 ghost use Rattle.st_file.specs.Moments.{moment_of};
 
 use crate::images::Image;
 use st_classes::refusals::Refusal;
 use st_file::moments::Moment;
 use st_wire::replies::Reply;
-use std::alloc::{AllocError, Global};
+use std::alloc::Global;
 
-/// Who keeps the images that are saved.
+/// How a journal is kept.
+#[derive(Clone, Copy)]
+pub struct JournalSettings {
+    /// After how many milliseconds at the latest what has happened is in the journal; with 0 before each reply.
+    pub pause: u32,
+    /// The image is saved when the journal has so many megabytes more, or tells 31,250,000 times as many steps.
+    pub save_after: u32,
+}
+
+/// Who keeps the images that are saved, and perhaps a journal of what happens between two saves. One thread at a time calls one method.
 pub trait Keeper {
-    ghost use Rattle.st_server.specs.Keepers.{Keeps};
+    ghost use Rattle.std.specs.Prelude.{IfErr};
+    ghost use Rattle.st_server.specs.Keepers.{Keeps, IsFault};
 
-    /// Keeps an image as it was at a moment, in place of the one that was kept before. The answer is how many bytes its file has, which
-    /// are on the disk then.
+    /// Writes an image as it was at a moment beside the one that is kept. The answer is how many bytes its file has, which are on the disk
+    /// then.
     ///
-    /// Refusals: `BadArguments` if there is no place for it, `NoMemory`, `WriteFault`. After these the image that was kept before is
-    /// there still.
-    fn keep(&self, alloc: Global, moment: &Moment) -> Result<u64, Refusal>
+    /// Refusals: `BadArguments` if there is no place for it, `NoMemory`, `WriteFault`.
+    fn write(&self, alloc: Global, moment: &Moment) -> Result<u64, Refusal>
         ensures { Keeps moment.now result };
 
-    /// Says why it could not keep an image last, if that is said anywhere and was not said yet. This may take its time, so it is asked
+    /// Keeps the image that was written last in place of the one that was kept before. If there is a journal, it begins anew with what
+    /// stands there behind so many bytes; until then nothing may be appended. At `Ok` all of that is on the disk.
+    ///
+    /// Refusals: `NoMemory`, `WriteFault`. After these the image that was kept before is there still, with its journal, or after
+    /// `WriteFault` perhaps the new one, if that is not known to be on the disk.
+    fn replace(&self, alloc: Global, from: u64) -> Result<(), Refusal>
+        ensures { IfErr result IsFault };
+
+    /// How the journal is kept, if there is one.
+    fn journal(&self) -> Option<JournalSettings>;
+
+    /// Appends a batch to the journal: whole lines, and an empty line. At `Ok` it is on the disk.
+    ///
+    /// Refusals: `NoMemory`, `WriteFault`. After these it is there or not, and the same batch may be tried again; if it is there, nothing
+    /// more is written.
+    fn append(&self, alloc: Global, batch: &[u8]) -> Result<(), Refusal>
+        ensures { IfErr result IsFault };
+
+    /// How many bytes the lines of the journal have; 0 if there is none.
+    fn end(&self) -> u64;
+
+    /// Says why it could not keep an image or append to the journal last, if that is said anywhere and was not said yet. This may take its time, so it is asked
     /// where no other session waits for it.
     fn tell(&self);
 }
@@ -29,27 +60,67 @@ pub trait Keeper {
 pub struct Nobody;
 
 impl Keeper for Nobody {
-    fn keep(&self, _alloc: Global, _moment: &Moment) -> Result<u64, Refusal> {
+    fn write(&self, _alloc: Global, _moment: &Moment) -> Result<u64, Refusal> {
         Err(Refusal::BadArguments)
+    }
+
+    fn replace(&self, _alloc: Global, _from: u64) -> Result<(), Refusal> {
+        Err(Refusal::WriteFault)
+    }
+
+    fn journal(&self) -> Option<JournalSettings> {
+        None
+    }
+
+    fn append(&self, _alloc: Global, _batch: &[u8]) -> Result<(), Refusal> {
+        Err(Refusal::WriteFault)
+    }
+
+    fn end(&self) -> u64 {
+        0
     }
 
     fn tell(&self) {}
 }
 
-/// The reply to one who wants an image saved, as it was at a moment; or that there was no memory to copy that.
-pub(crate) fn keep<S: Keeper>(
+/// The reply to one who wants an image saved, as it was at a moment, once that is written; or why it was not copied.
+pub(crate) fn written<S: Keeper>(
     alloc: Global,
     keeper: &S,
-    moment: Result<Moment, AllocError>,
+    moment: Result<Moment, Refusal>,
 ) -> Reply
     ensures { SavesSeen moment result }
 {
     match moment {
-        Ok(moment) => match keeper.keep(alloc, &moment) {
+        Ok(moment) => match keeper.write(alloc, &moment) {
             Ok(bytes) => Reply::Saved(bytes),
             Err(refusal) => Reply::Refused(refusal),
         },
-        Err(_) => Reply::Refused(Refusal::NoMemory),
+        Err(refusal) => Reply::Refused(refusal),
+    }
+}
+
+/// The reply once the image that was written is kept, if it was written.
+pub(crate) fn replaced<S: Keeper>(alloc: Global, keeper: &S, from: u64, reply: Reply) -> Reply
+    ensures { Replaces reply result }
+{
+    if !matches!(reply, Reply::Saved(_)) {
+        return reply;
+    }
+    match keeper.replace(alloc, from) {
+        Ok(()) => reply,
+        Err(refusal) => Reply::Refused(refusal),
+    }
+}
+
+/// What an image is now, or that there was no memory to copy that.
+pub(crate) fn copied(alloc: Global, image: &Image) -> Result<Moment, Refusal>
+    ensures moment { IfOk result (λ m. m ≡ moment_of image.now) }
+    ensures fault { IfErr result IsFault }
+{
+    match Moment::of(alloc, image) {
+        Ok(moment) => Ok(moment),
+        Err(_) => Err(Refusal::NoMemory),
     }
 }
 
@@ -57,8 +128,9 @@ pub(crate) fn keep<S: Keeper>(
 pub(crate) fn save<S: Keeper>(alloc: Global, keeper: &S, image: &Image) -> Reply
     ensures { SavesMoment (moment_of image.now) result }
 {
-    let moment = Moment::of(alloc, image);
-    let reply = keep(alloc, keeper, moment);
+    let moment = copied(alloc, image);
+    let reply = written(alloc, keeper, moment);
+    let reply = replaced(alloc, keeper, keeper.end(), reply);
     keeper.tell();
     reply
 }

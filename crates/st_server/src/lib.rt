@@ -7,6 +7,7 @@
 mod accepting;
 mod asking;
 pub mod attending;
+mod awaiting;
 mod calls_of;
 pub mod checking;
 pub mod images;
@@ -15,6 +16,8 @@ mod polling;
 pub mod porters;
 mod posting;
 mod quantum;
+pub mod recording;
+pub mod recovering;
 mod replacing;
 mod resolving;
 pub mod runner;

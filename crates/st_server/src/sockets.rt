@@ -13,6 +13,7 @@ use crate::accepting::{Door, Room, accept_all};
 use crate::images::{Image, Mailbox, Worker};
 use crate::keepers::{Keeper, Nobody};
 use crate::porters::{FaultList, OpenDoor, Porter, Witness};
+use crate::recording::Recorder;
 use crate::runner::new_worker;
 use crate::starts::now;
 use crate::turns::Turns;
@@ -90,6 +91,35 @@ fn start<'s, E, K: Naming + Send + Sync, R: Threads + Wait + Clock + Sync>(
     handles
 }
 
+/// Goes on with the journal, until the end.
+fn go_on<K: Naming, W, S: Keeper, R: Wait + Clock>(
+    rt: &R,
+    alloc: Global,
+    room: &Room<'_, K, W, S>,
+) {
+    room.recorder.go_on(rt, alloc, room.turns);
+}
+
+/// Starts the thread that goes on with the journal, if there is one. The answer is false if it gets no thread.
+fn start_recorder<
+    's,
+    E,
+    K: Naming + Send + Sync,
+    W: Witness<R> + Sync,
+    S: Keeper + Sync,
+    R: Threads + Wait + Clock + Sync,
+>(
+    scope: &Scope<'s, E>,
+    rt: &'s R,
+    alloc: Global,
+    room: &'s Room<'_, K, W, S>,
+) -> bool {
+    if !room.recorder.is_kept() {
+        return true;
+    }
+    scope.spawn(move || go_on(rt, alloc, room)).is_ok()
+}
+
 /// Adds the shares of workers that were told to end. `shares` must have room for them. A worker that ended without a share is
 /// refused by `BadArguments`, as settling refuses a missing share.
 fn ended<K: Naming, R: Threads>(
@@ -128,10 +158,12 @@ fn run_workers<
     let shared = room.shared;
     let count = workers.len();
     thread::scope(thread::scope_env(), rt, |scope| -> (Vec<Ended<K>>, bool) {
+        let is_recorded = start_recorder(scope, rt, alloc, room);
         let handles = start(scope, rt, alloc, shared, workers);
-        let is_started = handles.len() == count;
+        let is_started = is_recorded && handles.len() == count;
         let are_accepted = is_started && accept_all(rt, alloc, door, room);
         shared.stop(rt);
+        room.recorder.end(rt);
         (handles, are_accepted)
     })
 }
@@ -174,6 +206,70 @@ fn fault_of(are_accepted: bool) -> Option<Refusal>
     }
 }
 
+/// What sessions and workers leave: their shares, room for what each has done, and whether accepting went well.
+#[derive(Drop)]
+struct Left<K: Naming> {
+    shares: Shares<K>,
+    room: Accounts,
+    are_accepted: bool,
+}
+
+/// Lets sessions and workers go on with an image that they share. So many of its names and items are told in its journal, if there is one.
+fn serve_shared<
+    'a,
+    K: Naming + Send + Sync,
+    P: Porter<R>,
+    W: Witness<R> + Sync,
+    S: Keeper + Sync,
+    R: Threads + Wait + Clock + Sync,
+>(
+    rt: &R,
+    alloc: Global,
+    shared: &'a Shared<K, Mailbox>,
+    told: (u32, usize),
+    door: Door<'a, P, W, S>,
+    workers: Vec<Worker>,
+) -> Result<Left<K>, Refusal>
+    ensures workers { IfOk result (λ l. vec_len l.shares.workers ≡ vec_len workers) }
+    ensures refused { IfErr result (λ e. (e ≡ refusals.NoMemory) ⊎ (e ≡ refusals.BadArguments)) }
+{
+    let (names, items) = told;
+    let recorder = Recorder::new(alloc, shared, door.keeper, names, items);
+    if recorder.is_kept() {
+        shared.keep_past(rt, alloc);
+    }
+    let shares = Mutex::new(Vec::new(alloc));
+    let accounts = Mutex::new(Vec::new(alloc));
+    let steps = Vec::with_capacity(alloc, workers.len())?;
+    let active = AtomicU64::new(0);
+    let turns = Turns::new();
+    let room = Room {
+        shared,
+        shares: &shares,
+        accounts: &accounts,
+        active: &active,
+        witness: door.witness,
+        keeper: door.keeper,
+        recorder: &recorder,
+        turns: &turns,
+        start: now(rt),
+        workers: workers.len() as u64,
+    };
+    let (workers, are_accepted) = work(rt, alloc, door, &room, workers)?;
+    recorder.write_all(rt, alloc);
+    drop(recorder);
+    let callers = shares.into_inner();
+    let room = Accounts {
+        callers: accounts.into_inner(),
+        workers: steps,
+    };
+    Ok(Left {
+        shares: Shares { callers, workers },
+        room,
+        are_accepted,
+    })
+}
+
 /// Serves an image, and settles at the end.
 fn serve<
     K: Naming + Send + Sync,
@@ -206,30 +302,14 @@ fn serve<
     ensures fault { IfOk result (λ r. IfSome r.fault (λ e. e ≡ refusals.ReadFault)) }
     ensures refused { IfErr result (λ e. (e ≡ refusals.BadArguments) ⊎ (e ≡ refusals.NoMemory) ⊎ (e ≡ refusals.Changed)) }
 {
+    let told = (image.names().len(), image.history().len());
     let shared = Shared::<K, Mailbox>::new(image, blanks, opened);
-    let shares = Mutex::new(Vec::new(alloc));
-    let accounts = Mutex::new(Vec::new(alloc));
-    let steps = Vec::with_capacity(alloc, workers.len())?;
-    let active = AtomicU64::new(0);
-    let turns = Turns::new();
-    let room = Room {
-        shared: &shared,
-        shares: &shares,
-        accounts: &accounts,
-        active: &active,
-        witness: door.witness,
-        keeper: door.keeper,
-        turns: &turns,
-        start: now(rt),
-        workers: workers.len() as u64,
-    };
-    let (workers, are_accepted) = work(rt, alloc, door, &room, workers)?;
-    let callers = shares.into_inner();
-    let room = Accounts {
-        callers: accounts.into_inner(),
-        workers: steps,
-    };
-    let (image, totals, accounts) = settle_image(shared, Shares { callers, workers }, room)?;
+    let Left {
+        shares,
+        room,
+        are_accepted,
+    } = serve_shared(rt, alloc, &shared, told, door, workers)?;
+    let (image, totals, accounts) = settle_image(shared, shares, room)?;
     let fault = fault_of(are_accepted);
     Ok(Served {
         image,

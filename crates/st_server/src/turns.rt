@@ -2,8 +2,8 @@
 use std::sync::atomic::{AtomicU64, Ordering};
 use std::sync::{Mutex, MutexGuard, Wait};
 
-/// How many queries are answered at once, at most. A query may take a millisecond of a processor, and an edit or a post that comes
-/// meanwhile finds one that is free.
+/// How many queries are answered at once, at most. A query may take a millisecond of a processor, and many sessions that ask leave
+/// processors to others.
 const QUERIES: usize = 2;
 
 /// A server's turns: one session at a time has its image saved, and few answer queries.

@@ -7,6 +7,7 @@ use Rattle.json.specs.Json.{parse_map, after_end_array, read_key}
 use Rattle.json.proofs.Grammar.{value_is, value-begin_array, value-begin_object, items_end, items_more, members_end, members_more, read_key-shorter}
 use Rattle.serde_json.specs.Data.{Num, unsigned, Data, null, boolean, number, string, array, object, Items, no_items, item, Members, no_members, member, put}
 use Rattle.serde_json.specs.Read.{number_of, of_json, of_items, of_members, converted, read}
+use Rattle.serde_json.specs.View.{items_of}
 use Rattle.st_wire.specs.declared.commands.Argument.{Argument}
 use Rattle.st_wire.specs.declared.commands.Argument.TheVariants.{Symbol, Class, Actor}
 use Rattle.st_wire.specs.Fields.{actor, argument, named, each_of, cons_of}
@@ -31,6 +32,10 @@ module _ (depth : ℕ) (tokens rest : List Token) where
   null_first first = ap (λ ts. converted of_json (json.value depth ts)) first ∙ ap (converted of_json) (value_is depth (Token.null ∷ rest))
 
 -- ---- what was read is the conversion of what the grammar reads
+
+abbrev from_some : {A : Type 0} → A → Option A → A
+from_some a None = a
+from_some a (Some b) = b
 
 abbrev first_of : {A B : Type 0} → A → Option (A × B) → A
 first_of a None = a
@@ -62,7 +67,7 @@ module _ (p : json.Parse json.Json) where
       let js = unconverted of_items (json.items p (n - 1) r) ds rest more in
       ap (converted of_items) (items_more p n ts r j.0 some going j.1 ∙ ap (parse_map (json.item j.0)) js.1) ∙ rw (j.2, js.2)
 
-  member_more : (n : ℕ) (k : List ℕ) (ts s r : List Token) (d : Data) → 0 < n → read_key ts ≡ Some (Some k, s) → converted of_json (p s) ≡ Some (d, r)
+  pub member_more : (n : ℕ) (k : List ℕ) (ts s r : List Token) (d : Data) → 0 < n → read_key ts ≡ Some (Some k, s) → converted of_json (p s) ≡ Some (d, r)
       → (old ms : Members) (rest : List Token) → converted (λ js. of_members js (put k d old)) (json.members p (n - 1) r) ≡ Some (ms, rest)
       → converted (λ js. of_members js old) (json.members p n ts) ≡ Some (ms, rest)
   member_more n k ts s r d some key first old ms rest more =
@@ -80,30 +85,31 @@ object_first depth tokens inner rest ms some first inside =
     let js = unconverted (λ js. of_members js no_members) (json.members (json.value (depth - 1)) (length inner) inner) ms rest inside in
     ap (λ ts. converted of_json (json.value depth ts)) first ∙ ap (converted of_json) (value-begin_object depth inner some ∙ ap (parse_map json.object) js.1) ∙ rw js.2
 
--- whatever items are left, the array has them behind those that were found
-abbrev pub ItemsGoOn : ℕ → List Token → List Argument → ℕ → List Token → Type 0
-ItemsGoOn depth initial found n tokens =
+-- whatever items are left, the array has them behind those that were found, each read by f
+abbrev pub ItemsGoOn : {T : Type 0} → (Data → Option T) → ℕ → List Token → List T → ℕ → List Token → Type 0
+ItemsGoOn f depth initial found n tokens =
     (ds : Items) (rest : List Token) → converted of_items (json.items (json.value depth) n tokens) ≡ Some (ds, rest)
-    → (all : Items) × BeginsWithItems depth initial all rest × (each_of argument all ≡ after found (each_of argument ds))
+    → (all : Items) × BeginsWithItems depth initial all rest × (each_of f all ≡ after found (each_of f ds))
 
 after_nothing : {T : Type 0} (rest : Option (List T)) → rest ≡ after [] rest
 after_nothing None = refl
 after_nothing (Some more) = refl
 
-pub items_begin : (depth : ℕ) (initial : List Token) (found : List Argument) → found ≡ [] → ItemsGoOn depth initial found (length initial) initial
-items_begin depth initial found none ds rest is = (ds, is, after_nothing (each_of argument ds) ∙ ap (λ before. after before (each_of argument ds)) (sym none))
+module _ {T : Type 0} (f : Data → Option T) (depth : ℕ) (initial : List Token) (found : List T) where
+  pub items_begin : found ≡ [] → ItemsGoOn f depth initial found (length initial) initial
+  items_begin none ds rest is = (ds, is, after_nothing (each_of f ds) ∙ ap (λ before. after before (each_of f ds)) (sym none))
 
-pub item_goes_on : (depth : ℕ) (initial : List Token) (found : List Argument) (n : ℕ) (ts r : List Token) (d : Data) (x : Argument) → 0 < n → after_end_array ts ≡ None
-    → BeginsWith depth ts d r → argument d ≡ Some x → ItemsGoOn depth initial found n ts → ItemsGoOn depth initial (found ++ x ∷ []) (n - 1) r
-item_goes_on depth initial found n ts r d x some going first is on ds rest more =
-    let before = on (item d ds) rest (item_more (json.value depth) n ts r d some going first ds rest more) in
-    (before.0, before.1, before.2 ∙ ap (λ one. after found (cons_of one (each_of argument ds))) is ∙ after_one found x (each_of argument ds))
+  pub item_goes_on : (n : ℕ) (ts r : List Token) (d : Data) (x : T) → 0 < n → after_end_array ts ≡ None
+      → BeginsWith depth ts d r → f d ≡ Some x → ItemsGoOn f depth initial found n ts → ItemsGoOn f depth initial (found ++ x ∷ []) (n - 1) r
+  item_goes_on n ts r d x some going first is on ds rest more =
+      let before = on (item d ds) rest (item_more (json.value depth) n ts r d some going first ds rest more) in
+      (before.0, before.1, before.2 ∙ ap (λ one. after found (cons_of one (each_of f ds))) is ∙ after_one found x (each_of f ds))
 
-pub items_close : (depth : ℕ) (initial : List Token) (found : List Argument) (n : ℕ) (ts r : List Token) → length ts ≤ n → after_end_array ts ≡ Some r
-    → ItemsGoOn depth initial found n ts → (all : Items) × BeginsWithItems depth initial all r × (each_of argument all ≡ Some found)
-items_close depth initial found n ts r enough closed on =
-    let before = on no_items r (ap (converted of_items) (items_end (json.value depth) n ts r enough closed)) in
-    (before.0, before.1, before.2 ∙ ap Some (append-nil found))
+  pub items_close : (n : ℕ) (ts r : List Token) → length ts ≤ n → after_end_array ts ≡ Some r
+      → ItemsGoOn f depth initial found n ts → (all : Items) × BeginsWithItems depth initial all r × (each_of f all ≡ Some found)
+  items_close n ts r enough closed on =
+      let before = on no_items r (ap (converted of_items) (items_end (json.value depth) n ts r enough closed)) in
+      (before.0, before.1, before.2 ∙ ap Some (append-nil found))
 
 -- ---- objects
 
@@ -143,6 +149,20 @@ sym_named key text is = ap (λ k. named (object (member k (string text) no_membe
 
 pub class_named : (key text : List ℕ) → key ≡ codes "class" → named (object (member key (string text) no_members)) ≡ Some (Class text)
 class_named key text is = ap (λ k. named (object (member k (string text) no_members))) is
+
+-- ---- lists of values
+
+some_same : {T : Type 0} (x y : T) → ◌≡◌ {A = Option T} (Some x) (Some y) → x ≡ y
+some_same x y e = ap (from_some x) e
+
+taken_behind : (d : Data) (ds : Items) (more : Option (List Data)) (all : List Data) → ((rest : List Data) → more ≡ Some rest → ds ≡ items_of rest) → cons_of (Some d) more ≡ Some all → item d ds ≡ items_of all
+taken_behind d ds None all behind is = absurd cc
+taken_behind d ds (Some rest) all behind is = ap (item d) (behind rest refl) ∙ ap items_of (some_same (d ∷ rest) all is)
+
+-- the items that are all taken as they are
+pub taken : (ds : Items) (all : List Data) → each_of Some ds ≡ Some all → ds ≡ items_of all
+taken no_items all is = ap items_of (some_same [] all is)
+taken (item d ds) all is = taken_behind d ds (each_of Some ds) all (λ rest e. taken ds rest e) is
 
 -- ---- a whole line
 

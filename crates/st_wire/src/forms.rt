@@ -5,7 +5,8 @@ ghost use Rattle.st_wire.specs.Found.{IsOfForm};
 
 use crate::commands::{Command, DEFAULT_QUANTA};
 use crate::found::Found;
-use crate::tokens::{Miss, actor_of, copied};
+use crate::misses::Miss;
+use crate::tokens::{actor_of, copied};
 use std::alloc::Global;
 
 /// The command, if it is of a form that is read from tokens: `post`, `run`, `outcome` or `close`.

@@ -5,7 +5,9 @@ ghost use Rattle.st_wire.specs.Found.{IsFoundIn};
 ghost use Rattle.st_wire.specs.Tokens.{BeginsWith, BeginsWithMembers};
 
 use crate::commands::Argument;
-use crate::tokens::{Miss, read_arguments, read_text, read_whole};
+use crate::misses::Miss;
+use crate::tokens::{read_arguments, read_text};
+use crate::values::read_whole;
 use json::Reader;
 use st_classes::seq::Seq;
 use std::alloc::Global;

@@ -6,7 +6,7 @@ ghost use Rattle.st_wire.specs.Commands.{command_of, command_rules};
 use crate::commands::{Command, read_command};
 use crate::forms;
 use crate::found::Found;
-use crate::tokens::Miss;
+use crate::misses::Miss;
 use json::{Reader, Scratch, Token};
 use st_classes::refusals::Refusal;
 use std::alloc::Global;

@@ -2,7 +2,7 @@
 ghost use Rattle.std.specs.Prelude.{◌≡◌, ◌<◌, ◌==◌, length, slice_index, true, false, IsTrue, Some, IfSome, option_and_then};
 ghost use Rattle.fast_float.specs.Text.{scan};
 ghost use Rattle.serde_json.specs.Data.{unsigned, negative};
-ghost use Rattle.serde_json.specs.Find.{as_i64};
+ghost use Rattle.serde_json.specs.Find.{as_i64, of_integer};
 ghost use Rattle.serde_json.specs.Read.{number_from, number_of};
 
 use fast_float::Numeral;
@@ -31,6 +31,18 @@ pub(crate) fn integer(text: &str) -> Option<i64>
         Some(n) if n <= i64::MAX as u64 => Some(n as i64),
         _ => None,
     }
+}
+
+/// A whole number below 0. It is `None` also for a number with a point or an exponent.
+#[tactic(auto, unfolding(serde_json::specs::Read::number_of))]
+pub(crate) fn below_zero(text: &str) -> Option<i64>
+    ensures { IfSome result (λ n. (number_of text.now ≡ Some (negative n)) × (of_integer n ≡ negative n)) }
+{
+    let bytes = text.as_bytes();
+    if !has_minus(bytes) {
+        return None;
+    }
+    negative_of(&bytes[1..])
 }
 
 fn has_minus(bytes: &[u8]) -> bool

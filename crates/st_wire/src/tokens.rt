@@ -1,57 +1,18 @@
 //! Parts of commands, read from the tokens of a line.
 ghost use Rattle.std.specs.Prelude.{◌≡◌, ◌<◌, ◌≤◌, ◌^◌, ◌-◌, ℕ, length, Some, IfOk, OnOk};
-ghost use Rattle.serde_json.specs.Data.{Data, Items, Members, number, string, array, object, no_members, member, unsigned};
+ghost use Rattle.serde_json.specs.Data.{Data, Items, Members, string, array, object, no_members, member};
 ghost use Rattle.st_wire.specs.Fields as spec;
 ghost use Rattle.st_wire.specs.Fields.{each_of};
 ghost use Rattle.st_wire.specs.Tokens.{BeginsWith, BeginsWithItems, BeginsWithMembers};
 
 use crate::commands::Argument;
-use crate::numerals::{integer, whole};
-use json::{Invalid, Reader, Token};
+use crate::misses::Miss;
+use crate::numerals::integer;
+use crate::values::read_whole;
+use json::{Reader, Token};
 use st_classes::seq::Seq;
 use st_classes::values::ActorId;
-use std::alloc::{AllocError, AllocFailed, Global};
-
-/// Why a command could not be read from the tokens of a line.
-#[derive(Clone, Copy, Drop)]
-pub(crate) enum Miss {
-    /// This reader does not decide whether the line is a command.
-    Undecided,
-    NoMemory,
-}
-
-impl From<Invalid> for Miss {
-    fn from(_invalid: Invalid) -> Miss {
-        Miss::Undecided
-    }
-}
-
-impl From<AllocError> for Miss {
-    fn from(_refused: AllocError) -> Miss {
-        Miss::NoMemory
-    }
-}
-
-impl<T: Drop> From<AllocFailed<T>> for Miss {
-    fn from(_refused: AllocFailed<T>) -> Miss {
-        Miss::NoMemory
-    }
-}
-
-/// Reads a whole number.
-#[tactic(auto, using(crate::proofs::Fronts::number_first))]
-pub(crate) fn read_whole(reader: &mut Reader<'_>) -> Result<u64, Miss>
-    ensures read { IfOk result (λ n. (depth : ℕ) → BeginsWith depth reader.old (number (unsigned n)) reader.new) }
-    ensures shorter { OnOk result (length reader.new < length reader.old) }
-{
-    let Some(Token::Number(text)) = reader.next() else {
-        return Err(Miss::Undecided);
-    };
-    match whole(text) {
-        Some(number) => Ok(number),
-        None => Err(Miss::Undecided),
-    }
-}
+use std::alloc::Global;
 
 /// Reads a text.
 #[tactic(auto, using(crate::proofs::Fronts::string_first))]

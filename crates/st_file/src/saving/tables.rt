@@ -1,118 +1,201 @@
-//! The texts of a class table: of its names and its edits.
-ghost use Rattle.std.specs.Prelude.{◌≡◌, IfOk, All, drop};
+//! Writes a class table: its names and its edits.
+ghost use Rattle.std.specs.Prelude.{◌≡◌, true, All, drop};
+ghost use Rattle.std.specs.Str.{is_utf8};
+ghost use Rattle.serde_json.specs.Data.{string};
+ghost use Rattle.serde_json.specs.Written.{compact_text};
 ghost use Rattle.st_image.specs.CompiledEdits.{AllCompiled};
 ghost use Rattle.st_image.specs.Loading as spec;
+ghost use Rattle.st_file.specs.EditJson.{define_json, edit_json, install_json, remove_json, reparent_json};
+ghost use Rattle.st_file.specs.ListJson as lists;
 ghost use Rattle.st_file.specs.Tellable.{EditIsText, IsText};
+ghost use Rattle.st_file.specs.TextWriters.{Puts};
 
-use crate::copies::copied;
+use crate::saving::lists::{Writes, each};
+use crate::saving::text_writer::TextWriter;
+use crate::saving::values::{class_name, selector_name};
 use st_classes::edits::Edit;
 use st_classes::names::Names;
 use st_classes::seq::Seq;
 use st_classes::values::{ClassId, Selector};
 use st_classes::version::Version;
-use st_image::edit_text::EditText;
-use std::alloc::{AllocError, Global};
+use st_wire::streams::Output;
 
 /// How many names the kernel has.
 const KERNEL_NAMES: u16 = 22;
 
-/// Copies texts.
-fn copies(alloc: Global, texts: &[Seq<u8>]) -> Result<Seq<Seq<u8>>, AllocError>
-    ensures { IfOk result (λ ts. ts ≡ texts.now) }
-{
-    let mut copies = Vec::with_capacity(alloc, texts.len())?;
-    for text in texts {
-        copies.push(copied(alloc, text.as_slice())?)?;
-    }
-    Ok(Seq::from_vec(copies))
-}
+/// Texts as they are.
+struct Texts;
 
-/// The text of a name; empty if no name has this number.
-fn name_text(alloc: Global, names: &Names, name: Selector) -> Result<Seq<u8>, AllocError>
-    ensures { IfOk result (λ t. t ≡ spec.selector_text names.now name) }
-{
-    if u32::from(name.0) < names.len() {
-        copied(alloc, names.text(name))
-    } else {
-        copied(alloc, &[])
+impl Writes<Seq<u8>> for Texts {
+    ghost can_be_written = { λ w t. IsText t };
+
+    ghost json = { λ w t. string t };
+
+    fn write<O: Output>(&self, writer: &mut TextWriter, output: &mut O, item: &Seq<u8>) {
+        writer.text(output, item.as_slice());
     }
 }
 
-/// The name of a class; empty if no class has this number.
-fn class_text(alloc: Global, version: &Version, class: ClassId) -> Result<Seq<u8>, AllocError>
-    ensures { IfOk result (λ t. t ≡ spec.class_text version.now class) }
+/// Writes what was defined.
+pub fn define<O: Output>(
+    writer: &mut TextWriter,
+    output: &mut O,
+    version: &Version,
+    name: &[u8],
+    parent: ClassId,
+    slots: &[Seq<u8>],
+)
+    requires name { is_utf8 name.now ≡ true }
+    requires slots { All IsText slots.now }
+    ensures { Puts O.contents O.failures O.flushes output.old output.new writer.old writer.new (compact_text (define_json version.now name.now parent slots.now)) }
 {
-    match version.class_name(class) {
-        Some(name) => copied(alloc, name),
-        None => copied(alloc, &[]),
-    }
+    writer.put(output, "{");
+    writer.key(output, false, "define");
+    writer.put(output, "{");
+    writer.key(output, false, "name");
+    writer.text(output, name);
+    writer.key(output, true, "slots");
+    each(writer, output, &Texts, slots);
+    writer.key(output, true, "super");
+    class_name(writer, output, version, parent);
+    writer.put(output, "}");
+    writer.put(output, "}");
 }
 
-/// An edit as text. Fails only if memory runs out.
-fn edit_text(
-    alloc: Global,
+/// Writes what was installed.
+pub fn install<O: Output>(
+    writer: &mut TextWriter,
+    output: &mut O,
+    version: &Version,
+    class: ClassId,
+    source: &[u8],
+)
+    requires { is_utf8 source.now ≡ true }
+    ensures { Puts O.contents O.failures O.flushes output.old output.new writer.old writer.new (compact_text (install_json version.now class source.now)) }
+{
+    writer.put(output, "{");
+    writer.key(output, false, "install");
+    writer.put(output, "{");
+    writer.key(output, false, "class");
+    class_name(writer, output, version, class);
+    writer.key(output, true, "source");
+    writer.text(output, source);
+    writer.put(output, "}");
+    writer.put(output, "}");
+}
+
+/// Writes what was removed.
+pub fn remove<O: Output>(
+    writer: &mut TextWriter,
+    output: &mut O,
+    names: &Names,
+    version: &Version,
+    class: ClassId,
+    selector: Selector,
+)
+    ensures { Puts O.contents O.failures O.flushes output.old output.new writer.old writer.new (compact_text (remove_json names.now version.now class selector)) }
+{
+    writer.put(output, "{");
+    writer.key(output, false, "remove");
+    writer.put(output, "{");
+    writer.key(output, false, "class");
+    class_name(writer, output, version, class);
+    writer.key(output, true, "selector");
+    selector_name(writer, output, names, selector);
+    writer.put(output, "}");
+    writer.put(output, "}");
+}
+
+/// Writes which class got another superclass.
+pub fn reparent<O: Output>(
+    writer: &mut TextWriter,
+    output: &mut O,
+    version: &Version,
+    class: ClassId,
+    parent: ClassId,
+)
+    ensures { Puts O.contents O.failures O.flushes output.old output.new writer.old writer.new (compact_text (reparent_json version.now class parent)) }
+{
+    writer.put(output, "{");
+    writer.key(output, false, "reparent");
+    writer.put(output, "{");
+    writer.key(output, false, "class");
+    class_name(writer, output, version, class);
+    writer.key(output, true, "super");
+    class_name(writer, output, version, parent);
+    writer.put(output, "}");
+    writer.put(output, "}");
+}
+
+/// Writes an edit.
+fn edit<O: Output>(
+    writer: &mut TextWriter,
+    output: &mut O,
     names: &Names,
     version: &Version,
     edit: &Edit,
-) -> Result<EditText, AllocError>
-    ensures { IfOk result (λ t. t ≡ spec.edit_text names.now version.now edit.now) }
+)
+    requires { EditIsText (spec.edit_text names.now version.now edit.now) }
+    ensures { Puts O.contents O.failures O.flushes output.old output.new writer.old writer.new (compact_text (edit_json names.now version.now edit.now)) }
 {
     match edit {
         Edit::Define {
             name,
             parent,
             slots,
-        } => Ok(EditText::Define {
-            name: copied(alloc, name.as_slice())?,
-            parent: class_text(alloc, version, *parent)?,
-            slots: copies(alloc, slots.as_slice())?,
-        }),
-        Edit::Install { class, method } => Ok(EditText::Install {
-            class: class_text(alloc, version, *class)?,
-            source: copied(alloc, method.source())?,
-        }),
-        Edit::Remove { class, selector } => Ok(EditText::Remove {
-            class: class_text(alloc, version, *class)?,
-            selector: name_text(alloc, names, *selector)?,
-        }),
-        Edit::Reparent { class, parent } => Ok(EditText::Reparent {
-            class: class_text(alloc, version, *class)?,
-            parent: class_text(alloc, version, *parent)?,
-        }),
+        } => define(
+            writer,
+            output,
+            version,
+            name.as_slice(),
+            *parent,
+            slots.as_slice(),
+        ),
+        Edit::Install { class, method } => {
+            install(writer, output, version, *class, method.source());
+        }
+        Edit::Remove { class, selector } => {
+            remove(writer, output, names, version, *class, *selector);
+        }
+        Edit::Reparent { class, parent } => {
+            reparent(writer, output, version, *class, *parent);
+        }
     }
 }
 
-/// The names after the kernel's. Fails only if memory runs out.
-pub(crate) fn name_texts(alloc: Global, names: &Names) -> Result<Seq<Seq<u8>>, AllocError>
-    ensures texts { IfOk result (λ ts. ts ≡ drop 22 names.now) }
-    ensures text { IfOk result (λ ts. All IsText ts) }
-{
-    names.known();
-    let mut texts = Vec::new(alloc);
-    for number in KERNEL_NAMES..names.len() as u16 {
-        texts.push(copied(alloc, names.text(Selector(number)))?)?;
-    }
-    Ok(Seq::from_vec(texts))
-}
-
-/// The edits as texts. Sources are UTF-8, because the methods are compiled from them. Fails only if memory runs out.
-pub(crate) fn edit_texts(
-    alloc: Global,
-    names: &Names,
-    version: &Version,
-) -> Result<Seq<EditText>, AllocError>
+/// Writes the edits. Their sources are UTF-8, because the methods are compiled from them.
+pub fn edits<O: Output>(writer: &mut TextWriter, output: &mut O, names: &Names, version: &Version)
     requires { AllCompiled names.now version.now }
-    ensures texts { IfOk result (λ ts. ts ≡ spec.edit_texts names.now version.now) }
-    ensures text { IfOk result (λ ts. All EditIsText ts) }
+    ensures { Puts O.contents O.failures O.flushes output.old output.new writer.old writer.new (compact_text (lists.each (edit_json names.now version.now) version.now)) }
 {
     names.known();
     version.known();
-    let mut texts = Vec::new(alloc);
+    writer.put(output, "[");
+    let mut later = false;
     for place in 0..version.edits() {
-        let Some(edit) = version.edit(place) else {
-            unreachable!();
-        };
-        texts.push(edit_text(alloc, names, version, edit)?)?;
+        match version.edit(place) {
+            Some(made) => {
+                writer.comma(output, later);
+                edit(writer, output, names, version, made);
+            }
+            None => unreachable!(),
+        }
+        later = true;
     }
-    Ok(Seq::from_vec(texts))
+    writer.put(output, "]");
+}
+
+/// Writes the names after the kernel's.
+pub fn new_names<O: Output>(writer: &mut TextWriter, output: &mut O, names: &Names)
+    ensures { Puts O.contents O.failures O.flushes output.old output.new writer.old writer.new (compact_text (lists.texts (drop 22 names.now))) }
+{
+    names.known();
+    writer.put(output, "[");
+    let mut later = false;
+    for number in KERNEL_NAMES..names.len() as u16 {
+        writer.comma(output, later);
+        writer.text(output, names.text(Selector(number)));
+        later = true;
+    }
+    writer.put(output, "]");
 }

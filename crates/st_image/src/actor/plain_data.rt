@@ -74,12 +74,12 @@ impl<M: Mailbox> Actor<M> {
         self.results = results;
     }
 
-    /// The actor of a copy of a part.
-    pub(crate) fn from_part(alloc: Global, part: &ActorPart) -> Result<Actor<M>, AllocError>
-        requires some { 1 ≤ part.now.capacity }
-        requires few { part.now.capacity ≤ 1024 }
-        requires within { length part.now.pending ≤ part.now.capacity }
-        ensures { IfOk result (λ a. a ≡ actor_view (actor_of part.now)) }
+    /// The actor of a part.
+    pub(crate) fn from_part(alloc: Global, part: ActorPart) -> Result<Actor<M>, AllocError>
+        requires some { 1 ≤ part.capacity }
+        requires few { part.capacity ≤ 1024 }
+        requires within { length part.pending ≤ part.capacity }
+        ensures { IfOk result (λ a. a ≡ actor_view (actor_of part)) }
     {
         let mut mailbox = M::with_capacity(alloc, part.capacity)?;
         fill(alloc, &mut mailbox, part.pending.as_slice())?;
@@ -90,10 +90,10 @@ impl<M: Mailbox> Actor<M> {
         Ok(Actor {
             class: part.class,
             mailbox,
-            body: part.body.copy(alloc)?,
+            accepted: part.pending.len() as u64,
+            body: part.body,
             twin: None,
             last: part.last,
-            accepted: part.pending.len() as u64,
             results,
         })
     }

@@ -28,15 +28,15 @@ impl<M: Mailbox> Actors<M> {
         Ok(())
     }
 
-    /// The actors of copies of these parts. No claim is out.
-    pub(crate) fn from_parts(alloc: Global, parts: &[ActorPart]) -> Result<Actors<M>, AllocError>
-        requires few { length parts.now ≤ 65536 }
-        requires fit { All FitsMailbox parts.now }
-        ensures { IfOk result (λ a. a ≡ record { list = map (λ (p : PartOf). actor_view (actor_of p)) parts.now; out = replicate (length parts.now) 0 }) }
+    /// The actors of these parts. No claim is out.
+    pub(crate) fn from_parts(alloc: Global, parts: Vec<ActorPart>) -> Result<Actors<M>, AllocError>
+        requires few { length parts.items ≤ 65536 }
+        requires fit { All FitsMailbox parts.items }
+        ensures { IfOk result (λ a. a ≡ record { list = map (λ (p : PartOf). actor_view (actor_of p)) parts.items; out = replicate (length parts.items) 0 }) }
     {
         let mut actors = Actors::new(alloc);
-        'parts: for place in 0..parts.len() {
-            let actor = Actor::from_part(alloc, &parts[place])?;
+        for part in parts {
+            let actor = Actor::from_part(alloc, part)?;
             actors.add(actor)?;
         }
         Ok(actors)

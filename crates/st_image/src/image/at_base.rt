@@ -15,11 +15,11 @@ use st_classes::version::Version;
 use st_mailbox::mailboxes::Mailbox;
 use std::alloc::{AllocError, Global};
 
-/// What is made for an image at a base: two pointers to its class table, its actors from copies of the parts, and its clients.
+/// What is made for an image at a base: a pointer to its class table, the base, its actors from the parts, and its clients.
 #[derive(Drop)]
 struct Made<M: Mailbox> {
     token: Token,
-    table: Token,
+    base: Base,
     actors: Actors<M>,
     clients: Clients,
 }
@@ -28,30 +28,30 @@ impl<M: Mailbox> Made<M> {
     ghost use Rattle.std.specs.Prelude.{◌≡◌, ◌≤◌, ℕ, length, map, replicate, All, IfOk};
     ghost use Rattle.st_image.specs.ActorViews.{actor_view};
     ghost use Rattle.st_image.specs.Clients.{number_of};
-    ghost use Rattle.st_image.specs.Parts.{FitsMailbox, actor_of};
+    ghost use Rattle.st_image.specs.Parts.{FitsMailbox, actor_of, world_of_parts};
     ghost use Rattle.st_image.specs.Worlds.{client_last};
     ghost use Rattle.st_image.specs.declared.actor_part.ActorPart.{ActorPart as PartOf};
 
     fn of(
         alloc: Global,
         version: Version,
-        parts: &[ActorPart],
+        parts: Vec<ActorPart>,
         clients: &[(u16, u64)],
     ) -> Result<Made<M>, AllocError>
-        requires few { length parts.now ≤ 65536 }
-        requires fit { All FitsMailbox parts.now }
+        requires few { length parts.items ≤ 65536 }
+        requires fit { All FitsMailbox parts.items }
         ensures token { IfOk result (λ m. m.token ≡ version) }
-        ensures table { IfOk result (λ m. m.table ≡ version) }
-        ensures actors { IfOk result (λ m. m.actors ≡ record { list = map (λ (p : PartOf). actor_view (actor_of p)) parts.now; out = replicate (length parts.now) 0 }) }
+        ensures base { IfOk result (λ m. m.base ≡ world_of_parts version parts.items clients.now) }
+        ensures actors { IfOk result (λ m. m.actors ≡ record { list = map (λ (p : PartOf). actor_view (actor_of p)) parts.items; out = replicate (length parts.items) 0 }) }
         ensures clients { IfOk result (λ m. (s : ℕ) → client_last s clients.now ≡ number_of m.clients s) }
     {
         let token = Token::publish(alloc, version)?;
-        let table = token.again()?;
+        let base = Base::of(alloc, token.again()?, parts.as_slice(), clients)?;
         let actors = Actors::from_parts(alloc, parts)?;
         let clients = Clients::from_pairs(alloc, clients)?;
         Ok(Made {
             token,
-            table,
+            base,
             actors,
             clients,
         })
@@ -83,9 +83,9 @@ impl<M: Mailbox> Image<M> {
     {
         names.known();
         version.known();
-        let made = Made::of(alloc, version, parts.as_slice(), clients.as_slice())?;
+        let made = Made::of(alloc, version, parts, clients.as_slice())?;
         Ok(Image {
-            base: Base::new(made.table, parts, clients),
+            base: made.base,
             names,
             token: made.token,
             actors: made.actors,
@@ -95,7 +95,6 @@ impl<M: Mailbox> Image<M> {
             settings: Settings::DEFAULT,
             next_from: 0,
             tallies: Tallies::new(alloc),
-            covered: 0,
             changes: Changes::new(alloc),
             counts: Counts { posts: 0, steps: 0 },
             earlier: Earlier::counted(alloc, counts),

@@ -1,7 +1,7 @@
 //! Image::commit: the steps of a claim become the actor's.
 ghost use Rattle.std.specs.Prelude.{◌≡◌, ◌<◌, ℕ, length, vec_len, vec_capacity, OnOk};
 ghost use Rattle.st_image.specs.Changes.{change_count};
-ghost use Rattle.st_image.specs.Tallies.{Covers, SameTallies};
+ghost use Rattle.st_image.specs.Tallies.{HasPlaces, SameTallies};
 
 use crate::acting::put_steps;
 use crate::changes::Changes;
@@ -17,31 +17,30 @@ use st_classes::version::Version;
 use st_mailbox::mailboxes::Mailbox;
 use st_turn::acts::next_site;
 use st_turn::claim::Claim;
+use st_turn::sends::Sends;
 use std::alloc::{AllocError, Global};
 
-/// Makes room for one more item of a history and for the changes of an actor's body, and places for the tallies of all edits. For want of
-/// memory it makes some of it. Nothing that was counted changes.
+/// Makes room for one more item of a history, for the changes of an actor's body, and for what is counted of sends and of an act behind
+/// them. For want of memory it makes some of it. Nothing that was counted changes.
 #[inline]
 fn make_room(
     history: &mut Vec<Item>,
     changes: &mut Changes,
     tallies: &mut Tallies,
-    covered: &mut u32,
-    version: &Version,
     actor: ActorId,
+    sends: &Sends,
+    act: Option<SiteId>,
 ) -> Result<(), AllocError>
-    requires { Covers tallies.old covered.old version.now }
     ensures items { history.new.items ≡ history.old.items }
     ensures changes { (a : ℕ) → change_count changes.new a ≡ change_count changes.old a }
     ensures tallies { SameTallies tallies.old tallies.new }
-    ensures covers { Covers tallies.new covered.new version.now }
     ensures room { OnOk result (vec_len history.new < vec_capacity history.new) }
     ensures place { OnOk result (actor.0 < length changes.new) }
-    ensures all { OnOk result (covered.new ≡ length version.now) }
+    ensures places { OnOk result (HasPlaces tallies.new sends.now.items act) }
 {
     history.reserve(1)?;
     changes.make_room(actor)?;
-    tallies.cover(version, covered)
+    tallies.make_room(sends, act)
 }
 
 impl<M: Mailbox> Image<M> {
@@ -163,9 +162,9 @@ impl<M: Mailbox> Image<M> {
             &mut self.history,
             &mut self.changes,
             &mut self.tallies,
-            &mut self.covered,
-            version,
             actor,
+            claim.sends(),
+            site,
         ) else {
             return Err(claim);
         };

@@ -1,9 +1,7 @@
-use Rattle.std.proofs.Common.{◌≡◌, ◌∙◌, sym, ap, map}
+use Rattle.std.proofs.Common.{sym, ap}
 use Rattle.st_image.specs.Images.{counts_of, world}
-use Rattle.st_image.specs.Parts.{part_of}
 use Rattle.st_image.specs.Worlds.{World}
 use Rattle.st_image.proofs.Rebasing.{rebase_is}
-use Rattle.st_file.specs.Moments.{MomentView}
 use Rattle.st_file.proofs.moments.Moment.of.Goals as goal
 
 pub invariant_of-result : goal.invariant_of-result

@@ -1,25 +1,24 @@
-use Rattle.std.proofs.Common.{Some, ◌≡◌, slice_get, ◌+◌, ◌++◌, ◌∷◌, [], ℕ, List, take, ap, sym, ◌∙◌}
+use Rattle.std.proofs.Common.{arith, ◌≡◌, ◌++◌, ◌∷◌, [], ℕ, List, Some, length, length-append, refl, ap, ◌∙◌, slice_get}
 use Rattle.std.specs.Prelude.{replicate}
-use Rattle.std.proofs.lemmas.Option.{slice_get-get_or}
-use Rattle.st_image.specs.Parts.{FitsMailbox}
-use Rattle.st_image.proofs.Places.{at_all}
-use Rattle.st_image.specs.ActorViews.{ActorView, ActorsView}
-use Rattle.st_image.proofs.Bases.{kept_parts, none_more, parts_more}
-use Rattle.st_image.proofs.actors.Actors.from_parts.Goals as goal
+use Rattle.std.proofs.lemmas.List.{map-append}
+use Rattle.st_image.specs.declared.actor_part.ActorPart.{ActorPart}
+use Rattle.st_image.specs.Parts.{actor_of}
+use Rattle.st_image.specs.ActorViews.{ActorView, ActorsView, actor_view}
+use Rattle.st_image.proofs.Bases.{kept_parts, none_more}
 
-pub parts-preserved : goal.parts-preserved
-parts-preserved g c =
-    let n : ℕ = c.parts.place in
-    let before : List ActorView = kept_parts (take n c.args.parts.now) in
-    c.in_ok-add.ensures
-    ∙ ap (λ (v : ActorsView). let w : ActorsView = record { list = v.list ++ c.in_ok-actor.actor ∷ []; out = v.out ++ 0 ∷ [] } in w) c.parts.invariant
-    ∙ ap (λ (k : ActorView). let w : ActorsView = record { list = before ++ k ∷ []; out = replicate n 0 ++ 0 ∷ [] } in w) c.in_ok-actor.ensures
-    ∙ ap (λ (ks : List ActorView). let w : ActorsView = record { list = ks; out = replicate n 0 ++ 0 ∷ [] } in w) (sym (parts_more c.args.parts.now n c.index-parts-place.result c.parts-test.true c.index-parts-place.is))
-    ∙ ap (λ (ns : List ℕ). let w : ActorsView = record { list = kept_parts (take (n + 1) c.args.parts.now); out = ns } in w) (sym (none_more n))
+here : (before rest : List ActorPart) (p : ActorPart) → slice_get (before ++ p ∷ rest) (length before) ≡ Some p
+here [] rest p = refl
+here (q ∷ before) rest p = here before rest p
 
-pub from_part-requires : goal.from_part-requires
-from_part-requires g c =
-    let n : ℕ = c.parts.place in
-    let at : slice_get c.args.parts.now n ≡ Some c.index-parts-place.result = slice_get-get_or c.args.parts.now n c.index-parts-place.result c.parts-test.true ∙ ap Some (sym c.index-parts-place.is) in
-    let fits = at_all FitsMailbox c.args.parts.now n c.index-parts-place.result c.requires.fit at in
-    record { some = fits.some; few = fits.few; within = fits.within }
+nothing_left : (l : List ActorPart) → length l ≡ 0 → l ≡ []
+nothing_left [] h = refl
+nothing_left (x ∷ xs) h = absurd (omega arith)
+
+-- the actors of the parts so far, and of one more
+abbrev made : List ActorPart → ActorsView
+made ps = record { list = kept_parts ps; out = replicate (length ps) 0 }
+
+one_more : (ps : List ActorPart) (p : ActorPart) → made (ps ++ p ∷ []) ≡ record { list = kept_parts ps ++ actor_view (actor_of p) ∷ []; out = replicate (length ps) 0 ++ 0 ∷ [] }
+one_more ps p =
+    ap (λ (ks : List ActorView). let w : ActorsView = record { list = ks; out = replicate (length (ps ++ p ∷ [])) 0 } in w) (map-append (λ (q : ActorPart). actor_view (actor_of q)) ps (p ∷ []))
+    ∙ ap (λ (ns : List ℕ). let w : ActorsView = record { list = kept_parts ps ++ actor_view (actor_of p) ∷ []; out = ns } in w) (ap (λ (n : ℕ). replicate n 0) (length-append ps (p ∷ [])) ∙ none_more (length ps))

@@ -15,7 +15,7 @@ invariant_of-self g c =
     let i = c.self.inside in
     let g : Grows i.names c.compile.new.names = first-grows i.names (needed_texts c.args.tree.now.syntax) c.compile.new.names c.compile.ensures.some in
     let r : IsRenamed i.base i.names c.compile.new.names i.token i.actors.list i.history.items i.edits_made i.settings = renamed i.base i.names c.compile.new.names (i.names ++ g.0) i.token i.actors.list i.history.items i.edits_made i.settings g.1 (more_kept i.base i.names g.0 i.token i.actors.list i.history.items i.edits_made i.settings c.self.invariant.image) in
-    record { image = r.image; numbers_of_clients = c.self.invariant.numbers_of_clients; sends = r.sends i.tallies c.self.invariant.sends; places = c.self.invariant.places; counts = c.self.invariant.counts; totals = c.self.invariant.totals; compiled = all_grown i.names c.compile.new.names i.token g c.self.invariant.compiled; before = c.self.invariant.before }
+    record { image = r.image; numbers_of_clients = c.self.invariant.numbers_of_clients; sends = r.sends i.tallies c.self.invariant.sends; counts = c.self.invariant.counts; totals = c.self.invariant.totals; compiled = all_grown i.names c.compile.new.names i.token g c.self.invariant.compiled; before = c.self.invariant.before }
 
 pub returns-clause-answers : goal.returns-clause-answers
 returns-clause-answers g c =

@@ -8,7 +8,7 @@ pub invariant_of-self : goal.invariant_of-self
 invariant_of-self g c =
     let i = c.self.inside in
     let r : IsRenamed i.base i.names c.intern.new.self i.token i.actors.list i.history.items i.edits_made i.settings = interned_kept c.intern.result i.base i.names c.intern.new.self c.args.text.now i.token i.actors.list i.history.items i.edits_made i.settings c.self.invariant.image c.intern.ensures.names c.intern.ensures.unchanged in
-    record { image = r.image; numbers_of_clients = c.self.invariant.numbers_of_clients; sends = r.sends i.tallies c.self.invariant.sends; places = c.self.invariant.places; counts = c.self.invariant.counts; totals = c.self.invariant.totals; compiled = all_interned c.intern.result i.names c.intern.new.self c.args.text.now i.token c.self.invariant.compiled c.intern.ensures.names c.intern.ensures.unchanged; before = c.self.invariant.before }
+    record { image = r.image; numbers_of_clients = c.self.invariant.numbers_of_clients; sends = r.sends i.tallies c.self.invariant.sends; counts = c.self.invariant.counts; totals = c.self.invariant.totals; compiled = all_interned c.intern.result i.names c.intern.new.self c.args.text.now i.token c.self.invariant.compiled c.intern.ensures.names c.intern.ensures.unchanged; before = c.self.invariant.before }
 
 pub returns-clause-world : goal.returns-clause-world
 returns-clause-world g c =

@@ -3,12 +3,9 @@ use Rattle.std.proofs.lemmas.Grind.{common_steps}
 use Rattle.std.proofs.lemmas.Option.{slice_get_within}
 use Rattle.st_classes.specs.declared.values.ActorId.{ActorId}
 use Rattle.st_classes.specs.declared.keys.SiteId.{SiteId}
-use Rattle.st_classes.specs.declared.edits.Edit.{Edit}
 use Rattle.st_turn.specs.declared.claim.ClaimParts.{ClaimParts}
 use Rattle.st_turn.specs.declared.claim.Sent.{Sent}
 use Rattle.st_turn.specs.Claims.{ClaimView}
-use Rattle.st_turn.specs.Surviving.{SameSteps}
-use Rattle.st_turn.proofs.ClaimsLater.{claims_survive}
 use Rattle.st_turn.proofs.FewSends.{few_sends}
 use Rattle.st_turn.specs.Idle.{is_idle}
 use Rattle.st_image.specs.Worlds.{World, change, change_at}
@@ -21,7 +18,7 @@ use Rattle.st_image.specs.Changes.{change_count}
 use Rattle.st_image.specs.ClaimsOut.{one_less}
 use Rattle.st_image.specs.Commits.{CommitAllowed, HasCommitted, act_site}
 use Rattle.st_turn.specs.Tallies.{after_sends, sends_of}
-use Rattle.st_image.specs.Tallies.{Covers, SameTallies, Tallied, after_act_at, tally_at}
+use Rattle.st_image.specs.Tallies.{HasPlaces, SameTallies, Tallied, after_act_at, tally_at}
 use Rattle.st_turn.specs.declared.tally.Tally.{Tally}
 use Rattle.st_image.specs.declared.items.Item.{Item}
 use Rattle.st_image.specs.declared.items.Item.TheVariants.{Ran}
@@ -32,7 +29,6 @@ use Rattle.st_image.proofs.Committing.{HasTaken, MayCommit, has_taken, items_are
 use Rattle.st_image.proofs.CountingOut.{counts_same_out}
 use Rattle.st_image.proofs.ClientNumbers.{kept_other}
 use Rattle.st_image.proofs.CountingChanges.{counts_one, few_changes}
-use Rattle.st_image.proofs.Covering.{covers_kept, has_places}
 use Rattle.st_image.proofs.MakingRoom.{few_accepted_by, with_room}
 use Rattle.st_image.proofs.Counting.{few_more}
 use Rattle.st_image.proofs.CountingItems.{items_ran}
@@ -69,16 +65,8 @@ put_steps-requires-clause-act g c =
 
 pub count-requires-clause-places : goal.count-requires-clause-places
 count-requires-clause-places g c =
-    let i = c.self.inside in
-    let d : ClaimView = c.args.claim in
-    let beside : Standing = standing_of i.earlier i.next_from i.actors.out i.tallies in
-    let allowed : CommitAllowed (seen i.base i.names i.history.items i.settings beside) d = subst (λ (v : ImageView). CommitAllowed v d) (sym c.self.view_is) c.requires.allowed in
-    let w : World = world_of (constants_of i.names i.settings.capacity) i.base i.history.items in
-    let same : SameSteps w.edits d = claims_survive w.edits d c.self.invariant.image.world.lawful c.self.invariant.image.world.sound c.known.ensures allowed.survives in
-    let edits : c.shown-version.result.now ≡ w.edits = c.shown-version.ensures ∙ c.self.invariant.image.shows.edits_are in
-    let all : Covers c.make_room.new.tallies (length w.edits) w.edits = subst (λ (es : List Edit). Covers c.make_room.new.tallies (length es) es) edits (subst (λ (n : ℕ). Covers c.make_room.new.tallies n c.shown-version.result.now) c.in-Ok.ensures.all c.make_room.ensures.covers) in
-    let sent : c.deref.result.now.sends.items ≡ d.sends = ap (λ (p : ClaimParts). p.sends.items) c.deref.ensures ∙ ap (λ (p : ClaimParts). p.sends.items) c.deref_mut.ensures.value ∙ c.in-Ok-into_parts.ensures.sends in
-    rw (c.site_to_commit-site.ensures, sent) (has_places c.make_room.new.tallies w.edits d c.known.ensures same all)
+    let sent : c.deref.result.now.sends.items ≡ c.sends.result.now.items = ap (λ (p : ClaimParts). p.sends.items) c.deref.ensures ∙ ap (λ (p : ClaimParts). p.sends.items) c.deref_mut.ensures.value ∙ c.in-Ok-into_parts.ensures.sends ∙ sym c.sends.ensures in
+    subst (λ (ss : List Sent). HasPlaces c.make_room.new.tallies ss c.site_to_commit-site.result) (sym sent) c.in-Ok.ensures.places
 
 pub count-requires-clause-few : goal.count-requires-clause-few
 count-requires-clause-few g c = λ id.
@@ -109,7 +97,7 @@ invariant_of-self-in-Ok-put_steps g c =
     let pushed : c.push_reserved.new.self.items ≡ i.history.items ++ Ran c.actor-actor.result c.args.steps ∷ [] = grind (arith, common_steps) in
     let items : c.push_reserved.new.self.items ≡ i.history.items ++ Ran d.actor c.args.steps ∷ [] = pushed ∙ ap (λ (b : ActorId). i.history.items ++ Ran b c.args.steps ∷ []) c.actor-actor.ensures in
     let taken : HasTaken i.base i.names i.token c.put_steps.new.actors.list i.history.items i.edits_made i.settings c.count.new.self d.actor c.args.steps = has_taken i.base i.names i.token i.actors.list c.put_steps.new.actors.list i.history.items i.edits_made i.settings beside i.tallies c.count.new.self d c.args.steps c.in-Ok-put_steps.field-0 c.self.invariant.image c.self.invariant.sends c.known.ensures allowed c.requires.steps c.requires.some may takes c.in-Ok-put_steps.ensures.grown tallied in
-    rw (items, kept_is _ _ c.release.ensures, c.from.ensures) (record { image = taken.image; numbers_of_clients = kept_other i.clients i.base.clients i.history.items (Ran d.actor c.args.steps) (λ qs. refl) c.self.invariant.numbers_of_clients; sends = taken.sends; places = covers_kept c.make_room.new.tallies c.count.new.self c.make_room.new.covered i.token c.count.ensures.keeps (subst (Covers c.make_room.new.tallies c.make_room.new.covered) c.shown-version.ensures c.make_room.ensures.covers); counts = counts_one i.changes c.make_room.new.changes c.raise.new.self i.history.items (Ran d.actor c.args.steps) d.actor.0 (λ a. refl) c.make_room.ensures.changes (subst (λ (b : ActorId). (a : ℕ) → change_count c.raise.new.self a ≡ change_count c.make_room.new.changes a + cond (a == b.0) 1 0) c.actor-actor.ensures c.raise.ensures) c.self.invariant.counts; totals = items_ran i.counts i.earlier i.history.items d.actor c.args.steps (subst (λ (n : ℕ). i.earlier.steps + weigh ran_of i.history.items + n ≤ most_counted) (sym c.requires.steps) (steps_room (seen i.base i.names i.history.items i.settings beside) d allowed.room)) c.self.invariant.totals; compiled = c.self.invariant.compiled; before = c.self.invariant.before })
+    rw (items, kept_is _ _ c.release.ensures, c.from.ensures) (record { image = taken.image; numbers_of_clients = kept_other i.clients i.base.clients i.history.items (Ran d.actor c.args.steps) (λ qs. refl) c.self.invariant.numbers_of_clients; sends = taken.sends; counts = counts_one i.changes c.make_room.new.changes c.raise.new.self i.history.items (Ran d.actor c.args.steps) d.actor.0 (λ a. refl) c.make_room.ensures.changes (subst (λ (b : ActorId). (a : ℕ) → change_count c.raise.new.self a ≡ change_count c.make_room.new.changes a + cond (a == b.0) 1 0) c.actor-actor.ensures c.raise.ensures) c.self.invariant.counts; totals = items_ran i.counts i.earlier i.history.items d.actor c.args.steps (subst (λ (n : ℕ). i.earlier.steps + weigh ran_of i.history.items + n ≤ most_counted) (sym c.requires.steps) (steps_room (seen i.base i.names i.history.items i.settings beside) d allowed.room)) c.self.invariant.totals; compiled = c.self.invariant.compiled; before = c.self.invariant.before })
 
 pub returns-in-Ok-put_steps-clause-ok : goal.returns-in-Ok-put_steps-clause-ok
 returns-in-Ok-put_steps-clause-ok g c =
@@ -143,23 +131,20 @@ returns-in-Ok-put_steps-clause-ok g c =
     } in
     rw (← c.self.view_is, items) committed
 
-pub make_room-requires : goal.make_room-requires
-make_room-requires g c = subst (Covers c.self.inside.tallies c.self.inside.covered) (sym c.shown-version.ensures) c.self.invariant.places
-
 pub invariant_of-self : goal.invariant_of-self
 invariant_of-self g c =
     let i = c.self.inside in
-    rw c.make_room.ensures.items (with_room i.base i.names i.token i.actors.list i.history.items i.edits_made i.settings i.clients i.tallies c.make_room.new.tallies i.covered c.make_room.new.covered i.changes c.make_room.new.changes i.counts i.earlier c.self.invariant c.make_room.ensures.changes c.make_room.ensures.tallies (subst (Covers c.make_room.new.tallies c.make_room.new.covered) c.shown-version.ensures c.make_room.ensures.covers))
+    rw c.make_room.ensures.items (with_room i.base i.names i.token i.actors.list i.history.items i.edits_made i.settings i.clients i.tallies c.make_room.new.tallies i.changes c.make_room.new.changes i.counts i.earlier c.self.invariant c.make_room.ensures.changes c.make_room.ensures.tallies)
 
 pub invariant_of-self-in-Err : goal.invariant_of-self-in-Err
 invariant_of-self-in-Err g c =
     let i = c.self.inside in
-    rw c.make_room.ensures.items (with_room i.base i.names i.token i.actors.list i.history.items i.edits_made i.settings i.clients i.tallies c.make_room.new.tallies i.covered c.make_room.new.covered i.changes c.make_room.new.changes i.counts i.earlier c.self.invariant c.make_room.ensures.changes c.make_room.ensures.tallies (subst (Covers c.make_room.new.tallies c.make_room.new.covered) c.shown-version.ensures c.make_room.ensures.covers))
+    rw c.make_room.ensures.items (with_room i.base i.names i.token i.actors.list i.history.items i.edits_made i.settings i.clients i.tallies c.make_room.new.tallies i.changes c.make_room.new.changes i.counts i.earlier c.self.invariant c.make_room.ensures.changes c.make_room.ensures.tallies)
 
 pub invariant_of-self-in-Err-put_steps : goal.invariant_of-self-in-Err-put_steps
 invariant_of-self-in-Err-put_steps g c =
     let i = c.self.inside in
-    rw (c.make_room.ensures.items, c.in-Err-put_steps.ensures.err) (with_room i.base i.names i.token i.actors.list i.history.items i.edits_made i.settings i.clients i.tallies c.make_room.new.tallies i.covered c.make_room.new.covered i.changes c.make_room.new.changes i.counts i.earlier c.self.invariant c.make_room.ensures.changes c.make_room.ensures.tallies (subst (Covers c.make_room.new.tallies c.make_room.new.covered) c.shown-version.ensures c.make_room.ensures.covers))
+    rw (c.make_room.ensures.items, c.in-Err-put_steps.ensures.err) (with_room i.base i.names i.token i.actors.list i.history.items i.edits_made i.settings i.clients i.tallies c.make_room.new.tallies i.changes c.make_room.new.changes i.counts i.earlier c.self.invariant c.make_room.ensures.changes c.make_room.ensures.tallies)
 
 pub returns-in_default-clause-err : goal.returns-in_default-clause-err
 returns-in_default-clause-err g c = record {

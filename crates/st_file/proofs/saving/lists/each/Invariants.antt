@@ -1,0 +1,14 @@
+use Rattle.std.proofs.Common.{false, drop, map}
+use Rattle.serde_json.specs.View.{items_of}
+use Rattle.serde_json.specs.Written.{items_text}
+use Rattle.st_file.specs.declared.saving.text_writer.TextWriter.{TextWriter}
+use Rattle.st_file.specs.TextWriters.{DeviceView, PutsTo, device_view}
+use Rattle.st_file.proofs.saving.lists.each.Given as goal
+
+-- whatever puts the items that are left, and the closing bracket, puts all items
+abbrev pub invariant-loop-item : goal.invariant-loop-item
+invariant-loop-item g l =
+    let device = device_view g.O.Output.contents g.O.Output.failures g.O.Output.flushes in
+    (d : DeviceView) (w : TextWriter)
+    → PutsTo (device l.output) d l.writer w (items_text l.later (items_of (map (g.W.Writes.json l.by) (drop l.item-index l.list))))
+    → PutsTo (device l.initial.output) d l.initial.writer w (items_text false (items_of (map (g.W.Writes.json l.by) l.list)))

@@ -1,0 +1,8 @@
+use Rattle.std.proofs.Common.{codes, false}
+use Rattle.st_file.proofs.TextWriting.{puts_member, puts_then}
+use Rattle.st_file.proofs.saving.values.class.Goals as goal
+
+pub returns : goal.returns
+returns g c = puts_then c.put.ensures
+    (puts_member false (codes "class") c.key.ensures c.class_name.ensures
+    c.put-2.ensures)

@@ -1,0 +1,8 @@
+use Rattle.std.proofs.Common.{refl}
+use Rattle.st_classes.specs.declared.edits.Edit.TheVariants.{Remove}
+use Rattle.st_image.specs.declared.items.Item.TheVariants as item
+use Rattle.st_journal.proofs.Replayed.{does_alone}
+use Rattle.st_journal.proofs.redoing.edits.remove.Goals as goal
+
+pub returns-in-Ok-clause-ok : goal.returns-in-Ok-clause-ok
+returns-in-Ok-clause-ok g c = does_alone _ (item.Edited (Remove c.args.class c.args.selector)) _ _ refl tt c.known.ensures c.known-2.ensures c.in-Ok.ensures.0.1.0

@@ -1,0 +1,16 @@
+pub mod Alike
+pub mod Crashes
+pub mod Entries
+pub mod EntryForms
+pub mod EntryJson
+pub mod EntryLines
+pub mod EntryMeanings
+pub mod EntryShapes
+pub mod EntryTexts
+pub mod FileDevices
+pub mod Headers
+pub mod Marks
+pub mod Opened
+pub mod Recovery
+pub mod Refused
+pub mod Saved

@@ -1,0 +1,9 @@
+mod Appending
+mod Failing
+mod Kept
+mod LinesLaw
+mod Mending
+mod Moments
+mod Recovering
+mod Runs
+mod Texts

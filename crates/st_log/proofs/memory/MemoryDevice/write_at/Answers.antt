@@ -1,0 +1,7 @@
+use Rattle.st_log.proofs.Kept.{elapses_to}
+use Rattle.st_log.proofs.memory.MemoryDevice.write_at.Goals as goal
+
+pub returns-in-Ok-clause-time : goal.returns-in-Ok-clause-time
+returns-in-Ok-clause-time c =
+    let past = c.in-Ok.ensures.past in
+    elapses_to c.args.self.now.past.items c.overwrite.new.past.items past.0 c.args.self.now.bytes.items c.overwrite.new.bytes.items past.1 past.2

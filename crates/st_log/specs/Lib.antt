@@ -1,0 +1,5 @@
+pub mod Device
+pub mod Lines
+pub mod Logs
+pub mod Memory
+pub mod Past

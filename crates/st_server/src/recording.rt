@@ -1,0 +1,524 @@
+//! The journal of a served image, which is written while sessions and workers go on.
+//!
+//! What has happened is read in short holds of the image's lock, and told and written outside of it: so nobody waits for the disk but
+//! sessions whose replies are to be true after a crash. One thread at a time goes on with the journal.
+ghost use Rattle.std.specs.Prelude.{◌≡◌, IfErr, IfOk};
+ghost use Rattle.st_file.specs.Moments.{moment_of};
+ghost use Rattle.st_server.specs.Keepers.{IsFault, StaysOrFails};
+
+use crate::images::Mailbox;
+use crate::keepers::{JournalSettings, Keeper, copied};
+use crate::turns::Turns;
+use st_classes::names::Names;
+use st_classes::refusals::Refusal;
+use st_classes::token::Token;
+use st_file::moments::Moment;
+use st_image::items::Item;
+use st_journal::copying::copied_items;
+use st_journal::entries::Entry;
+use st_journal::lines::write_lines;
+use st_journal::telling::tell_since;
+use st_pool::holds::Reading;
+use st_pool::naming::Naming;
+use st_pool::office::Office;
+use st_pool::shared::Shared;
+use st_wire::streams::MemoryOutput;
+use std::alloc::{AllocError, Global};
+use std::sync::atomic::{AtomicU64, Ordering};
+use std::sync::{Condvar, CondvarTimeouts, Mutex, MutexGuard, Wait};
+use std::time::{Clock, Duration};
+
+/// How many items are copied in a hold at most, and told at once.
+const MOST_COPIED: usize = 1024;
+
+/// A batch of so many bytes is written before more is told.
+const MOST_BYTES: usize = 1 << 20;
+
+/// How often is read in a round at most. With so many readings all has been read that had happened when the round began: the history, and
+/// those that checkpoints have emptied.
+const READINGS: u32 = 1 << 15;
+
+/// How often an image is copied to save it, until nothing has happened that the journal does not tell.
+const COPIES: u32 = 16;
+
+/// The least pause between two rounds of the journal's thread, in milliseconds.
+const LEAST_PAUSE: u32 = 10;
+
+/// How many bytes and how many steps a unit of [`JournalSettings::save_after`] stands for.
+const BYTES: u64 = 1_000_000;
+
+const STEPS: u64 = 31_250_000;
+
+/// What was read in a hold: items, and the names and the class table by which they can be told.
+#[derive(Drop)]
+pub(crate) struct Read {
+    names: Names,
+    table: Token,
+    items: Vec<Item>,
+    /// Whether these are all items of a history that a checkpoint has emptied.
+    is_past: bool,
+    /// Whether more has happened.
+    is_left: bool,
+    /// How many steps the image had counted.
+    steps: u64,
+}
+
+/// Reads what has happened behind so many items of the history. If a checkpoint has emptied a history that was not taken, that is taken.
+#[derive(Drop)]
+pub(crate) struct Behind {
+    pub(crate) items: usize,
+}
+
+impl Behind {
+    /// What has happened, in a hold of the lock.
+    pub(crate) fn read_in<K: Naming>(
+        &self,
+        alloc: Global,
+        office: &mut Office<K, Mailbox>,
+    ) -> Result<Read, AllocError>
+        ensures { office.new ≡ office.old }
+    {
+        let names = office.image().names().again()?;
+        let table = office.image().token().again()?;
+        let steps = office.image().counted().steps;
+        if let Some(items) = office.take_past() {
+            return Ok(Read {
+                names,
+                table,
+                items,
+                is_past: true,
+                is_left: true,
+                steps,
+            });
+        }
+        let history = office.image().history();
+        let all = history.len();
+        let from = self.items.min(all);
+        let count = MOST_COPIED.min(all - from);
+        Ok(Read {
+            names,
+            table,
+            items: copied_items(alloc, &history[from..from + count])?,
+            is_past: false,
+            is_left: from + count < all,
+            steps,
+        })
+    }
+}
+
+impl<K: Naming> Reading<K, Mailbox> for Behind {
+    type Out = Result<Read, AllocError>;
+
+    fn read(self, alloc: Global, office: &mut Office<K, Mailbox>) -> Result<Read, AllocError> {
+        self.read_in(alloc, office)
+    }
+}
+
+/// Copies an image to save it, and reads what has happened that its journal does not tell.
+#[derive(Drop)]
+pub(crate) struct CopyingBehind {
+    pub(crate) behind: Behind,
+}
+
+/// What was copied, and what was read.
+pub(crate) type Copied = (Result<Moment, Refusal>, Result<Read, AllocError>);
+
+impl CopyingBehind {
+    /// Both, in a hold of the lock.
+    pub(crate) fn copy_in<K: Naming>(
+        &self,
+        alloc: Global,
+        office: &mut Office<K, Mailbox>,
+    ) -> Copied
+        ensures same { office.new ≡ office.old }
+        ensures moment { IfOk result.0 (λ m. m ≡ moment_of office.old.image) }
+        ensures fault { IfErr result.0 IsFault }
+    {
+        let moment = copied(alloc, office.image());
+        let read = self.behind.read_in(alloc, office);
+        (moment, read)
+    }
+}
+
+impl<K: Naming> Reading<K, Mailbox> for CopyingBehind {
+    type Out = Copied;
+
+    fn read(self, alloc: Global, office: &mut Office<K, Mailbox>) -> Copied {
+        self.copy_in(alloc, office)
+    }
+}
+
+/// How far a journal is.
+#[derive(Drop)]
+pub(crate) struct Progress {
+    /// How many names are told.
+    names: u32,
+    /// What was read of a history that a checkpoint has emptied, until all of it is told.
+    past: Option<Read>,
+    /// How many items are told, of that history or else of the present one.
+    items: usize,
+    /// What is told and not on the disk.
+    text: Vec<u8>,
+    /// Whether the text is a batch, with an empty line at its end.
+    is_batch: bool,
+    /// The number of the last round that has ended.
+    round: u64,
+    /// How many steps the image had counted by then.
+    steps: u64,
+    /// The image is saved when the journal has so many bytes,
+    most_bytes: u64,
+    /// or when the image has counted so many steps.
+    most_steps: u64,
+}
+
+/// Why an image is not copied or saved: there was no memory, or the journal could not be written, whatever was in the way.
+fn as_fault(refusal: Refusal) -> Refusal
+    ensures { IsFault result }
+{
+    match refusal {
+        Refusal::NoMemory => Refusal::NoMemory,
+        _ => Refusal::WriteFault,
+    }
+}
+
+/// The lines of entries.
+fn lines(alloc: Global, read: &Read, entries: &[Entry]) -> Result<MemoryOutput, Refusal> {
+    let mut lines = MemoryOutput::new(alloc);
+    match write_lines(alloc, &read.names, read.table.shown(), entries, &mut lines) {
+        Ok(_) => Ok(lines),
+        Err(_) => Err(Refusal::NoMemory),
+    }
+}
+
+/// The lines of a checkpoint.
+fn checkpoint(alloc: Global, read: &Read) -> Result<MemoryOutput, Refusal> {
+    lines(alloc, read, &[Entry::Checkpoint])
+}
+
+impl Progress {
+    /// Nothing is told but so many names and items.
+    fn new(alloc: Global, names: u32, items: usize) -> Progress {
+        Progress {
+            names,
+            past: None,
+            items,
+            text: Vec::new(alloc),
+            is_batch: false,
+            round: 0,
+            steps: 0,
+            most_bytes: u64::MAX,
+            most_steps: u64::MAX,
+        }
+    }
+
+    /// Whether the image is to be saved.
+    fn is_due(&self, end: u64) -> bool {
+        end >= self.most_bytes || self.steps >= self.most_steps
+    }
+
+    /// The image is saved next when that much more has happened.
+    fn wait_for_more(&mut self, end: u64, settings: JournalSettings) {
+        let units = u64::from(settings.save_after);
+        self.most_bytes = end.saturating_add(units.saturating_mul(BYTES));
+        self.most_steps = self.steps.saturating_add(units.saturating_mul(STEPS));
+    }
+
+    /// Tells the names that were read and the items from one place to another. After an error nothing is told.
+    fn tell(&mut self, alloc: Global, read: &Read, from: usize, to: usize) -> Result<(), Refusal> {
+        let items = read.items.get(from..to).unwrap_or(&[]);
+        let entries = tell_since(alloc, &read.names, self.names, items)?;
+        let lines = lines(alloc, read, entries.as_slice())?;
+        self.text.extend_from_slice(lines.as_slice())?;
+        self.names = read.names.len();
+        Ok(())
+    }
+
+    /// Tells what was read of the present history. After an error nothing is told.
+    fn tell_present(&mut self, alloc: Global, read: &Read) -> Result<(), Refusal> {
+        let count = read.items.len();
+        self.tell(alloc, read, 0, count)?;
+        self.items = self.items.saturating_add(count);
+        Ok(())
+    }
+
+    /// Tells some of a history that a checkpoint has emptied, and the checkpoint behind the last of it. The answer is whether all is told.
+    fn tell_past(&mut self, alloc: Global, read: &Read) -> Result<bool, Refusal> {
+        let from = self.items.min(read.items.len());
+        let count = MOST_COPIED.min(read.items.len() - from);
+        if count > 0 {
+            self.tell(alloc, read, from, from + count)?;
+            self.items = from + count;
+            return Ok(false);
+        }
+        let lines = checkpoint(alloc, read)?;
+        self.text.extend_from_slice(lines.as_slice())?;
+        self.items = 0;
+        Ok(true)
+    }
+
+    /// Has what is told written, if anything is.
+    fn write<S: Keeper>(&mut self, alloc: Global, keeper: &S) -> Result<(), Refusal> {
+        if self.text.is_empty() {
+            return Ok(());
+        }
+        if !self.is_batch {
+            self.text.extend_from_slice(b"\n")?;
+            self.is_batch = true;
+        }
+        keeper.append(alloc, self.text.as_slice())?;
+        self.text.clear();
+        self.is_batch = false;
+        Ok(())
+    }
+}
+
+/// Goes on with the journal of a served image, if there is one.
+#[derive(Drop)]
+pub struct Recorder<'a, K: Naming, S: Keeper> {
+    shared: &'a Shared<K, Mailbox>,
+    keeper: &'a S,
+    /// How many rounds have begun.
+    rounds: AtomicU64,
+    progress: Mutex<Progress>,
+    is_ended: Mutex<bool>,
+    ending: Condvar,
+}
+
+impl<'a, K: Naming, S: Keeper> Recorder<'a, K, S> {
+    /// Of the image that is shared the keeper's journal has so many names and items, if there is one.
+    pub fn new(
+        alloc: Global,
+        shared: &'a Shared<K, Mailbox>,
+        keeper: &'a S,
+        names: u32,
+        items: usize,
+    ) -> Recorder<'a, K, S> {
+        Recorder {
+            shared,
+            keeper,
+            rounds: AtomicU64::new(0),
+            progress: Mutex::new(Progress::new(alloc, names, items)),
+            is_ended: Mutex::new(false),
+            ending: Condvar::new(),
+        }
+    }
+
+    /// Whether there is a journal.
+    pub(crate) fn is_kept(&self) -> bool {
+        self.keeper.journal().is_some()
+    }
+
+    /// Waits for the right to go on with the journal.
+    pub(crate) fn lock<R: Wait>(&self, rt: &R) -> MutexGuard<'_, Progress> {
+        self.progress.lock(rt)
+    }
+
+    /// Tells some of what has happened. The answer is whether there may be more.
+    fn tell_some<R: Wait>(
+        &self,
+        rt: &R,
+        alloc: Global,
+        progress: &mut Progress,
+    ) -> Result<bool, Refusal> {
+        if let Some(past) = progress.past.take() {
+            let told = progress.tell_past(alloc, &past);
+            match told {
+                Ok(true) => {}
+                _ => progress.past = Some(past),
+            }
+            return match told {
+                Ok(_) => Ok(true),
+                Err(refusal) => Err(refusal),
+            };
+        }
+        let read = self.shared.read(
+            rt,
+            alloc,
+            Behind {
+                items: progress.items,
+            },
+        )?;
+        self.take_in(alloc, progress, read)
+    }
+
+    /// Tells what was read of the present history, or keeps what was read of an earlier one. The answer is whether there may be more.
+    fn take_in(
+        &self,
+        alloc: Global,
+        progress: &mut Progress,
+        read: Read,
+    ) -> Result<bool, Refusal> {
+        progress.steps = read.steps;
+        if read.is_past {
+            progress.past = Some(read);
+            return Ok(true);
+        }
+        progress.tell_present(alloc, &read)?;
+        Ok(read.is_left)
+    }
+
+    /// Tells and writes all that has happened until now. After an error some of it is, and the next round goes on from there.
+    pub(crate) fn round<R: Wait>(
+        &self,
+        rt: &R,
+        alloc: Global,
+        progress: &mut Progress,
+    ) -> Result<(), Refusal> {
+        let number = self.rounds.fetch_add(1, Ordering::SeqCst).wrapping_add(1);
+        for _ in 0..READINGS {
+            if progress.is_batch || progress.text.len() >= MOST_BYTES {
+                progress.write(alloc, self.keeper)?;
+            }
+            if !self.tell_some(rt, alloc, progress)? {
+                break;
+            }
+        }
+        progress.write(alloc, self.keeper)?;
+        progress.round = number;
+        Ok(())
+    }
+
+    /// Waits until all that has happened until now is on the disk, if replies wait for that. Sessions that wait together share a round.
+    pub(crate) fn reach<R: Wait>(&self, rt: &R, alloc: Global) -> Result<(), Refusal> {
+        match self.keeper.journal() {
+            Some(settings) if settings.pause == 0 => {}
+            _ => return Ok(()),
+        }
+        let begun = self.rounds.load(Ordering::SeqCst);
+        let mut progress = self.progress.lock(rt);
+        if progress.round > begun {
+            return Ok(());
+        }
+        self.round(rt, alloc, &mut progress)
+    }
+
+    /// Where the next reading begins.
+    pub(crate) fn behind(&self, progress: &Progress) -> Behind {
+        Behind {
+            items: progress.items,
+        }
+    }
+
+    /// Writes what was read in a hold behind a round, in which an image was copied. The answer is what was copied, and where the journal
+    /// ends that tells all that led there; none where more had happened than was read.
+    pub(crate) fn settle(
+        &self,
+        alloc: Global,
+        progress: &mut Progress,
+        told: Result<(), Refusal>,
+        copied: Copied,
+    ) -> (Result<Moment, Refusal>, Option<u64>)
+        ensures { StaysOrFails copied.0 result.0 }
+    {
+        let (moment, read) = copied;
+        match self.write_read(alloc, progress, told, read) {
+            Ok(end) => (moment, end),
+            Err(refusal) => (Err(as_fault(refusal)), Some(0)),
+        }
+    }
+
+    /// Writes what was read behind a round. The answer is where the journal ends, or none where more had happened.
+    fn write_read(
+        &self,
+        alloc: Global,
+        progress: &mut Progress,
+        told: Result<(), Refusal>,
+        read: Result<Read, AllocError>,
+    ) -> Result<Option<u64>, Refusal> {
+        told?;
+        let read = read?;
+        if self.take_in(alloc, progress, read)? {
+            return Ok(None);
+        }
+        progress.write(alloc, self.keeper)?;
+        Ok(Some(self.keeper.end()))
+    }
+
+    /// Ends [`Recorder::go_on`].
+    pub(crate) fn end<R: Wait>(&self, rt: &R) {
+        *self.is_ended.lock(rt) = true;
+        self.ending.notify_all();
+    }
+
+    /// Waits so many milliseconds, or until the end. The answer is whether it is the end.
+    fn pause<R: Wait + Clock>(&self, rt: &R, pause: u32) -> bool {
+        let before = self.is_ended.lock(rt);
+        let most = Duration::from_millis(u64::from(pause));
+        let (behind, _) = self
+            .ending
+            .wait_timeout_while(rt, before, most, |is_ended| !*is_ended);
+        *behind
+    }
+
+    /// Writes what has happened now and then, until the end, and saves the image where much has. Why that cannot be is told by the keeper.
+    pub(crate) fn go_on<R: Wait + Clock>(&self, rt: &R, alloc: Global, turns: &Turns) {
+        let Some(settings) = self.keeper.journal() else {
+            return;
+        };
+        self.progress.lock(rt).wait_for_more(0, settings);
+        for _ in rt.forever() {
+            if self.pause(rt, settings.pause.max(LEAST_PAUSE)) {
+                return;
+            }
+            self.write_all(rt, alloc);
+            if self.is_due(rt) {
+                self.save(rt, alloc, turns, settings);
+            }
+        }
+    }
+
+    /// Writes all that has happened until now, if there is a journal. Why that cannot be is told by the keeper.
+    pub(crate) fn write_all<R: Wait>(&self, rt: &R, alloc: Global) {
+        if !self.is_kept() {
+            return;
+        }
+        let mut progress = self.progress.lock(rt);
+        let _ = self.round(rt, alloc, &mut progress);
+        drop(progress);
+        self.keeper.tell();
+    }
+
+    /// Whether the image is to be saved, since much has happened.
+    fn is_due<R: Wait>(&self, rt: &R) -> bool {
+        let progress = self.progress.lock(rt);
+        progress.is_due(self.keeper.end())
+    }
+
+    /// What the image is now, and where the journal ends that tells all that led there.
+    fn copy<R: Wait>(&self, rt: &R, alloc: Global) -> Result<(Moment, u64), Refusal> {
+        let mut progress = self.progress.lock(rt);
+        for _ in 0..COPIES {
+            let told = self.round(rt, alloc, &mut progress);
+            let behind = self.behind(&progress);
+            let copied = self.shared.read(rt, alloc, CopyingBehind { behind });
+            let (moment, read) = copied;
+            let end = self.write_read(alloc, &mut progress, told, read)?;
+            let moment = moment?;
+            if let Some(end) = end {
+                return Ok((moment, end));
+            }
+        }
+        Err(Refusal::NoMemory)
+    }
+
+    /// Has the image written and kept.
+    fn keep<R: Wait>(&self, rt: &R, alloc: Global) -> Result<(), Refusal> {
+        let (moment, from) = self.copy(rt, alloc)?;
+        self.keeper.write(alloc, &moment)?;
+        let progress = self.progress.lock(rt);
+        let replaced = self.keeper.replace(alloc, from);
+        drop(progress);
+        replaced
+    }
+
+    /// Saves the image, as a session does. Whether it is saved or not, it is saved next when much more has happened.
+    fn save<R: Wait>(&self, rt: &R, alloc: Global, turns: &Turns, settings: JournalSettings) {
+        let turn = turns.save(rt);
+        let _ = self.keep(rt, alloc);
+        let mut progress = self.progress.lock(rt);
+        progress.wait_for_more(self.keeper.end(), settings);
+        drop(progress);
+        drop(turn);
+        self.keeper.tell();
+    }
+}

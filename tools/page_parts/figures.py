@@ -63,7 +63,8 @@ class Figures:
         self.at = now
         posts = rate(status["posts"], before and before["posts"], seconds)
         steps = rate(status["steps"], before and before["steps"], seconds)
-        self.points.append((round(time.time(), 1), posts, round(turns, 1), steps, waiting))
+        if before:
+            self.points.append((round(time.time(), 1), posts, round(turns, 1), steps, waiting))
         used = self.processors.used()
         self.last = {
             "posts": posts,

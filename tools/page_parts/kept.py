@@ -56,7 +56,7 @@ class Kept:
         self.begin()
 
     def begin(self):
-        self.version, self.installs, self.history, self.seen = 0, {}, {}, []
+        self.version, self.installs, self.history, self.seen, self.is_first = 0, {}, {}, [], True
         self.anew += 1
         self.classes = {name: Class(name, "Object", []) for name in KERNEL_CLASSES}
         self.classes["Object"].above = None
@@ -68,13 +68,13 @@ class Kept:
                 if self.connection not in (None, self.line.begun) and epoch != self.epoch:
                     self.begin()
                 self.connection, self.epoch = self.line.begun, epoch
-            is_first = self.version == 0
             while True:
                 told = self.line.ask({"cmd": "edits", "from": self.version})
                 for edit in told["edits"]:
-                    self.take(edit, None if is_first else time.time())
+                    self.take(edit, None if self.is_first else time.time())
                 if self.version >= told["version"]:
-                    return
+                    break
+            self.is_first = False
 
     def take(self, edit, now):
         """An edit as image files have it; `now` is None for those that were there before."""

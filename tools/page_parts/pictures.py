@@ -7,6 +7,9 @@ from .stats import POSTS
 
 # Ticks of the mailboxes over time, the actors that are kept of each tick, and those that are shown.
 TICKS, KEPT, SHOWN = 180, 48, 14
+# Ticks of which the picture of posts is, and the part of what a class accepted from which on clients are taken to have posted it: the
+# counts of sites and those of mailboxes are never of one moment.
+OF_POSTS, REST = 10, 0.2
 
 
 class Boxes:
@@ -32,7 +35,7 @@ class Boxes:
         longest = sorted(sums, key=lambda it: (-sums[it], it))[:SHOWN]
         return [
             {"actor": it, "class": rows.class_of(None, it) or "", "waits": [tick.get(it, 0) for tick in self.ticks]}
-            for it in sorted(longest)
+            for it in longest
         ]
 
 
@@ -45,7 +48,7 @@ class Posts:
         self.clear()
 
     def clear(self):
-        self.sites, self.accepted, self.at, self.edges, self.nodes = {}, {}, None, [], []
+        self.samples, self.edges, self.nodes = deque(maxlen=OF_POSTS + 1), [], []
 
     def methods(self, kept):
         """The methods that post."""
@@ -62,12 +65,12 @@ class Posts:
             accepted[name] = accepted.get(name, 0) + row["accepted"]
             actors[name] = actors.get(name, 0) + 1
             waiting[name] = waiting.get(name, 0) + row["accepted"] - row["begun"]
-        seconds = now - self.at if self.at else 0
-        if seconds > 0:
-            got = {name: max(0, number - self.accepted.get(name, 0)) / seconds for name, number in accepted.items()}
-            sent = {key: max(0, sends - self.sites.get(key, (0,))[0]) / seconds for key, (sends, _) in sites.items()}
+        self.samples.append((now, sites, accepted))
+        before, old_sites, old_accepted = self.samples[0]
+        if now > before:
+            got = {name: max(0, number - old_accepted.get(name, 0)) / (now - before) for name, number in accepted.items()}
+            sent = {key: max(0, sends - old_sites.get(key, (0,))[0]) / (now - before) for key, (sends, _) in sites.items()}
             self.draw(kept, sites, sent, got, actors, waiting)
-        self.sites, self.accepted, self.at = sites, accepted, now
 
     def posting(self, kept, stats, method):
         """The sites of a method that post, each with how often, and what it posts."""
@@ -91,8 +94,7 @@ class Posts:
                     given[it] = given.get(it, 0) + share
         for name, rate in got.items():
             rest = rate - given.get(name, 0)
-            # Two counts are never of one moment, so a small rest means nothing.
-            if rest > max(0.5, rate / 20):
+            if rest > rate * REST:
                 edges["", name] = rest
         used = {it for edge in edges for it in edge}
         names = sorted((it for it in actors if it in used or waiting[it]), key=lambda it: -got.get(it, 0))[:24]

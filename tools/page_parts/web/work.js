@@ -15,8 +15,17 @@ const list = h("div", { id: "cards", role: "log", "aria-label": "What was typed 
 const names = h("div", { id: "names", "aria-label": "Names" });
 const stops = button("plain", "Break off", () => type({ break: true }), { title: "Stops waiting for the entry that goes on", hidden: true, id: "break" });
 
+const folds = button("", "▾", () => fold(!$("#work").classList.contains("folded")), { title: "Folds the workspace to one line", "aria-label": "Fold the workspace", id: "fold" });
+
+function fold(isFolded) {
+  $("#work").classList.toggle("folded", isFolded);
+  folds.textContent = isFolded ? "▴" : "▾";
+  folds.setAttribute("aria-expanded", String(!isFolded));
+  dispatchEvent(new Event("resize"));
+}
+
 export function workspace() {
-  put($("#work"), h("header", {}, h("h2", {}, "Workspace"), h("span", { of: "faint grow cut" }, "what is typed is Smalltalk, as in tools/workspace; :help lists more; Shift+Enter begins a line"), stops, h("kbd", {}, "Ctrl `")),
+  put($("#work"), h("header", {}, h("h2", {}, "Workspace"), h("span", { of: "faint grow cut" }, "what is typed is Smalltalk, as in tools/workspace; :help lists more; Shift+Enter begins a line"), stops, h("kbd", {}, "Ctrl `"), folds),
     list, names, h("div", { id: "typed" }, h("span", { of: "faint code", "aria-hidden": "true" }, "›"), field));
   field.value = sessionStorage.getItem(KEPT) || "";
   grow();

@@ -3,9 +3,9 @@
 import time
 import traceback
 
-from . import browser, try_letting_in
+from . import browser, try_actors, try_classes, try_letting_in, try_typed
 
-PARTS = (try_letting_in,)
+PARTS = (try_letting_in, try_classes, try_actors, try_typed)
 OF_BROWSER = ()
 
 

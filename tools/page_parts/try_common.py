@@ -149,6 +149,6 @@ class Opened:
 
 def post(image, sender, *messages):
     """Posts messages and waits until their turns have ended, however they do."""
-    for turn in image.sender(sender).post_all(messages):
+    for turn in list(image.sender(sender).post_all(messages)):
         with contextlib.suppress(actorimage.Fault):
             image.wait(turn)

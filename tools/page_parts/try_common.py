@@ -4,6 +4,7 @@ import contextlib
 import http.client
 import json
 import os
+import socket
 import subprocess
 import sys
 import tempfile
@@ -129,7 +130,8 @@ class Opened:
         events, seen = [], {"view": "browse", **view}
         connection = http.client.HTTPConnection("127.0.0.1", self.port, timeout=PATIENCE)
         connection.request("POST", "/watch", json.dumps(seen), self.good())
-        reply = connection.getresponse()
+        # The reply takes the socket along, since it ends with it.
+        stream, reply = connection.sock, connection.getresponse()
         same(reply.status, 200)
 
         def read():
@@ -143,8 +145,8 @@ class Opened:
             yield events
         finally:
             with contextlib.suppress(OSError):
-                connection.sock and connection.sock.shutdown(2)
-            connection.close()
+                stream.shutdown(socket.SHUT_RDWR)
+            reply.close()
 
 
 def post(image, sender, *messages):

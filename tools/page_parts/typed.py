@@ -172,7 +172,9 @@ class Typed:
         if kind == "refused" and str(session.answer).startswith("fault "):
             self.explain()
             return "fault"
-        return "refused" if kind == "refused" else "done"
+        if kind != "refused":
+            return "done"
+        return "refused" if session.log.connection.line.image else "lost"
 
     def explain(self):
         """What is said of a fault besides, for whoever asks where it was."""

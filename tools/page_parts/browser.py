@@ -16,7 +16,7 @@ ELEMENT = "element-6066-11e4-a52e-4f735466cecf"
 ENTER, ESCAPE, TAB, DOWN, UP, LEFT, RIGHT, END = "\ue007", "\ue00c", "\ue004", "\ue015", "\ue013", "\ue012", "\ue014", "\ue010"
 HELD = {"ctrl": "\ue009", "shift": "\ue008", "alt": "\ue00a"}
 # Seconds in which what is waited for has to be there, on a machine that may have other work to do.
-PATIENCE = 60.0
+PATIENCE = float(os.environ.get("SECONDS_OF_PATIENCE", "60"))
 
 
 class Failed(AssertionError):

@@ -3,10 +3,9 @@
 import time
 import traceback
 
-from . import browser, try_actors, try_classes, try_letting_in, try_typed
+from . import browser, try_actors, try_classes, try_in_browser, try_letting_in, try_typed
 
-PARTS = (try_letting_in, try_classes, try_actors, try_typed)
-OF_BROWSER = ()
+PARTS = (try_letting_in, try_classes, try_actors, try_typed, try_in_browser)
 
 
 def all_trials():

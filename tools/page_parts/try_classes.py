@@ -119,7 +119,8 @@ def compared():
 
 def a_method_is_told(program):
     """A method with its sites, states, senders, those who post it, implementors and versions; an inherited one, the kernel's, and none."""
-    with image_of(program) as (server, image), Opened(server.path) as opened:
+    # With more workers the state of a site could be that of the one that has seen less.
+    with image_of(program, workers="1") as (server, image), Opened(server.path) as opened:
         ledger, till = image.new_actor("Ledger"), image.new_actor("Till")
         ledger_of = image.new_actor("Auditor")
         post(image, 1, (ledger, "auditor:", ledger_of), (till, "open:", ledger), *[(till, "sell:", 6)] * 10)

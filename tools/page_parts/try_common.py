@@ -22,7 +22,7 @@ from .serving import Server
 HERE = os.path.dirname(os.path.realpath(__file__))
 WORKSPACE, SHOP = os.path.join(TOP, "tools", "workspace"), os.path.join(HERE, "shop.st")
 # Seconds in which what is waited for has to come, on a machine that may have other work to do.
-PATIENCE = 60.0
+PATIENCE = float(os.environ.get("SECONDS_OF_PATIENCE", "60"))
 SECRET = "t" * 43
 
 
@@ -42,9 +42,9 @@ def true(found, what):
 
 
 @contextlib.contextmanager
-def image_of(program, *options, shop=True):
+def image_of(program, *options, shop=True, workers="2"):
     """A served image, with the classes of the shop, and a client of it."""
-    with tempfile.TemporaryDirectory() as folder, ImageServer(program, folder, "--workers", "2", *options) as server:
+    with tempfile.TemporaryDirectory() as folder, ImageServer(program, folder, "--workers", workers, *options) as server:
         if shop:
             load(server.path)
         with actorimage.connect(server.path) as image:

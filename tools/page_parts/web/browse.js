@@ -1,7 +1,6 @@
 // The view of classes and methods: lists side by side, and the source.
 
-import { look } from "./ask.js";
-import { change } from "./ask.js";
+import { change, look } from "./ask.js";
 import { button, h, plural, put, toast } from "./dom.js";
 import { hasDraft } from "./drafts.js";
 import { at, go, image, selectors, slotsOf } from "./image.js";
@@ -94,8 +93,8 @@ function drawShapes() {
 
 // Shows the view. Without a selector the first method is opened.
 export function show(main) {
-  put(main, tree.root, middle, pane.root);
-  tree.draw();
+  // What has the focus keeps it while one goes from class to class.
+  if (tree.root.parentNode !== main) { put(main, tree.root, middle, pane.root); tree.draw(); }
   tree.select();
   if (at.selector === undefined) at.selector = selectors(at.class, false).find(it => !it.isKernel)?.selector ?? selectors(at.class, false)[0]?.selector ?? null;
   list();

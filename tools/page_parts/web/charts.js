@@ -46,7 +46,7 @@ const FULL = 64, SHADES = 16;
 export class Boxes {
   constructor() {
     this.names = h("div", { of: "names" });
-    this.canvas = h("canvas", { role: "img" });
+    this.canvas = h("canvas", { role: "img", "aria-label": "no message waited yet" });
     const mark = (name, text) => h("span", {}, h("i", { of: "cell", style: { background: `var(${name})` } }), text);
     this.root = h("section", { of: "pane", "aria-label": "Mailboxes over time" }, h("header", {}, h("h2", { of: "cut" }, "Mailboxes over time"), h("span", { of: "dim grow cut" }, "the longest of three minutes"), h("span", { of: "legend" }, mark("--fresh", "0"), mark("--amber", "32"), mark("--red", "64"))),
       h("div", { of: "strips" }, this.names, h("div", { of: "picture" }, this.canvas)));

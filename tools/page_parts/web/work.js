@@ -13,7 +13,7 @@ const field = h("textarea", { rows: "1", spellcheck: "false", autocapitalize: "o
   placeholder: "c := Counter actor. c bump", onkeydown: event => pressed(event), oninput: () => { grow(); sessionStorage.setItem(KEPT, field.value); } });
 const list = h("div", { id: "cards", role: "log", "aria-label": "What was typed and answered", tabindex: "0" });
 const names = h("div", { id: "names", "aria-label": "Names" });
-const stops = button("plain", "Break off", () => type({ break: true }), { title: "Stops waiting for the entry that goes on", hidden: true, id: "break" });
+const stops = button("plain", "Break off", () => { field.focus(); type({ break: true }); }, { title: "Stops waiting for the entry that goes on", hidden: true, id: "break" });
 
 const folds = button("", "▾", () => fold(!$("#work").classList.contains("folded")), { title: "Folds the workspace to one line", "aria-label": "Fold the workspace", id: "fold" });
 
@@ -66,9 +66,14 @@ async function send() {
   if (!text.trim()) return;
   typed = [...typed, text];
   place = typed.length;
+  write("");
   const reply = await type({ text });
-  if (reply.error) { refused(reply.said); return; }
-  if (field.value === text) { field.value = ""; sessionStorage.removeItem(KEPT); }
+  if (reply.error) { refused(reply.said); write(text + field.value); }
+}
+
+function write(text) {
+  field.value = text;
+  sessionStorage.setItem(KEPT, text);
   grow();
 }
 

@@ -3,9 +3,11 @@
 import time
 import traceback
 
-from . import browser, try_actors, try_classes, try_in_browser, try_letting_in, try_typed
+from . import browser, try_actors, try_classes, try_in_browser, try_letting_in, try_lost_in_browser, try_sizes_in_browser, try_typed, watch
 
-PARTS = (try_letting_in, try_classes, try_actors, try_typed, try_in_browser)
+PARTS = (try_letting_in, try_classes, try_actors, try_typed, try_in_browser, try_lost_in_browser, try_sizes_in_browser)
+# Seconds of a tick in a trial.
+TICK = 0.2
 
 
 def all_trials():
@@ -25,6 +27,7 @@ def try_all(program, named):
         print(f"tools/page: there are the trials {', '.join(it.__name__ for it in found)}")
         return 1
     wrong = left = 0
+    watch.TICK = TICK
     for trial in chosen:
         began = time.monotonic()
         try:

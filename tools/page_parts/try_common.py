@@ -20,7 +20,7 @@ from .page import Page
 from .serving import Server
 
 HERE = os.path.dirname(os.path.realpath(__file__))
-WORKSPACE, SHOP = os.path.join(TOP, "tools", "workspace"), os.path.join(HERE, "shop.st")
+WORKSPACE, PAGE, SHOP = os.path.join(TOP, "tools", "workspace"), os.path.join(TOP, "tools", "page"), os.path.join(HERE, "shop.st")
 # Seconds in which what is waited for has to come, on a machine that may have other work to do.
 PATIENCE = float(os.environ.get("SECONDS_OF_PATIENCE", "60"))
 SECRET = "t" * 43

@@ -10,7 +10,7 @@ import time
 
 from .letting_in import CHECKS, HEADERS, MOST_BYTES, MOST_CONNECTIONS, user_of
 from .serving import Request
-from .try_common import PATIENCE, SECRET, Opened, image_of, same, true, until
+from .try_common import PAGE, PATIENCE, SECRET, Opened, image_of, same, true, until
 
 LOOK = json.dumps({"what": "implementors", "selector": "isNil"}).encode()
 
@@ -146,7 +146,7 @@ def the_token_is_hidden(program):
         true("set-cookie" not in text.lower(), "a cookie is set")
         for name, value in HEADERS.items():
             true(f"{name}: {value}\r\n" in text, f"{name} is missing")
-        started = [subprocess.Popen([sys.executable, os.path.join(os.path.dirname(os.path.dirname(__file__)), "page"), server.path], stdout=subprocess.PIPE, text=True) for _ in range(2)]
+        started = [subprocess.Popen([sys.executable, PAGE, server.path], stdout=subprocess.PIPE, text=True) for _ in range(2)]
         try:
             addresses = [it.stdout.readline().strip() for it in started]
             tokens = [it.partition("#")[2] for it in addresses]

@@ -144,6 +144,7 @@ function begin() {
   $("#theme").onclick = () => { const to = document.documentElement.dataset.theme === "dark" ? "light" : "dark"; localStorage.setItem("actorimage-theme", to); theme(to); };
   document.addEventListener("keydown", pressed);
   document.addEventListener("visibilitychange", seen);
+  addEventListener("pagehide", remember);
   addEventListener("resize", () => { if (at.view === "actors" && image.classes.size) actors.resized(); });
   if (!hasToken) {
     put($("#main"), h("section", { of: "pane" }, h("div", { of: "nothing", id: "nothing" }, "This page was opened without its token: open the address that tools/page printed.")));

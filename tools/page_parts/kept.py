@@ -52,7 +52,9 @@ class Kept:
     the selector and the source of each install, by its version."""
 
     def __init__(self, line):
-        self.line, self.lock, self.anew, self.connection, self.epoch = line, threading.RLock(), 0, None, None
+        self.line, self.anew, self.connection, self.epoch = line, 0, None, None
+        # One thread asks for edits at a time, and what is kept changes under a lock that is held for no question.
+        self.asking, self.lock = threading.RLock(), threading.RLock()
         self.begin()
 
     def begin(self):
@@ -63,15 +65,17 @@ class Kept:
 
     def catch_up(self, epoch=None):
         """Asks for the edits that are not known. Behind a lost connection the image may be another one, unless its epoch is as it was."""
-        with self.lock:
+        with self.asking:
             if epoch is not None:
                 if self.connection not in (None, self.line.begun) and epoch != self.epoch:
-                    self.begin()
+                    with self.lock:
+                        self.begin()
                 self.connection, self.epoch = self.line.begun, epoch
             while True:
                 told = self.line.ask({"cmd": "edits", "from": self.version})
-                for edit in told["edits"]:
-                    self.take(edit, None if self.is_first else time.time())
+                with self.lock:
+                    for edit in told["edits"]:
+                        self.take(edit, None if self.is_first else time.time())
                 if self.version >= told["version"]:
                     break
             self.is_first = False
@@ -113,7 +117,7 @@ class Kept:
         return next((it for it in self.chain(name) if has(it, selector)), None)
 
     def implementors(self, selector):
-        return [it.name for it in self.classes.values() if has(it, selector)]
+        return [it.name for it in list(self.classes.values()) if has(it, selector)]
 
     def source(self, name, selector):
         """The source and the version of a class's own method; None if it has none, or the kernel's."""
@@ -127,7 +131,7 @@ class Kept:
     def gone(self, name):
         """The selectors of methods that the class had of its own and has no more."""
         own = self.classes[name].methods if name in self.classes else {}
-        return sorted(selector for holder, selector in self.history if holder == name and selector not in own)
+        return sorted(selector for holder, selector in list(self.history) if holder == name and selector not in own)
 
 
 def has(it, selector):

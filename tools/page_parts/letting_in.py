@@ -9,6 +9,8 @@ import os
 TOKEN = "X-Actorimage"
 # Bytes of a request, connections at once, and seconds in which a request has to be there whole.
 MOST_BYTES, MOST_CONNECTIONS, SECONDS = 32_768, 32, 15
+# Connections at once of other users, who are refused.
+OF_OTHERS = 4
 # What a page may do: load its own files and ask its own server, and nothing else. No text can become a script or an element.
 POLICY = {
     "default-src": "'none'",

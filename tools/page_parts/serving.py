@@ -6,7 +6,7 @@ import threading
 from http.server import BaseHTTPRequestHandler, ThreadingHTTPServer
 from urllib.parse import urlsplit
 
-from .letting_in import HEADERS, MOST_BYTES, MOST_CONNECTIONS, SECONDS, Gate, Refused, user_of
+from .letting_in import HEADERS, MOST_BYTES, MOST_CONNECTIONS, OF_OTHERS, SECONDS, Gate, Refused, user_of
 
 WEB = os.path.join(os.path.dirname(os.path.realpath(__file__)), "web")
 KINDS = {"html": "text/html", "css": "text/css", "js": "text/javascript", "svg": "image/svg+xml"}
@@ -32,14 +32,20 @@ class Request(BaseHTTPRequestHandler):
         self.user = user_of(self.client_address, self.connection.getsockname())
 
     def handle(self):
-        """One connection beyond those that there may be is let go."""
-        if self.server.room.acquire(blocking=False):
+        """One connection beyond those that there may be is let go. Other users, who are refused, take no place of the own one."""
+        room = self.server.room if self.user == os.getuid() else self.server.others
+        if room.acquire(blocking=False):
             try:
                 super().handle()
             except (ConnectionError, TimeoutError):
                 pass
             finally:
-                self.server.room.release()
+                room.release()
+
+    def send_error(self, code, message=None, explain=None):
+        """What is no request at all, or of a kind that there is not."""
+        self.close_connection = True
+        self.reply(code, "text/plain", b"this is not taken\n")
 
     def do_GET(self):
         self.asks = False
@@ -123,7 +129,8 @@ class Server(ThreadingHTTPServer):
     def __init__(self, page, token, port=0):
         super().__init__(("127.0.0.1", port), Request)
         self.page, self.gate, self.headers = page, Gate(self.server_address[1], token), HEADERS
-        self.room, self.files = threading.BoundedSemaphore(MOST_CONNECTIONS), files()
+        self.room, self.others = threading.BoundedSemaphore(MOST_CONNECTIONS), threading.BoundedSemaphore(OF_OTHERS)
+        self.files = files()
 
     @property
     def address(self):

@@ -41,16 +41,16 @@ class Connection:
     file = None
 
     def __init__(self, line, begin_again):
-        self.line, self.begin_again, self.begun = line, begin_again, None
+        self.line, self.begin_again, self.before = line, begin_again, None
 
     def begin(self):
-        """An entry begins. Behind a session that broke the image may be another one."""
+        """An entry begins. Behind a session that broke, the image may be another one, unless its epoch is as it was."""
         try:
-            self.line.be_there()
+            epoch = self.line.ask({"cmd": "status"})["epoch"]
         except Lost as lost:
             raise LostEntry(lost.sentence) from None
-        before, self.begun = self.begun, self.line.begun
-        if before not in (None, self.begun):
+        before, self.before = self.before, (self.line.begun, epoch)
+        if before and before[0] != self.line.begun and before[1] != epoch:
             self.begin_again()
 
     def ask(self, command):

@@ -46,7 +46,7 @@ class Watch:
         with self.moved:
             if status["epoch"] != self.epoch:
                 self.begin(status["epoch"])
-            self.kept.catch_up(status["epoch"])
+        self.kept.catch_up(status["epoch"])
         is_whole = self.ticks % TENTH == 0 or status["actors"] <= MANY or len(self.rows.all) > status["actors"]
         if is_whole or not self.rows.all:
             new = self.rows.ask(self.line)
@@ -154,7 +154,7 @@ class Watch:
 
     def event(self, view, seen):
         """What is new for a window since its last event."""
-        with self.moved:
+        with self.moved, self.kept.lock:
             is_tick, seen["ticks"] = seen["ticks"] != self.ticks, self.ticks
             told = {"window": seen["window"], "state": self.state, "said": self.said, "asOf": self.as_of, "epoch": self.epoch}
             told.update(self.told_of_typed(seen))
@@ -163,7 +163,7 @@ class Watch:
                 told.update(self.table(view))
         if is_tick and self.state == "there":
             with contextlib.suppress(Lost, actorimage.ActorImageError):
-                told.update(self.told_of_view(view, seen))
+                told.update(self.told_of_view(view, seen, told.get("isAnew") or "allClasses" in told))
         return told
 
     def told_of_typed(self, seen):
@@ -199,11 +199,13 @@ class Watch:
             counts[STATES[code // 4]] += number
         return {"table": self.rows.part(view["table"]), "map": letters, "each": each, "counts": counts}
 
-    def told_of_view(self, view, seen):
+    def told_of_view(self, view, seen, told_anew):
         """What is asked of the image for this window alone."""
         told = {}
         if view.get("view") == "browse":
-            told["heat"] = self.stats.heat()
+            heat, before = self.stats.heat(), seen.get("heat", {})
+            told["heat"] = {name: sends for name, sends in heat.items() if before.get(name) != sends or told_anew}
+            seen["heat"] = heat
             if view.get("class"):
                 told["shapes"] = self.stats.shapes([(view["class"], it) for it in self.listed(view["class"])])
             if view.get("method"):

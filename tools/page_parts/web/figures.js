@@ -27,15 +27,15 @@ function one(id, what, unit, value, picture, hint) {
 export function figures() {
   const it = image.figures;
   if (!it) return;
-  const left = it.historyMost - it.history, full = it.history / it.historyMost;
+  const left = it.historyMost - it.history, full = it.history / it.historyMost, isFull = left < 10;
   put($("#figures"),
     one("posts", "posts of clients", "a second", short(it.posts), spark(1, "var(--accent)"), `${many(it.allPosts)} in all`),
     one("turns", "turns", "a second", short(it.turns), spark(2, "var(--accent)"), "messages that actors began, those of actors too"),
     one("steps", "steps", "a second", short(it.steps), spark(3, "var(--accent)"), `${many(it.allSteps)} in all`),
     one("waiting", "messages that wait", "now", short(it.waiting), spark(4, "var(--poly)"), `${many(it.waiting)} in the mailboxes of ${many(it.actors)} actors`),
     one("processors", "processors", plural(it.workers, "worker"), it.processors === null ? "–" : it.processors.toFixed(1), gauge((it.processors || 0) / it.workers), "processor time of the server, as the system counts it"),
-    one("history", "history", it.historyFull === null ? "" : `full in ${duration(it.historyFull)}`, `${full < 0.1 ? (100 * full).toFixed(1) : Math.round(100 * full)}%`, gauge(full, full > 0.8), `${many(it.history)} items of ${many(it.historyMost)}, ${many(left)} left; a checkpoint empties it`),
-    one("edits", "edits left", it.editsFull === null ? "" : `none in ${duration(it.editsFull)}`, many(it.editsLeft), gauge(1 - it.editsLeft / 2048, it.editsLeft < 200), `${many(it.edits)} in the image; 2,048 in a run of the program, 4,096 in an image`));
+    one("history", "history", isFull ? "have a checkpoint" : it.historyFull === null ? "" : `full in ${duration(it.historyFull)}`, isFull ? h("span", { of: "bad" }, "full") : `${full < 0.1 ? (100 * full).toFixed(1) : Math.floor(100 * full)}%`, gauge(full, full > 0.8), `${many(it.history)} items of ${many(it.historyMost)}, ${many(left)} left; a checkpoint empties it`),
+    one("edits", "edits left", it.editsFull === null || it.editsFull > 86_400 ? "" : `none in ${duration(it.editsFull)}`, it.editsLeft ? many(it.editsLeft) : h("span", { of: "bad" }, "none"), gauge(1 - it.editsLeft / 2048, it.editsLeft < 200), `${many(it.edits)} in the image; 2,048 in a run of the program, 4,096 in an image`));
 }
 
 const LAMPS = { there: "connected", lost: "no image", full: "the server is full" };

@@ -37,7 +37,8 @@ export function take(event) {
   if (event.points) image.points = [...image.points, ...event.points].slice(-600);
   if (event.edits?.length) image.edits = [...image.edits, ...event.edits].slice(-200);
   if (event.version !== undefined) image.version = event.version;
-  if (event.heat) image.heat = event.heat;
+  if (event.allClasses || event.isAnew) image.heat = {};
+  if (event.heat) image.heat = { ...image.heat, ...event.heat };
   if (!event.classes) return false;
   if (event.allClasses) image.classes = new Map();
   for (const it of event.classes) {

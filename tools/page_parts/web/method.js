@@ -131,7 +131,7 @@ export class MethodPane {
       this.draw();
       return;
     }
-    if (reply.place) { this.editor.mark({ place: reply.place, said: reply.said }); this.say(""); toast(reply.said, "bad"); return; }
+    if (reply.place) { this.editor.mark({ place: reply.place, said: reply.said }); this.say(""); return; }
     this.say(reply.said);
   }
 

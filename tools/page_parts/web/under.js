@@ -85,7 +85,7 @@ export class Under {
 
   ofSite(it, n) {
     const [sends, site, cache, walk] = it.counts, parts = it.kind === "post" ? [["by-image", sends]] : [["by-site", site], ["by-cache", cache], ["by-walk", walk]];
-    const bar = sends > 0 && parts.map(([of, k]) => h("i", { of, style: { width: `${(100 * k) / sends}%` } }));
+    const bar = parts.filter(part => part[1] > 0).map(([of, k]) => h("i", { of, style: { width: `${(100 * k) / sends}%` } }));
     return h("tr", { "data-n": n, onmouseenter: () => light(n), onmouseleave: () => light(null) },
       h("td", { of: "code" }, it.super && h("span", { of: "k" }, "super "), it.selector),
       h("td", {}, h("span", { of: `chip ${it.kind}` }, shapes([it.kind]), CHIPS[it.kind])),

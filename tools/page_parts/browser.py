@@ -19,6 +19,10 @@ HELD = {"ctrl": "\ue009", "shift": "\ue008", "alt": "\ue00a"}
 PATIENCE = float(os.environ.get("SECONDS_OF_PATIENCE", "60"))
 
 
+# What a driver says of an element that is not there yet or no more.
+PASSING = ("stale element reference", "no such element", "element not interactable", "element click intercepted")
+
+
 class Failed(AssertionError):
     """The browser refused a command, or what was waited for did not come."""
 
@@ -90,11 +94,22 @@ class Browser:
         self.devtools("Emulation.setEmulatedMedia", features=[scheme])
 
     def click(self, selector):
-        self.ask("POST", f"/element/{self.one(selector)}/click", {})
+        self.on(selector, "click", {})
 
     def write(self, selector, text):
         """Types behind what is there."""
-        self.ask("POST", f"/element/{self.one(selector)}/value", {"text": text})
+        self.on(selector, "value", {"text": text})
+
+    def on(self, selector, what, body):
+        """Does something with an element, once it is there and nothing lies over it: a page may draw it anew in between."""
+        until = time.monotonic() + PATIENCE
+        while True:
+            try:
+                return self.ask("POST", f"/element/{self.one(selector)}/{what}", body)
+            except Failed as failed:
+                if not str(failed).startswith(PASSING) or time.monotonic() > until:
+                    raise
+            time.sleep(0.05)
 
     def press(self, keys, *held):
         """Presses keys where the focus is, with others held."""
@@ -102,6 +117,10 @@ class Browser:
         up = [{"type": "keyUp", "value": HELD[it]} for it in reversed(held)]
         pressed = [{"type": how, "value": key} for key in keys for how in ("keyDown", "keyUp")]
         self.ask("POST", "/actions", {"actions": [{"type": "key", "id": "keys", "actions": down + pressed + up}]})
+
+    def enter(self, selector):
+        """Goes into a frame; what is run and seen then is in that."""
+        self.ask("POST", "/frame", {"id": {ELEMENT: self.one(selector)}})
 
     # ---- what a person sees
 

@@ -51,6 +51,7 @@ def only_the_page(program):
     """The page's own requests are answered, and no others; each other one is, where the check that refuses it is taken out."""
     with image_of(program, shop=False) as (server, _), Opened(server.path) as opened:
         same(opened.asked("POST", "/look", opened.good(), LOOK)[0], 200)
+        same(opened.server.server_address[0], "127.0.0.1")
         own = {"Host": opened.server.gate.host}
         for path in ("/", "/main.js", "/look.css", "/icon.svg"):
             same(opened.asked("GET", path, own)[0], 200)

@@ -10,7 +10,7 @@ import actorimage
 from workspace_parts.serving import Server as ImageServer
 
 from .browser import Browser
-from .letting_in import HEADERS, POLICY
+from .letting_in import CHECKS, HEADERS, POLICY
 from .try_common import PAGE, SECRET, Opened, image_of, same, true, until
 from .try_in_browser import choose, connected, shown, typed_over
 
@@ -133,8 +133,22 @@ def the_browser_keeps_others_out(program):
                 browser.wait("return document.readyState === 'complete'")
                 same(browser.run("try { return document.querySelector('iframe').contentDocument?.querySelector('#head') ? 'seen' : 'nothing' } catch { return 'nothing' }"), "nothing")
                 same(browser.run("return document.querySelector('#head')"), None)
+            same(framed(browser, another, opened, ()), False)
+            same(framed(browser, another, opened, ("Content-Security-Policy", "X-Frame-Options", "Cross-Origin-Resource-Policy")), True)
             another.shutdown()
         same([it for it in browser.log() if not any(part in it for part in says)], [])
+
+
+def framed(browser, another, opened, without):
+    """Whether another page shows the page in a frame, where the check of the site does not refuse that before, and headers are taken
+    out."""
+    opened.server.gate.checks = tuple(it for it in CHECKS if it != "site")
+    opened.server.headers = {name: text for name, text in HEADERS.items() if name not in without}
+    browser.open("about:blank")
+    browser.open(f"http://127.0.0.1:{another.server_address[1]}/")
+    browser.wait("return document.readyState === 'complete'")
+    browser.enter("iframe")
+    return browser.run("return document.querySelector('#head') !== null")
 
 
 def only_looks_in_the_browser(program):

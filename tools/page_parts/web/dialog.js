@@ -26,18 +26,23 @@ function form(title, fields, act, done) {
 export const confirmed = (title, text, act) => form(title, h("p", { style: { margin: 0 } }, text), act, async () => null);
 
 const field = (name, label, more) => h("label", {}, label, h("input", { name, autocomplete: "off", spellcheck: "false", ...more }));
-const classes = () => h("datalist", { id: "all-classes" }, [...image.classes.keys()].map(it => h("option", { value: it })));
+
+// The classes under which one can be put.
+function classes(label, chosen, without) {
+  const names = [...image.classes.values()].filter(it => (!it.isKernel || it.name === "Object") && it.name !== without).map(it => it.name).sort();
+  return h("label", {}, label, h("select", { name: "above" }, names.map(it => h("option", { value: it, selected: it === chosen }, it))));
+}
 
 // Defines a class. Gives its name; null if none was defined.
 export async function defineClass(above) {
   let name = null;
   const fields = [
     field("name", "Name", { required: true, placeholder: "Counter", pattern: "[A-Z][A-Za-z0-9]{0,63}", title: "a capital, then letters and digits" }),
-    field("above", "Superclass", { required: true, value: above, list: "all-classes" }),
-    field("slots", "Instance variables", { placeholder: "count last" }), classes(),
+    classes("Superclass", above),
+    field("slots", "Instance variables", { placeholder: "count last" }),
   ];
   await form("Define a class", fields, "Define", async given => {
-    const reply = await change("define", { name: given.name.trim(), above: given.above.trim(), slots: given.slots.split(/[\s|]+/).filter(Boolean) });
+    const reply = await change("define", { name: given.name.trim(), above: given.above, slots: given.slots.split(/[\s|]+/).filter(Boolean) });
     if (reply.error) return reply.said;
     name = given.name.trim();
     toast(`class ${name}, version ${reply.ok.version}`);
@@ -50,10 +55,10 @@ export async function defineClass(above) {
 export function reparentClass(name) {
   const it = image.classes.get(name), own = slotsOf(it.above).map(each => each.slot).join(" ");
   const text = h("p", { of: "dim", style: { margin: 0 } }, own ? `Objects keep their variables, so the new superclass has to give it the same ones: ${own}.` : "Objects keep their variables, so the new superclass may have none, as the present one.");
-  return form(`Put ${name} under another class`, [text, field("above", "Superclass", { required: true, value: it.above, list: "all-classes" }), classes()], "Put it there", async given => {
-    const reply = await change("reparent", { class: name, above: given.above.trim() });
+  return form(`Put ${name} under another class`, [text, classes("Superclass", it.above, name)], "Put it there", async given => {
+    const reply = await change("reparent", { class: name, above: given.above });
     if (reply.error) return reply.said;
-    toast(`class ${name} under ${given.above.trim()}, version ${reply.ok.version}`);
+    toast(`class ${name} under ${given.above}, version ${reply.ok.version}`);
     return null;
   });
 }

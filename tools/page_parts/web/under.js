@@ -45,16 +45,21 @@ export class Under {
   count(key, list) {
     this.counts[key] = list.length;
     this[key] = list;
-    this.show();
+    if (at.tab === key) this.show();
+    else this.head();
   }
 
-  show() {
-    const told = this.pane.told;
+  head() {
     for (const [key, it] of Object.entries(this.tabs)) {
       it.setAttribute("aria-selected", String(at.tab === key));
       it.tabIndex = at.tab === key ? 0 : -1;
       it.lastChild.textContent = this.counts[key] ?? "";
     }
+  }
+
+  show() {
+    const told = this.pane.told;
+    this.head();
     this.body.setAttribute("aria-labelledby", `under-${at.tab}`);
     if (!told) return;
     if (at.tab === "running") this.askRunning();

@@ -8,7 +8,8 @@ import actorimage
 # Seconds after which a session is ended and another one begun, since a server that is to end waits for all; and those that a reply
 # may take.
 LONGEST_SESSION, PATIENCE = 60, 30
-LOOKS = ("classes", "methods", "source", "versions", "implementors", "senders", "edits", "actors", "inspect", "status", "outcome", "wait", "stats")
+LOOKS = ("classes", "methods", "source", "versions", "implementors", "senders", "edits", "actors", "inspect", "status", "outcome", "wait",
+    "stats")
 ONLY_LOOKS = "this page was started with --look, and changes nothing"
 
 

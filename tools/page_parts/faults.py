@@ -15,5 +15,6 @@ def faults(rows):
             names[phase["fault"]] = names.get(phase["fault"], 0) + 1
             if len(found) < MOST_TOLD:
                 running = row["running"] and f"{row['running']['class']} › {row['running']['selector']}"
-                found.append({"actor": row["actor"], "class": row["class"], "fault": phase["fault"], "turn": exact(row["begun"]), "in": running})
+                found.append({"actor": row["actor"], "class": row["class"], "fault": phase["fault"], "turn": exact(row["begun"]),
+                    "in": running})
     return {"names": names, "actors": found}

@@ -70,7 +70,8 @@ def remove(kept, line, name, selector, seen):
     kept.catch_up()
     found = kept.source(name, selector)
     if found and found[1] != seen:
-        return {"error": "Stale", "said": "somebody has replaced it meanwhile; look at it first", "theirs": {"source": found[0], "version": found[1]}}
+        return {"error": "Stale", "said": "somebody has replaced it meanwhile; look at it first",
+            "theirs": {"source": found[0], "version": found[1]}}
     reply = told(kept, line, {"cmd": "remove", "class": name, "selector": selector})
     kept.catch_up()
     return reply

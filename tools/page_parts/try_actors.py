@@ -18,7 +18,8 @@ def row(number, accepted=0, begun=0, phase="fresh", name="Till", is_open=True):
 
 def states_are_told_apart(program):
     """Each state, and which of several is the most urgent in a cell of the map."""
-    rows = [row(0), row(1, 3, 3, {"answer": 1}), row(2, 3, 3, {"answer": 1}, is_open=False), row(3, 9, 3, {"answer": 1}), row(4, 4, 4, "frames"), row(5, 4, 4, {"fault": "overflow"})]
+    rows = [row(0), row(1, 3, 3, {"answer": 1}), row(2, 3, 3, {"answer": 1}, is_open=False), row(3, 9, 3, {"answer": 1}),
+        row(4, 4, 4, "frames"), row(5, 4, 4, {"fault": "overflow"})]
     same([state_of(it) for it in rows], list(STATES))
     codes = bytearray(code_of(it) for it in rows)
     same(sorted(codes), list(codes))
@@ -93,7 +94,8 @@ def an_actor_is_followed(program):
         sender.post(job, "c:", 5)
         with opened.watching(view="actors", actor=job.number, table={"count": 5}) as events:
             def told(holds):
-                return until(lambda: next((it["inspected"] for it in reversed(events) if it.get("inspected") and holds(it["inspected"])), None))
+                return until(lambda: next((it["inspected"] for it in reversed(events) if it.get("inspected") and holds(it["inspected"])),
+                    None))
 
             it = told(lambda it: len(it["frames"]) >= 3)
             frames = it["frames"]
@@ -102,8 +104,10 @@ def an_actor_is_followed(program):
                 same(["".join(each["source"][a:b] for a, b in each["words"])], [each["waitsFor"]])
             same([(v["name"], v["value"]["text"]) for v in frames[1]["variables"]], [("x", "7")])
             same(frames[2]["variables"][0], {"name": "n", "value": {"text": "7"}})
-            same((it["phase"], it["turn"], it["waiting"], it["pending"][0]["message"], it["pending"][0]["from"]["text"]), ("frames", going.number, 1, "c: 5", "sender 2"))
-            same([(end["turn"], end.get("fault"), end.get("answer")) for end in it["ends"]], [(1, "notUnderstood", None), (2, None, "true")])
+            same((it["phase"], it["turn"], it["waiting"], it["pending"][0]["message"], it["pending"][0]["from"]["text"]),
+                ("frames", going.number, 1, "c: 5", "sender 2"))
+            same([(end["turn"], end.get("fault"), end.get("answer")) for end in it["ends"]],
+                [(1, "notUnderstood", None), (2, None, "true")])
             running = opened.look("running", **{"class": "Job", "selector": "a"})["ok"]
             same(running, [])
             image.install("Job", "goesOn ^false")
@@ -147,7 +151,8 @@ def pictures_are_drawn(program):
             spin, sender = image.new_actor("Spin"), image.sender(3)
             for _ in range(4):
                 sender.post(spin, "spin")
-            box = until(lambda: next((box for box in events[-1].get("boxes", []) if box["actor"] == spin.number and box["waits"][-1] == 3), None))
+            box = until(lambda: next((box for box in events[-1].get("boxes", []) if box["actor"] == spin.number and box["waits"][-1] == 3),
+                None))
             same(box["class"], "Spin")
             until(lambda: events[-1].get("figures", {}).get("historyFull"))
             until(lambda: any(edit["class_name"] == "Spin" for it in events for edit in it.get("edits", [])))
@@ -155,7 +160,8 @@ def pictures_are_drawn(program):
             same((figures["waiting"], figures["workers"], figures["editsLeft"] + image.status().edits), (3, 2, 2048))
             true(len([it for each in events for it in each.get("points", [])]) >= 2, "there are no curves")
     figures = Figures("/nowhere")
-    base = {"posts": 0, "steps": 0, "history": 0, "history_most": 1_000, "edits": 0, "edits_left": 2_048, "workers": 1, "sessions": 1, "actors": 0, "classes": 8, "names": 22}
+    base = {"posts": 0, "steps": 0, "history": 0, "history_most": 1_000, "edits": 0, "edits_left": 2_048, "workers": 1, "sessions": 1,
+        "actors": 0, "classes": 8, "names": 22}
     for second in range(3):
         figures.take({**base, "posts": 10 * second, "history": 100 * second}, 0, 0, float(second))
     same((figures.last["posts"], figures.last["historyFull"], figures.last["editsFull"], figures.last["processors"]), (10.0, 8, None, None))
@@ -168,7 +174,8 @@ def a_tick_costs_little(program):
         image.define("Counter", slots=["count"])
         image.install("Counter", "bump ^count isNil")
         list(image.ask_all([{"cmd": "actor", "class": "Counter"}] * 10_000))
-        actors, sender, watch = [it.actor for first in (0, 4_096, 8_192) for it in image.actors(first)], image.sender(1), opened.page.watched
+        actors, sender, watch = [it.actor for first in (0, 4_096, 8_192)
+            for it in image.actors(first)], image.sender(1), opened.page.watched
         view = {"view": "actors", "table": {"first": 40, "count": 50, "sort": "waiting", "down": True}, "cells": 4_000}
         seen, spent = {"window": 1, "ticks": -1, "typed": -1}, []
         for number in range(6):

@@ -23,7 +23,8 @@ def told_by_the_image(image):
     found = {}
     for it in image.classes():
         methods = image.methods(it.name)
-        found[it.name] = (it.superclass, list(it.slots), {m.selector: m.version for m in methods if m.version}, {m.selector for m in methods if not m.version})
+        found[it.name] = (it.superclass, list(it.slots), {m.selector: m.version for m in methods if m.version},
+            {m.selector for m in methods if not m.version})
     return found
 
 
@@ -150,7 +151,8 @@ def a_method_is_told(program):
             version = image.install("Till", "sold ^sold + 0")
             edit = until(lambda: next((row for it in events for row in it.get("edits", []) if row["version"] == version), None))
             same((edit["what"], edit["class_name"], edit["selector"]), ("install", "Till", "sold"))
-            row = until(lambda: next((row for it in events[1:] for row in it.get("classes", []) if row["name"] == "Till" and ["sold", version] in [list(m) for m in row["methods"]]), None))
+            row = until(lambda: next((row for it in events[1:] for row in it.get("classes", []) if row["name"] == "Till"
+                and ["sold", version] in [list(m) for m in row["methods"]]), None))
             same(row["above"], "Object")
 
 

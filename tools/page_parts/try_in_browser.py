@@ -13,7 +13,8 @@ FIELD = "const it = document.querySelector('#source'); it.focus(); it.setSelecti
 @contextlib.contextmanager
 def shown(program, *options, width=1280, height=900, is_dark=False, shop=True, workers="2", may_say=()):
     """An image, a page on it, and a browser that has opened it. What its console says besides is wrong."""
-    with image_of(program, *options, shop=shop, workers=workers) as (server, image), Opened(server.path) as opened, Browser(width, height, is_dark) as browser:
+    with image_of(program, *options, shop=shop, workers=workers) as (server, image), Opened(server.path) as opened, Browser(width, height,
+        is_dark) as browser:
         browser.open(opened.address)
         connected(browser)
         yield server, image, opened, browser
@@ -61,7 +62,8 @@ def each_view_is_shown(program):
             choose(browser, "Till", "sell:")
             browser.wait("return document.querySelectorAll('.source .site.mega').length && document.querySelectorAll('.source .site.post').length")
             browser.wait("return document.querySelectorAll('.shapes i.mega').length > 0 && [...document.querySelectorAll('.heat i')].some(it => it.clientWidth > 0)")
-            for key, text in [("sites", "priceOf:"), ("versions", "runs now"), ("senders", "Customer › shop"), ("implementors", "NightTill › sell:"), ("running", "No actor runs it")]:
+            for key, text in [("sites", "priceOf:"), ("versions", "runs now"), ("senders", "Customer › shop"),
+                ("implementors", "NightTill › sell:"), ("running", "No actor runs it")]:
                 browser.click(f"#under-{key}")
                 browser.wait_text("#under-body", text)
                 is_legible(browser, f"{key}, dark {is_dark}")
@@ -87,7 +89,8 @@ def traffic(image):
     """Some actors of the shop that have done something, one of them with a fault."""
     auditor, ledger, till = (image.new_actor(it) for it in ("Auditor", "Ledger", "Till"))
     customers = [image.new_actor("Customer") for _ in range(3)]
-    post(image, 1, (ledger, "auditor:", auditor), (till, "open:", ledger), *[(it, "meet:with:", till, 9) for it in customers], *[(it, "shop") for it in customers * 3], (customers[0], "lose"))
+    post(image, 1, (ledger, "auditor:", auditor), (till, "open:", ledger), *[(it, "meet:with:", till, 9) for it in customers],
+        *[(it, "shop") for it in customers * 3], (customers[0], "lose"))
     return till
 
 

@@ -39,8 +39,10 @@ def attacks(opened):
     files = [
         ("host", "the page by a name that was bound", {"Host": f"evil.example:{port}"}),
         ("origin", "a file for another origin", {"Host": f"127.0.0.1:{port}", "Origin": "http://evil.example"}),
-        ("site", "a script in another site's page", {"Host": f"127.0.0.1:{port}", "Sec-Fetch-Site": "cross-site", "Sec-Fetch-Mode": "no-cors", "Sec-Fetch-Dest": "script"}),
-        ("site", "the page in another site's frame", {"Host": f"127.0.0.1:{port}", "Sec-Fetch-Site": "cross-site", "Sec-Fetch-Mode": "navigate", "Sec-Fetch-Dest": "iframe"}),
+        ("site", "a script in another site's page",
+            {"Host": f"127.0.0.1:{port}", "Sec-Fetch-Site": "cross-site", "Sec-Fetch-Mode": "no-cors", "Sec-Fetch-Dest": "script"}),
+        ("site", "the page in another site's frame",
+            {"Host": f"127.0.0.1:{port}", "Sec-Fetch-Site": "cross-site", "Sec-Fetch-Mode": "navigate", "Sec-Fetch-Dest": "iframe"}),
     ]
     return [(check, name, "POST", "/look", headers, LOOK) for check, name, headers in asks] + [
         (check, name, "GET", "/", headers, None) for check, name, headers in files
@@ -78,7 +80,8 @@ def no_other_user(program):
         "c.request('POST', '/look', sys.argv[3], json.loads(sys.argv[2])); print(c.getresponse().status)"
     )
     with image_of(program, shop=False) as (server, _), Opened(server.path) as opened:
-        other = ["setpriv", "--reuid=65534", "--regid=65534", "--clear-groups", shutil.which("python3", path="/usr/bin:/bin") or sys.executable]
+        other = ["setpriv", "--reuid=65534", "--regid=65534", "--clear-groups",
+            shutil.which("python3", path="/usr/bin:/bin") or sys.executable]
 
         def status():
             words = [*other, "-c", ask, str(opened.port), json.dumps(opened.good()), LOOK.decode()]
@@ -178,8 +181,10 @@ def looking_changes_nothing(program):
         till = image.new_actor("Till")
         before = image.status()
         for what in ("install", "remove", "define", "reparent", "actor", "close", "checkpoint", "save"):
-            same((what, opened.do(what, **{"class": "Till", "selector": "sold", "source": "sold ^1", "seen": {"selector": "sold", "version": 1}, "actor": 0})["error"]), (what, "OnlyLooks"))
-        for text in ("Till actor", f"actor {till.number} sold", "Till >> sold  ^0", "A : Object", ":remove Till sold", ":checkpoint", ":save", ":revert Till sold 3"):
+            same((what, opened.do(what, **{"class": "Till", "selector": "sold", "source": "sold ^1",
+                "seen": {"selector": "sold", "version": 1}, "actor": 0})["error"]), (what, "OnlyLooks"))
+        for text in ("Till actor", f"actor {till.number} sold", "Till >> sold  ^0", "A : Object", ":remove Till sold", ":checkpoint",
+            ":save", ":revert Till sold 3"):
             card = opened.type(text)
             same((text, card["state"]), (text, "refused"))
         for text in (":classes", ":methods Till", ":inspect actor 0", ":actors", ":senders sold", ":versions Till sold"):
@@ -188,7 +193,8 @@ def looking_changes_nothing(program):
         for line in (opened.page.desk.looks, opened.page.desk.typed, opened.page.desk.changes):
             true(line.looks_only, "a session takes changes")
         after = image.status()
-        same([getattr(after, it) for it in ("actors", "classes", "edits", "history", "names", "posts")], [getattr(before, it) for it in ("actors", "classes", "edits", "history", "names", "posts")])
+        same([getattr(after, it) for it in ("actors", "classes", "edits", "history", "names", "posts")],
+            [getattr(before, it) for it in ("actors", "classes", "edits", "history", "names", "posts")])
         same(image.actors()[0].accepted, 0)
 
 

@@ -15,7 +15,8 @@ from .try_common import PAGE, SECRET, Opened, image_of, same, true, until
 from .try_in_browser import choose, connected, shown, typed_over
 
 # What the browser's console says where a server is gone.
-GONE = ("ERR_CONNECTION_REFUSED", "ERR_INCOMPLETE_CHUNKED_ENCODING", "ERR_CONNECTION_RESET", "ERR_EMPTY_RESPONSE", "Failed to load resource")
+GONE = ("ERR_CONNECTION_REFUSED", "ERR_INCOMPLETE_CHUNKED_ENCODING", "ERR_CONNECTION_RESET", "ERR_EMPTY_RESPONSE",
+    "Failed to load resource")
 HOSTILE = "evil \"<img src=x onerror='window.bad=1'><script>window.bad=1</script>\" ^#evil"
 
 
@@ -103,7 +104,8 @@ def the_browser_keeps_others_out(program):
     markup = "try { document.createElement('div').innerHTML = '<b>x</b>'; return 'taken' } catch { return 'refused' }"
     script = "const it = document.createElement('script'); try { it.textContent = 'window.ran = 1'; document.head.append(it) } catch { } return window.ran ?? 0"
     style = "const it = document.createElement('p'); it.setAttribute('style', 'color: rgb(1, 2, 3)'); document.body.append(it); return getComputedStyle(it).color === 'rgb(1, 2, 3)'"
-    says = ("Content Security Policy", "TrustedHTML", "TrustedScript", "favicon", "Refused to", "frame", "403", "blocked", "X-Frame-Options", "Framing", "script-src", "style-src", "ERR_FAILED", "ERR_BLOCKED_BY_RESPONSE")
+    says = ("Content Security Policy", "TrustedHTML", "TrustedScript", "favicon", "Refused to", "frame", "403", "blocked",
+        "X-Frame-Options", "Framing", "script-src", "style-src", "ERR_FAILED", "ERR_BLOCKED_BY_RESPONSE")
     with image_of(program) as (server, _), Opened(server.path) as opened, Browser(900, 600) as browser:
         def opens(without=None):
             policy = "; ".join(f"{name} {what}" for name, what in POLICY.items() if name != without)
@@ -112,7 +114,8 @@ def the_browser_keeps_others_out(program):
             browser.open(opened.address)
             connected(browser)
 
-        for without, wanted in ((None, ["refused", 0, False]), ("require-trusted-types-for", ["taken", 0, False]), ("style-src", ["refused", 0, False])):
+        for without, wanted in ((None, ["refused", 0, False]), ("require-trusted-types-for", ["taken", 0, False]),
+            ("style-src", ["refused", 0, False])):
             opens(without)
             same((without, [browser.run(markup), browser.run(script), browser.run(style)]), (without, wanted))
         opened.server.headers = {name: text for name, text in HEADERS.items() if name != "Content-Security-Policy"}

@@ -14,7 +14,8 @@ ELEMENTS = "return document.getElementsByTagName('*').length"
 def full(image):
     """An image with as many classes and actors as there may be."""
     of_kernel = 8
-    told = list(image.ask_all([{"cmd": "define", "name": f"C{number}", "slots": [], "super": "Object" if number < 60 else f"C{number - 60}"} for number in range(CLASSES - of_kernel)]))
+    told = list(image.ask_all([{"cmd": "define", "name": f"C{number}", "slots": [],
+        "super": "Object" if number < 60 else f"C{number - 60}"} for number in range(CLASSES - of_kernel)]))
     same(told[-1].get("version"), CLASSES - of_kernel)
     image.install("C7", "bump ^7")
     told = list(image.ask_all([{"cmd": "actor", "class": f"C{number % 50}"} for number in range(ACTORS)], 1_000))
@@ -42,7 +43,8 @@ def full_images_are_shown(program):
         browser.run("[...document.querySelectorAll('.ahead button')].find(it => it.innerText.startsWith('class')).click()")
         browser.wait("return document.querySelector('.rows .arow.on, .rows .arow') && [...document.querySelectorAll('.ahead [aria-sort=ascending]')].length === 1")
         browser.write("#actor-filter", "C7")
-        browser.wait("return document.querySelector('[role=table]').getAttribute('aria-rowcount') === String(arguments[0] + 1)", len(range(7, ACTORS, 50)))
+        browser.wait("return document.querySelector('[role=table]').getAttribute('aria-rowcount') === String(arguments[0] + 1)",
+            len(range(7, ACTORS, 50)))
         same(browser.run("return Math.max(...[...document.querySelectorAll('.rows .arow')].map(it => it.getBoundingClientRect().height))") <= 26, True)
         true(browser.run(ELEMENTS) < MOST_ELEMENTS, "the table has too many elements")
         browser.run("document.querySelector('#map').dispatchEvent(new MouseEvent('click', { clientX: document.querySelector('#map').getBoundingClientRect().x + 3, clientY: document.querySelector('#map').getBoundingClientRect().y + 3 }))")

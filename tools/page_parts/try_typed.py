@@ -29,7 +29,8 @@ def entries_are_done(program):
             told = until(lambda: next((it for it in events if "cards" in it), None))
             same((len(told["cards"]), told["names"]), (7, [{"name": "c", "text": "actor 0", "actor": 0}]))
             opened.type("c bump")
-            last = until(lambda: next((it for it in reversed(events) if it.get("cards") and it["cards"][-1]["state"] == "done" and it["cards"][-1]["number"] == 8), None))
+            last = until(lambda: next((it for it in reversed(events) if it.get("cards") and it["cards"][-1]["state"] == "done"
+                and it["cards"][-1]["number"] == 8), None))
             same([it["lines"] for it in last["cards"]], [["3"]])
         before = opened.page.typed.next
         opened.ask("/type", "", text="c bump.\n\nc bump\nCounter >> two ^2")
@@ -70,7 +71,8 @@ def a_server_that_ends_is_told(program):
                 load(server.path)
                 with actorimage.connect(server.path) as other:
                     version = other.install("Till", "sold ^0")
-                    found = until(lambda: next((it for it in events[events.index(lost):] if it["state"] == "there" and it.get("allClasses")), None))
+                    found = until(lambda: next((it for it in events[events.index(lost):] if it["state"] == "there"
+                        and it.get("allClasses")), None))
                     same((found["isAnew"], found["figures"]["actors"]), (True, 0))
                     same(until(lambda: opened.look("method", **{"class": "Till", "selector": "sold"}).get("ok"))["version"], version)
                     card = opened.type("t sold")
@@ -101,7 +103,8 @@ def a_full_server_is_told(program):
 
 def a_checkpoint_of_somebody_is_told(program):
     """Turns and curves begin anew behind a checkpoint, classes and versions stay, and an entry that waits says that turns are others."""
-    with image_of(program) as (server, image), Opened(server.path) as opened, opened.watching(view="actors", actor=0, table={"count": 5}) as events:
+    with image_of(program) as (server, image), Opened(server.path) as opened, opened.watching(view="actors", actor=0,
+        table={"count": 5}) as events:
         opened.ask("/type", "", text="t := Till actor. t audit")
         until(lambda: opened.page.typed.waits_for())
         version = opened.look("method", **{"class": "Till", "selector": "sold"})["ok"]["version"]
@@ -113,7 +116,8 @@ def a_checkpoint_of_somebody_is_told(program):
         card = until(lambda: next((it for it in opened.page.typed.cards if it["seconds"] is not None), None))
         true("checkpoint" in " ".join(card["lines"]), card["lines"])
         same(opened.look("method", **{"class": "Till", "selector": "sold"})["ok"]["version"], version)
-        it = until(lambda: next((it["inspected"] for it in reversed(events) if it.get("epoch") != epoch and it.get("inspected", {}).get("phase") == "frames"), None))
+        it = until(lambda: next((it["inspected"] for it in reversed(events) if it.get("epoch") != epoch
+            and it.get("inspected", {}).get("phase") == "frames"), None))
         same((it["turn"], it["ends"]), (0, []))
 
 

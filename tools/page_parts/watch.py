@@ -222,7 +222,8 @@ class Watch:
         if not source:
             return {"class": method[0], "selector": method[1], "version": 0}
         sites = sites_of(source[0], self.stats.sites(method))
-        return {"class": method[0], "selector": method[1], "version": source[1], "sites": sites, "running": len(running(self.rows, *method))}
+        return {"class": method[0], "selector": method[1], "version": source[1], "sites": sites,
+            "running": len(running(self.rows, *method))}
 
     def inspected(self, number, place):
         """The actor in sight; nothing but its number where there is none."""

@@ -8,19 +8,26 @@ import { ActorMap, STATES } from "./map.js";
 const HIGH = 25, MORE = 8, MOST = 200;
 const ONLY = { all: "all", turn: "in a turn", waits: "waiting", fault: "faults", closed: "closed" };
 const CHIPS = { turn: "running", waits: "waiting", idle: "idle", fresh: "new", fault: "fault", closed: "closed" };
-const COLUMNS = [["", "actor"], ["class", "class"], ["state", "state"], [null, "last turn"], ["waiting", "mailbox"], ["rate", "turns/s", "num"], ["turns", "turns", "num"]];
+const COLUMNS = [["", "actor"], ["class", "class"], ["state", "state"], [null, "last turn"], ["waiting", "mailbox"],
+  ["rate", "turns/s", "num"], ["turns", "turns", "num"]];
 
 const map = new ActorMap(n => choose(n));
 const inspector = new Inspector();
-const input = h("input", { type: "search", placeholder: "class or number", "aria-label": "Filter of actors", oninput: () => filtered({ text: input.value.trim() }), id: "actor-filter" });
-const only = h("span", { of: "seg", role: "group", "aria-label": "Which actors" }, Object.entries(ONLY).map(([key, name]) => button("", name, () => filtered({ only: key }), { "data-only": key })));
+const input = h("input", { type: "search", placeholder: "class or number", "aria-label": "Filter of actors",
+  oninput: () => filtered({ text: input.value.trim() }), id: "actor-filter" });
+const only = h("span", { of: "seg", role: "group", "aria-label": "Which actors" },
+  Object.entries(ONLY).map(([key, name]) => button("", name, () => filtered({ only: key }), { "data-only": key })));
 const legend = h("div", { of: "legend", style: { "margin-top": "7px" } });
-const heads = h("div", { of: "arow ahead", role: "row" }, COLUMNS.map(([key, name, of]) => h("span", { of: of || "", role: "columnheader", "data-sort": key ?? "none" }, key === null ? name : button("", name, () => sorted(key)))));
+const heads = h("div", { of: "arow ahead", role: "row" },
+  COLUMNS.map(([key, name, of]) => h("span", { of: of || "", role: "columnheader", "data-sort": key ?? "none" },
+  key === null ? name : button("", name, () => sorted(key)))));
 const rows = h("div", { of: "rows", role: "rowgroup", style: { position: "relative" } });
-const scroll = h("div", { of: "scroll", tabindex: "0", id: "actor-rows", onscroll: () => scrolled(), onkeydown: event => pressed(event), "aria-label": "Actors; the arrow keys choose one" }, rows);
+const scroll = h("div", { of: "scroll", tabindex: "0", id: "actor-rows", onscroll: () => scrolled(), onkeydown: event => pressed(event),
+  "aria-label": "Actors; the arrow keys choose one" }, rows);
 const table = h("div", { role: "table", "aria-label": "Actors", style: { display: "contents" } }, heads, scroll);
 const shown = h("span", { of: "count" });
-const left = h("section", { of: "pane", "aria-label": "Actors" }, h("header", {}, h("h2", {}, "Actors"), input, shown, only), h("div", { of: "sect" }, map.canvas, legend), table);
+const left = h("section", { of: "pane", "aria-label": "Actors" }, h("header", {}, h("h2", {}, "Actors"), input, shown, only),
+  h("div", { of: "sect" }, map.canvas, legend), table);
 rows.addEventListener("click", event => { const it = event.target.closest(".arow"); if (it) choose(it.actor); });
 
 let pool = [], last = null, asking = false, again = false;
@@ -53,7 +60,8 @@ function head() {
 
 // The rows that are in sight, and a few more.
 function scrolled() {
-  const first = Math.max(0, Math.floor(scroll.scrollTop / HIGH) - MORE), count = Math.min(MOST, Math.ceil(scroll.clientHeight / HIGH) + 2 * MORE);
+  const first = Math.max(0, Math.floor(scroll.scrollTop / HIGH) - MORE),
+    count = Math.min(MOST, Math.ceil(scroll.clientHeight / HIGH) + 2 * MORE);
   if (first === at.table.first && count === at.table.count) return;
   Object.assign(at.table, { first, count });
   ask();
@@ -81,7 +89,8 @@ function pressed(event) {
   const step = { ArrowDown: 1, ArrowUp: -1, PageDown: 15, PageUp: -15 }[event.key];
   if (!step || !last) return;
   event.preventDefault();
-  const here = last.rows.findIndex(it => it.actor === at.actor), to = here < 0 ? 0 : Math.max(0, Math.min(last.rows.length - 1, here + step));
+  const here = last.rows.findIndex(it => it.actor === at.actor),
+    to = here < 0 ? 0 : Math.max(0, Math.min(last.rows.length - 1, here + step));
   if (!last.rows[to]) return;
   choose(last.rows[to].actor);
   const place = (last.first + to) * HIGH;
@@ -91,14 +100,17 @@ function pressed(event) {
 
 function cellsOf() {
   const it = {
-    actor: h("span", { of: "dim", role: "cell" }), class: h("span", { of: "cut", role: "cell" }), chip: h("span", { of: "chip" }), last: h("span", { of: "cut", role: "cell" }),
+    actor: h("span", { of: "dim", role: "cell" }), class: h("span", { of: "cut", role: "cell" }), chip: h("span", { of: "chip" }),
+      last: h("span", { of: "cut", role: "cell" }),
     bar: h("i"), waiting: h("span"), rate: h("span", { of: "num", role: "cell" }), turns: h("span", { of: "num dim", role: "cell" }),
   };
-  it.root = h("div", { of: "arow", role: "row" }, it.actor, it.class, h("span", { role: "cell" }, it.chip), it.last, h("span", { of: "box", role: "cell" }, h("span", { of: "bar" }, it.bar), it.waiting), it.rate, it.turns);
+  it.root = h("div", { of: "arow", role: "row" }, it.actor, it.class, h("span", { role: "cell" }, it.chip), it.last,
+    h("span", { of: "box", role: "cell" }, h("span", { of: "bar" }, it.bar), it.waiting), it.rate, it.turns);
   return it;
 }
 
-const LAST = { runs: ["cut code", text => text], answer: ["cut dim code", text => `answered ${text}`], fault: ["cut", text => `✕ fault ${text}`], none: ["cut faint", text => text] };
+const LAST = { runs: ["cut code", text => text], answer: ["cut dim code", text => `answered ${text}`],
+  fault: ["cut", text => `✕ fault ${text}`], none: ["cut faint", text => text] };
 
 function draw() {
   if (!last) return;
@@ -138,7 +150,8 @@ export function show(main) {
   at.table.count = Math.min(MOST, Math.ceil((scroll.clientHeight || 600) / HIGH) + 2 * MORE);
   head();
   inspector.begin();
-  ask().then(() => { if (at.actor !== null && !at.table.sort && !at.table.down && at.table.only === "all" && !at.table.text) scroll.scrollTop = Math.max(0, at.actor - 4) * HIGH; });
+  ask().then(() => { if (at.actor !== null && !at.table.sort && !at.table.down && at.table.only === "all"
+    && !at.table.text) scroll.scrollTop = Math.max(0, at.actor - 4) * HIGH; });
 }
 
 // What an event tells, or the answer to what is in sight now.
@@ -152,7 +165,9 @@ export function tell(event) {
   }
   if (event.map !== undefined) {
     map.tell(event.map, event.each, at.actor, event.counts);
-    put(legend, Object.entries(STATES).map(([key, [name, tint]]) => h("span", {}, h("i", { of: "cell", style: { background: `var(${tint})` } }), `${name} ${many(event.counts[key] || 0)}`)), event.each > 1 && h("span", { of: "faint" }, `a cell is ${plural(event.each, "actor")}, the most urgent in sight`));
+    put(legend, Object.entries(STATES).map(([key, [name, tint]]) => h("span", {},
+      h("i", { of: "cell", style: { background: `var(${tint})` } }), `${name} ${many(event.counts[key] || 0)}`)),
+      event.each > 1 && h("span", { of: "faint" }, `a cell is ${plural(event.each, "actor")}, the most urgent in sight`));
   }
   if (event.inspected && event.inspected.actor === at.actor) inspector.tell(event.inspected);
 }

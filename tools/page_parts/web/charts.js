@@ -13,7 +13,9 @@ export class Chart {
     this.picture = h("div", { of: "picture", role: "img" });
     const tint = it => h("i", { of: "cell", style: { background: it.colour } });
     this.title = title;
-    this.root = h("section", { of: "pane", "aria-label": title }, h("header", {}, h("h2", { of: "grow cut" }, title), h("span", { of: "legend" }, this.lists.map(it => h("span", {}, tint(it), `${it.name} `, it.now)))), this.picture);
+    this.root = h("section", { of: "pane", "aria-label": title },
+      h("header", {}, h("h2", { of: "grow cut" }, title),
+      h("span", { of: "legend" }, this.lists.map(it => h("span", {}, tint(it), `${it.name} `, it.now)))), this.picture);
   }
 
   draw() {
@@ -21,22 +23,30 @@ export class Chart {
     const most = Math.max(1, ...values.flat()) * 1.15;
     this.lists.forEach((it, n) => setText(it.now, short(values[n].at(-1) ?? 0)));
     if (points.length < 2) return;
-    this.picture.setAttribute("aria-label", `${this.title}: ${this.lists.map((it, n) => `${it.name} ${short(values[n].at(-1))}`).join(", ")}`);
+    this.picture.setAttribute("aria-label",
+      `${this.title}: ${this.lists.map((it, n) => `${it.name} ${short(values[n].at(-1))}`).join(", ")}`);
     const still = { "vector-effect": "non-scaling-stroke" }, edits = this.edits(points);
     put(this.picture,
       g("svg", { viewBox: `0 0 ${WIDE} ${HIGH}`, preserveAspectRatio: "none", "aria-hidden": "true" },
         PARTS.map(y => g("line", { of: "grid", x1: 0, x2: WIDE, y1: HIGH * y, y2: HIGH * y, ...still })),
-        this.lists.map((it, n) => { const path = line(values[n], WIDE, HIGH, most); return [it.isArea && g("path", { d: `${path}L${WIDE} ${HIGH}L0 ${HIGH}Z`, fill: it.colour, "fill-opacity": 0.12 }), g("path", { d: path, fill: "none", stroke: it.colour, "stroke-width": 1.7, "stroke-dasharray": it.isDashed ? "5 3" : "none", ...still })]; }),
-        edits.map(it => g("line", { of: "edit", x1: it.x * WIDE, x2: it.x * WIDE, y1: 0, y2: HIGH, stroke: "var(--red)", "stroke-dasharray": "4 3", ...still }))),
-      h("div", { of: "edits" }, edits.slice(-MOST_EDITS).map(it => h("span", { of: "chip cut", style: { left: `calc(${(100 * Math.min(it.x, 0.86)).toFixed(1)}% + 4px)` } }, it.text))),
-      h("div", { of: "scale", "aria-hidden": "true" }, PARTS.map(y => h("span", { style: { top: `calc(${100 * y}% - 15px)` } }, short(most * (1 - y))))));
+        this.lists.map((it, n) => { const path = line(values[n], WIDE, HIGH, most);
+          return [it.isArea && g("path", { d: `${path}L${WIDE} ${HIGH}L0 ${HIGH}Z`, fill: it.colour, "fill-opacity": 0.12 }),
+          g("path", { d: path, fill: "none", stroke: it.colour, "stroke-width": 1.7, "stroke-dasharray": it.isDashed ? "5 3" : "none",
+          ...still })]; }),
+        edits.map(it => g("line", { of: "edit", x1: it.x * WIDE, x2: it.x * WIDE, y1: 0, y2: HIGH, stroke: "var(--red)",
+          "stroke-dasharray": "4 3", ...still }))),
+      h("div", { of: "edits" }, edits.slice(-MOST_EDITS).map(it => h("span",
+        { of: "chip cut", style: { left: `calc(${(100 * Math.min(it.x, 0.86)).toFixed(1)}% + 4px)` } }, it.text))),
+      h("div", { of: "scale", "aria-hidden": "true" },
+        PARTS.map(y => h("span", { style: { top: `calc(${100 * y}% - 15px)` } }, short(most * (1 - y))))));
   }
 
   // The edits that were seen while these points were.
   edits(points) {
     const first = points[0][0], last = points.at(-1)[0];
     const text = it => `${it.version} ${it.class_name}${it.selector ? ` › ${it.selector}` : ""}${it.what === "remove" ? " removed" : ""}`;
-    return image.edits.filter(it => it.at >= first && it.at <= last).map(it => ({ x: (it.at - first) / Math.max(0.1, last - first), text: text(it) }));
+    return image.edits.filter(it => it.at >= first
+      && it.at <= last).map(it => ({ x: (it.at - first) / Math.max(0.1, last - first), text: text(it) }));
   }
 }
 
@@ -48,7 +58,9 @@ export class Boxes {
     this.names = h("div", { of: "names" });
     this.canvas = h("canvas", { role: "img", "aria-label": "no message waited yet" });
     const mark = (name, text) => h("span", {}, h("i", { of: "cell", style: { background: `var(${name})` } }), text);
-    this.root = h("section", { of: "pane", "aria-label": "Mailboxes over time" }, h("header", {}, h("h2", { of: "cut" }, "Mailboxes over time"), h("span", { of: "dim grow cut" }, "the longest of three minutes"), h("span", { of: "legend" }, mark("--fresh", "0"), mark("--amber", "32"), mark("--red", "64"))),
+    this.root = h("section", { of: "pane", "aria-label": "Mailboxes over time" },
+      h("header", {}, h("h2", { of: "cut" }, "Mailboxes over time"), h("span", { of: "dim grow cut" }, "the longest of three minutes"),
+      h("span", { of: "legend" }, mark("--fresh", "0"), mark("--amber", "32"), mark("--red", "64"))),
       h("div", { of: "strips" }, this.names, h("div", { of: "picture" }, this.canvas)));
   }
 
@@ -58,11 +70,13 @@ export class Boxes {
     const rows = Math.max(1, boxes.length);
     this.names.style.gridTemplateRows = `repeat(${rows}, minmax(0, 1fr))`;
     put(this.names, boxes.map(it => button("link cut", `${it.actor} ${it.class}`, () => go("actors", { actor: it.actor, object: 0 }))));
-    this.canvas.setAttribute("aria-label", boxes.map(it => `actor ${it.actor}: ${many(it.waits.at(-1) ?? 0)} wait`).join(", ") || "no message waited");
+    this.canvas.setAttribute("aria-label",
+      boxes.map(it => `actor ${it.actor}: ${many(it.waits.at(-1) ?? 0)} wait`).join(", ") || "no message waited");
     if (!wide || !high) return;
     Object.assign(this.canvas, { width: wide, height: high });
     const pen = this.canvas.getContext("2d"), row = high / rows;
-    const mix = p => (p < 0.5 ? `color-mix(in srgb, ${colour("--fresh")} ${100 - 200 * p}%, ${colour("--amber")})` : `color-mix(in srgb, ${colour("--amber")} ${200 - 200 * p}%, ${colour("--red")})`);
+    const mix = p => (p < 0.5
+      ? `color-mix(in srgb, ${colour("--fresh")} ${100 - 200 * p}%, ${colour("--amber")})` : `color-mix(in srgb, ${colour("--amber")} ${200 - 200 * p}%, ${colour("--red")})`);
     const shades = Array.from({ length: SHADES + 1 }, (_, n) => mix(n / SHADES));
     boxes.forEach((it, n) => it.waits.forEach((waits, k) => {
       const x = Math.floor((k * wide) / it.waits.length), next = Math.floor(((k + 1) * wide) / it.waits.length);

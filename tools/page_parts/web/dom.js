@@ -19,7 +19,8 @@ function dressed(it, attributes) {
 
 // An element. `of` is its class, and what begins with `on` is called at the event.
 export const h = (name, attributes, ...inside) => fill(dressed(document.createElement(name), attributes), inside);
-export const g = (name, attributes, ...inside) => fill(dressed(document.createElementNS("http://www.w3.org/2000/svg", name), attributes), inside);
+export const g = (name, attributes, ...inside) => fill(dressed(document.createElementNS("http://www.w3.org/2000/svg", name), attributes),
+  inside);
 
 // Puts these in place of what is in an element.
 export function put(it, ...inside) {

@@ -15,7 +15,8 @@ export class Editor {
       oninput: () => { this.wrong = null; this.draw(); changed(this.field.value); },
       onkeydown: event => this.pressed(event),
       onmousemove: event => this.point(event),
-      onclick: event => { const it = this.under(event); if (it && (event.ctrlKey || event.metaKey)) asked(this.shownSites[it.dataset.n].selector); },
+      onclick: event => { const it = this.under(event);
+        if (it && (event.ctrlKey || event.metaKey)) asked(this.shownSites[it.dataset.n].selector); },
     });
     this.back = h("div", { of: "back" });
     this.root = h("div", { of: "source" }, this.back, this.field);

@@ -10,7 +10,8 @@ let rows = [], chosen = 0, asked = "";
 // Opens the field with a text in it.
 export function find(text = "") {
   const palette = $("#palette");
-  const input = h("input", { placeholder: "Class, method, sender, actor…", spellcheck: "false", autocomplete: "off", role: "combobox", "aria-expanded": "true", "aria-controls": "found", "aria-label": "Find a class, a method, a sender or an actor",
+  const input = h("input", { placeholder: "Class, method, sender, actor…", spellcheck: "false", autocomplete: "off", role: "combobox",
+    "aria-expanded": "true", "aria-controls": "found", "aria-label": "Find a class, a method, a sender or an actor",
     oninput: () => search(input.value), onkeydown: event => pressed(event) });
   put(palette, input, h("div", { id: "found", role: "listbox", "aria-label": "Found" }));
   palette.onclick = event => { if (event.target === palette) palette.close(); };
@@ -50,23 +51,29 @@ const method = (name, selector, kind) => ({ text: `${name} › ${selector}`, kin
 function here(text, small) {
   const found = [], actor = text.match(/^(?:actor\s*)?(\d+)$/i);
   const add = (rank, it) => found.push({ rank, ...it });
-  if (actor && Number(actor[1]) < (image.figures?.actors ?? 0)) add(0, { text: `actor ${Number(actor[1])}`, kind: "actor", go: () => go("actors", { actor: Number(actor[1]), object: 0 }) });
+  if (actor && Number(actor[1]) < (image.figures?.actors ?? 0)) add(0,
+    { text: `actor ${Number(actor[1])}`, kind: "actor", go: () => go("actors", { actor: Number(actor[1]), object: 0 }) });
   for (const it of image.classes.values()) {
     const name = it.name.toLowerCase();
-    if (name.includes(small)) add(name === small ? 0 : name.startsWith(small) ? 2 : 4, { text: it.name, kind: "class", go: () => go("browse", { class: it.name, selector: undefined }) });
+    if (name.includes(small)) add(name === small ? 0 : name.startsWith(small) ? 2 : 4,
+      { text: it.name, kind: "class", go: () => go("browse", { class: it.name, selector: undefined }) });
     if (!small) continue;
     for (const selector of [...it.methods.keys(), ...it.kernel]) {
       const own = selector.toLowerCase(), whole = `${it.name} › ${selector}`.toLowerCase();
-      if (own.includes(small) || whole.includes(small) || `${it.name} ${selector}`.toLowerCase().includes(small)) add(own === small ? 1 : own.startsWith(small) ? 3 : 5, method(it.name, selector, "implementor"));
+      if (own.includes(small) || whole.includes(small) || `${it.name} ${selector}`.toLowerCase().includes(small)) add(own === small
+        ? 1 : own.startsWith(small) ? 3 : 5, method(it.name, selector, "implementor"));
     }
   }
-  if (small && image.classes.has(text)) add(3, { text: `actors of ${text}`, kind: "actors", go: () => go("actors", { table: { ...at.table, text, first: 0, only: "all" } }) });
+  if (small && image.classes.has(text)) add(3,
+    { text: `actors of ${text}`, kind: "actors", go: () => go("actors", { table: { ...at.table, text, first: 0, only: "all" } }) });
   return found.sort((a, b) => a.rank - b.rank || (a.text < b.text ? -1 : 1)).slice(0, MOST);
 }
 
 function draw() {
-  put($("#found"), rows.length ? rows.map((it, n) => h("div", { of: "item", role: "option", id: `found-${n}`, "aria-selected": String(n === chosen), onclick: () => take(it) },
-    h("span", { of: "grow code cut" }, it.text), h("span", { of: "count" }, it.kind))) : h("div", { of: "nothing" }, "Nothing is named so."));
+  put($("#found"), rows.length ? rows.map((it, n) => h("div",
+    { of: "item", role: "option", id: `found-${n}`, "aria-selected": String(n === chosen), onclick: () => take(it) },
+    h("span", { of: "grow code cut" }, it.text), h("span", { of: "count" }, it.kind))) : h("div", { of: "nothing" },
+      "Nothing is named so."));
   $("#palette input").setAttribute("aria-activedescendant", rows.length ? `found-${chosen}` : "");
   $(`#found-${chosen}`)?.scrollIntoView({ block: "nearest" });
 }

@@ -3,7 +3,8 @@
 import { look } from "./ask.js";
 
 // The classes by their names, in the order of their numbers; the figures and the curves; the edits that were seen.
-export const image = { classes: new Map(), heat: {}, figures: null, points: [], edits: [], version: 0, state: "lost", asOf: null, epoch: null };
+export const image = { classes: new Map(), heat: {}, figures: null, points: [], edits: [], version: 0, state: "lost", asOf: null,
+  epoch: null };
 
 // What is in sight. `object` is the place of an object of the actor's own, `back` where one came from.
 export const at = {
@@ -60,8 +61,10 @@ export const below = name => [...image.classes.values()].filter(it => it.above =
 export function selectors(name, all) {
   const found = new Map();
   for (const it of all ? chain(name) : chain(name).slice(0, 1)) {
-    for (const selector of [...it.methods.keys()]) if (!found.has(selector)) found.set(selector, { selector, from: it.name, isKernel: false });
-    if (all || it.isKernel) for (const selector of it.kernel) if (!found.has(selector)) found.set(selector, { selector, from: it.name, isKernel: true });
+    for (const selector of [...it.methods.keys()]) if (!found.has(selector)) found.set(selector,
+      { selector, from: it.name, isKernel: false });
+    if (all || it.isKernel) for (const selector of it.kernel) if (!found.has(selector)) found.set(selector,
+      { selector, from: it.name, isKernel: true });
   }
   return [...found.values()].sort((a, b) => (a.selector < b.selector ? -1 : a.selector > b.selector ? 1 : 0));
 }

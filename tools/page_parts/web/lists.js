@@ -5,12 +5,14 @@ export function walkable(box, chosen, more = () => false) {
   let typed = "", at = 0;
   const items = () => [...box.querySelectorAll("[role=treeitem], [role=option]")].filter(it => !it.hidden);
   const to = it => { if (it) { chosen(it); it.focus({ preventScroll: false }); it.scrollIntoView({ block: "nearest" }); } };
-  box.addEventListener("click", event => { const it = event.target.closest("[role=treeitem], [role=option]"); if (it && !event.target.closest("button")) chosen(it, event); });
+  box.addEventListener("click", event => { const it = event.target.closest("[role=treeitem], [role=option]");
+    if (it && !event.target.closest("button")) chosen(it, event); });
   box.addEventListener("keydown", event => {
     if (event.ctrlKey || event.metaKey || event.altKey) return;
     const all = items(), here = all.indexOf(document.activeElement.closest("[role=treeitem], [role=option]"));
     if (more(event, all[here])) { event.preventDefault(); return; }
-    const next = { ArrowDown: here + 1, ArrowUp: here - 1, Home: 0, End: all.length - 1, PageDown: Math.min(all.length - 1, here + 12), PageUp: Math.max(0, here - 12) }[event.key];
+    const next = { ArrowDown: here + 1, ArrowUp: here - 1, Home: 0, End: all.length - 1, PageDown: Math.min(all.length - 1, here + 12),
+      PageUp: Math.max(0, here - 12) }[event.key];
     if (next !== undefined) { event.preventDefault(); to(all[next]); }
     else if (event.key.length === 1 && event.key !== " ") {
       typed = performance.now() - at < 900 ? typed + event.key : event.key;
@@ -23,6 +25,7 @@ export function walkable(box, chosen, more = () => false) {
 
 // One item is in the order of the Tab key: the chosen one, or else the first.
 export function oneStop(box) {
-  const all = [...box.querySelectorAll("[role=treeitem], [role=option]")], chosen = all.find(it => it.getAttribute("aria-selected") === "true") || all[0];
+  const all = [...box.querySelectorAll("[role=treeitem], [role=option]")],
+    chosen = all.find(it => it.getAttribute("aria-selected") === "true") || all[0];
   for (const it of all) it.tabIndex = it === chosen ? 0 : -1;
 }

@@ -61,7 +61,8 @@ function told(event) {
     if (!image.classes.has(at.class)) Object.assign(at, { class: "Object", selector: undefined });
     VIEWS[at.view].tell(event, isChanged);
   } else if (image.said) {
-    put($("#main"), h("section", { of: "pane" }, h("div", { of: "nothing", id: "nothing" }, `${image.said}. It is tried again each second.`)));
+    put($("#main"), h("section", { of: "pane" },
+      h("div", { of: "nothing", id: "nothing" }, `${image.said}. It is tried again each second.`)));
   }
 }
 
@@ -76,13 +77,15 @@ async function follow() {
     await watch(view(), told, mine.signal);
   } catch (error) {
     if (mine.signal.aborted) return;
-    Object.assign(image, { state: "lost", said: error instanceof TypeError ? "the page's server does not answer; start tools/page again" : error.message });
+    Object.assign(image, { state: "lost",
+      said: error instanceof TypeError ? "the page's server does not answer; start tools/page again" : error.message });
     lamp();
   } finally {
     if (watching === mine) watching = null;
   }
   if (!mine.signal.aborted) {
-    Object.assign(image, { state: "lost", said: image.state === "there" ? "the page's server does not answer; start tools/page again" : image.said });
+    Object.assign(image, { state: "lost",
+      said: image.state === "there" ? "the page's server does not answer; start tools/page again" : image.said });
     lamp();
     setTimeout(follow, Math.min(5000, 500 * ++tries));
   }
@@ -93,15 +96,18 @@ function seen() {
 }
 
 const doing = {
-  checkpoint: ["Have a checkpoint?", "It empties the history, for everybody. Turns are numbered anew, how they ended is forgotten but for the last of each actor, and counts of call sites begin at 0.", "Checkpoint", it => `the history is empty; ${many(it.posts)} posts and ${many(it.steps)} steps in all`],
-  save: ["Save the image?", "The server writes its image file now, in place of the one before.", "Save", it => `saved: ${many(it.bytes)} bytes`],
+  checkpoint: ["Have a checkpoint?",
+    "It empties the history, for everybody. Turns are numbered anew, how they ended is forgotten but for the last of each actor, and counts of call sites begin at 0.", "Checkpoint", it => `the history is empty; ${many(it.posts)} posts and ${many(it.steps)} steps in all`],
+  save: ["Save the image?", "The server writes its image file now, in place of the one before.", "Save",
+    it => `saved: ${many(it.bytes)} bytes`],
 };
 
 async function ask(what) {
   const [title, text, act, said] = doing[what];
   if (!(await confirmed(title, text, act))) return;
   const reply = await change(what);
-  if (reply.error) toast(reply.error === "BadArguments" ? "the server was started without --image FILE, so nothing is saved" : reply.said, "bad");
+  if (reply.error) toast(reply.error === "BadArguments" ? "the server was started without --image FILE, so nothing is saved" : reply.said,
+    "bad");
   else toast(said(reply.ok));
 }
 
@@ -112,7 +118,8 @@ function theme(name) {
 
 function pressed(event) {
   const isTyping = /^(INPUT|TEXTAREA|SELECT)$/.test(event.target.tagName), isControl = event.ctrlKey || event.metaKey;
-  const act = (isControl && KEYS[`ctrl ${event.key.toLowerCase()}`]) || (event.altKey && KEYS[`alt ${event.key.toLowerCase()}`]) || (!isTyping && !isControl && !event.altKey && KEYS[event.key]);
+  const act = (isControl && KEYS[`ctrl ${event.key.toLowerCase()}`]) || (event.altKey && KEYS[`alt ${event.key.toLowerCase()}`])
+    || (!isTyping && !isControl && !event.altKey && KEYS[event.key]);
   if (!act || document.querySelector("dialog[open]")) return;
   event.preventDefault();
   act();
@@ -130,7 +137,8 @@ function begin() {
   const dark = matchMedia("(prefers-color-scheme: dark)");
   theme(localStorage.getItem("actorimage-theme") || (dark.matches ? "dark" : "light"));
   dark.addEventListener("change", () => theme(localStorage.getItem("actorimage-theme") || (dark.matches ? "dark" : "light")));
-  try { Object.assign(at, JSON.parse(sessionStorage.getItem(SEEN)) || { selector: undefined, class: "" }); } catch { /* what is kept is another page's */ }
+  try { Object.assign(at, JSON.parse(sessionStorage.getItem(SEEN)) || { selector: undefined, class: "" });
+    } catch { /* what is kept is another page's */ }
   showsView("all", show);
   workspace();
   for (const it of document.querySelectorAll("#tabs button")) it.onclick = () => go(it.dataset.view);
@@ -141,13 +149,15 @@ function begin() {
   $("#find").onclick = () => find();
   $("#checkpoint").onclick = () => ask("checkpoint");
   $("#save").onclick = () => ask("save");
-  $("#theme").onclick = () => { const to = document.documentElement.dataset.theme === "dark" ? "light" : "dark"; localStorage.setItem("actorimage-theme", to); theme(to); };
+  $("#theme").onclick = () => { const to = document.documentElement.dataset.theme === "dark" ? "light" : "dark";
+    localStorage.setItem("actorimage-theme", to); theme(to); };
   document.addEventListener("keydown", pressed);
   document.addEventListener("visibilitychange", seen);
   addEventListener("pagehide", remember);
   addEventListener("resize", () => { if (at.view === "actors" && image.classes.size) actors.resized(); });
   if (!hasToken) {
-    put($("#main"), h("section", { of: "pane" }, h("div", { of: "nothing", id: "nothing" }, "This page was opened without its token: open the address that tools/page printed.")));
+    put($("#main"), h("section", { of: "pane" },
+      h("div", { of: "nothing", id: "nothing" }, "This page was opened without its token: open the address that tools/page printed.")));
     return;
   }
   show();

@@ -26,12 +26,15 @@ export class ActorMap {
   // How many cells there is room for.
   get room() { return Math.min(4000, Math.floor((this.canvas.clientWidth || 800) / LEAST) * Math.floor(HIGH / LEAST)); }
 
-  said(n) { return this.each > 1 ? `actors ${many(n)} to ${many(n + this.each - 1)}: ${STATES[state(this.letters[n / this.each])][0]} among them` : `actor ${n}: ${STATES[state(this.letters[n])][0]}`; }
+  said(n) { return this.each > 1
+    ? `actors ${many(n)} to ${many(n + this.each - 1)}: ${STATES[state(this.letters[n / this.each])][0]} among them` : `actor ${n}: ${STATES[state(this.letters[n])][0]}`; }
 
   tell(letters, each, actor, counts) {
     if (letters === this.letters && each === this.each && actor === this.actor && this.width === this.canvas.clientWidth) return;
     Object.assign(this, { letters, each, actor });
-    this.canvas.setAttribute("aria-label", `${plural(image.figures?.actors ?? 0, "actor")}: ${Object.entries(counts).map(([key, n]) => `${many(n)} ${STATES[key][0]}`).join(", ")}`);
+    this.canvas.setAttribute("aria-label",
+      `${plural(image.figures?.actors ?? 0,
+      "actor")}: ${Object.entries(counts).map(([key, n]) => `${many(n)} ${STATES[key][0]}`).join(", ")}`);
     this.draw();
   }
 
@@ -44,7 +47,8 @@ export class ActorMap {
     this.columns = Math.floor(width / cell);
     canvas.width = width;
     canvas.height = Math.max(cell, Math.ceil(letters.length / this.columns) * cell);
-    const pen = canvas.getContext("2d"), colours = Object.fromEntries(Object.entries(STATES).map(([key, [, name]]) => [key, colour(name)])), gap = cell > 4 ? 1 : 0;
+    const pen = canvas.getContext("2d"),
+      colours = Object.fromEntries(Object.entries(STATES).map(([key, [, name]]) => [key, colour(name)])), gap = cell > 4 ? 1 : 0;
     for (let n = 0; n < letters.length; n++) this.paint(pen, n, state(letters[n]), strength(letters[n]), cell - gap, colours);
     this.ring(pen);
   }

@@ -54,7 +54,8 @@ export class MethodPane {
     if (kept && !told.kernel) {
       if (kept.version !== (told.version || 0)) this.theirs = { version: told.version || 0, source: told.source ?? null };
       this.began = { base: kept.base, version: kept.version };
-      this.editor.show(kept.source, kept.version === told.version ? told.source : kept.base, kept.version === told.version ? told.sites : []);
+      this.editor.show(kept.source, kept.version === told.version ? told.source : kept.base,
+        kept.version === told.version ? told.sites : []);
     } else {
       this.began = { base: told.source || "", version: told.version || 0 };
       this.editor.show(told.source || "", told.source || "", told.sites || []);
@@ -84,9 +85,11 @@ export class MethodPane {
     this.none.hidden = isShown;
     this.over.hidden = !isShown;
     this.under.root.hidden = !told || told.isNew;
-    put(this.head, told && [h("span", { of: "C" }, told.class), h("span", { of: "faint" }, "›"), h("span", { of: "sel cut" }, told.selector || "new method"), h("span", { of: "faint cut" }, this.which())]);
+    put(this.head, told && [h("span", { of: "C" }, told.class), h("span", { of: "faint" }, "›"),
+      h("span", { of: "sel cut" }, told.selector || "new method"), h("span", { of: "faint cut" }, this.which())]);
     if (told && !isShown) {
-      put(this.none, told.kernel ? `${told.class} has ${told.selector} from the kernel, which has no source.` : told.gone ? `${told.class} has no method ${told.selector} now. Its versions stand below: one can be brought back.` : `No class from ${told.class} up has a method ${told.selector}.`);
+      put(this.none, told.kernel ? `${told.class} has ${told.selector} from the kernel, which has no source.` : told.gone
+        ? `${told.class} has no method ${told.selector} now. Its versions stand below: one can be brought back.` : `No class from ${told.class} up has a method ${told.selector}.`);
     }
     this.chip.hidden = !this.isChanged;
     this.buttons.install.disabled = !this.isChanged;
@@ -111,11 +114,15 @@ export class MethodPane {
     const { version, source } = this.theirs, began = this.began.version;
     const what = version ? `Replaced meanwhile by version ${version}` : "Removed meanwhile";
     put(this.banner, h("div", { of: "banner", id: "conflict" },
-      h("b", {}, what), h("span", { of: "grow" }, began ? ` of somebody else; you began with version ${began}. Nothing is overwritten.` : " of somebody else; you began with none. Nothing is overwritten."),
-      button("plain", "Show both", () => { this.areBoth = !this.areBoth; this.drawBanner(); }, { "aria-expanded": String(Boolean(this.areBoth)), id: "show-both" }),
+      h("b", {}, what), h("span", { of: "grow" },
+        began ? ` of somebody else; you began with version ${began}. Nothing is overwritten.` : " of somebody else; you began with none. Nothing is overwritten."),
+      button("plain", "Show both", () => { this.areBoth = !this.areBoth; this.drawBanner(); },
+        { "aria-expanded": String(Boolean(this.areBoth)), id: "show-both" }),
       button("plain", "Take theirs", () => this.takeTheirs(), { title: "What you typed is forgotten", id: "take-theirs" }),
-      button("plain", version ? `Install mine over ${version}` : "Install mine", () => this.install({ selector: this.told.selector || this.other, version }), { id: "install-mine" })),
-      this.areBoth && h("div", { of: "sect", id: "both" }, h("h3", {}, "Theirs, and what yours would change in it"), difference(source ?? "", this.editor.text)));
+      button("plain", version ? `Install mine over ${version}` : "Install mine",
+        () => this.install({ selector: this.told.selector || this.other, version }), { id: "install-mine" })),
+      this.areBoth && h("div", { of: "sect", id: "both" }, h("h3", {}, "Theirs, and what yours would change in it"),
+        difference(source ?? "", this.editor.text)));
   }
 
   async install(seen = null) {
@@ -160,12 +167,14 @@ export class MethodPane {
 
   async remove() {
     const { class: name, selector, version } = this.told;
-    if (!(await confirmed(`Remove ${name} › ${selector}?`, "From the next send on it is not there. Its versions stay, and one can be brought back.", "Remove"))) return;
+    if (!(await confirmed(`Remove ${name} › ${selector}?`,
+      "From the next send on it is not there. Its versions stay, and one can be brought back.", "Remove"))) return;
     const reply = await change("remove", { class: name, selector, seen: version });
     if (reply.theirs) { this.theirs = reply.theirs; this.draw(); return; }
     if (reply.error) { this.say(reply.said); return; }
     keep(name, selector, null);
-    toast(`${name} › ${selector} is removed: version ${reply.ok.version}`, "", button("link", "Undo", () => this.bringBack(name, selector, this.told.versions.findLast(it => it.source !== null), 0)));
+    toast(`${name} › ${selector} is removed: version ${reply.ok.version}`, "",
+      button("link", "Undo", () => this.bringBack(name, selector, this.told.versions.findLast(it => it.source !== null), 0)));
     await this.open(name, selector);
   }
 
@@ -197,7 +206,9 @@ export class MethodPane {
 
   async refresh(sites) {
     const { class: name, selector } = this.told;
-    toast(sites.version ? `${name} › ${selector} is version ${sites.version} now, of somebody else` : `${name} › ${selector} was removed by somebody else`, "warn");
+    toast(sites.version
+      ? `${name} › ${selector} is version ${sites.version} now, of somebody else` : `${name} › ${selector} was removed by somebody else`,
+      "warn");
     this.told.version = sites.version;
     await this.open(name, selector);
   }
@@ -208,7 +219,8 @@ export class MethodPane {
     const asked = await look("method", { class: name, selector });
     if (!asked.ok || this.told.class !== name || this.told.selector !== selector) return;
     this.told = { ...asked.ok, class: name, selector };
-    this.theirs = { version: asked.ok.class === name ? asked.ok.version || 0 : 0, source: asked.ok.class === name ? asked.ok.source ?? null : null };
+    this.theirs = { version: asked.ok.class === name ? asked.ok.version || 0 : 0,
+      source: asked.ok.class === name ? asked.ok.source ?? null : null };
     this.draw();
     this.under.open();
   }

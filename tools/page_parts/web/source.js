@@ -28,7 +28,8 @@ export function told(site) {
 export function coloured(source, sites = [], { wrong = null, now = [], isHidden = false } = {}) {
   const words = sites.flatMap((site, n) => site.words.map(([a, b], k) => ({ a, b, site, n, isFirst: k === 0 })));
   const end = wrong ? Math.max(wrong.place[1], wrong.place[0] + 1) : 0;
-  const edges = [...new Set([...words.flatMap(it => [it.a, it.b]), ...now.flat(), ...(wrong ? [wrong.place[0], end] : [])])].sort((a, b) => a - b);
+  const edges = [...new Set([...words.flatMap(it => [it.a, it.b]), ...now.flat(), ...(wrong ? [wrong.place[0], end] : [])])].sort((a,
+    b) => a - b);
   const headEnd = source.search(/[\n|"]|$/);
   let row = h("span", { of: "row" });
   const root = h("div", { of: "back", "aria-hidden": isHidden ? "true" : null }, row);
@@ -42,7 +43,9 @@ export function coloured(source, sites = [], { wrong = null, now = [], isHidden 
       if (isLineEnd) to = line;
       if (to > from) row.append(piece(source.slice(from, to), token.of + (from < headEnd ? " head1" : ""), from));
       if (isLineEnd) {
-        if (wrong && wrong.place[0] <= line && wrong.place[0] >= source.lastIndexOf("\n", line - 1) + 1) { if (wrong.place[0] === line) row.append(h("span", { of: "wrong end" }, "\u200b")); say(); }
+        if (wrong && wrong.place[0] <= line
+          && wrong.place[0] >= source.lastIndexOf("\n",
+          line - 1) + 1) { if (wrong.place[0] === line) row.append(h("span", { of: "wrong end" }, "\u200b")); say(); }
         root.append(row = h("span", { of: "row" }));
         to = line + 1;
       }
@@ -60,7 +63,8 @@ export function coloured(source, sites = [], { wrong = null, now = [], isHidden 
     const word = words.find(each => from >= each.a && from < each.b);
     if (word) {
       const count = (word.site.kind === "post" ? "✉ " : "") + short(word.site.counts[0]);
-      it = h("span", { of: `site ${word.site.kind}`, "data-n": word.n, title: told(word.site) }, it, word.isFirst && h("span", { of: "tell" }, count));
+      it = h("span", { of: `site ${word.site.kind}`, "data-n": word.n, title: told(word.site) }, it,
+        word.isFirst && h("span", { of: "tell" }, count));
     }
     if (wrong && from >= wrong.place[0] && from < end) it = h("span", { of: "wrong" }, it);
     return now.some(([a, b]) => from >= a && from < b) ? h("span", { of: "now" }, it) : it;

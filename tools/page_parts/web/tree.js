@@ -10,16 +10,21 @@ export class ClassTree {
   constructor() {
     this.closed = new Set();
     this.filter = "";
-    this.input = h("input", { placeholder: "filter", type: "search", "aria-label": "Filter of classes", oninput: () => { this.filter = this.input.value.trim().toLowerCase(); this.draw(); },
-      onkeydown: event => { if (event.key === "ArrowDown") { event.preventDefault(); this.box.querySelector("[role=treeitem]")?.focus(); } } });
+    this.input = h("input", { placeholder: "filter", type: "search", "aria-label": "Filter of classes",
+      oninput: () => { this.filter = this.input.value.trim().toLowerCase(); this.draw(); },
+      onkeydown: event => { if (event.key === "ArrowDown") { event.preventDefault(); this.box.querySelector("[role=treeitem]")?.focus();
+        } } });
     this.number = h("span", { of: "count" });
     this.box = h("div", { role: "tree", "aria-label": "Classes" });
     walkable(this.box, it => this.choose(it.dataset.text), (event, it) => this.opens(event, it));
-    this.box.addEventListener("click", event => { const it = event.target.closest(".caret"); if (it) this.turn(it.parentNode.dataset.text); });
+    this.box.addEventListener("click", event => { const it = event.target.closest(".caret"); if (it) this.turn(it.parentNode.dataset.text);
+      });
     this.scroll = h("div", { of: "scroll" }, this.box);
     this.root = h("section", { of: "pane", "aria-label": "Classes" },
-      h("header", {}, h("h2", {}, "Classes"), this.input, this.number, button("plain", "+", () => this.define(), { title: "Defines a class", "aria-label": "Define a class", id: "new-class" })),
-      this.scroll, h("div", { of: "tools" }, this.move = button("plain", "Superclass…", () => reparentClass(at.class), { title: "Puts the class under another one" })));
+      h("header", {}, h("h2", {}, "Classes"), this.input, this.number,
+        button("plain", "+", () => this.define(), { title: "Defines a class", "aria-label": "Define a class", id: "new-class" })),
+      this.scroll, h("div", { of: "tools" },
+        this.move = button("plain", "Superclass…", () => reparentClass(at.class), { title: "Puts the class under another one" })));
   }
 
   choose(name) { if (name !== at.class) go("browse", { class: name, selector: undefined }); }
@@ -41,7 +46,8 @@ export class ClassTree {
     const name = it.dataset.text, isOpen = it.getAttribute("aria-expanded") === "true";
     if (event.key === "ArrowRight" && it.getAttribute("aria-expanded") === "false") { this.turn(name); this.rows.get(name)?.focus(); }
     else if (event.key === "ArrowLeft" && isOpen) { this.turn(name); this.rows.get(name)?.focus(); }
-    else if (event.key === "ArrowLeft") { const above = image.classes.get(name)?.above; if (above && this.rows.has(above)) { this.choose(above); this.rows.get(above).focus(); } }
+    else if (event.key === "ArrowLeft") { const above = image.classes.get(name)?.above;
+      if (above && this.rows.has(above)) { this.choose(above); this.rows.get(above).focus(); } }
     return true;
   }
 
@@ -59,7 +65,8 @@ export class ClassTree {
     };
     const object = image.classes.get("Object");
     if (object) add(object, 0);
-    const kernel = [...image.classes.values()].filter(it => it.isKernel && it.name !== "Object" && (!this.filter || it.name.toLowerCase().includes(this.filter)));
+    const kernel = [...image.classes.values()].filter(it => it.isKernel && it.name !== "Object"
+      && (!this.filter || it.name.toLowerCase().includes(this.filter)));
     if (kernel.length) rows.push(h("div", { of: "group", role: "presentation" }, "kernel"), kernel.map(it => this.row(it, 0, false)));
     put(this.box, rows.length ? rows : h("div", { of: "nothing" }, "No class is named so."));
     this.number.textContent = many(image.classes.size);
@@ -73,7 +80,8 @@ export class ClassTree {
   row(it, depth, hasMore) {
     const isOpen = !this.closed.has(it.name), bar = h("span", { style: { display: "contents" } });
     this.bars.set(it.name, bar);
-    const row = h("div", { of: `item${it.isKernel ? " kernel" : ""}`, role: "treeitem", "data-text": it.name, "aria-level": depth + 1, "aria-selected": String(it.name === at.class),
+    const row = h("div", { of: `item${it.isKernel ? " kernel" : ""}`, role: "treeitem", "data-text": it.name, "aria-level": depth + 1,
+      "aria-selected": String(it.name === at.class),
       "aria-expanded": hasMore ? String(isOpen) : null, style: { "padding-left": `${6 + depth * 14}px` } },
       h("span", { of: "caret", "aria-hidden": "true" }, hasMore ? (isOpen ? "▾" : "▸") : ""), h("span", { of: "grow cut" }, it.name),
       h("span", { of: "count", title: "methods of its own" }, it.methods.size + it.kernel.length || ""), bar);

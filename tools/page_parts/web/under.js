@@ -20,7 +20,9 @@ export class Under {
       role: "tab", type: "button", id: `under-${key}`, "aria-controls": "under-body", onclick: () => this.choose(key),
     }, name, h("span", { of: "count" }))]));
     this.body = h("div", { of: "scroll", role: "tabpanel", id: "under-body", tabindex: "0" });
-    this.root = h("div", { of: "under" }, h("nav", { "aria-label": "Of this method" }, h("div", { role: "tablist", "aria-label": "Of this method" }, Object.values(this.tabs)), legend()), this.body);
+    this.root = h("div", { of: "under" },
+      h("nav", { "aria-label": "Of this method" }, h("div", { role: "tablist", "aria-label": "Of this method" }, Object.values(this.tabs)),
+      legend()), this.body);
   }
 
   choose(key) {
@@ -63,7 +65,8 @@ export class Under {
     this.body.setAttribute("aria-labelledby", `under-${at.tab}`);
     if (!told) return;
     if (at.tab === "running") this.askRunning();
-    else put(this.body, { sites: () => this.ofSites(), versions: () => this.ofVersions(), senders: () => this.ofSenders(), implementors: () => this.ofImplementors() }[at.tab]());
+    else put(this.body, { sites: () => this.ofSites(), versions: () => this.ofVersions(), senders: () => this.ofSenders(),
+      implementors: () => this.ofImplementors() }[at.tab]());
   }
 
   // What a tick tells of the sites.
@@ -83,13 +86,17 @@ export class Under {
 
   ofSites() {
     const sites = this.pane.told.sites || [];
-    if (!sites.length) return h("div", { of: "nothing" }, this.pane.told.source === undefined ? "No method is there." : "This method sends nothing.");
-    const heads = [["send"], ["state"], ["sends", "num"], ["a second", "num"], ["found by"], ["site", "num"], ["cache", "num"], ["walk", "num"]];
-    return h("table", {}, h("thead", {}, h("tr", {}, heads.map(([name, of]) => h("th", { of, scope: "col" }, name)))), h("tbody", {}, sites.map((it, n) => this.ofSite(it, n))));
+    if (!sites.length) return h("div", { of: "nothing" },
+      this.pane.told.source === undefined ? "No method is there." : "This method sends nothing.");
+    const heads = [["send"], ["state"], ["sends", "num"], ["a second", "num"], ["found by"], ["site", "num"], ["cache", "num"],
+      ["walk", "num"]];
+    return h("table", {}, h("thead", {}, h("tr", {}, heads.map(([name, of]) => h("th", { of, scope: "col" }, name)))),
+      h("tbody", {}, sites.map((it, n) => this.ofSite(it, n))));
   }
 
   ofSite(it, n) {
-    const [sends, site, cache, walk] = it.counts, parts = it.kind === "post" ? [["by-image", sends]] : [["by-site", site], ["by-cache", cache], ["by-walk", walk]];
+    const [sends, site, cache, walk] = it.counts,
+      parts = it.kind === "post" ? [["by-image", sends]] : [["by-site", site], ["by-cache", cache], ["by-walk", walk]];
     const bar = parts.filter(part => part[1] > 0).map(([of, k]) => h("i", { of, style: { width: `${(100 * k) / sends}%` } }));
     return h("tr", { "data-n": n, onmouseenter: () => light(n), onmouseleave: () => light(null) },
       h("td", { of: "code" }, it.super && h("span", { of: "k" }, "super "), it.selector),
@@ -105,7 +112,8 @@ export class Under {
       const before = all[all.length - 2 - n]?.source ?? null, isNow = n === 0 && it.source !== null;
       const end = isNow ? h("span", { of: "chip mono" }, "runs now")
         : it.source === null ? h("span", { of: "chip" }, "removed")
-        : button("plain", "Bring back", () => this.pane.bringBack(told.class, told.selector, it), { "aria-label": `Bring back version ${it.version}` });
+        : button("plain", "Bring back", () => this.pane.bringBack(told.class, told.selector, it),
+          { "aria-label": `Bring back version ${it.version}` });
       return h("div", { of: "sect" }, h("h3", {}, `version ${it.version}`, end), it.source !== null && difference(before, it.source));
     });
   }
@@ -113,23 +121,29 @@ export class Under {
   ofSenders() {
     const rows = this.senders || [];
     if (!rows.length) return h("div", { of: "nothing" }, `No method sends ${this.pane.told.selector}.`);
-    return rows.map(it => this.row(it.class, it.selector, shapes(it.kinds), h("span", { of: "count" }, it.posts ? "posts it" : many(it.sends))));
+    return rows.map(it => this.row(it.class, it.selector, shapes(it.kinds),
+      h("span", { of: "count" }, it.posts ? "posts it" : many(it.sends))));
   }
 
   ofImplementors() {
-    return (this.implementors || []).map(it => this.row(it.class, this.pane.told.selector, h("span", { of: "count" }, it.isKernel ? "kernel" : "")));
+    return (this.implementors || []).map(it => this.row(it.class, this.pane.told.selector,
+      h("span", { of: "count" }, it.isKernel ? "kernel" : "")));
   }
 
   row(name, selector, ...more) {
-    return h("button", { of: "item", type: "button", onclick: () => go("browse", { class: name, selector }), style: { width: "100%" } }, h("span", { of: "grow code cut", style: { "text-align": "left" } }, `${name} › ${selector}`), more);
+    return h("button", { of: "item", type: "button", onclick: () => go("browse", { class: name, selector }), style: { width: "100%" } },
+      h("span", { of: "grow code cut", style: { "text-align": "left" } }, `${name} › ${selector}`), more);
   }
 
   async askRunning() {
     const told = this.pane.told, asked = await look("running", { class: told.class, selector: told.selector });
     if (this.pane.told !== told || at.tab !== "running" || !asked.ok) return;
     this.counts.running = asked.ok.length;
-    const row = it => h("button", { of: "item", type: "button", style: { width: "100%" }, onclick: () => go("actors", { actor: it.actor, object: 0 }) },
-      h("span", { of: "grow", style: { "text-align": "left" } }, `actor ${it.actor}, ${aOrAn(it.class)}`), h("span", { of: "count" }, `turn ${it.turns ?? it.turn}`));
-    put(this.body, asked.ok.length ? asked.ok.map(row) : h("div", { of: "nothing" }, "No actor runs it at the moment; those in methods that it called are found in the inspector."));
+    const row = it => h("button", { of: "item", type: "button", style: { width: "100%" },
+      onclick: () => go("actors", { actor: it.actor, object: 0 }) },
+      h("span", { of: "grow", style: { "text-align": "left" } }, `actor ${it.actor}, ${aOrAn(it.class)}`),
+        h("span", { of: "count" }, `turn ${it.turns ?? it.turn}`));
+    put(this.body, asked.ok.length ? asked.ok.map(row) : h("div", { of: "nothing" },
+      "No actor runs it at the moment; those in methods that it called are found in the inspector."));
   }
 }

@@ -9,13 +9,17 @@ const WORDS = { waits: "waits for the entry before", runs: "runs", broken: "brok
 const KEPT = "actorimage-typed";
 let cards = new Map(), typed = [], place = 0, waits = null;
 
-const field = h("textarea", { rows: "1", spellcheck: "false", autocapitalize: "off", autocomplete: "off", id: "entry", "aria-label": "Type Smalltalk here",
-  placeholder: "c := Counter actor. c bump", onkeydown: event => pressed(event), oninput: () => { grow(); sessionStorage.setItem(KEPT, field.value); } });
+const field = h("textarea", { rows: "1", spellcheck: "false", autocapitalize: "off", autocomplete: "off", id: "entry",
+  "aria-label": "Type Smalltalk here",
+  placeholder: "c := Counter actor. c bump", onkeydown: event => pressed(event),
+    oninput: () => { grow(); sessionStorage.setItem(KEPT, field.value); } });
 const list = h("div", { id: "cards", role: "log", "aria-label": "What was typed and answered", tabindex: "0" });
 const names = h("div", { id: "names", "aria-label": "Names" });
-const stops = button("plain", "Break off", () => { field.focus(); type({ break: true }); }, { title: "Stops waiting for the entry that goes on", hidden: true, id: "break" });
+const stops = button("plain", "Break off", () => { field.focus(); type({ break: true }); },
+  { title: "Stops waiting for the entry that goes on", hidden: true, id: "break" });
 
-const folds = button("", "▾", () => fold(!$("#work").classList.contains("folded")), { title: "Folds the workspace to one line", "aria-label": "Fold the workspace", id: "fold" });
+const folds = button("", "▾", () => fold(!$("#work").classList.contains("folded")),
+  { title: "Folds the workspace to one line", "aria-label": "Fold the workspace", id: "fold" });
 
 function fold(isFolded) {
   $("#work").classList.toggle("folded", isFolded);
@@ -25,7 +29,9 @@ function fold(isFolded) {
 }
 
 export function workspace() {
-  put($("#work"), h("header", {}, h("h2", {}, "Workspace"), h("span", { of: "faint grow cut" }, "what is typed is Smalltalk, as in tools/workspace; :help lists more; Shift+Enter begins a line"), stops, h("kbd", {}, "Ctrl `"), folds),
+  put($("#work"), h("header", {}, h("h2", {}, "Workspace"),
+    h("span", { of: "faint grow cut" }, "what is typed is Smalltalk, as in tools/workspace; :help lists more; Shift+Enter begins a line"),
+    stops, h("kbd", {}, "Ctrl `"), folds),
     list, names, h("div", { id: "typed" }, h("span", { of: "faint code", "aria-hidden": "true" }, "›"), field));
   field.value = sessionStorage.getItem(KEPT) || "";
   grow();
@@ -50,7 +56,8 @@ function pressed(event) {
   if (event.key === "Enter" && !event.shiftKey) {
     event.preventDefault();
     send();
-  } else if ((event.key === "ArrowUp" && !field.value.slice(0, field.selectionStart).includes("\n")) || (event.key === "ArrowDown" && !field.value.slice(field.selectionStart).includes("\n"))) {
+  } else if ((event.key === "ArrowUp" && !field.value.slice(0, field.selectionStart).includes("\n"))
+    || (event.key === "ArrowDown" && !field.value.slice(field.selectionStart).includes("\n"))) {
     const to = place + (event.key === "ArrowUp" ? -1 : 1);
     if (to < 0 || to > typed.length) return;
     event.preventDefault();
@@ -86,11 +93,15 @@ function refused(said) {
 const coloured = text => tokens(text).map(it => h("span", { of: it.of }, it.text));
 
 function card(it) {
-  const state = h("span", { of: "dim" }), why = it.why.length > 0 && button("link", "where", event => { event.target.nextSibling.hidden ^= true; });
-  const said = h("pre", { of: `said ${it.state}` }, it.state === "runs" && h("span", { of: "spin", "aria-hidden": "true" }), it.state === "fault" && "✕ ", it.lines.join("\n"), state);
+  const state = h("span", { of: "dim" }),
+    why = it.why.length > 0 && button("link", "where", event => { event.target.nextSibling.hidden ^= true; });
+  const said = h("pre", { of: `said ${it.state}` }, it.state === "runs" && h("span", { of: "spin", "aria-hidden": "true" }),
+    it.state === "fault" && "✕ ", it.lines.join("\n"), state);
   if (WORDS[it.state]) state.textContent = ` ${WORDS[it.state]}${it.state === "runs" && waits ? doing() : ""}`;
-  return h("div", { of: "card", "data-number": it.number }, h("span", { of: "faint code", "aria-hidden": "true" }, "›"), h("pre", {}, coloured(it.typed)),
-    h("div", {}, said, why, why && h("pre", { of: "why", hidden: true }, it.why.join("\n"))), h("time", {}, it.seconds === null ? "" : took(it.seconds)));
+  return h("div", { of: "card", "data-number": it.number }, h("span", { of: "faint code", "aria-hidden": "true" }, "›"),
+    h("pre", {}, coloured(it.typed)),
+    h("div", {}, said, why, why && h("pre", { of: "why", hidden: true }, it.why.join("\n"))),
+      h("time", {}, it.seconds === null ? "" : took(it.seconds)));
 }
 
 const doing = () => ` turn ${waits.turn} of actor ${waits.actor}${waits.runs ? `: ${waits.runs}` : ""}`;
@@ -109,8 +120,11 @@ export function tell(event) {
   for (const [number, it] of cards) if (event.first && number < event.first) { it.made.remove(); cards.delete(number); }
   const going = [...cards.values()].filter(it => it.state === "runs" || it.state === "waits");
   stops.hidden = !going.length;
-  if (!event.cards) for (const it of going.filter(each => each.state === "runs")) { const made = card(it); it.made.replaceWith(made); it.made = made; }
+  if (!event.cards) for (const it of going.filter(each => each.state === "runs")) { const made = card(it); it.made.replaceWith(made);
+    it.made = made; }
   if (isAtEnd && (event.cards || going.length)) list.scrollTop = list.scrollHeight;
-  if (event.names) put(names, h("div", { of: "group" }, "names"), event.names.map(it => h("button", { of: "item", type: "button", style: { width: "100%" }, onclick: () => (it.actor === null ? prefill(it.name) : go("actors", { actor: it.actor, object: 0 })) },
+  if (event.names) put(names, h("div", { of: "group" }, "names"),
+    event.names.map(it => h("button", { of: "item", type: "button", style: { width: "100%" },
+    onclick: () => (it.actor === null ? prefill(it.name) : go("actors", { actor: it.actor, object: 0 })) },
     h("span", { of: "code" }, it.name), h("span", { of: "dim cut grow", style: { "text-align": "left" } }, it.text))));
 }

@@ -7,7 +7,7 @@ from .exact import exact, message, shown
 from .figures import Figures
 from .rows import Rows
 from .states import STATES, cells, code_of, state_of
-from .try_common import Opened, image_of, post, same, true, until
+from .try_common import Opened, image_of, many, post, same, true, until
 
 JOB = ["a ^self b + 1", "b | x | x := 7. ^self c: x", "c: n [self goesOn] whileTrue: [nil]. ^n", "goesOn ^true", "stop ^3 zork"]
 
@@ -61,6 +61,7 @@ def the_table_sorts_and_filters(program):
     same([it["actor"] for it in rows.part({"text": "777", "count": 9})["rows"]], [777])
     same(rows.part({"first": 65_530, "count": 200})["rows"][-1]["actor"], 65_535)
     rows.take_some(10, [row(10, 90, 2, "frames", "Auditor")])
+    same(rows.waiting, sum(it["accepted"] - it["begun"] for it in rows.all))
     same((rows.row(10)["class"], rows.row(10)["state"], rows.row(10)["waiting"]), ("Auditor", "turn", 88))
 
 
@@ -170,15 +171,12 @@ def pictures_are_drawn(program):
 def a_tick_costs_little(program):
     """Processor time of the page's server for a tick of 10,000 actors, a tenth of which changed, with a table of 50 rows and the map: the
     least of several, under 50 milliseconds."""
-    with image_of(program, shop=False) as (server, image), Opened(server.path) as opened:
-        image.define("Counter", slots=["count"])
-        image.install("Counter", "bump ^count isNil")
-        list(image.ask_all([{"cmd": "actor", "class": "Counter"}] * 10_000))
+    with image_of(program, file=many(1, 10_000)) as (server, image), Opened(server.path) as opened:
         actors, sender, watch = [it.actor for first in (0, 4_096, 8_192)
             for it in image.actors(first)], image.sender(1), opened.page.watched
         view = {"view": "actors", "table": {"first": 40, "count": 50, "sort": "waiting", "down": True}, "cells": 4_000}
         seen, spent = {"window": 1, "ticks": -1, "typed": -1}, []
-        for number in range(6):
+        for number in range(5):
             list(sender.post_all([(it, "bump") for it in actors[number::10]]))
             began = time.thread_time()
             watch.tick()

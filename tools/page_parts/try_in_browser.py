@@ -11,9 +11,9 @@ FIELD = "const it = document.querySelector('#source'); it.focus(); it.setSelecti
 
 
 @contextlib.contextmanager
-def shown(program, *options, width=1280, height=900, is_dark=False, shop=True, workers="2", may_say=()):
+def shown(program, *options, width=1280, height=900, is_dark=False, workers="2", file=None, may_say=()):
     """An image, a page on it, and a browser that has opened it. What its console says besides is wrong."""
-    with image_of(program, *options, shop=shop, workers=workers) as (server, image), Opened(server.path) as opened, Browser(width, height,
+    with image_of(program, *options, workers=workers, file=file) as (server, image), Opened(server.path) as opened, Browser(width, height,
         is_dark) as browser:
         browser.open(opened.address)
         connected(browser)

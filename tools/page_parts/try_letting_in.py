@@ -6,7 +6,6 @@ import shutil
 import socket
 import subprocess
 import sys
-import time
 
 from .letting_in import CHECKS, HEADERS, MOST_BYTES, MOST_CONNECTIONS, user_of
 from .serving import Request

@@ -3,11 +3,12 @@
 import { change, look } from "./ask.js";
 import { confirmed } from "./dialog.js";
 import { difference } from "./diff.js";
-import { button, h, plural, put, toast } from "./dom.js";
+import { button, h, put, toast } from "./dom.js";
 import { draft, keep } from "./drafts.js";
 import { Editor } from "./editor.js";
 import { find } from "./find.js";
 import { at, image, see } from "./image.js";
+import { makeRoom } from "./source.js";
 import { Under } from "./under.js";
 
 const ORDER = n => `${n}${n % 100 > 10 && n % 100 < 14 ? "th" : ["th", "st", "nd", "rd"][n % 10] || "th"}`;
@@ -62,6 +63,7 @@ export class MethodPane {
     }
     this.said = "";
     this.draw();
+    makeRoom(this.editor.root);
     this.under.open();
     see();
   }

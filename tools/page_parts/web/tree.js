@@ -2,7 +2,7 @@
 
 import { defineClass, reparentClass } from "./dialog.js";
 import { button, h, many, put } from "./dom.js";
-import { at, below, go, image } from "./image.js";
+import { at, go, image } from "./image.js";
 import { oneStop, walkable } from "./lists.js";
 import { heat } from "./shapes.js";
 

@@ -2,7 +2,7 @@
 
 import { look } from "./ask.js";
 import { difference } from "./diff.js";
-import { aOrAn, button, h, many, plural, put, short } from "./dom.js";
+import { aOrAn, button, h, many, put, short } from "./dom.js";
 import { light } from "./editor.js";
 import { at, go } from "./image.js";
 import { legend, shapes } from "./shapes.js";

@@ -2,7 +2,7 @@
 
 import { type } from "./ask.js";
 import { $, button, h, put } from "./dom.js";
-import { at, go, image } from "./image.js";
+import { go, image } from "./image.js";
 import { tokens } from "./source.js";
 
 const WORDS = { waits: "waits for the entry before", runs: "runs", broken: "broken off" };

@@ -175,6 +175,7 @@ def messages_are_answered(program):
         browser.wait_text(".card .said.fault", "fault notUnderstood in turn 2 of actor 0")
         browser.run("document.querySelector('.card .said.fault').parentNode.querySelector('button').click()")
         browser.wait_text(".card .why", "Till understands")
+        browser.wait_text(".card button", "inspect actor 0")
         browser.wait_text("#names", "t")
         browser.write("#entry", "t audit\n")
         browser.wait_text(".card .said.runs", "Till › ")

@@ -49,14 +49,14 @@ class Page:
             return {"error": "OnlyLooks", "said": str(only)}
         except actorimage.Refused as refused:
             return {"error": refused.name, "said": str(refused)}
-        except (KeyError, TypeError, ValueError) as error:
+        except (AttributeError, KeyError, TypeError, ValueError) as error:
             return {"error": "BadCommand", "said": f"this page's server cannot take that: {error!r}"}
 
 
 def see(page, asked):
     """What a window shows from now on, and what it shows of that at once."""
     page.watched.see(asked["window"], asked["view"])
-    view = asked["view"]
+    view = page.watched.views.get(asked["window"]) or {}
     with page.watched.moved:
         told = page.watched.table(view)
     if view.get("view") == "actors" and view.get("actor") is not None and page.watched.epoch:

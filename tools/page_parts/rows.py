@@ -86,7 +86,7 @@ class Rows:
 
     def part(self, asked):
         """The rows that a page shows, and how many there are with its filter."""
-        order = self.order(asked.get("sort", ""), bool(asked.get("down")), asked.get("only", "all"), asked.get("text", "").lower())
+        order = self.order(asked.get("sort", ""), bool(asked.get("down")), asked.get("only") or "all", asked.get("text", "").lower())
         first = max(0, int(asked.get("first", 0)))
         count = min(MOST_SHOWN, int(asked.get("count", 0)))
         return {"first": first, "there": len(order), "rows": [self.row(it) for it in order[first : first + count]]}

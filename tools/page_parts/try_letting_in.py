@@ -112,6 +112,15 @@ def bodies_are_bounded(program):
             same(opened.asked("POST", "/look", {**opened.good(), "Content-Length": length}, b"")[0], 403)
         same(opened.look("none such")["error"], "BadCommand")
         same(opened.look("method")["error"], "BadCommand")
+        bad = {"method": {"class": [], "selector": 3}, "senders": {"selector": {}}, "running": {}, "gone": {"class": {}}, "see": {"view": 7}}
+        for what, more in bad.items():
+            same((what, opened.look(what, **more).get("error")), (what, "BadCommand"))
+        with opened.watching(view="actors", table={"first": 0, "count": 5}) as events:
+            until(lambda: events[-1:] and events[-1].get("table"))
+            for view in (7, {"view": "actors", "table": 7}, {"view": "actors", "actor": "x"}, {"method": 1}):
+                same(opened.look("see", window=events[0]["window"], view=view)["error"], "BadCommand")
+            last = len(events)
+            until(lambda: len(events) > last and events[-1].get("table"), "a tick behind questions that are none")
         many = [socket.create_connection(("127.0.0.1", opened.port)) for _ in range(MOST_CONNECTIONS)]
         try:
             until(lambda: not opened.server.room.acquire(blocking=False) or opened.server.room.release())

@@ -141,6 +141,7 @@ def sessions_are_few(program):
                 begun = opened.page.desk.looks.begun
                 until(lambda: opened.page.desk.looks.since > first)
                 same(opened.page.desk.looks.begun, begun)
+                until(lambda: opened.page.desk.typed.image is None and opened.page.desk.changes.image is None, "the end of idle sessions")
                 desk.LONGEST_SESSION = longest
             until(lambda: image.status().sessions == 1, "the end of the page's sessions")
             with opened.watching() as events:

@@ -25,6 +25,23 @@ MANY, TENTH = 10_000, 10
 MOST_LISTED, MOST_CELLS = 120, 4_000
 
 
+def cleaned(view):
+    """What a window shows, as far as it can be shown. A question that is none stops no tick."""
+    found = {"view": str(view.get("view", "browse")), "cells": int(view.get("cells") or 0)}
+    if view.get("class"):
+        found["class"] = str(view["class"])
+    if view.get("method"):
+        name, selector = view["method"]
+        found["method"] = str(name), str(selector)
+    if view.get("actor") is not None:
+        found["actor"], found["object"] = int(view["actor"]), int(view.get("object") or 0)
+    if view.get("table"):
+        it = view["table"]
+        found["table"] = {"first": int(it.get("first") or 0), "count": int(it.get("count") or 0), "down": bool(it.get("down"))}
+        found["table"].update((key, str(it.get(key) or "")) for key in ("sort", "text", "only"))
+    return found
+
+
 class Watch:
     """What is known of the image now. `state` is `there`, `lost` or `full`, and `said` why. `ticks` counts what was told."""
 
@@ -97,7 +114,7 @@ class Watch:
         """What a window shows from now on."""
         with self.moved:
             if number in self.views:
-                self.views[number] = view
+                self.views[number] = cleaned(view)
 
     def stream(self, view, about):
         """The events for a window, until it is closed. The first says what the page is about."""
@@ -117,7 +134,7 @@ class Watch:
     def enter(self, view):
         with self.moved:
             self.next += 1
-            self.views[self.next] = view
+            self.views[self.next] = cleaned(view)
             if not self.is_running:
                 self.is_running = True
                 threading.Thread(target=self.go_on, daemon=True).start()
@@ -137,9 +154,10 @@ class Watch:
                 self.tick()
             except Lost as lost:
                 self.state, self.said = "full" if lost.is_full else "lost", lost.sentence
-            except actorimage.ActorImageError as error:
-                self.state, self.said = "lost", str(error)
+            except Exception as error:  # The next tick is tried all the same.
+                self.state, self.said = "lost", f"{type(error).__name__}: {error}"
             self.spent = time.thread_time() - spent
+            self.desk.tidy()
             with self.moved:
                 self.ticks += 1
                 self.moved.notify_all()

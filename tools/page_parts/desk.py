@@ -90,9 +90,10 @@ class Line:
 class Desk:
     """The three sessions. A window that waits for what was typed holds up no look."""
 
-    def __init__(self, path, looks_only=False):
-        self.path, self.looks_only = path, looks_only
-        self.looks, self.changes, self.typed = (Line(path, it) for it in (True, looks_only, looks_only))
+    def __init__(self, path, looks_only=False, line=None):
+        """`line` is what there is in place of sessions: an image file."""
+        self.path, self.looks_only = path, looks_only or line is not None
+        self.looks, self.changes, self.typed = (line or Line(path, it) for it in (True, looks_only, looks_only))
 
     @property
     def lines(self):

@@ -5,6 +5,7 @@ import actorimage
 from . import installing, methods
 from .desk import ONLY_LOOKS, Desk, Lost, OnlyLooks
 from .faults import faults
+from .image_file import FileLine
 from .typed import Typed
 from .watch import Watch
 
@@ -12,11 +13,11 @@ from .watch import Watch
 class Page:
     """All windows of one image. An answer has `error` and `said` where there is none."""
 
-    def __init__(self, path, looks_only=False):
-        self.desk = Desk(path, looks_only)
+    def __init__(self, path, looks_only=False, of_file=False):
+        self.desk = Desk(path, looks_only, FileLine(path) if of_file else None)
         self.watched = Watch(self.desk, lambda told: Typed(self.desk.typed, told))
         self.typed, self.kept, self.stats = self.watched.typed, self.watched.kept, self.watched.stats
-        self.about = {"socket": path, "looksOnly": looks_only, "sender": self.typed.sender}
+        self.about = {"socket": path, "looksOnly": self.desk.looks_only, "isFile": of_file, "sender": self.typed.sender}
 
     def watch(self, asked):
         return self.watched.stream(asked, self.about)

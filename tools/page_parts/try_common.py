@@ -80,13 +80,9 @@ def load(path):
 class Opened:
     """A page on an image, in this process, and what one asks of it."""
 
-    def __init__(self, path, looks_only=False, checks=None, headers=None):
-        self.page = Page(path, looks_only)
+    def __init__(self, path, looks_only=False, of_file=False):
+        self.page = Page(path, looks_only, of_file)
         self.server = Server(self.page, SECRET)
-        if checks is not None:
-            self.server.gate.checks = checks
-        if headers is not None:
-            self.server.headers = headers
         threading.Thread(target=self.server.serve_forever, args=(0.05,), daemon=True).start()
 
     def __enter__(self):

@@ -112,7 +112,8 @@ def bodies_are_bounded(program):
             same(opened.asked("POST", "/look", {**opened.good(), "Content-Length": length}, b"")[0], 403)
         same(opened.look("none such")["error"], "BadCommand")
         same(opened.look("method")["error"], "BadCommand")
-        bad = {"method": {"class": [], "selector": 3}, "senders": {"selector": {}}, "running": {}, "gone": {"class": {}}, "see": {"view": 7}}
+        bad = {"method": {"class": [], "selector": 3}, "senders": {"selector": {}}, "running": {}, "gone": {"class": {}},
+            "see": {"view": 7}}
         for what, more in bad.items():
             same((what, opened.look(what, **more).get("error")), (what, "BadCommand"))
         with opened.watching(view="actors", table={"first": 0, "count": 5}) as events:

@@ -43,6 +43,7 @@ function about(it) {
   document.title = `${name} · actorimage`;
   document.body.classList.toggle("looks-only", it.looksOnly);
   for (const id of ["#checkpoint", "#save"]) $(id).hidden = it.looksOnly;
+  $("#work").hidden = it.isFile;
   image.sender = it.sender;
 }
 

@@ -23,7 +23,7 @@ export class MethodPane {
     this.head = h("div", { of: "crumbs grow" });
     this.chip = h("span", { of: "chip changed", hidden: true }, "● changed");
     this.buttons = {
-      remove: button("plain danger", "Remove", () => this.remove(), { title: "Removes the method from its class" }),
+      remove: button("plain danger changes", "Remove", () => this.remove(), { title: "Removes the method from its class" }),
       revert: button("plain", "Revert", () => this.revert(), { title: "Forgets what was typed" }),
       install: button("plain", "Install", () => this.install(), { title: "Ctrl+S", id: "install" }),
     };
@@ -90,8 +90,7 @@ export class MethodPane {
     put(this.head, told && [h("span", { of: "C" }, told.class), h("span", { of: "faint" }, "›"),
       h("span", { of: "sel cut" }, told.selector || "new method"), h("span", { of: "faint cut" }, this.which())]);
     if (told && !isShown) {
-      put(this.none, told.kernel ? `${told.class} has ${told.selector} from the kernel, which has no source.` : told.gone
-        ? `${told.class} has no method ${told.selector} now. Its versions stand below: one can be brought back.` : `No class from ${told.class} up has a method ${told.selector}.`);
+      put(this.none, this.whyNone());
     }
     this.chip.hidden = !this.isChanged;
     this.buttons.install.disabled = !this.isChanged;
@@ -99,6 +98,14 @@ export class MethodPane {
     this.buttons.revert.disabled = !this.isChanged && !this.theirs;
     this.buttons.remove.disabled = !told || !told.version;
     this.drawBanner();
+  }
+
+  // What is said where there is no source.
+  whyNone() {
+    const { class: name, selector, kernel, gone } = this.told;
+    if (kernel) return `${name} has ${selector} from the kernel, which has no source.`;
+    if (gone) return `${name} has no method ${selector} now. Its versions stand below: one can be brought back.`;
+    return `No class from ${name} up has a method ${selector}.`;
   }
 
   which() {

@@ -137,6 +137,15 @@ def an_edit_of_another_is_seen(program):
         browser.wait("return document.querySelector('#source').value === 'sold ^0'")
         image.remove("Till", "sold")
         browser.wait_text(".nothing", "has no method sold now")
+        # A pattern that was changed overwrites no other method that is there.
+        choose(browser, "Till", "weigh:")
+        typed_over(browser, "weigh: n  ^true", "audit ^9")
+        browser.press("s", "ctrl")
+        browser.wait_text("#conflict", "There is a method audit already")
+        true(image.source("Till", "audit").source != "audit ^9", "a method was overwritten unseen")
+        browser.click("#install-mine")
+        until(lambda: image.source("Till", "audit").source == "audit ^9")
+        same(image.source("Till", "weigh:").source, "weigh: n  ^true")
         # Without anything typed another person's version is shown at once.
         choose(browser, "Till", "audit")
         image.install("Till", "audit ^5")

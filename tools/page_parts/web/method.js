@@ -37,7 +37,7 @@ export class MethodPane {
 
   // Opens what a send of the selector to an object of the class runs; without a selector a new method.
   async open(name, selector) {
-    this.theirs = null;
+    this.theirs = this.other = null;
     if (selector === null) {
       this.take({ class: name, selector: "", source: "", version: 0, sites: [], versions: [], isNew: true });
       return;
@@ -121,15 +121,16 @@ export class MethodPane {
       return;
     }
     const { version, source } = this.theirs, began = this.began.version;
-    const what = version ? `Replaced meanwhile by version ${version}` : "Removed meanwhile";
+    const isOther = this.other && this.other !== this.told.selector, mine = isOther ? this.other : this.told.selector;
+    const what = isOther ? `There is a method ${mine} already, version ${version}` : version ? `Replaced meanwhile by version ${version}` : "Removed meanwhile";
+    const how = isOther ? "" : began ? ` of somebody else; you began with version ${began}` : " of somebody else; you began with none";
     put(this.banner, h("div", { of: "banner", id: "conflict" },
-      h("b", {}, what), h("span", { of: "grow" },
-        began ? ` of somebody else; you began with version ${began}. Nothing is overwritten.` : " of somebody else; you began with none. Nothing is overwritten."),
+      h("b", {}, what), h("span", { of: "grow" }, `${how}. Nothing is overwritten.`),
       button("plain", "Show both", () => { this.areBoth = !this.areBoth; this.drawBanner(); },
         { "aria-expanded": String(Boolean(this.areBoth)), id: "show-both" }),
       button("plain", "Take theirs", () => this.takeTheirs(), { title: "What you typed is forgotten", id: "take-theirs" }),
       button("plain", version ? `Install mine over ${version}` : "Install mine",
-        () => this.install({ selector: this.told.selector || this.other, version }), { id: "install-mine" })),
+        () => this.install({ selector: mine, version }), { id: "install-mine" })),
       this.areBoth && h("div", { of: "sect", id: "both" }, h("h3", {}, "Theirs, and what yours would change in it"),
         difference(source ?? "", this.editor.text)));
   }
@@ -143,7 +144,6 @@ export class MethodPane {
     if (reply.ok) { this.installed(name, selector, reply); return; }
     if (reply.error === "Stale") {
       Object.assign(this, { theirs: reply.theirs, other: reply.selector, areBoth: true, said: "" });
-      if (reply.selector !== selector) this.began = { base: this.began.base, version: 0 };
       this.draw();
       return;
     }
@@ -162,9 +162,11 @@ export class MethodPane {
   }
 
   takeTheirs() {
-    keep(this.told.class, this.told.selector, null);
+    const { class: name, selector } = this.told, to = this.other || selector;
+    keep(name, selector, null);
     this.theirs = null;
-    this.open(this.told.class, this.told.selector);
+    Object.assign(at, { class: name, selector: to });
+    this.open(name, to);
   }
 
   revert() {
@@ -224,7 +226,7 @@ export class MethodPane {
 
   async meanwhile(sites) {
     const { class: name, selector } = this.told;
-    this.theirs = { version: sites.version, source: null };
+    Object.assign(this, { theirs: { version: sites.version, source: null }, other: null });
     const asked = await look("method", { class: name, selector });
     if (!asked.ok || this.told.class !== name || this.told.selector !== selector) return;
     this.told = { ...asked.ok, class: name, selector };

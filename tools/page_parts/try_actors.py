@@ -157,7 +157,8 @@ def pictures_are_drawn(program):
             same(box["class"], "Spin")
             until(lambda: events[-1].get("figures", {}).get("historyFull"))
             until(lambda: any(edit["class_name"] == "Spin" for it in events for edit in it.get("edits", [])))
-            figures = events[-1]["figures"]
+            until(lambda: events[-1].get("figures", {}).get("waiting") == 3, "the end of all other messages")
+            figures = next(it["figures"] for it in reversed(events) if it.get("figures"))
             same((figures["waiting"], figures["workers"], figures["editsLeft"] + image.status().edits), (3, 2, 2048))
             true(len([it for each in events for it in each.get("points", [])]) >= 2, "there are no curves")
     figures = Figures("/nowhere")

@@ -157,6 +157,7 @@ class Opened:
 
         threading.Thread(target=read, daemon=True).start()
         try:
+            until(lambda: events, "the first event")
             yield events
         finally:
             with contextlib.suppress(OSError):

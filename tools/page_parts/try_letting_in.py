@@ -6,7 +6,9 @@ import shutil
 import socket
 import subprocess
 import sys
+import threading
 
+from . import serving
 from .letting_in import CHECKS, HEADERS, MOST_BYTES, MOST_CONNECTIONS, user_of
 from .serving import Request
 from .try_common import PAGE, PATIENCE, SECRET, Opened, image_of, same, true, until
@@ -108,6 +110,11 @@ def bodies_are_bounded(program):
         big = b'{"what":"' + b"x" * MOST_BYTES + b'"}'
         for body in (big, b"[1]", b"{", b"\xff", b"[" * 20_000):
             same(opened.asked("POST", "/look", opened.good(), body)[0], 403)
+        before, serving.MOST_BYTES = MOST_BYTES, 10**9
+        try:
+            same(opened.asked("POST", "/look", opened.good(), b'{"what":"' + b"x" * MOST_BYTES + b'"}')[0], 200)
+        finally:
+            serving.MOST_BYTES = before
         for length in ("-1", "x", "", "99999999999999999999"):
             same(opened.asked("POST", "/look", {**opened.good(), "Content-Length": length}, b"")[0], 403)
         same(opened.look("none such")["error"], "BadCommand")
@@ -117,7 +124,7 @@ def bodies_are_bounded(program):
         for what, more in bad.items():
             same((what, opened.look(what, **more).get("error")), (what, "BadCommand"))
         with opened.watching(view="actors", table={"first": 0, "count": 5}) as events:
-            until(lambda: events[-1:] and events[-1].get("table"))
+            until(lambda: events[-1].get("table"))
             for view in (7, {"view": "actors", "table": 7}, {"view": "actors", "actor": "x"}, {"method": 1}):
                 same(opened.look("see", window=events[0]["window"], view=view)["error"], "BadCommand")
             last = len(events)
@@ -127,6 +134,9 @@ def bodies_are_bounded(program):
             until(lambda: not opened.server.room.acquire(blocking=False) or opened.server.room.release())
             with socket.create_connection(("127.0.0.1", opened.port), timeout=PATIENCE) as late:
                 same(late.recv(1), b"")
+            bounded, opened.server.room = opened.server.room, threading.BoundedSemaphore(2 * MOST_CONNECTIONS)
+            same(opened.asked("GET", "/", {"Host": opened.server.gate.host})[0], 200)
+            opened.server.room = bounded
         finally:
             for it in many:
                 it.close()

@@ -52,7 +52,7 @@ class Watch:
         self.boxes, self.posts, self.ends = Boxes(), Posts(), Ends(self.line)
         self.moved, self.views, self.ticks = threading.Condition(threading.RLock()), {}, 0
         self.state, self.said, self.epoch, self.as_of, self.next = "lost", "not connected yet", None, None, 0
-        self.is_running, self.spent = False, 0.0
+        self.is_running = False
         self.typed = typed_of(self.nudge)
 
     # ---- the image
@@ -149,14 +149,13 @@ class Watch:
         """Ticks while there are windows, and a little longer: one that is loaded anew is there again at once."""
         last = time.monotonic()
         while True:
-            began, spent = time.monotonic(), time.thread_time()
+            began = time.monotonic()
             try:
                 self.tick()
             except Lost as lost:
                 self.state, self.said = "full" if lost.is_full else "lost", lost.sentence
             except Exception as error:  # The next tick is tried all the same.
                 self.state, self.said = "lost", f"{type(error).__name__}: {error}"
-            self.spent = time.thread_time() - spent
             self.desk.tidy()
             with self.moved:
                 self.ticks += 1

@@ -7,9 +7,11 @@ import socket
 import subprocess
 import sys
 import threading
+import webbrowser
 
 from . import serving
 from .letting_in import CHECKS, HEADERS, MOST_BYTES, MOST_CONNECTIONS, user_of
+from .main import opened as led
 from .serving import Request
 from .try_common import PAGE, PATIENCE, SECRET, Opened, image_of, same, true, until
 
@@ -158,8 +160,6 @@ def slow_ones_are_let_go(program):
 
 def the_token_is_hidden(program):
     """It is new at each start, behind #, in no header and in no word of a command; and the headers forbid what a page need not do."""
-    from .main import opened as led
-
     with image_of(program, shop=False) as (server, _), Opened(server.path) as opened:
         true(opened.address.endswith(f"/#{SECRET}"), "the token stands behind #")
         with socket.create_connection(("127.0.0.1", opened.port), timeout=PATIENCE) as stream:
@@ -180,8 +180,6 @@ def the_token_is_hidden(program):
                 it.terminate()
                 it.wait()
                 it.stdout.close()
-        import webbrowser
-
         calls, before = [], webbrowser.open
         webbrowser.open = calls.append
         try:

@@ -97,16 +97,15 @@ class Watch:
         """The sites of methods, as far as a window shows any."""
         views = list(self.views.values())
         if any(it.get("view") == "browse" for it in views):
-            listed = [(it["class"], selector) for it in views if it.get("class") for selector in self.listed(it["class"])]
+            listed = [method for it in views if it.get("class") for method in self.listed(it["class"])]
             self.stats.round(listed, self.ticks)
             self.stats.ask([tuple(it["method"]) for it in views if it.get("method")], self.ticks)
         if any(it.get("view") == "pictures" for it in views):
             self.posts.take(self.kept, self.stats, self.rows, time.monotonic())
 
     def listed(self, name):
-        """The methods that a class has of its own, as far as they are shown with their sites."""
-        found = self.kept.classes.get(name)
-        return list(found.methods)[:MOST_LISTED] if found else []
+        """The methods of a class, its own first and then those that it inherits, as far as they are shown with their sites."""
+        return [(it.name, selector) for it in self.kept.chain(name) for selector in list(it.methods)][:MOST_LISTED]
 
     # ---- windows
 
@@ -224,7 +223,7 @@ class Watch:
             told["heat"] = {name: sends for name, sends in heat.items() if before.get(name) != sends or told_anew}
             seen["heat"] = heat
             if view.get("class"):
-                told["shapes"] = self.stats.shapes([(view["class"], it) for it in self.listed(view["class"])])
+                told["shapes"] = self.stats.shapes(self.listed(view["class"]))
             if view.get("method"):
                 told["sites"] = self.sites(tuple(view["method"]))
         if view.get("view") == "actors" and view.get("actor") is not None:

@@ -242,8 +242,7 @@ impl<'a> FileKeeper<'a> {
         from: u64,
         is_last: bool,
     ) -> Result<(), Failure> {
-        let (Some(mut held), Some(mut journal)) =
-            (self.held.try_lock(), self.journal.try_lock())
+        let (Some(mut held), Some(mut journal)) = (self.held.try_lock(), self.journal.try_lock())
         else {
             return Err(Failure::from(Refusal::WriteFault));
         };

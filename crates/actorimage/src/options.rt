@@ -131,9 +131,12 @@ fn serve_command<'a>(alloc: Global) -> Result<Command<'a>, AllocError> {
         "Ends after so many sessions, 1 to 1000000: waits for their ends, saves, and tells what they did together";
     let image =
         "Keeps the image in a file: begins with it where it is there, and saves to it at each save and at the end, which --sessions or tools/stop brings";
-    let journal = "Keeps a journal beside the image's file, from which what has happened is done again after a crash";
-    let sync = "Milliseconds after which what happens is in the journal on the disk, 0 to 60000; with 0 before each reply [default: 1000]";
-    let save_after = "Saves the image when the journal has so many megabytes, or tells 31,250,000 times as many steps, 1 to 65536 [default: 64]";
+    let journal =
+        "Keeps a journal beside the image's file, from which what has happened is done again after a crash";
+    let sync =
+        "Milliseconds after which what happens is in the journal on the disk, 0 to 60000; with 0 before each reply [default: 1000]";
+    let save_after =
+        "Saves the image when the journal has so many megabytes, or tells 31,250,000 times as many steps, 1 to 65536 [default: 64]";
     let verbose = "Says on standard error what is served, and names each session that ends badly";
     Command::new(alloc, "serve")
         .about("Serves one image to sessions over a Unix socket")
@@ -148,9 +151,7 @@ fn serve_command<'a>(alloc: Global) -> Result<Command<'a>, AllocError> {
                 .value_parser(value_parser!(u32).range(0..=60_000))
                 .requires_arg("journal")?,
         )?
-        .arg(
-            number_option(alloc, "save-after", "MB", save_after, 65_536).requires_arg("journal")?,
-        )?
+        .arg(number_option(alloc, "save-after", "MB", save_after, 65_536).requires_arg("journal")?)?
         .arg(flag(alloc, "verbose", verbose))
 }
 

@@ -342,12 +342,7 @@ impl<'a, K: Naming, S: Keeper> Recorder<'a, K, S> {
     }
 
     /// Tells what was read of the present history, or keeps what was read of an earlier one. The answer is whether there may be more.
-    fn take_in(
-        &self,
-        alloc: Global,
-        progress: &mut Progress,
-        read: Read,
-    ) -> Result<bool, Refusal> {
+    fn take_in(&self, alloc: Global, progress: &mut Progress, read: Read) -> Result<bool, Refusal> {
         progress.steps = read.steps;
         if read.is_past {
             progress.past = Some(read);

@@ -4,7 +4,7 @@
 //! image. So each of both images has its journal, whichever a crash leaves.
 use crate::failures::Failure;
 use crate::new_files::{HELD_BY_ANOTHER, sync_folder};
-use st_classes::refusals::Refusal;
+use st_classes::refusals::{ImagePlace, Refusal};
 use st_image::settings::Settings;
 use st_journal::files::{FileCalls, FileDevice};
 use st_journal::headers::header;
@@ -55,7 +55,7 @@ pub fn journal_of(alloc: Global, place: &str) -> Result<String, Refusal> {
 }
 
 /// Whether a file is at a path, or something that cannot be looked at.
-fn is_there<R: Files>(rt: &R, path: &str) -> bool {
+pub fn is_there<R: Files>(rt: &R, path: &str) -> bool {
     match fs::symlink_metadata(rt, path) {
         Ok(_) => true,
         Err(error) => error.kind() != ErrorKind::NotFound,
@@ -91,8 +91,20 @@ fn unwritten(alloc: Global, path: &str, error: DeviceError) -> Failure {
     }
 }
 
+/// Opens a journal to read it alone.
+pub fn open_to_read<R: Files<File = File>>(
+    rt: &R,
+    alloc: Global,
+    path: &str,
+) -> Result<File, Failure> {
+    match File::open(rt, path) {
+        Ok(file) => Ok(file),
+        Err(error) => Err(unread(alloc, path, &error)),
+    }
+}
+
 /// All that an open file has.
-fn read_whole(alloc: Global, mut file: &File, path: &str) -> Result<Vec<u8>, Failure> {
+pub fn read_whole(alloc: Global, mut file: &File, path: &str) -> Result<Vec<u8>, Failure> {
     let mut bytes = Vec::new(alloc);
     match file.read_to_end(&mut bytes) {
         Ok(_) => Ok(bytes),
@@ -162,19 +174,23 @@ impl Found {
 }
 
 /// The header of a journal that goes on from the image with a digest.
-fn header_of(alloc: Global, digest: &str) -> Result<Vec<u8>, Failure> {
+pub fn header_of(alloc: Global, digest: &str) -> Result<Vec<u8>, Failure> {
     match header(alloc, digest, Settings::DEFAULT.capacity) {
         Ok(line) => Ok(line),
         Err(_) => Err(Failure::from(Refusal::NoMemory)),
     }
 }
 
-/// Whether a text has no second line.
-fn is_one_line(lines: &[u8]) -> bool {
-    match lines.iter().position(|byte| *byte == b'\n') {
-        Some(end) => lines.len() - end <= 1,
-        None => true,
-    }
+/// The refusal of a journal that goes on from another image.
+pub fn journal_of_another_image(alloc: Global, path: &str) -> Failure {
+    Failure::of(
+        alloc,
+        Refusal::BadImage {
+            place: ImagePlace::Shape,
+        },
+        path,
+        "line 1: is the journal of another image",
+    )
 }
 
 impl Journal {
@@ -253,14 +269,7 @@ impl Journal {
         };
         if !goes_on {
             if !text.is_empty() {
-                return Err(Failure::of(
-                    alloc,
-                    Refusal::BadImage {
-                        place: st_classes::refusals::ImagePlace::Shape,
-                    },
-                    journal.path.as_str(),
-                    "line 1: is the journal of another image",
-                ));
+                return Err(journal_of_another_image(alloc, journal.path.as_str()));
             }
             journal.begin(alloc, header)?;
         }
@@ -361,10 +370,7 @@ impl Journal {
         from: u64,
     ) -> Result<Vec<u8>, Failure> {
         let path = self.path.as_str();
-        let mut file = match File::open(rt, path) {
-            Ok(file) => file,
-            Err(error) => return Err(unread(alloc, path, &error)),
-        };
+        let mut file = open_to_read(rt, alloc, path)?;
         match file.seek(SeekFrom::Start(from)) {
             Ok(_) => read_whole(alloc, &file, path),
             Err(error) => Err(unread(alloc, path, &error)),

@@ -15,7 +15,7 @@ use std::alloc::Global;
 use std::fs::{File, Files};
 
 /// The refusal of a journal's line, by its number, from 1. The first line is the header.
-fn refused_line(alloc: Global, path: &str, refused: RefusedLine) -> Failure {
+pub fn refused_line(alloc: Global, path: &str, refused: RefusedLine) -> Failure {
     let number = refused.place.saturating_add(2);
     let words = match refused.error {
         LineError::Redo(RedoError::Refused(Refusal::NoMemory)) => {
@@ -44,7 +44,7 @@ fn recovered(alloc: Global, image: Image, found: Found) -> Result<(Image, Journa
 }
 
 /// The image of a file, or a new one.
-fn loaded(alloc: Global, file: Option<&File>) -> Result<Image, Failure> {
+pub fn loaded(alloc: Global, file: Option<&File>) -> Result<Image, Failure> {
     let image = begin_with(alloc, load_file(alloc, file))?;
     Ok(image)
 }

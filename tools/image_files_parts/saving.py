@@ -15,10 +15,10 @@ SAVE = {"cmd": "save"}
 
 
 @contextlib.contextmanager
-def going_on(program, path, **more):
+def going_on(program, path, *options, **more):
     """A script on a file, and how it is asked a line and replies."""
     pipes = {"stdin": subprocess.PIPE, "stdout": subprocess.PIPE, "stderr": subprocess.PIPE}
-    with subprocess.Popen([program.path, "script", "--image", path], **pipes, **more) as script:
+    with subprocess.Popen([program.path, "script", "--image", path, *options], **pipes, **more) as script:
 
         def asked(line):
             script.stdin.write(line + b"\n")

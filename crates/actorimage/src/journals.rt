@@ -110,7 +110,11 @@ fn open<R: Files<File = File>>(
     path: &str,
 ) -> Result<(Lines, Vec<u8>), Failure> {
     let mut options = File::options();
-    let options = options.read(true).write(true).create(true).mode(OWNER_ALONE);
+    let options = options
+        .read(true)
+        .write(true)
+        .create(true)
+        .mode(OWNER_ALONE);
     let file = match options.open(rt, path) {
         Ok(file) => file,
         Err(error) => return Err(Failure::at(alloc, Refusal::WriteFault, path, &error)),
@@ -426,7 +430,11 @@ fn write_whole<R: Files<File = File>>(
     text: &[u8],
 ) -> Result<(), Failure> {
     let mut options = File::options();
-    let options = options.write(true).create(true).truncate(true).mode(OWNER_ALONE);
+    let options = options
+        .write(true)
+        .create(true)
+        .truncate(true)
+        .mode(OWNER_ALONE);
     let written = match options.open(rt, path) {
         Ok(mut file) => match file.write_all(text) {
             Ok(()) => file.sync_all(),

@@ -5,6 +5,7 @@ ghost use Rattle.st_server.specs.Keepers.{IsFault, Keeps};
 use crate::failures::Failure;
 use crate::journals::Journal;
 use crate::new_files::{NewFile, hold, hold_beside};
+use crate::noting::Noted;
 use crate::stamps::Stamp;
 use st_classes::refusals::Refusal;
 use st_file::moments::Moment;
@@ -172,6 +173,8 @@ pub struct FileKeeper<'a> {
     journal: Mutex<Option<Journal>>,
     /// How the journal is kept, if there is one.
     settings: Option<JournalSettings>,
+    /// What a script has led to, if its journal tells that.
+    noted: Mutex<Option<Noted>>,
     /// Why the image could not be saved last, or its journal not be written, if that was not said yet.
     why: Mutex<Option<String>>,
     /// Whether somebody says why an image could not be saved.
@@ -219,6 +222,7 @@ impl<'a> FileKeeper<'a> {
             }),
             journal: Mutex::new(None),
             settings: None,
+            noted: Mutex::new(None),
             why: Mutex::new(None),
             is_telling: AtomicBool::new(false),
         }
@@ -242,8 +246,7 @@ impl<'a> FileKeeper<'a> {
         from: u64,
         is_last: bool,
     ) -> Result<(), Failure> {
-        let (Some(mut held), Some(mut journal)) =
-            (self.held.try_lock(), self.journal.try_lock())
+        let (Some(mut held), Some(mut journal)) = (self.held.try_lock(), self.journal.try_lock())
         else {
             return Err(Failure::from(Refusal::WriteFault));
         };
@@ -317,6 +320,7 @@ impl<'a> FileKeeper<'a> {
             held,
             journal: _,
             settings: _,
+            noted,
             why,
             is_telling,
         } = self;
@@ -326,8 +330,27 @@ impl<'a> FileKeeper<'a> {
             held,
             journal: Mutex::new(Some(journal)),
             settings: Some(settings),
+            noted,
             why,
             is_telling,
+        }
+    }
+
+    /// From now on what the commands of a script lead to is told in the journal. All that there is of the image is told there.
+    pub fn begin_noting(&self, alloc: Global, image: &Image) {
+        if let Some(mut noted) = self.noted.try_lock() {
+            *noted = Some(Noted::new(alloc, image));
+        }
+    }
+
+    /// Has what was noted written to the journal. It is on the disk then.
+    pub fn write_noted(&self, alloc: Global) -> Result<(), Refusal> {
+        let Some(mut noted) = self.noted.try_lock() else {
+            return Err(Refusal::WriteFault);
+        };
+        match &mut *noted {
+            Some(noted) => noted.write(alloc, self),
+            None => Ok(()),
         }
     }
 
@@ -357,6 +380,9 @@ impl<'a> Keeper for FileKeeper<'a> {
         let Some(path) = self.path else {
             return Err(Refusal::BadArguments);
         };
+        if let Err(refusal) = self.write_noted(alloc) {
+            return Err(refused(refusal));
+        }
         match self.write_at(alloc, path, moment) {
             Ok(bytes) => Ok(bytes),
             Err(failure) => Err(self.refusal_of(alloc, failure)),
@@ -397,6 +423,22 @@ impl<'a> Keeper for FileKeeper<'a> {
                 None => 0,
             },
             None => 0,
+        }
+    }
+
+    fn note(&self, alloc: Global, image: &Image) {
+        if let Some(mut noted) = self.noted.try_lock() {
+            if let Some(noted) = &mut *noted {
+                noted.note(alloc, self, image);
+            }
+        }
+    }
+
+    fn note_checkpoint(&self, alloc: Global, image: &Image) {
+        if let Some(mut noted) = self.noted.try_lock() {
+            if let Some(noted) = &mut *noted {
+                noted.note_checkpoint(alloc, image);
+            }
         }
     }
 

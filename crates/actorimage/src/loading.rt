@@ -1,10 +1,10 @@
-//! The image with which a server begins, and what keeps it.
+//! The image with which a run begins that has hold of its file, and what keeps it.
 use crate::failures::Failure;
 use crate::image_files::{Opened, digest_of_file, load_file, path_of};
 use crate::journals::{Found, Journal, refuse_journal};
 use crate::keeping::FileKeeper;
 use crate::new_files::NewFile;
-use crate::options::ServeOptions;
+use crate::options::Keeping;
 use crate::runs::begin_with;
 use st_classes::refusals::{ImagePlace, Refusal};
 use st_journal::redo_error::{LineError, RedoError, RefusedLine};
@@ -98,17 +98,17 @@ fn place_beside(alloc: Global, held: &Option<NewFile>) -> Result<String, Failure
     }
 }
 
-/// The image with which a server begins, and if it has a journal the digest of its file. Without a journal an image whose journal is there
+/// The image with which a run begins, and if it has a journal the digest of its file. Without a journal an image whose journal is there
 /// is refused.
 fn found_at<R: Files>(
     rt: &R,
     alloc: Global,
-    options: ServeOptions<'_>,
+    keeping: Keeping<'_>,
     place: &str,
     file: Option<&File>,
 ) -> Result<(Image, Option<String>), Failure> {
-    if let Some(image) = options.image {
-        if options.journal.is_some() {
+    if let Some(image) = keeping.image {
+        if keeping.journal.is_some() {
             return loaded_with_digest(alloc, image.path, file);
         }
         refuse_journal(rt, alloc, place)?;
@@ -117,18 +117,18 @@ fn found_at<R: Files>(
     Ok((image, None))
 }
 
-/// The image with which a server begins, and what keeps it in the file that was opened. The new file beside that is held, if there is one.
+/// The image with which a run begins, and what keeps it in the file that was opened. The new file beside that is held, if there is one.
 pub fn begin_keeping<'a, R: Files<File = File>>(
     rt: &R,
     program: &'a HostRuntime,
     alloc: Global,
-    options: ServeOptions<'a>,
+    keeping: Keeping<'a>,
     held: Option<NewFile>,
     opened: Opened,
 ) -> (FileKeeper<'a>, Result<Image, Failure>) {
     let place = place_beside(alloc, &held);
     let Opened { file, seen } = opened;
-    let path = path_of(options.image);
+    let path = path_of(keeping.image);
     let place = match place {
         Ok(place) => place,
         Err(failure) => {
@@ -136,13 +136,13 @@ pub fn begin_keeping<'a, R: Files<File = File>>(
             return (keeper, Err(failure));
         }
     };
-    let found = found_at(rt, alloc, options, place.as_str(), file.as_ref());
+    let found = found_at(rt, alloc, keeping, place.as_str(), file.as_ref());
     let keeper = FileKeeper::new(program, path, held, seen, file);
     let found = match found {
         Ok(found) => found,
         Err(failure) => return (keeper, Err(failure)),
     };
-    match options.journal {
+    match keeping.journal {
         Some(settings) => with_journal(rt, alloc, place.as_str(), settings, keeper, found),
         None => {
             let (image, _) = found;

@@ -17,20 +17,35 @@ const VERSION_OF_LOOK: &str = "0.1 (a look, made without proofs)";
 /// With this ends the name of a look's file.
 const LOOK: &str = "-look";
 
+/// How the image of a run is kept.
+#[derive(Clone, Copy)]
+pub struct Keeping<'a> {
+    /// Where, if it is kept in a file.
+    pub image: Option<Place<'a>>,
+    /// How the image's journal is kept, if there is one. The pause is from 0 to 60,000, and the other number from 1 to 65,536.
+    pub journal: Option<JournalSettings>,
+}
+
+impl<'a> Keeping<'a> {
+    const NOWHERE: Keeping<'static> = Keeping {
+        image: None,
+        journal: None,
+    };
+}
+
 /// The options of a script.
 #[derive(Clone, Copy)]
 pub struct ScriptOptions<'a> {
     quantum: Option<u32>,
     capacity: Option<u32>,
-    /// Where the image is kept, if it is kept in a file.
-    pub image: Option<Place<'a>>,
+    pub keeping: Keeping<'a>,
 }
 
 impl<'a> ScriptOptions<'a> {
     const NONE: ScriptOptions<'static> = ScriptOptions {
         quantum: None,
         capacity: None,
-        image: None,
+        keeping: Keeping::NOWHERE,
     };
 
     /// The settings of the script, for a program that began at `start`, in nanoseconds since 1970. Options that were not given have their
@@ -48,6 +63,12 @@ impl<'a> ScriptOptions<'a> {
     }
 }
 
+/// How the journal of a script is kept: each reply is passed on behind what it tells, and only the commands save.
+const JOURNAL_OF_SCRIPT: JournalSettings = JournalSettings {
+    pause: 0,
+    save_after: u32::MAX,
+};
+
 /// The options of a server.
 #[derive(Clone, Copy)]
 pub struct ServeOptions<'a> {
@@ -57,10 +78,7 @@ pub struct ServeOptions<'a> {
     pub workers: u32,
     /// The number of sessions after which the server ends, from 1 to 1,000,000, if it is to end.
     pub sessions: Option<u32>,
-    /// Where the image is kept, if it is kept in a file.
-    pub image: Option<Place<'a>>,
-    /// How the image's journal is kept, if there is one. The pause is from 0 to 60,000, and the other number from 1 to 65,536.
-    pub journal: Option<JournalSettings>,
+    pub keeping: Keeping<'a>,
     /// Whether standard error says what is served, and which sessions end badly.
     pub is_verbose: bool,
 }
@@ -116,10 +134,17 @@ fn script_command<'a>(alloc: Global) -> Result<Command<'a>, AllocError> {
         "Keeps the image in a file: begins with it where it is there, and saves to it at each save and when the input has ended";
     let quantum = "Steps of a quantum, 1 to 1024 [default: 256]";
     let capacity = "Messages that a new actor's mailbox holds, 1 to 1024 [default: 64]";
+    let journal =
+        "Keeps a journal beside the image's file, from which what has happened is done again after a crash; each reply is passed on behind what it tells";
     Command::new(alloc, "script")
         .about("Runs the commands on standard input and writes a reply to each")
         .arg(option(alloc, "image", "FILE", image))?
         .arg(must_exist(alloc)?)?
+        .arg(
+            flag(alloc, "journal", journal)
+                .requires_arg("image")?
+                .conflicts_with("capacity")?,
+        )?
         .arg(number_option(alloc, "quantum", "N", quantum, 1024))?
         .arg(number_option(alloc, "capacity", "N", capacity, 1024))
 }
@@ -131,9 +156,12 @@ fn serve_command<'a>(alloc: Global) -> Result<Command<'a>, AllocError> {
         "Ends after so many sessions, 1 to 1000000: waits for their ends, saves, and tells what they did together";
     let image =
         "Keeps the image in a file: begins with it where it is there, and saves to it at each save and at the end, which --sessions or tools/stop brings";
-    let journal = "Keeps a journal beside the image's file, from which what has happened is done again after a crash";
-    let sync = "Milliseconds after which what happens is in the journal on the disk, 0 to 60000; with 0 before each reply [default: 1000]";
-    let save_after = "Saves the image when the journal has so many megabytes, or tells 31,250,000 times as many steps, 1 to 65536 [default: 64]";
+    let journal =
+        "Keeps a journal beside the image's file, from which what has happened is done again after a crash";
+    let sync =
+        "Milliseconds after which what happens is in the journal on the disk, 0 to 60000; with 0 before each reply [default: 1000]";
+    let save_after =
+        "Saves the image when the journal has so many megabytes, or tells 31,250,000 times as many steps, 1 to 65536 [default: 64]";
     let verbose = "Says on standard error what is served, and names each session that ends badly";
     Command::new(alloc, "serve")
         .about("Serves one image to sessions over a Unix socket")
@@ -148,9 +176,7 @@ fn serve_command<'a>(alloc: Global) -> Result<Command<'a>, AllocError> {
                 .value_parser(value_parser!(u32).range(0..=60_000))
                 .requires_arg("journal")?,
         )?
-        .arg(
-            number_option(alloc, "save-after", "MB", save_after, 65_536).requires_arg("journal")?,
-        )?
+        .arg(number_option(alloc, "save-after", "MB", save_after, 65_536).requires_arg("journal")?)?
         .arg(flag(alloc, "verbose", verbose))
 }
 
@@ -214,7 +240,10 @@ fn script_options<'a>(matches: &ArgMatches<'a>) -> ScriptOptions<'a> {
     ScriptOptions {
         quantum: matches.get_one::<u32>("quantum"),
         capacity: matches.get_one::<u32>("capacity"),
-        image: image_place(matches),
+        keeping: Keeping {
+            image: image_place(matches),
+            journal: matches.get_flag("journal").then_some(JOURNAL_OF_SCRIPT),
+        },
     }
 }
 
@@ -231,10 +260,12 @@ fn serve_options<'a>(matches: &ArgMatches<'a>) -> ServeOptions<'a> {
         socket: matches.get_str("socket").unwrap_or(""),
         workers: matches.get_one::<u32>("workers").unwrap_or(1),
         sessions: matches.get_one::<u32>("sessions"),
-        image: image_place(matches),
-        journal: matches
-            .get_flag("journal")
-            .then_some(journal_settings(matches)),
+        keeping: Keeping {
+            image: image_place(matches),
+            journal: matches
+                .get_flag("journal")
+                .then_some(journal_settings(matches)),
+        },
         is_verbose: matches.get_flag("verbose"),
     }
 }

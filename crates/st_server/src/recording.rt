@@ -8,6 +8,7 @@ ghost use Rattle.st_server.specs.Keepers.{IsFault, StaysOrFails};
 
 use crate::images::Mailbox;
 use crate::keepers::{JournalSettings, Keeper, copied};
+use crate::telling::{MOST_TOLD, Telling};
 use crate::turns::Turns;
 use st_classes::names::Names;
 use st_classes::refusals::Refusal;
@@ -15,24 +16,14 @@ use st_classes::token::Token;
 use st_file::moments::Moment;
 use st_image::items::Item;
 use st_journal::copying::copied_items;
-use st_journal::entries::Entry;
-use st_journal::lines::write_lines;
-use st_journal::telling::tell_since;
 use st_pool::holds::Reading;
 use st_pool::naming::Naming;
 use st_pool::office::Office;
 use st_pool::shared::Shared;
-use st_wire::streams::MemoryOutput;
 use std::alloc::{AllocError, Global};
 use std::sync::atomic::{AtomicU64, Ordering};
 use std::sync::{Condvar, CondvarTimeouts, Mutex, MutexGuard, Wait};
 use std::time::{Clock, Duration};
-
-/// How many items are copied in a hold at most, and told at once.
-const MOST_COPIED: usize = 1024;
-
-/// A batch of so many bytes is written before more is told.
-const MOST_BYTES: usize = 1 << 20;
 
 /// How often is read in a round at most. With so many readings all has been read that had happened when the round began: the history, and
 /// those that checkpoints have emptied.
@@ -94,7 +85,7 @@ impl Behind {
         let history = office.image().history();
         let all = history.len();
         let from = self.items.min(all);
-        let count = MOST_COPIED.min(all - from);
+        let count = MOST_TOLD.min(all - from);
         Ok(Read {
             names,
             table,
@@ -151,16 +142,10 @@ impl<K: Naming> Reading<K, Mailbox> for CopyingBehind {
 /// How far a journal is.
 #[derive(Drop)]
 pub(crate) struct Progress {
-    /// How many names are told.
-    names: u32,
+    /// What is told, of the history that was read or else of the present one.
+    telling: Telling,
     /// What was read of a history that a checkpoint has emptied, until all of it is told.
     past: Option<Read>,
-    /// How many items are told, of that history or else of the present one.
-    items: usize,
-    /// What is told and not on the disk.
-    text: Vec<u8>,
-    /// Whether the text is a batch, with an empty line at its end.
-    is_batch: bool,
     /// The number of the last round that has ended.
     round: u64,
     /// How many steps the image had counted by then.
@@ -181,29 +166,12 @@ fn as_fault(refusal: Refusal) -> Refusal
     }
 }
 
-/// The lines of entries.
-fn lines(alloc: Global, read: &Read, entries: &[Entry]) -> Result<MemoryOutput, Refusal> {
-    let mut lines = MemoryOutput::new(alloc);
-    match write_lines(alloc, &read.names, read.table.shown(), entries, &mut lines) {
-        Ok(_) => Ok(lines),
-        Err(_) => Err(Refusal::NoMemory),
-    }
-}
-
-/// The lines of a checkpoint.
-fn checkpoint(alloc: Global, read: &Read) -> Result<MemoryOutput, Refusal> {
-    lines(alloc, read, &[Entry::Checkpoint])
-}
-
 impl Progress {
     /// Nothing is told but so many names and items.
     fn new(alloc: Global, names: u32, items: usize) -> Progress {
         Progress {
-            names,
+            telling: Telling::new(alloc, names, items),
             past: None,
-            items,
-            text: Vec::new(alloc),
-            is_batch: false,
             round: 0,
             steps: 0,
             most_bytes: u64::MAX,
@@ -223,52 +191,24 @@ impl Progress {
         self.most_steps = self.steps.saturating_add(units.saturating_mul(STEPS));
     }
 
-    /// Tells the names that were read and the items from one place to another. After an error nothing is told.
-    fn tell(&mut self, alloc: Global, read: &Read, from: usize, to: usize) -> Result<(), Refusal> {
-        let items = read.items.get(from..to).unwrap_or(&[]);
-        let entries = tell_since(alloc, &read.names, self.names, items)?;
-        let lines = lines(alloc, read, entries.as_slice())?;
-        self.text.extend_from_slice(lines.as_slice())?;
-        self.names = read.names.len();
-        Ok(())
-    }
-
     /// Tells what was read of the present history. After an error nothing is told.
     fn tell_present(&mut self, alloc: Global, read: &Read) -> Result<(), Refusal> {
-        let count = read.items.len();
-        self.tell(alloc, read, 0, count)?;
-        self.items = self.items.saturating_add(count);
-        Ok(())
+        self.telling
+            .tell(alloc, &read.names, read.table.shown(), &read.items)
     }
 
     /// Tells some of a history that a checkpoint has emptied, and the checkpoint behind the last of it. The answer is whether all is told.
     fn tell_past(&mut self, alloc: Global, read: &Read) -> Result<bool, Refusal> {
-        let from = self.items.min(read.items.len());
-        let count = MOST_COPIED.min(read.items.len() - from);
+        let from = self.telling.items().min(read.items.len());
+        let count = MOST_TOLD.min(read.items.len() - from);
+        let (names, table) = (&read.names, read.table.shown());
         if count > 0 {
-            self.tell(alloc, read, from, from + count)?;
-            self.items = from + count;
+            let items = &read.items[from..from + count];
+            self.telling.tell(alloc, names, table, items)?;
             return Ok(false);
         }
-        let lines = checkpoint(alloc, read)?;
-        self.text.extend_from_slice(lines.as_slice())?;
-        self.items = 0;
+        self.telling.tell_checkpoint(alloc, names, table)?;
         Ok(true)
-    }
-
-    /// Has what is told written, if anything is.
-    fn write<S: Keeper>(&mut self, alloc: Global, keeper: &S) -> Result<(), Refusal> {
-        if self.text.is_empty() {
-            return Ok(());
-        }
-        if !self.is_batch {
-            self.text.extend_from_slice(b"\n")?;
-            self.is_batch = true;
-        }
-        keeper.append(alloc, self.text.as_slice())?;
-        self.text.clear();
-        self.is_batch = false;
-        Ok(())
     }
 }
 
@@ -335,19 +275,14 @@ impl<'a, K: Naming, S: Keeper> Recorder<'a, K, S> {
             rt,
             alloc,
             Behind {
-                items: progress.items,
+                items: progress.telling.items(),
             },
         )?;
         self.take_in(alloc, progress, read)
     }
 
     /// Tells what was read of the present history, or keeps what was read of an earlier one. The answer is whether there may be more.
-    fn take_in(
-        &self,
-        alloc: Global,
-        progress: &mut Progress,
-        read: Read,
-    ) -> Result<bool, Refusal> {
+    fn take_in(&self, alloc: Global, progress: &mut Progress, read: Read) -> Result<bool, Refusal> {
         progress.steps = read.steps;
         if read.is_past {
             progress.past = Some(read);
@@ -366,14 +301,14 @@ impl<'a, K: Naming, S: Keeper> Recorder<'a, K, S> {
     ) -> Result<(), Refusal> {
         let number = self.rounds.fetch_add(1, Ordering::SeqCst).wrapping_add(1);
         for _ in 0..READINGS {
-            if progress.is_batch || progress.text.len() >= MOST_BYTES {
-                progress.write(alloc, self.keeper)?;
+            if progress.telling.is_much() {
+                progress.telling.write(alloc, self.keeper)?;
             }
             if !self.tell_some(rt, alloc, progress)? {
                 break;
             }
         }
-        progress.write(alloc, self.keeper)?;
+        progress.telling.write(alloc, self.keeper)?;
         progress.round = number;
         Ok(())
     }
@@ -395,7 +330,7 @@ impl<'a, K: Naming, S: Keeper> Recorder<'a, K, S> {
     /// Where the next reading begins.
     pub(crate) fn behind(&self, progress: &Progress) -> Behind {
         Behind {
-            items: progress.items,
+            items: progress.telling.items(),
         }
     }
 
@@ -430,7 +365,7 @@ impl<'a, K: Naming, S: Keeper> Recorder<'a, K, S> {
         if self.take_in(alloc, progress, read)? {
             return Ok(None);
         }
-        progress.write(alloc, self.keeper)?;
+        progress.telling.write(alloc, self.keeper)?;
         Ok(Some(self.keeper.end()))
     }
 

@@ -108,12 +108,7 @@ fn start_recorder<
     W: Witness<R> + Sync,
     S: Keeper + Sync,
     R: Threads + Wait + Clock + Sync,
->(
-    scope: &Scope<'s, E>,
-    rt: &'s R,
-    alloc: Global,
-    room: &'s Room<'_, K, W, S>,
-) -> bool {
+>(scope: &Scope<'s, E>, rt: &'s R, alloc: Global, room: &'s Room<'_, K, W, S>) -> bool {
     if !room.recorder.is_kept() {
         return true;
     }

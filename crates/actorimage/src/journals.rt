@@ -9,7 +9,7 @@ use st_image::settings::Settings;
 use st_journal::files::{FileCalls, FileDevice};
 use st_journal::headers::header;
 use st_log::device::DeviceError;
-use st_log::lines::is_batch;
+use st_log::lines::{is_batch, whole_len};
 use st_log::recovered::Recovered;
 use std::alloc::{AllocError, Global};
 use std::fs::{self, File, Files, TryLockError};
@@ -35,7 +35,7 @@ impl FileCalls for SystemFile {
     }
 
     fn sync(&mut self) -> bool {
-        self.file.sync_all().is_ok()
+        self.file.sync_data().is_ok()
     }
 }
 
@@ -115,12 +115,8 @@ pub fn read_whole(alloc: Global, mut file: &File, path: &str) -> Result<Vec<u8>,
     }
 }
 
-/// Opens and locks the journal at a path, which is made if it is not there, and recovers it. The answer has its lines.
-fn open<R: Files<File = File>>(
-    rt: &R,
-    alloc: Global,
-    path: &str,
-) -> Result<(Lines, Vec<u8>), Failure> {
+/// Opens and locks the journal at a path, which is made if it is not there.
+fn locked<R: Files<File = File>>(rt: &R, alloc: Global, path: &str) -> Result<File, Failure> {
     let mut options = File::options();
     let options = options
         .read(true)
@@ -131,15 +127,88 @@ fn open<R: Files<File = File>>(
         Ok(file) => file,
         Err(error) => return Err(Failure::at(alloc, Refusal::WriteFault, path, &error)),
     };
-    if let Err(TryLockError::WouldBlock) = file.try_lock() {
-        return Err(Failure::of(alloc, Refusal::WriteFault, path, HELD_BY_ANOTHER));
+    match file.try_lock() {
+        Err(TryLockError::WouldBlock) => {
+            Err(Failure::of(alloc, Refusal::WriteFault, path, HELD_BY_ANOTHER))
+        }
+        _ => Ok(file),
     }
+}
+
+/// Whether a crash may have left this behind the whole lines of a journal: nothing, or an empty line, and whatever was written behind that;
+/// or bytes that no write has reached.
+fn may_be_left(rest: &[u8]) -> bool {
+    rest.first() == Some(&b'\n') || rest.iter().all(|byte| *byte == 0)
+}
+
+/// Refuses a journal with something behind its whole lines that no crash leaves: it was damaged there, or is no journal.
+fn refuse_damage(alloc: Global, path: &str, bytes: &[u8]) -> Result<(), Failure> {
+    let end = whole_len(bytes);
+    if may_be_left(bytes.get(end..).unwrap_or(&[])) {
+        return Ok(());
+    }
+    let lines = bytes.get(..end).unwrap_or(&[]);
+    let before = lines.iter().filter(|byte| **byte == b'\n').count();
+    let line = before.saturating_add(1);
+    Err(Failure {
+        refusal: Refusal::BadImage {
+            place: ImagePlace::Shape,
+        },
+        words: format!(in alloc; "{path}: line {line}: is damaged").ok(),
+    })
+}
+
+/// Recovers the journal in an open file. The answer has its lines.
+fn recovered(alloc: Global, path: &str, file: File) -> Result<(Lines, Vec<u8>), Failure> {
     let bytes = read_whole(alloc, &file, path)?;
+    refuse_damage(alloc, path, &bytes)?;
     let device = FileDevice::new(alloc, SystemFile { file }, bytes);
     match Recovered::open(alloc, device) {
         Ok(found) => Ok(found),
         Err(error) => Err(unwritten(alloc, path, error)),
     }
+}
+
+/// Opens, locks and recovers the journal at a path, which is made if it is not there. The answer has its lines.
+fn open<R: Files<File = File>>(
+    rt: &R,
+    alloc: Global,
+    path: &str,
+) -> Result<(Lines, Vec<u8>), Failure> {
+    let file = locked(rt, alloc, path)?;
+    recovered(alloc, path, file)
+}
+
+/// Opens the journal at a path again, of which so many bytes are known to be on the disk, and cuts off what is behind them.
+fn open_again<R: Files<File = File>>(
+    rt: &R,
+    alloc: Global,
+    path: &str,
+    end: usize,
+) -> Result<(Lines, Vec<u8>), Failure> {
+    let file = locked(rt, alloc, path)?;
+    let end = end as u64;
+    let has_all = match file.metadata() {
+        Ok(found) => end <= found.len(),
+        Err(_) => false,
+    };
+    if !has_all {
+        return Err(changed_by_another(alloc, path));
+    }
+    match file.set_len(end) {
+        Ok(()) => recovered(alloc, path, file),
+        Err(error) => Err(Failure::at(alloc, Refusal::WriteFault, path, &error)),
+    }
+}
+
+/// The refusal of a journal that another process has changed.
+fn changed_by_another(alloc: Global, path: &str) -> Failure {
+    Failure::of(
+        alloc,
+        Refusal::WriteFault,
+        path,
+        "was changed by another process",
+    )
 }
 
 /// The journal of an image.
@@ -153,7 +222,8 @@ pub struct Journal {
     lines: Option<Lines>,
     /// How many bytes its lines have.
     end: usize,
-    /// Whether nobody knows which image is kept, and so where its journal goes on.
+    /// Whether another image was moved into the file's place, and it is not known to be on the disk there, with its journal in this one's
+    /// place. Nothing is appended before that is so.
     is_unsure: bool,
 }
 
@@ -216,7 +286,7 @@ impl Journal {
             }
             drop(other);
         }
-        Journal::of(alloc, place, path, found, header)
+        Journal::of(rt, alloc, place, path, found, header)
     }
 
     /// The journal that takes the place of an earlier one.
@@ -250,7 +320,8 @@ impl Journal {
     }
 
     /// A journal that was opened. Where it has no lines of its own, it begins with the header.
-    fn of(
+    fn of<R: Files<File = File>>(
+        rt: &R,
         alloc: Global,
         place: &str,
         path: String,
@@ -271,7 +342,7 @@ impl Journal {
             if !text.is_empty() {
                 return Err(journal_of_another_image(alloc, journal.path.as_str()));
             }
-            journal.begin(alloc, header)?;
+            journal.begin(rt, alloc, header)?;
         }
         Ok(Found {
             journal,
@@ -280,12 +351,20 @@ impl Journal {
         })
     }
 
-    /// Writes the header of a journal without lines.
-    fn begin(&mut self, alloc: Global, mut header: Vec<u8>) -> Result<(), Failure> {
+    /// Writes the header of a journal without lines. It is on the disk then, and so is the file's name.
+    fn begin<R: Files<File = File>>(
+        &mut self,
+        rt: &R,
+        alloc: Global,
+        mut header: Vec<u8>,
+    ) -> Result<(), Failure> {
         header.extend_from_slice(b"\n")?;
-        match self.add(alloc, &header) {
-            Ok(()) => Ok(()),
-            Err(error) => Err(unwritten(alloc, self.path.as_str(), error)),
+        if let Err(error) = self.add(&header) {
+            return Err(unwritten(alloc, self.path.as_str(), error));
+        }
+        match sync_folder(rt, alloc, self.path.as_str()) {
+            Some(failure) => Err(failure),
+            None => Ok(()),
         }
     }
 
@@ -300,7 +379,7 @@ impl Journal {
     }
 
     /// Adds a batch to the log, which is there.
-    fn add(&mut self, _alloc: Global, batch: &[u8]) -> Result<(), DeviceError> {
+    fn add(&mut self, batch: &[u8]) -> Result<(), DeviceError> {
         let Some(lines) = self.lines.take() else {
             return Err(DeviceError::Failed);
         };
@@ -314,55 +393,34 @@ impl Journal {
         Ok(())
     }
 
-    /// Recovers the log behind a change that failed. The answer is whether that was the change that adds a batch, and it was done.
-    fn reopen<R: Files<File = File>>(
-        &mut self,
-        rt: &R,
-        alloc: Global,
-        batch: &[u8],
-    ) -> Result<bool, Failure> {
-        let (lines, text) = open(rt, alloc, self.path.as_str())?;
-        let more = text.get(self.end..).unwrap_or(&[]);
-        let added = batch.get(..batch.len().saturating_sub(1)).unwrap_or(&[]);
-        let is_done = !more.is_empty();
-        if text.len() < self.end || is_done && more != added {
-            return Err(Failure::of(
-                alloc,
-                Refusal::WriteFault,
-                self.path.as_str(),
-                "was changed by another process",
-            ));
+    /// Opens the journal again behind a change that failed: what was not acknowledged is cut off.
+    fn reopen<R: Files<File = File>>(&mut self, rt: &R, alloc: Global) -> Result<(), Failure> {
+        let (lines, text) = open_again(rt, alloc, self.path.as_str(), self.end)?;
+        if text.len() != self.end {
+            return Err(changed_by_another(alloc, self.path.as_str()));
         }
-        self.end = lines.end();
         self.lines = Some(lines);
-        Ok(is_done)
+        Ok(())
     }
 
-    /// Appends a batch. After a failure the same batch may be tried again.
+    /// Appends a batch. After a failure a crash may leave it or not, and the next batch takes its place.
     pub fn append<R: Files<File = File>>(
         &mut self,
         rt: &R,
         alloc: Global,
         batch: &[u8],
     ) -> Result<(), Failure> {
-        if self.is_unsure {
-            return Err(Failure::of(
-                alloc,
-                Refusal::WriteFault,
-                self.place.as_str(),
-                "may not be on the disk; save it again",
-            ));
+        self.be_sure(rt, alloc)?;
+        if self.lines.is_none() {
+            self.reopen(rt, alloc)?;
         }
-        if self.lines.is_none() && self.reopen(rt, alloc, batch)? {
-            return Ok(());
-        }
-        match self.add(alloc, batch) {
+        match self.add(batch) {
             Ok(()) => Ok(()),
             Err(error) => Err(unwritten(alloc, self.path.as_str(), error)),
         }
     }
 
-    /// The lines behind so many bytes, and the empty line.
+    /// The lines behind so many bytes. What stands behind the last that was acknowledged is not among them.
     fn behind<R: Files<File = File>>(
         &self,
         rt: &R,
@@ -371,55 +429,82 @@ impl Journal {
     ) -> Result<Vec<u8>, Failure> {
         let path = self.path.as_str();
         let mut file = open_to_read(rt, alloc, path)?;
-        match file.seek(SeekFrom::Start(from)) {
-            Ok(_) => read_whole(alloc, &file, path),
-            Err(error) => Err(unread(alloc, path, &error)),
+        if let Err(error) = file.seek(SeekFrom::Start(from)) {
+            return Err(unread(alloc, path, &error));
         }
+        let mut lines = read_whole(alloc, &file, path)?;
+        let count = match self.end().checked_sub(from) {
+            Some(count) if count <= lines.len() as u64 => count,
+            _ => return Err(changed_by_another(alloc, path)),
+        };
+        lines.truncate(count as usize);
+        Ok(lines)
     }
 
     /// Writes the journal that goes on from the image with a digest, with the lines behind so many bytes, under its other name. It is on
-    /// the disk then.
+    /// the disk then, and so is its name.
     pub fn write_new<R: Files<File = File>>(
-        &self,
+        &mut self,
         rt: &R,
         alloc: Global,
         digest: &str,
         from: u64,
     ) -> Result<(), Failure> {
+        self.be_sure(rt, alloc)?;
         let mut text = header_of(alloc, digest)?;
         let behind = self.behind(rt, alloc, from)?;
         text.extend_from_slice(&behind)?;
+        text.extend_from_slice(b"\n")?;
         let path = path_with(alloc, self.path.as_str(), ".new")?;
-        write_whole(rt, alloc, path.as_str(), &text)
+        write_whole(rt, alloc, path.as_str(), &text)?;
+        match sync_folder(rt, alloc, path.as_str()) {
+            Some(failure) => Err(failure),
+            None => Ok(()),
+        }
     }
 
-    /// Moves the journal that was written for the new image into the place of the old one. If that fails, nobody knows where it goes on,
-    /// until another save.
+    /// Moves the journal that was written for the new image into the place of the old one, once that image is known to be on the disk in its
+    /// place. If that fails, it is tried again before anything is appended or saved.
     pub fn take_place<R: Files<File = File>>(
         &mut self,
         rt: &R,
         alloc: Global,
     ) -> Result<(), Failure> {
         self.doubt();
-        let new = path_with(alloc, self.path.as_str(), ".new")?;
-        if let Err(error) = fs::rename(rt, new.as_str(), self.path.as_str()) {
-            return Err(Failure::at(alloc, Refusal::WriteFault, self.path.as_str(), &error));
+        self.be_sure(rt, alloc)
+    }
+
+    /// Nobody knows any more where the journal goes on, until the new image and its journal are on the disk.
+    pub fn doubt(&mut self) {
+        self.lines = None;
+        self.is_unsure = true;
+    }
+
+    /// Has the new image and its journal on the disk, each in its place, if that is not known.
+    fn be_sure<R: Files<File = File>>(&mut self, rt: &R, alloc: Global) -> Result<(), Failure> {
+        if !self.is_unsure {
+            return Ok(());
         }
-        if let Some(failure) = sync_folder(rt, alloc, self.path.as_str()) {
+        let path = self.path.as_str();
+        if let Some(failure) = sync_folder(rt, alloc, path) {
             return Err(failure);
         }
-        let (lines, text) = open(rt, alloc, self.path.as_str())?;
+        // If it was moved before, only the wait for that failed.
+        let new = path_with(alloc, path, ".new")?;
+        if is_there(rt, new.as_str()) {
+            if let Err(error) = fs::rename(rt, new.as_str(), path) {
+                return Err(Failure::at(alloc, Refusal::WriteFault, path, &error));
+            }
+            if let Some(failure) = sync_folder(rt, alloc, path) {
+                return Err(failure);
+            }
+        }
+        let (lines, text) = open(rt, alloc, path)?;
         drop(text);
         self.end = lines.end();
         self.lines = Some(lines);
         self.is_unsure = false;
         Ok(())
-    }
-
-    /// Nobody knows any more where the journal goes on: nothing is appended until another save.
-    pub fn doubt(&mut self) {
-        self.lines = None;
-        self.is_unsure = true;
     }
 
     /// Removes the journal.

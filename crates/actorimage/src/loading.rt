@@ -1,7 +1,9 @@
 //! The image with which a run begins that has hold of its file, and what keeps it.
 use crate::failures::Failure;
 use crate::image_files::{Opened, digest_of_file, load_file, path_of};
-use crate::journals::{Found, Journal, refuse_journal};
+use crate::journals::{
+    Found, Journal, is_there, journal_of, journal_of_another_image, refuse_journal,
+};
 use crate::keeping::FileKeeper;
 use crate::new_files::NewFile;
 use crate::options::Keeping;
@@ -60,6 +62,21 @@ fn loaded_with_digest(
     Ok((image, digest))
 }
 
+/// Saves the image that is in no file, unless the journal of another one is there. The answer is the digest of its text.
+fn first_digest<R: Files<File = File>>(
+    rt: &R,
+    alloc: Global,
+    place: &str,
+    keeper: &FileKeeper<'_>,
+    image: &Image,
+) -> Result<String, Failure> {
+    let path = journal_of(alloc, place)?;
+    if is_there(rt, path.as_str()) {
+        return Err(journal_of_another_image(alloc, path.as_str()));
+    }
+    keeper.save_first(alloc, image)
+}
+
 /// Begins or goes on with the journal of an image, which comes back to what it was. An image that is in no file is saved first.
 fn with_journal<'a, R: Files<File = File>>(
     rt: &R,
@@ -71,7 +88,7 @@ fn with_journal<'a, R: Files<File = File>>(
 ) -> (FileKeeper<'a>, Result<Image, Failure>) {
     let digest = match digest {
         Some(digest) => Ok(digest),
-        None => keeper.save_first(alloc, &image),
+        None => first_digest(rt, alloc, place, &keeper, &image),
     };
     let found = match digest {
         Ok(digest) => Journal::find(rt, alloc, place, digest.as_str()),

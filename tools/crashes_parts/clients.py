@@ -3,7 +3,8 @@
 import contextlib
 import json
 import random
-import socket
+
+from trial_parts.client import Client as Session
 
 CLASS = {"cmd": "define", "name": "Account", "slots": ["total", "seen"], "super": "Object"}
 METHODS = (
@@ -33,18 +34,16 @@ class Client:
 
     def run(self):
         """Until the server is gone."""
-        with contextlib.suppress(OSError, ValueError), socket.socket(socket.AF_UNIX) as end:
-            end.settimeout(60)
-            end.connect(self.path)
-            with end.makefile("rb") as lines:
-                while True:
-                    self.act(end, lines)
+        with contextlib.suppress(OSError, ValueError), Session(self.path) as session:
+            while True:
+                self.act(session)
 
-    def act(self, end, lines):
+    def act(self, session):
+        """What was told before the server is gone counts, so each reply is noted as it is read."""
         commands = [self.command() for _ in range(self.rng.choice((1, 1, 1, 8, 40)))]
-        end.sendall(b"".join(json.dumps(it).encode() + b"\n" for it in commands))
+        session.socket.sendall(b"".join(json.dumps(it).encode() + b"\n" for it in commands))
         for command in commands:
-            line = lines.readline()
+            line = session.lines.readline()
             if not line.endswith(b"\n"):
                 raise OSError("the server is gone")
             self.note(command, json.loads(line))

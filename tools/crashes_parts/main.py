@@ -22,6 +22,7 @@ import time
 
 from inspect_parts.written import compact
 from second_opinion.inspecting import inspected
+from trial_parts.patience import PATIENCE
 
 from .clients import CLASS, METHODS, Client, Told
 from .journals import read, recovered
@@ -60,7 +61,7 @@ class Round:
             time.sleep(self.rng.choice((0.02, 0.1, 0.4, 1.0)) * self.rng.random() + 0.005)
             server.kill(signal.SIGTERM if self.rng.random() < 0.125 else signal.SIGKILL)
             for thread in threads:
-                thread.join(60)
+                thread.join(PATIENCE)
         return recovered(self.file)
 
     def compare(self, server, image):

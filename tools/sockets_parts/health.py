@@ -5,12 +5,14 @@ import os
 import re
 import subprocess
 
+from trial_parts.patience import PATIENCE
+
 STATUS = os.path.join(os.path.dirname(os.path.dirname(os.path.realpath(__file__))), "status")
 METRIC = re.compile(r"# HELP (\w+) .+\n# TYPE \1 (gauge|counter)\n\1 ([0-9]+)")
 
 
 def asked(*words):
-    return subprocess.run([STATUS, *words], capture_output=True, text=True, timeout=60)
+    return subprocess.run([STATUS, *words], capture_output=True, text=True, timeout=PATIENCE)
 
 
 def numbers_are_told(program, Server, post):

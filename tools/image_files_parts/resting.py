@@ -2,7 +2,9 @@
 
 import time
 
-from .program import SECONDS, Different
+from trial_parts.patience import PATIENCE
+
+from .program import Different
 
 ACTORS = {"cmd": "actors", "from": 0, "most": 4096}
 
@@ -14,7 +16,7 @@ def is_at_rest(actor):
 
 def settle(asked):
     """Waits until the actors of an image of at most 4,096 rest, of which a server is asked."""
-    ends = time.monotonic() + SECONDS
+    ends = time.monotonic() + PATIENCE
     while not all(map(is_at_rest, asked(ACTORS)["ok"]["actors"])):
         if time.monotonic() > ends:
             raise Different("the actors do not come to rest")

@@ -7,8 +7,9 @@ import os
 import subprocess
 
 from inspect_parts.try_common import read
+from trial_parts.patience import PATIENCE
 
-from .program import SECONDS, Ended, same
+from .program import Ended, same
 from .try_served import ask, serve
 
 SAVE = {"cmd": "save"}
@@ -32,7 +33,7 @@ def going_on(program, path, *options, **more):
 
 
 def end_of(script):
-    out, err = script.communicate(timeout=SECONDS)
+    out, err = script.communicate(timeout=PATIENCE)
     return Ended(script.returncode, out, err)
 
 

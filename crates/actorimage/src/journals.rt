@@ -179,6 +179,26 @@ fn open<R: Files<File = File>>(
     recovered(alloc, path, file)
 }
 
+/// The same, if the journal begins with a header. One that a save was writing may not be whole, and does not count then.
+fn open_whole<R: Files<File = File>>(
+    rt: &R,
+    alloc: Global,
+    path: &str,
+    header: &[u8],
+) -> Result<Option<(Lines, Vec<u8>)>, Failure> {
+    match open(rt, alloc, path) {
+        Ok((lines, text)) if text.starts_with(header) => Ok(Some((lines, text))),
+        Ok((lines, text)) => {
+            drop((lines, text));
+            Ok(None)
+        }
+        Err(failure) => match failure.refusal {
+            Refusal::BadImage { .. } => Ok(None),
+            _ => Err(failure),
+        },
+    }
+}
+
 /// Opens the journal at a path again, of which so many bytes are known to be on the disk, and cuts off what is behind them.
 fn open_again<R: Files<File = File>>(
     rt: &R,
@@ -279,12 +299,10 @@ impl Journal {
         let new = path_with(alloc, path.as_str(), ".new")?;
         let found = open(rt, alloc, path.as_str())?;
         if !found.1.starts_with(&header) && is_there(rt, new.as_str()) {
-            let (other, lines) = open(rt, alloc, new.as_str())?;
-            if lines.starts_with(&header) {
+            if let Some(other) = open_whole(rt, alloc, new.as_str(), &header)? {
                 drop(found);
-                return Journal::moved(rt, alloc, place, path, new, (other, lines), header.len());
+                return Journal::moved(rt, alloc, place, path, new, other, header.len());
             }
-            drop(other);
         }
         Journal::of(rt, alloc, place, path, found, header)
     }

@@ -124,12 +124,12 @@ def malformed_journals(program):
         program.put("file.journal", data + b"\n")
         not_journaled(program, repr(data), path, "BadImage", f"{path}.journal line 1: {ANOTHER}")
         same(f"{data!r}: both files", (read(path), read(path + ".journal")), (image, data + b"\n"))
-    for behind in (b"", b'"actor":"Object"}\n', b"\n{\n", b'{"actor":"Object"}'):
+    for behind in (b"", b'\n"actor":"Object"}\n', b"\n{\n"):
         program.put("file.journal", journal.removesuffix(b"\n") + behind)
         with journaled(program, path) as (_, end, lines):
             same(f"behind the lines {behind!r}", ask(end, lines, ACTOR), {"ok": {"actor": 0}})
         program.put("file", image)
-    return "14 journals"
+    return "13 journals"
 
 
 def save_is_broken_off(program):

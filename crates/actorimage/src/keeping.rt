@@ -138,8 +138,7 @@ impl Held {
         let Ready { new, digest } = ready;
         if let Some(journal) = journal {
             if let Err(failure) = journal.write_new(rt, alloc, digest.as_str(), from) {
-                new.remove(rt);
-                return Err(failure);
+                return Err(new.kept_for(rt, alloc, is_last, failure));
             }
         }
         let unsure = new.take_place(rt, alloc, self.seen, is_last)?;
@@ -179,6 +178,8 @@ pub struct FileKeeper<'a> {
     why: Mutex<Option<String>>,
     /// Whether somebody says why an image could not be saved.
     is_telling: AtomicBool,
+    /// Whether the journal could not be written last: that is said once.
+    is_unwritten: AtomicBool,
 }
 
 /// The refusal of a save: that there was no memory, or that the file could not be written, whatever was in the way.
@@ -225,6 +226,7 @@ impl<'a> FileKeeper<'a> {
             noted: Mutex::new(None),
             why: Mutex::new(None),
             is_telling: AtomicBool::new(false),
+            is_unwritten: AtomicBool::new(false),
         }
     }
 
@@ -323,6 +325,7 @@ impl<'a> FileKeeper<'a> {
             noted,
             why,
             is_telling,
+            is_unwritten,
         } = self;
         FileKeeper {
             rt,
@@ -333,6 +336,7 @@ impl<'a> FileKeeper<'a> {
             noted,
             why,
             is_telling,
+            is_unwritten,
         }
     }
 
@@ -411,7 +415,13 @@ impl<'a> Keeper for FileKeeper<'a> {
             return Err(Refusal::WriteFault);
         };
         match journal.append(self.rt, alloc, batch) {
-            Ok(()) => Ok(()),
+            Ok(()) => {
+                self.is_unwritten.store(false, Ordering::SeqCst);
+                Ok(())
+            }
+            Err(failure) if self.is_unwritten.swap(true, Ordering::SeqCst) => {
+                Err(refused(failure.refusal))
+            }
             Err(failure) => Err(self.refusal_of(alloc, failure)),
         }
     }
@@ -422,7 +432,7 @@ impl<'a> Keeper for FileKeeper<'a> {
                 Some(journal) => journal.end(),
                 None => 0,
             },
-            None => 0,
+            None => u64::MAX,
         }
     }
 

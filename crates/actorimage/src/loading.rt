@@ -1,7 +1,9 @@
 //! The image with which a run begins that has hold of its file, and what keeps it.
 use crate::failures::Failure;
 use crate::image_files::{Opened, digest_of_file, load_file, path_of};
-use crate::journals::{Found, Journal, refuse_journal};
+use crate::journals::{
+    Found, Journal, is_there, journal_of, journal_of_another_image, refuse_journal,
+};
 use crate::keeping::FileKeeper;
 use crate::new_files::NewFile;
 use crate::options::Keeping;
@@ -15,7 +17,7 @@ use std::alloc::Global;
 use std::fs::{File, Files};
 
 /// The refusal of a journal's line, by its number, from 1. The first line is the header.
-fn refused_line(alloc: Global, path: &str, refused: RefusedLine) -> Failure {
+pub fn refused_line(alloc: Global, path: &str, refused: RefusedLine) -> Failure {
     let number = refused.place.saturating_add(2);
     let words = match refused.error {
         LineError::Redo(RedoError::Refused(Refusal::NoMemory)) => {
@@ -44,7 +46,7 @@ fn recovered(alloc: Global, image: Image, found: Found) -> Result<(Image, Journa
 }
 
 /// The image of a file, or a new one.
-fn loaded(alloc: Global, file: Option<&File>) -> Result<Image, Failure> {
+pub fn loaded(alloc: Global, file: Option<&File>) -> Result<Image, Failure> {
     let image = begin_with(alloc, load_file(alloc, file))?;
     Ok(image)
 }
@@ -60,6 +62,21 @@ fn loaded_with_digest(
     Ok((image, digest))
 }
 
+/// Saves the image that is in no file, unless the journal of another one is there. The answer is the digest of its text.
+fn first_digest<R: Files<File = File>>(
+    rt: &R,
+    alloc: Global,
+    place: &str,
+    keeper: &FileKeeper<'_>,
+    image: &Image,
+) -> Result<String, Failure> {
+    let path = journal_of(alloc, place)?;
+    if is_there(rt, path.as_str()) {
+        return Err(journal_of_another_image(alloc, path.as_str()));
+    }
+    keeper.save_first(alloc, image)
+}
+
 /// Begins or goes on with the journal of an image, which comes back to what it was. An image that is in no file is saved first.
 fn with_journal<'a, R: Files<File = File>>(
     rt: &R,
@@ -71,7 +88,7 @@ fn with_journal<'a, R: Files<File = File>>(
 ) -> (FileKeeper<'a>, Result<Image, Failure>) {
     let digest = match digest {
         Some(digest) => Ok(digest),
-        None => keeper.save_first(alloc, &image),
+        None => first_digest(rt, alloc, place, &keeper, &image),
     };
     let found = match digest {
         Ok(digest) => Journal::find(rt, alloc, place, digest.as_str()),

@@ -13,6 +13,7 @@ mod loading;
 mod new_files;
 mod noting;
 mod options;
+mod replaying;
 mod runs;
 mod socket_files;
 mod stamps;
@@ -26,8 +27,10 @@ use crate::loading::begin_keeping;
 use crate::new_files::{NewFile, hold, place_of};
 use crate::noting::NotedOutput;
 use crate::options::{
-    Keeping, Request, ScriptOptions, ServeOptions, invalid_utf8_error, parsed_request,
+    Keeping, ReplayOptions, Request, ScriptOptions, ServeOptions, invalid_utf8_error,
+    parsed_request,
 };
+use crate::replaying::{replayed, save_at};
 use crate::runs::{begin_with, saved_at};
 use crate::socket_files::{SocketFile, bind};
 use boxcar::Vec as Faults;
@@ -257,6 +260,22 @@ fn script_with_journal<R: Input + Print + Files<File = File> + Clock + AllocGlob
     }
 }
 
+/// Saves the image that was, and writes to standard output how many lines of the journal and how many steps led there.
+fn replay<R: Print + Files<File = File> + AllocGlobal>(
+    rt: &R,
+    program: &HostRuntime,
+    options: ReplayOptions<'_>,
+) -> Result<(), Failure> {
+    let alloc = rt.alloc();
+    let (image, lines) = replayed(rt, alloc, options)?;
+    let steps = image.counted().steps;
+    save_at(rt, program, alloc, options.image, image)?;
+    match println!(rt; "{{\"ok\":{{\"lines\":{lines},\"steps\":{steps}}}}}") {
+        Ok(()) => Ok(()),
+        Err(error) => Err(Failure::at(alloc, Refusal::WriteFault, "standard output", &error)),
+    }
+}
+
 /// Writes to standard output what an image file holds. The answer is the exit status. It is 1 also if nothing could be written.
 fn check<R: Print + Files + AllocGlobal>(rt: &R, path: &str) -> u8 {
     let alloc = rt.alloc();
@@ -465,6 +484,7 @@ fn main(rt: HostRuntime) -> io::Result<ExitCode> {
         }
         Request::Script(options) => script(&rt, &rt, options).map(|_| 0),
         Request::Serve(options) => serve(&rt, &rt, options).map(|_| 0),
+        Request::Replay(options) => replay(&rt, &rt, options).map(|_| 0),
         Request::Check(path) => Ok(check(&rt, path)),
     };
     match result {

@@ -4,6 +4,7 @@ ghost use Rattle.std.specs.Prelude.{◌≡◌, unwrap_or};
 use crate::image_files::Place;
 use clap::error::ErrorKind;
 use clap::{Arg, ArgAction, ArgMatches, Command, Error, value_parser};
+use st_journal::redoing::replaying::Until;
 use st_server::keepers::JournalSettings;
 use st_server::settings::ScriptSettings;
 use std::alloc::{AllocError, Global};
@@ -32,6 +33,9 @@ impl<'a> Keeping<'a> {
         journal: None,
     };
 }
+
+/// No journal has more lines.
+const MOST_LINES: i64 = 1 << 48;
 
 /// The options of a script.
 #[derive(Clone, Copy)]
@@ -83,11 +87,25 @@ pub struct ServeOptions<'a> {
     pub is_verbose: bool,
 }
 
+/// The options of a replay.
+#[derive(Clone, Copy)]
+pub struct ReplayOptions<'a> {
+    /// The path of the image's file.
+    pub file: &'a str,
+    /// The path of the journal, if it is not the one beside the file.
+    pub journal: Option<&'a str>,
+    /// How much of the journal is done again.
+    pub until: Until,
+    /// Where the image is kept to which that leads. Nothing may be there.
+    pub image: &'a str,
+}
+
 /// What a command line asks for.
 #[derive(Clone, Copy)]
 pub enum Request<'a> {
     Script(ScriptOptions<'a>),
     Serve(ServeOptions<'a>),
+    Replay(ReplayOptions<'a>),
     /// Describe the image file at this path.
     Check(&'a str),
 }
@@ -180,6 +198,32 @@ fn serve_command<'a>(alloc: Global) -> Result<Command<'a>, AllocError> {
         .arg(flag(alloc, "verbose", verbose))
 }
 
+fn replay_command<'a>(alloc: Global) -> Result<Command<'a>, AllocError> {
+    let journal = "The journal [default: the one beside FILE]";
+    let line = "Does so many lines of the journal again, not counting the first";
+    let step = "Goes on until the image has counted so many steps";
+    let image = "Where the image is saved that comes of it; nothing may be there";
+    let file = Arg::new(alloc, "file")
+        .value_name("FILE")
+        .help("The image file, which stays as it is")
+        .required(true);
+    Command::new(alloc, "replay")
+        .about(
+            "Makes the image that was, by an image file and its journal: as it is behind all lines of the journal, or was before",
+        )
+        .arg(file)?
+        .arg(option(alloc, "journal", "JOURNAL", journal))?
+        .arg(
+            option(alloc, "to", "N", line)
+                .value_parser(value_parser!(u64).range(0..=MOST_LINES))
+                .conflicts_with("to-step")?,
+        )?
+        .arg(option(alloc, "to-step", "S", step).value_parser(value_parser!(u64).range(
+            0..=i64::MAX,
+        )))?
+        .arg(option(alloc, "image", "OUT", image).required(true))
+}
+
 fn check_command<'a>(alloc: Global) -> Result<Command<'a>, AllocError> {
     let file = Arg::new(alloc, "file")
         .value_name("FILE")
@@ -222,6 +266,7 @@ fn program<'a>(alloc: Global, version: &'a str) -> Result<Command<'a>, AllocErro
         .arg_required_else_help(true);
     let program = with(program, script_command(alloc))?;
     let program = with(program, serve_command(alloc))?;
+    let program = with(program, replay_command(alloc))?;
     with(program, check_command(alloc))
 }
 
@@ -270,10 +315,33 @@ fn serve_options<'a>(matches: &ArgMatches<'a>) -> ServeOptions<'a> {
     }
 }
 
+/// How much of a journal is done again.
+fn until(matches: &ArgMatches<'_>) -> Until {
+    if let Some(step) = matches.get_one::<u64>("to-step") {
+        return Until::Step(step);
+    }
+    match matches.get_one::<u64>("to") {
+        Some(lines) => Until::Line(lines as usize),
+        None => Until::End,
+    }
+}
+
+fn replay_options<'a>(matches: &ArgMatches<'a>) -> ReplayOptions<'a> {
+    ReplayOptions {
+        file: matches.get_str("file").unwrap_or(""),
+        journal: matches.get_str("journal"),
+        until: until(matches),
+        image: matches.get_str("image").unwrap_or(""),
+    }
+}
+
 /// What the words of a command line ask for, once they are matched.
 fn request_of<'a>(matches: &ArgMatches<'a>) -> Request<'a> {
     if let Some(serve) = matches.subcommand_matches("serve") {
         return Request::Serve(serve_options(serve));
+    }
+    if let Some(replay) = matches.subcommand_matches("replay") {
+        return Request::Replay(replay_options(replay));
     }
     if let Some(check) = matches.subcommand_matches("check") {
         return Request::Check(check.get_str("file").unwrap_or(""));

@@ -43,8 +43,8 @@ pub trait Keeper {
 
     /// Appends a batch to the journal: whole lines, and an empty line. At `Ok` it is on the disk.
     ///
-    /// Refusals: `NoMemory`, `WriteFault`. After these it is there or not, and the same batch may be tried again; if it is there, nothing
-    /// more is written.
+    /// Refusals: `NoMemory`, `WriteFault`. After these a crash may leave it or not, and the next batch takes its place: so it begins with
+    /// the same lines.
     fn append(&self, alloc: Global, batch: &[u8]) -> Result<(), Refusal>
         ensures { IfErr result IsFault };
 

@@ -25,15 +25,27 @@ use std::sync::atomic::{AtomicU64, Ordering};
 use std::sync::{Condvar, CondvarTimeouts, Mutex, MutexGuard, Wait};
 use std::time::{Clock, Duration};
 
+/// How many items are copied in a hold at most, so that it is short.
+const MOST_READ: usize = 128;
+
+/// The same where an image is copied too: what has happened meanwhile is to be read whole.
+const MOST_COPIED: usize = 1 << 16;
+
 /// How often is read in a round at most. With so many readings all has been read that had happened when the round began: the history, and
 /// those that checkpoints have emptied.
-const READINGS: u32 = 1 << 15;
+const READINGS: u32 = 1 << 18;
 
 /// How often an image is copied to save it, until nothing has happened that the journal does not tell.
 const COPIES: u32 = 16;
 
-/// The least pause between two rounds of the journal's thread, in milliseconds.
+/// The least pause between two rounds of the journal's thread, in milliseconds. Where replies wait for the journal, sessions make rounds,
+/// and the thread has only that to do which nobody waits for.
 const LEAST_PAUSE: u32 = 10;
+
+const PAUSE_BEHIND_REPLIES: u32 = 1000;
+
+/// The pause between two looks whether the image is to be saved, in milliseconds.
+const SAVING_PAUSE: u32 = 100;
 
 /// How many bytes and how many steps a unit of [`JournalSettings::save_after`] stands for.
 const BYTES: u64 = 1_000_000;
@@ -54,15 +66,35 @@ pub(crate) struct Read {
     steps: u64,
 }
 
-/// Reads what has happened behind so many items of the history. If a checkpoint has emptied a history that was not taken, that is taken.
+/// Reads what has happened behind so many items of the history, and so many items at most. If a checkpoint has emptied a history that was
+/// not taken, that is taken, unless an earlier one is not told yet: then nothing is read.
 #[derive(Drop)]
 pub(crate) struct Behind {
-    pub(crate) items: usize,
+    items: usize,
+    most: usize,
+    takes_past: bool,
 }
 
 impl Behind {
+    /// The items of the history that are read.
+    fn items_in<K: Naming>(
+        &self,
+        alloc: Global,
+        office: &Office<K, Mailbox>,
+    ) -> Result<(Vec<Item>, bool), AllocError> {
+        if !self.takes_past {
+            return Ok((Vec::new(alloc), true));
+        }
+        let history = office.image().history();
+        let all = history.len();
+        let from = self.items.min(all);
+        let count = self.most.min(all - from);
+        let items = copied_items(alloc, &history[from..from + count])?;
+        Ok((items, from + count < all))
+    }
+
     /// What has happened, in a hold of the lock.
-    pub(crate) fn read_in<K: Naming>(
+    fn read_in<K: Naming>(
         &self,
         alloc: Global,
         office: &mut Office<K, Mailbox>,
@@ -72,26 +104,25 @@ impl Behind {
         let names = office.image().names().again()?;
         let table = office.image().token().again()?;
         let steps = office.image().counted().steps;
-        if let Some(items) = office.take_past() {
-            return Ok(Read {
-                names,
-                table,
-                items,
-                is_past: true,
-                is_left: true,
-                steps,
-            });
+        if self.takes_past {
+            if let Some(items) = office.take_past() {
+                return Ok(Read {
+                    names,
+                    table,
+                    items,
+                    is_past: true,
+                    is_left: true,
+                    steps,
+                });
+            }
         }
-        let history = office.image().history();
-        let all = history.len();
-        let from = self.items.min(all);
-        let count = MOST_TOLD.min(all - from);
+        let (items, is_left) = self.items_in(alloc, office)?;
         Ok(Read {
             names,
             table,
-            items: copied_items(alloc, &history[from..from + count])?,
+            items,
             is_past: false,
-            is_left: from + count < all,
+            is_left,
             steps,
         })
     }
@@ -105,10 +136,18 @@ impl<K: Naming> Reading<K, Mailbox> for Behind {
     }
 }
 
-/// Copies an image to save it, and reads what has happened that its journal does not tell.
+/// Copies an image to save it, and reads what has happened that its journal does not tell. If more has happened, nothing is copied.
 #[derive(Drop)]
 pub(crate) struct CopyingBehind {
     pub(crate) behind: Behind,
+}
+
+/// Whether all was read that had happened.
+fn is_all(read: &Result<Read, AllocError>) -> bool {
+    match read {
+        Ok(read) => !read.is_left,
+        Err(_) => false,
+    }
 }
 
 /// What was copied, and what was read.
@@ -125,9 +164,12 @@ impl CopyingBehind {
         ensures moment { IfOk result.0 (λ m. m ≡ moment_of office.old.image) }
         ensures fault { IfErr result.0 IsFault }
     {
-        let moment = copied(alloc, office.image());
         let read = self.behind.read_in(alloc, office);
-        (moment, read)
+        if is_all(&read) {
+            (copied(alloc, office.image()), read)
+        } else {
+            (Err(Refusal::NoMemory), read)
+        }
     }
 }
 
@@ -167,13 +209,13 @@ fn as_fault(refusal: Refusal) -> Refusal
 }
 
 impl Progress {
-    /// Nothing is told but so many names and items.
-    fn new(alloc: Global, names: u32, items: usize) -> Progress {
+    /// Nothing is told but so many names and items, of an image that has counted so many steps.
+    fn new(alloc: Global, names: u32, items: usize, steps: u64) -> Progress {
         Progress {
             telling: Telling::new(alloc, names, items),
             past: None,
             round: 0,
-            steps: 0,
+            steps,
             most_bytes: u64::MAX,
             most_steps: u64::MAX,
         }
@@ -189,6 +231,15 @@ impl Progress {
         let units = u64::from(settings.save_after);
         self.most_bytes = end.saturating_add(units.saturating_mul(BYTES));
         self.most_steps = self.steps.saturating_add(units.saturating_mul(STEPS));
+    }
+
+    /// What is to be read next, so many items at most.
+    fn behind(&self, most: usize) -> Behind {
+        Behind {
+            items: self.telling.items(),
+            most,
+            takes_past: self.past.is_none(),
+        }
     }
 
     /// Tells what was read of the present history. After an error nothing is told.
@@ -225,19 +276,20 @@ pub struct Recorder<'a, K: Naming, S: Keeper> {
 }
 
 impl<'a, K: Naming, S: Keeper> Recorder<'a, K, S> {
-    /// Of the image that is shared the keeper's journal has so many names and items, if there is one.
+    /// Of the image that is shared, which has counted so many steps, the keeper's journal has so many names and items, if there is one.
     pub fn new(
         alloc: Global,
         shared: &'a Shared<K, Mailbox>,
         keeper: &'a S,
         names: u32,
         items: usize,
+        steps: u64,
     ) -> Recorder<'a, K, S> {
         Recorder {
             shared,
             keeper,
             rounds: AtomicU64::new(0),
-            progress: Mutex::new(Progress::new(alloc, names, items)),
+            progress: Mutex::new(Progress::new(alloc, names, items, steps)),
             is_ended: Mutex::new(false),
             ending: Condvar::new(),
         }
@@ -271,13 +323,8 @@ impl<'a, K: Naming, S: Keeper> Recorder<'a, K, S> {
                 Err(refusal) => Err(refusal),
             };
         }
-        let read = self.shared.read(
-            rt,
-            alloc,
-            Behind {
-                items: progress.telling.items(),
-            },
-        )?;
+        let behind = progress.behind(MOST_READ);
+        let read = self.shared.read(rt, alloc, behind)?;
         self.take_in(alloc, progress, read)
     }
 
@@ -292,25 +339,47 @@ impl<'a, K: Naming, S: Keeper> Recorder<'a, K, S> {
         Ok(read.is_left)
     }
 
+    /// Tells all that has happened until now, and has it written where it is much. After an error some of it is told.
+    fn tell_all<R: Wait>(
+        &self,
+        rt: &R,
+        alloc: Global,
+        progress: &mut Progress,
+    ) -> Result<(), Refusal> {
+        for _ in 0..READINGS {
+            if progress.telling.is_much() {
+                progress.telling.write(alloc, self.keeper)?;
+            }
+            if !self.tell_some(rt, alloc, progress)? {
+                return Ok(());
+            }
+        }
+        Ok(())
+    }
+
     /// Tells and writes all that has happened until now. After an error some of it is, and the next round goes on from there.
-    pub(crate) fn round<R: Wait>(
+    fn round<R: Wait>(
         &self,
         rt: &R,
         alloc: Global,
         progress: &mut Progress,
     ) -> Result<(), Refusal> {
         let number = self.rounds.fetch_add(1, Ordering::SeqCst).wrapping_add(1);
-        for _ in 0..READINGS {
-            if progress.telling.is_much() {
-                progress.telling.write(alloc, self.keeper)?;
-            }
-            if !self.tell_some(rt, alloc, progress)? {
-                break;
-            }
-        }
+        self.tell_all(rt, alloc, progress)?;
         progress.telling.write(alloc, self.keeper)?;
         progress.round = number;
         Ok(())
+    }
+
+    /// A round, and behind it what has happened meanwhile is told, and not written: so a hold that follows finds little more.
+    pub(crate) fn round_before_copying<R: Wait>(
+        &self,
+        rt: &R,
+        alloc: Global,
+        progress: &mut Progress,
+    ) -> Result<(), Refusal> {
+        self.round(rt, alloc, progress)?;
+        self.tell_all(rt, alloc, progress)
     }
 
     /// Waits until all that has happened until now is on the disk, if replies wait for that. Sessions that wait together share a round.
@@ -327,11 +396,9 @@ impl<'a, K: Naming, S: Keeper> Recorder<'a, K, S> {
         self.round(rt, alloc, &mut progress)
     }
 
-    /// Where the next reading begins.
+    /// What is to be read in the hold in which an image is copied.
     pub(crate) fn behind(&self, progress: &Progress) -> Behind {
-        Behind {
-            items: progress.telling.items(),
-        }
+        progress.behind(MOST_COPIED)
     }
 
     /// Writes what was read in a hold behind a round, in which an image was copied. The answer is what was copied, and where the journal
@@ -360,8 +427,14 @@ impl<'a, K: Naming, S: Keeper> Recorder<'a, K, S> {
         told: Result<(), Refusal>,
         read: Result<Read, AllocError>,
     ) -> Result<Option<u64>, Refusal> {
-        told?;
         let read = read?;
+        if read.is_past {
+            // It was taken, and nobody else has it.
+            progress.past = Some(read);
+            told?;
+            return Ok(None);
+        }
+        told?;
         if self.take_in(alloc, progress, read)? {
             return Ok(None);
         }
@@ -385,17 +458,33 @@ impl<'a, K: Naming, S: Keeper> Recorder<'a, K, S> {
         *behind
     }
 
-    /// Writes what has happened now and then, until the end, and saves the image where much has. Why that cannot be is told by the keeper.
-    pub(crate) fn go_on<R: Wait + Clock>(&self, rt: &R, alloc: Global, turns: &Turns) {
+    /// Writes what has happened now and then, until the end. Why that cannot be is told by the keeper.
+    pub(crate) fn go_on<R: Wait + Clock>(&self, rt: &R, alloc: Global) {
+        let Some(settings) = self.keeper.journal() else {
+            return;
+        };
+        let pause = match settings.pause {
+            0 => PAUSE_BEHIND_REPLIES,
+            pause => pause.max(LEAST_PAUSE),
+        };
+        for _ in rt.forever() {
+            if self.pause(rt, pause) {
+                return;
+            }
+            self.write_all(rt, alloc);
+        }
+    }
+
+    /// Saves the image where much has happened, until the end. Why that cannot be is told by the keeper.
+    pub(crate) fn go_on_saving<R: Wait + Clock>(&self, rt: &R, alloc: Global, turns: &Turns) {
         let Some(settings) = self.keeper.journal() else {
             return;
         };
         self.progress.lock(rt).wait_for_more(0, settings);
         for _ in rt.forever() {
-            if self.pause(rt, settings.pause.max(LEAST_PAUSE)) {
+            if self.pause(rt, SAVING_PAUSE) {
                 return;
             }
-            self.write_all(rt, alloc);
             if self.is_due(rt) {
                 self.save(rt, alloc, turns, settings);
             }
@@ -423,7 +512,7 @@ impl<'a, K: Naming, S: Keeper> Recorder<'a, K, S> {
     fn copy<R: Wait>(&self, rt: &R, alloc: Global) -> Result<(Moment, u64), Refusal> {
         let mut progress = self.progress.lock(rt);
         for _ in 0..COPIES {
-            let told = self.round(rt, alloc, &mut progress);
+            let told = self.round_before_copying(rt, alloc, &mut progress);
             let behind = self.behind(&progress);
             let copied = self.shared.read(rt, alloc, CopyingBehind { behind });
             let (moment, read) = copied;

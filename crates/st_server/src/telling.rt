@@ -26,8 +26,6 @@ pub struct Telling {
     items: usize,
     /// What is told and not written.
     text: Vec<u8>,
-    /// Whether the text is a batch, with an empty line at its end.
-    is_batch: bool,
 }
 
 /// The lines of entries.
@@ -51,7 +49,6 @@ impl Telling {
             names,
             items,
             text: Vec::new(alloc),
-            is_batch: false,
         }
     }
 
@@ -62,7 +59,7 @@ impl Telling {
 
     /// Whether what is told is to be written before more is.
     pub(crate) fn is_much(&self) -> bool {
-        self.is_batch || self.text.len() >= MOST_BYTES
+        self.text.len() >= MOST_BYTES
     }
 
     /// Tells the names behind those that are told, and the next items of a history. After an error nothing is told.
@@ -94,19 +91,23 @@ impl Telling {
         Ok(())
     }
 
-    /// Has what is told written, if anything is.
+    /// Has what is told written, if anything is: its lines, and an empty line. After an error it is written the next time, with what is told
+    /// by then.
     pub fn write<S: Keeper>(&mut self, alloc: Global, keeper: &S) -> Result<(), Refusal> {
         if self.text.is_empty() {
             return Ok(());
         }
-        if !self.is_batch {
-            self.text.extend_from_slice(b"\n")?;
-            self.is_batch = true;
+        self.text.extend_from_slice(b"\n")?;
+        match keeper.append(alloc, self.text.as_slice()) {
+            Ok(()) => {
+                self.text.clear();
+                Ok(())
+            }
+            Err(refusal) => {
+                self.text.pop();
+                Err(refusal)
+            }
         }
-        keeper.append(alloc, self.text.as_slice())?;
-        self.text.clear();
-        self.is_batch = false;
-        Ok(())
     }
 
     /// Tells all of an image that is not told, and has it written where it is much. After an error some of it is.

@@ -133,9 +133,9 @@ def saves_among_posts(program, Server, post):
 
 
 def seconds_of_a_save(client):
-    """The least that three saves take, since a busy machine makes some of them longer."""
+    """What a save takes that is not long, or the least of three that are: on a busy machine some are."""
     taken = []
-    for _ in range(3):
+    while len(taken) < 3 and (not taken or taken[-1] >= LONG):
         began = time.monotonic()
         client.done(cmd="save")
         taken.append(time.monotonic() - began)

@@ -17,13 +17,17 @@ METHODS = (
     "keep: n seen := Account new. seen add: n. ^seen total",
 )
 
+REFUSALS = {"UnknownActor", "Closed", "Full", "Old", "TooMany", "HistoryFull"}
+# These are refused by NoMemory where the journal is far behind the image: what has not been told waits in memory, and a save is of what was.
+BEHIND = ("checkpoint", "save")
+
 
 class Told:
     """What a client was told before the server was killed: numbers that were accepted, the actors and the edits that there were, the
-    actors that were closed, and how turns ended."""
+    actors that were closed, and what it should not have been told."""
 
     def __init__(self, sender):
-        self.sender = sender
+        self.sender, self.wrong = sender, []
         self.asked = self.accepted = self.actors = self.edits = 0
         self.closed = set()
 
@@ -83,7 +87,8 @@ class Client:
 
     def note(self, command, reply):
         if "ok" not in reply:
-            assert reply["error"] in ("UnknownActor", "Closed", "Full", "Old", "TooMany", "HistoryFull"), (command, reply)
+            is_behind = reply["error"] == "NoMemory" and command["cmd"] in BEHIND
+            self.told.wrong += [] if is_behind or reply["error"] in REFUSALS else [(command, reply)]
             return
         if command["cmd"] == "post":
             self.told.accepted = command["seq"]

@@ -51,6 +51,8 @@ class Round:
                         client.done({"class": "Account", "cmd": "method", "source": source})
                     for _ in range(4):
                         client.done({"class": "Account", "cmd": "actor"})
+                    # So it is there behind each kill: without the class clients would be refused all that they do.
+                    client.done({"cmd": "save"})
             else:
                 self.compare(server, wanted)
             threads = [
@@ -99,6 +101,7 @@ def tries(program, folder, seconds, seed):
         turn = Round(program, folder, rng, number)
         image, count = turn.run(tolds, image)
         for told in tolds:
+            assert not told.wrong, f"sender {told.sender} was told {told.wrong[0]}"
             assert image.numbers.get(told.sender, 0) <= told.asked, f"sender {told.sender} has a message that it has not sent"
         if turn.sync == 0:
             facts(image, tolds)

@@ -5,7 +5,6 @@ import fcntl
 import json
 import os
 import resource
-import socket
 import stat
 import subprocess
 import sys

@@ -1,6 +1,5 @@
 """Trials on the journal of a server whose disk is full, or whose files are not what it left."""
 
-import json
 import os
 import signal
 
@@ -10,7 +9,7 @@ from trial_parts.patience import until
 
 from .disks import NO_DISK, small_disk
 from .program import same
-from .try_journal import ACTOR, ANOTHER, CLASS, done, header, journaled, killed, not_journaled
+from .try_journal import ACTOR, ANOTHER, CLASS, done, journaled, killed, not_journaled
 from .try_served import ask
 
 CHECKPOINT, SAVE = {"cmd": "checkpoint"}, {"cmd": "save"}

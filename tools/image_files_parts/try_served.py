@@ -12,7 +12,7 @@ from inspect_parts.written import compact
 from trial_parts.patience import PATIENCE
 
 from .loaded import Loaded
-from .program import Ended, refusal, same
+from .program import Different, Ended, refusal, same
 
 POST = {"actor": 0, "args": [], "cmd": "post", "selector": "a", "sender": 1, "seq": 2}
 # How sessions end: the second one is refused, which is not the end of the server.
@@ -75,10 +75,11 @@ def ask(end, lines, command):
 
 def wait(end, lines, turn):
     """How a turn of actor 0 ends."""
-    while True:
-        told = ask(end, lines, {"actor": 0, "cmd": "outcome", "turn": turn})
-        if told != {"error": "Pending"}:
-            return told
+    ends = time.monotonic() + PATIENCE
+    while (told := ask(end, lines, {"actor": 0, "cmd": "outcome", "turn": turn})) == {"error": "Pending"}:
+        if time.monotonic() > ends:
+            raise Different(f"turn {turn} does not end")
+    return told
 
 
 def served(program):

@@ -6,15 +6,14 @@ import socket
 import subprocess
 import time
 
-from trial_parts import client
 from trial_parts.patience import PATIENCE
+from trial_parts.turns import turns
 from workspace_parts.person import Person
 from workspace_parts.serving import Server
 
 SOCKET = "image.socket"
 SERVE = "./actorimage serve "
 WORKSPACE, CLIENT, PROGRAM = f"$ tools/workspace --socket {SOCKET}", f"$ nc -U {SOCKET}", "$ python3 "
-ACTORS = {"cmd": "actors", "from": 0, "most": 4096}
 PAUSE = 0.01
 PENDING = '{"error":"Pending"}'
 
@@ -70,12 +69,6 @@ class Client:
         self.replies.close()
         self.socket.close()
         return 0
-
-
-def turns(path):
-    """The turns that go on, by their actors. Who asks has a session of his own."""
-    with client.Client(path) as session:
-        return {(it["actor"], it["begun"]) for it in session.done(ACTORS)["actors"] if it["phase"] in ("start", "frames")}
 
 
 def is_pending(lines):

@@ -19,9 +19,9 @@ class Served:
         path = os.path.join(folder, "socket")
         words = [*words, "serve", "--socket", path, "--workers", "1", "--sessions", "1", *options]
         self.process = subprocess.Popen(words, stdin=subprocess.DEVNULL, stdout=subprocess.PIPE, stderr=subprocess.PIPE, env=env)
-        if not await_socket(self.process, path):
+        if not await_socket(self.process, path, SECONDS):
             raise Wrong(f"the server ends with status {self.process.returncode}")
-        self.client = Client(path)
+        self.client = Client(path, SECONDS)
 
     def __enter__(self):
         return self

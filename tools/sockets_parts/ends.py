@@ -11,11 +11,12 @@ import subprocess
 import tempfile
 import time
 
+from sockets_parts import stopping
 from trial_parts.client import await_socket
 from trial_parts.patience import PATIENCE
 
 TOP = os.path.dirname(os.path.dirname(os.path.dirname(os.path.realpath(__file__))))
-STOP, SUPERVISE = f"{TOP}/tools/stop", f"{TOP}/tools/supervise"
+SUPERVISE = f"{TOP}/tools/supervise"
 PLACES = 64
 UNITS = ("actorimage.service", "actorimage-save.timer", "actorimage-save.service")
 
@@ -40,14 +41,13 @@ def stopped_where_all_places_are_taken(program, Server, _post):
             for client in clients:
                 assert client.ask(cmd="close", actor=0) == {"error": "UnknownActor"}
             clients[0].make("M", [])
-            stop = subprocess.Popen([STOP, server.path], stderr=subprocess.PIPE, text=True)
-            assert stop.stderr.readline() == "tools/stop: waits for the sessions of others to end\n"
+            stop = stopping.Waiting(server.path)
             time.sleep(0.5)
-            assert stop.poll() is None and clients[0].ask(cmd="close", actor=0) == {"error": "UnknownActor"}
+            assert stop.goes_on() and clients[0].ask(cmd="close", actor=0) == {"error": "UnknownActor"}
             for client in clients:
                 client.leave()
-            said = stop.communicate(timeout=PATIENCE)[1].splitlines()
-            assert (said[-1], stop.returncode) == (f"tools/stop: the server has ended, and {file} is written", 0), said
+            ended = stop.ended()
+            assert ended == (f"tools/stop: the server has ended, and {file} is written\n", 0), ended
         assert checked(program, file) == '{"ok":{"actors":0,"classes":9,"edits":1}}\n'
 
 
@@ -115,7 +115,7 @@ def supervised(program, Server, _post):
                 os.killpg(them.process.pid, sign)
                 assert them.hears() == "STOPPING=1"
                 out, err, status = them.ended()
-                assert err == f"tools/stop: the server has ended, and {file} is written\n", err
+                assert stopping.told(err) == f"tools/stop: the server has ended, and {file} is written\n", err
                 assert (out, status) == ('{"ok":{"posts":0,"steps":0}}\n', 0), (out, err, status)
             assert checked(program, file) == '{"ok":{"actors":0,"classes":9,"edits":1}}\n'
 

@@ -269,7 +269,7 @@ def errors_that_nobody_reads(program, Server, _post):
                 assert client.lines.read() == b'{"error":"BadCommand"}\n'
         with server.client() as client:
             assert client.ask(cmd="run") == {"error": "BadCommand"}
-        until(lambda: len(threads(server)) < 20, "sessions wait until somebody reads")
+        until(lambda: len(threads(server)) < 20, "sessions wait until somebody reads", RESTS)
 
 
 def another_servers_socket_stays(program, Server, _post):

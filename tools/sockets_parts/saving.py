@@ -5,7 +5,6 @@ import fcntl
 import functools
 import json
 import os
-import shutil
 import socket
 import subprocess
 import sys
@@ -14,12 +13,13 @@ import termios
 import threading
 import time
 
+from sockets_parts import stopping
 from sockets_parts.resources import sleeps
 from sockets_parts.together import run_together
 from trial_parts.patience import PATIENCE, until
 
 TOOLS = os.path.dirname(os.path.dirname(os.path.realpath(__file__)))
-SAVE, STOP = os.path.join(TOOLS, "save"), os.path.join(TOOLS, "stop")
+SAVE = os.path.join(TOOLS, "save")
 # How many sessions save and how many post, 64 together, and how often each of them does.
 SAVERS, POSTERS, SAVES, POSTS = 16, 48, 4, 40
 # A save is long that takes so many seconds; then what comes in the midst of it can be told from what comes behind it.
@@ -133,9 +133,9 @@ def saves_among_posts(program, Server, post):
 
 
 def seconds_of_a_save(client):
-    """The least that three saves take, since a busy machine makes some of them longer."""
+    """What a save takes that is not long, or the least of three that are: on a busy machine some are."""
     taken = []
-    for _ in range(3):
+    while len(taken) < 3 and (not taken or taken[-1] >= LONG):
         began = time.monotonic()
         client.done(cmd="save")
         taken.append(time.monotonic() - began)
@@ -234,10 +234,8 @@ def stopped_behind_a_save(program, Server, _post):
     for is_in_the_way in (False, True):
         with served(program, Server, 1000) as (server, file), server.client() as client:
             client.make("M", [])
-            stop = subprocess.Popen([STOP, server.path], stderr=subprocess.PIPE, text=True)
-            assert stop.stderr.readline() == "tools/stop: waits for the sessions of others to end\n"
-            if shutil.which("ss"):
-                assert stop.stderr.readline().startswith(f"tools/stop: process {os.getpid()} has one: ")
+            stop = stopping.Waiting(server.path)
+            stop.names_this_process()
             saved = client.done(cmd="save")["bytes"]
             client.make("N", [])
             if is_in_the_way:
@@ -247,9 +245,9 @@ def stopped_behind_a_save(program, Server, _post):
             before = sleeps(stop.pid, stop.pid)
             until(lambda: sleeps(stop.pid, stop.pid) > before + 10, "the tool does not look at the file")
             client.leave()
-            said = stop.communicate(timeout=PATIENCE)[1].splitlines()[-1]
             told = f"and its image is NOT saved: {file} is as it was before" if is_in_the_way else f"and {file} is written"
-            assert (said, stop.returncode) == (f"tools/stop: the server has ended, {told}", int(is_in_the_way)), said
+            ended = stop.ended()
+            assert ended == (f"tools/stop: the server has ended, {told}\n", int(is_in_the_way)), ended
             assert (os.path.getsize(file) == saved) is is_in_the_way
 
 

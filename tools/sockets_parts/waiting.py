@@ -8,7 +8,7 @@ import time
 
 from sockets_parts.resources import LONGEST_WAIT, rests, threads, unread
 from sockets_parts.together import run_together
-from trial_parts.patience import PATIENCE, until
+from trial_parts.patience import until
 
 # How many turns are waited for.
 TURNS = 3_000
@@ -55,7 +55,7 @@ def waits_end_with_turns(program, Server, post):
         with server.client() as client:
             client.make("A", ["count"], COUNT)
             client.actor("A")
-        begins = threading.Barrier(3, timeout=PATIENCE)
+        begins = threading.Barrier(3, timeout=2 * LONGEST_WAIT / 1000)
         waiting = (functools.partial(waits, number, begins) for number in (1, 2))
         run_together(server, functools.partial(posts, post, begins), *waiting)
         assert server.ended()[0]["posts"] == TURNS

@@ -19,9 +19,9 @@ def listens(path):
         return False
 
 
-def await_socket(process, path):
+def await_socket(process, path, seconds=PATIENCE):
     """Whether a server comes to listen. Else it has ended before."""
-    ends = time.monotonic() + PATIENCE
+    ends = time.monotonic() + seconds
     while not listens(path):
         if process.poll() is not None or time.monotonic() > ends:
             return False
@@ -30,11 +30,12 @@ def await_socket(process, path):
 
 
 class Client:
-    """A session."""
+    """A session. `seconds` are the longest that is waited for a reply, or for the end of a turn."""
 
-    def __init__(self, path):
+    def __init__(self, path, seconds=PATIENCE):
+        self.seconds = seconds
         self.socket = socket.socket(socket.AF_UNIX)
-        self.socket.settimeout(PATIENCE)
+        self.socket.settimeout(seconds)
         self.socket.connect(path)
         self.lines = self.socket.makefile("rb")
 
@@ -64,7 +65,7 @@ class Client:
 
     def ending(self, outcome, pause=0.001):
         """The reply to the question how a turn ended, which is asked until it has."""
-        ends = time.monotonic() + PATIENCE
+        ends = time.monotonic() + self.seconds
         while (reply := self.ask(outcome)) == PENDING and time.monotonic() < ends:
             time.sleep(pause)
         return reply

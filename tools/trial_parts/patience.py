@@ -3,7 +3,7 @@
 import time
 
 # Seconds. A machine that does much else is slow, which is no fault of the program; what has not come after minutes hangs.
-PATIENCE = 600
+PATIENCE = 300
 PAUSE = 0.01
 
 

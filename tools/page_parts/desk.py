@@ -1,0 +1,91 @@
+"""The sessions of the page with the image: one for looks, one for changes, and one for what is typed, for all windows together."""
+
+import threading
+import time
+
+import actorimage
+
+# Seconds after which a session is ended and another one begun, since a server that is to end waits for all; and those that a reply
+# may take.
+LONGEST_SESSION, PATIENCE = 60, 30
+LOOKS = ("classes", "methods", "source", "versions", "implementors", "senders", "edits", "actors", "inspect", "status", "outcome", "wait",
+    "stats")
+ONLY_LOOKS = "this page was started with --look, and changes nothing"
+
+
+class Lost(Exception):
+    """There is no image now. `is_full` says that a server is there which takes no more sessions."""
+
+    def __init__(self, sentence, is_full=False):
+        super().__init__(sentence)
+        self.sentence, self.is_full = sentence, is_full
+
+
+class OnlyLooks(Exception):
+    """A change was asked for, and this page makes none."""
+
+    def __str__(self):
+        return ONLY_LOOKS
+
+
+class Line:
+    """One session, which is begun when something is asked. Threads may share it. `begun` counts the sessions that were not begun just
+    since the one before was old: behind such a one the image may be another."""
+
+    def __init__(self, path, looks_only=False):
+        self.path, self.looks_only = path, looks_only
+        self.lock, self.image, self.since, self.begun = threading.RLock(), None, 0.0, 0
+
+    def ask(self, command):
+        """What the reply has for `ok`. A refusal is raised, and `Lost` where there is no image."""
+        (told,) = self.ask_all([command])
+        if isinstance(told, actorimage.Refused):
+            raise told
+        return told
+
+    def ask_all(self, commands, window=8):
+        """The replies to many commands; refusals are among them."""
+        commands = list(commands)
+        if self.looks_only and any(it["cmd"] not in LOOKS for it in commands):
+            raise OnlyLooks
+        with self.lock:
+            self.be_there()
+            try:
+                return list(self.image.ask_all(commands, window))
+            except actorimage.Ended as ended:
+                self.rest()
+                raise Lost(str(ended)) from None
+
+    def be_there(self):
+        """Begins a session where there is none, or where the present one is old."""
+        is_old = self.image is not None and time.monotonic() - self.since > LONGEST_SESSION
+        if self.image is not None and not is_old:
+            return
+        self.rest()
+        try:
+            self.image = actorimage.connect(self.path, timeout=PATIENCE)
+        except actorimage.TooMany:
+            raise Lost("the server has 64 sessions, as many as it may; this page goes on once one of them ends", True) from None
+        except actorimage.ActorImageError as error:
+            raise Lost(str(error)) from None
+        self.since = time.monotonic()
+        self.begun += not is_old
+
+    def rest(self):
+        """Ends the session; the next question begins another one."""
+        with self.lock:
+            image, self.image = self.image, None
+            if image is not None:
+                image.end()
+
+
+class Desk:
+    """The three sessions. A window that waits for what was typed holds up no look."""
+
+    def __init__(self, path, looks_only=False):
+        self.path, self.looks_only = path, looks_only
+        self.looks, self.changes, self.typed = (Line(path, it) for it in (True, looks_only, looks_only))
+
+    def rest(self):
+        for line in (self.looks, self.changes, self.typed):
+            line.rest()

@@ -1,0 +1,138 @@
+"""What a page may ask for: looks, changes, entries of the workspace, and the watch."""
+
+import actorimage
+
+from . import installing, methods
+from .desk import ONLY_LOOKS, Desk, Lost, OnlyLooks
+from .faults import faults
+from .typed import Typed
+from .watch import Watch
+
+
+class Page:
+    """All windows of one image. An answer has `error` and `said` where there is none."""
+
+    def __init__(self, path, looks_only=False):
+        self.desk = Desk(path, looks_only)
+        self.watched = Watch(self.desk, lambda told: Typed(self.desk.typed, told))
+        self.typed, self.kept, self.stats = self.watched.typed, self.watched.kept, self.watched.stats
+        self.about = {"socket": path, "looksOnly": looks_only, "sender": self.typed.sender}
+
+    def watch(self, asked):
+        return self.watched.stream(asked, self.about)
+
+    def look(self, asked):
+        return self.answer(LOOKS, asked)
+
+    def do(self, asked):
+        if self.desk.looks_only:
+            return {"error": "OnlyLooks", "said": ONLY_LOOKS}
+        return self.answer(CHANGES, asked)
+
+    def type(self, asked):
+        """Takes an entry, or breaks off the one that goes on. With --look its commands are refused one by one, since some only look."""
+        if asked.get("break"):
+            self.typed.break_off()
+        else:
+            self.typed.type(str(asked.get("text", "")))
+        return {"ok": True}
+
+    def answer(self, kinds, asked):
+        kind = kinds.get(asked.get("what"))
+        if kind is None:
+            return {"error": "BadCommand", "said": "this page's server knows no such question"}
+        try:
+            return kind(self, asked)
+        except Lost as lost:
+            return {"error": "Lost", "said": lost.sentence}
+        except OnlyLooks as only:
+            return {"error": "OnlyLooks", "said": str(only)}
+        except actorimage.Refused as refused:
+            return {"error": refused.name, "said": str(refused)}
+        except (KeyError, TypeError, ValueError) as error:
+            return {"error": "BadCommand", "said": f"this page's server cannot take that: {error!r}"}
+
+
+def see(page, asked):
+    """What a window shows from now on, and what it shows of that at once."""
+    page.watched.see(asked["window"], asked["view"])
+    view = asked["view"]
+    with page.watched.moved:
+        told = page.watched.table(view)
+    if view.get("view") == "actors" and view.get("actor") is not None and page.watched.epoch:
+        told["inspected"] = page.watched.inspected(view["actor"], view.get("object", 0))
+    return {"ok": told}
+
+
+def method(page, asked):
+    page.kept.catch_up()
+    return {"ok": methods.method(page.kept, page.stats, asked["class"], asked["selector"], page.watched.ticks)}
+
+
+def senders(page, asked):
+    return {"ok": methods.senders(page.desk.looks, page.kept, page.stats, asked["selector"], page.watched.ticks)}
+
+
+def implementors(page, asked):
+    page.kept.catch_up()
+    names = page.kept.implementors(asked["selector"])
+    return {"ok": [{"class": it, "isKernel": asked["selector"] not in page.kept.classes[it].methods} for it in names]}
+
+
+def running(page, asked):
+    """The actors that run a method now."""
+    rows = page.watched.rows
+    found = methods.running(rows, asked["class"], asked["selector"])[:200]
+    return {"ok": [{"actor": it, "class": rows.class_of(None, it), "turn": rows.row(it)["turns"]} for it in found]}
+
+
+def gone(page, asked):
+    return {"ok": page.kept.gone(asked["class"])}
+
+
+def told_faults(page, asked):
+    return {"ok": faults(page.watched.rows)}
+
+
+LOOKS = {
+    "see": see,
+    "method": method,
+    "senders": senders,
+    "implementors": implementors,
+    "running": running,
+    "gone": gone,
+    "faults": told_faults,
+}
+
+
+def install(page, asked):
+    return installing.install(page.kept, page.desk.changes, asked["class"], asked["source"], asked["seen"])
+
+
+def remove(page, asked):
+    return installing.remove(page.kept, page.desk.changes, asked["class"], asked["selector"], asked["seen"])
+
+
+def define(page, asked):
+    return installing.define(page.kept, page.desk.changes, asked["name"], asked["above"], asked["slots"])
+
+
+def reparent(page, asked):
+    return installing.reparent(page.kept, page.desk.changes, asked["class"], asked["above"])
+
+
+def plain(command):
+    """A change that is one command as it is."""
+    return lambda page, asked: installing.told(page.kept, page.desk.changes, command(asked))
+
+
+CHANGES = {
+    "install": install,
+    "remove": remove,
+    "define": define,
+    "reparent": reparent,
+    "actor": plain(lambda asked: {"cmd": "actor", "class": asked["class"]}),
+    "close": plain(lambda asked: {"cmd": "close", "actor": asked["actor"]}),
+    "checkpoint": plain(lambda asked: {"cmd": "checkpoint"}),
+    "save": plain(lambda asked: {"cmd": "save"}),
+}

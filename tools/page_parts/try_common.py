@@ -1,0 +1,156 @@
+"""What the trials have in common: an image that is served, a page on it, and questions to that."""
+
+import contextlib
+import http.client
+import json
+import os
+import socket
+import subprocess
+import sys
+import tempfile
+import threading
+import time
+
+import actorimage
+from workspace_parts.serving import Server as ImageServer
+from workspace_parts.try_common import TOP, same
+
+from .letting_in import TOKEN
+from .page import Page
+from .serving import Server
+
+HERE = os.path.dirname(os.path.realpath(__file__))
+WORKSPACE, PAGE, SHOP = os.path.join(TOP, "tools", "workspace"), os.path.join(TOP, "tools", "page"), os.path.join(HERE, "shop.st")
+# Seconds in which what is waited for has to come, on a machine that may have other work to do.
+PATIENCE = float(os.environ.get("SECONDS_OF_PATIENCE", "60"))
+SECRET = "t" * 43
+
+
+def until(holds, what="what was waited for"):
+    """Waits until something holds, and gives that."""
+    ends = time.monotonic() + PATIENCE
+    while not (found := holds()):
+        if time.monotonic() > ends:
+            raise AssertionError(f"{what} did not come")
+        time.sleep(0.02)
+    return found
+
+
+def true(found, what):
+    if not found:
+        raise AssertionError(what)
+
+
+@contextlib.contextmanager
+def image_of(program, *options, shop=True, workers="2"):
+    """A served image, with the classes of the shop, and a client of it."""
+    with tempfile.TemporaryDirectory() as folder, ImageServer(program, folder, "--workers", workers, *options) as server:
+        if shop:
+            load(server.path)
+        with actorimage.connect(server.path) as image:
+            yield server, image
+
+
+def load(path):
+    """Loads the classes of the shop, as somebody at a workspace would."""
+    command = [sys.executable, WORKSPACE, "--socket", path, SHOP]
+    told = subprocess.run(command, input=b"", capture_output=True, timeout=PATIENCE, check=False)
+    same((told.returncode, told.stderr), (0, b""))
+
+
+class Opened:
+    """A page on an image, in this process, and what one asks of it."""
+
+    def __init__(self, path, looks_only=False, checks=None, headers=None):
+        self.page = Page(path, looks_only)
+        self.server = Server(self.page, SECRET)
+        if checks is not None:
+            self.server.gate.checks = checks
+        if headers is not None:
+            self.server.headers = headers
+        threading.Thread(target=self.server.serve_forever, args=(0.05,), daemon=True).start()
+
+    def __enter__(self):
+        return self
+
+    def __exit__(self, *_):
+        self.server.shutdown()
+        self.server.server_close()
+        self.page.desk.rest()
+
+    @property
+    def address(self):
+        return self.server.address
+
+    @property
+    def port(self):
+        return self.server.server_address[1]
+
+    def good(self):
+        """The headers of the page's own questions."""
+        return {"Host": self.server.gate.host, "Origin": self.server.gate.origin, TOKEN: SECRET, "Content-Type": "application/json"}
+
+    def asked(self, how, path, headers, body=None):
+        """The status and the text of a reply."""
+        connection = http.client.HTTPConnection("127.0.0.1", self.port, timeout=PATIENCE)
+        try:
+            connection.putrequest(how, path, skip_host=True, skip_accept_encoding=True)
+            for name, values in headers.items():
+                for value in values if isinstance(values, list) else [values]:
+                    connection.putheader(name, value)
+            if body is not None and "Content-Length" not in headers:
+                connection.putheader("Content-Length", str(len(body)))
+            connection.endheaders(body)
+            reply = connection.getresponse()
+            return reply.status, reply.read().decode()
+        finally:
+            connection.close()
+
+    def ask(self, path, what, **more):
+        """What the page's own question gets."""
+        status, text = self.asked("POST", path, self.good(), json.dumps({"what": what, **more}).encode())
+        same(status, 200)
+        return json.loads(text)
+
+    def look(self, what, **more):
+        return self.ask("/look", what, **more)
+
+    def do(self, what, **more):
+        return self.ask("/do", what, **more)
+
+    def type(self, text):
+        """Types an entry, and gives its card once it is done."""
+        number = self.page.typed.next + 1
+        self.ask("/type", "", text=text)
+        return until(lambda: next((it for it in self.page.typed.cards if it["number"] == number and it["seconds"] is not None), None))
+
+    @contextlib.contextmanager
+    def watching(self, **view):
+        """The events that a window gets, as a list that grows."""
+        events, seen = [], {"view": "browse", **view}
+        connection = http.client.HTTPConnection("127.0.0.1", self.port, timeout=PATIENCE)
+        connection.request("POST", "/watch", json.dumps(seen), self.good())
+        # The reply takes the socket along, since it ends with it.
+        stream, reply = connection.sock, connection.getresponse()
+        same(reply.status, 200)
+
+        def read():
+            with contextlib.suppress(OSError, ValueError, AttributeError, http.client.HTTPException):
+                for line in reply:
+                    if line.startswith(b"data: "):
+                        events.append(json.loads(line[6:]))
+
+        threading.Thread(target=read, daemon=True).start()
+        try:
+            yield events
+        finally:
+            with contextlib.suppress(OSError):
+                stream.shutdown(socket.SHUT_RDWR)
+            reply.close()
+
+
+def post(image, sender, *messages):
+    """Posts messages and waits until their turns have ended, however they do."""
+    for turn in list(image.sender(sender).post_all(messages)):
+        with contextlib.suppress(actorimage.Fault):
+            image.wait(turn)

@@ -1,0 +1,227 @@
+// The pane of one method: its source, what is said of it, and what can be done with it.
+
+import { change, look } from "./ask.js";
+import { confirmed } from "./dialog.js";
+import { difference } from "./diff.js";
+import { button, h, plural, put, toast } from "./dom.js";
+import { draft, keep } from "./drafts.js";
+import { Editor } from "./editor.js";
+import { find } from "./find.js";
+import { at, image, see } from "./image.js";
+import { Under } from "./under.js";
+
+const ORDER = n => `${n}${n % 100 > 10 && n % 100 < 14 ? "th" : ["th", "st", "nd", "rd"][n % 10] || "th"}`;
+
+// `told` is what the server says of the method; that of a new one has no version. `theirs` is another person's version, if one came.
+export class MethodPane {
+  constructor() {
+    this.told = null;
+    this.theirs = null;
+    this.editor = new Editor({ changed: () => this.typed(), asked: selector => find(selector) });
+    this.under = new Under(this);
+    this.head = h("div", { of: "crumbs grow" });
+    this.chip = h("span", { of: "chip changed", hidden: true }, "● changed");
+    this.buttons = {
+      remove: button("plain danger", "Remove", () => this.remove(), { title: "Removes the method from its class" }),
+      revert: button("plain", "Revert", () => this.revert(), { title: "Forgets what was typed" }),
+      install: button("plain", "Install", () => this.install(), { title: "Ctrl+S", id: "install" }),
+    };
+    this.banner = h("div", { role: "alert" });
+    this.over = h("div", { of: "scroll over" }, this.editor.root);
+    this.none = h("div", { of: "nothing" }, "Choose a method, or write a new one with + above the methods.");
+    this.root = h("section", { of: "pane", "aria-label": "Method" },
+      h("header", {}, this.head, this.chip, Object.values(this.buttons)), this.banner, this.none, this.over, this.under.root);
+    this.draw();
+  }
+
+  // Opens what a send of the selector to an object of the class runs; without a selector a new method.
+  async open(name, selector) {
+    this.theirs = null;
+    if (selector === null) {
+      this.take({ class: name, selector: "", source: "", version: 0, sites: [], versions: [], isNew: true });
+      return;
+    }
+    const asked = await look("method", { class: name, selector });
+    if (at.class !== name || at.selector !== selector) return;
+    if (asked.error) { this.say(asked.said); return; }
+    this.take(asked.ok);
+  }
+
+  take(told) {
+    this.told = told;
+    at.shown = told.source !== undefined && !told.isNew ? [told.class, told.selector] : null;
+    const kept = draft(told.class, told.selector);
+    if (kept && !told.kernel) {
+      if (kept.version !== (told.version || 0)) this.theirs = { version: told.version || 0, source: told.source ?? null };
+      this.began = { base: kept.base, version: kept.version };
+      this.editor.show(kept.source, kept.version === told.version ? told.source : kept.base,
+        kept.version === told.version ? told.sites : []);
+    } else {
+      this.began = { base: told.source || "", version: told.version || 0 };
+      this.editor.show(told.source || "", told.source || "", told.sites || []);
+    }
+    this.said = "";
+    this.draw();
+    this.under.open();
+    see();
+  }
+
+  get isChanged() { return Boolean(this.told) && this.editor.text !== this.began.base; }
+
+  typed() {
+    if (!this.told) return;
+    keep(this.told.class, this.told.selector, this.isChanged ? { source: this.editor.text, ...this.began } : null);
+    this.said = "";
+    this.draw();
+  }
+
+  say(text) {
+    this.said = text;
+    this.draw();
+  }
+
+  draw() {
+    const told = this.told, isShown = Boolean(told) && (told.source !== undefined || told.isNew);
+    this.none.hidden = isShown;
+    this.over.hidden = !isShown;
+    this.under.root.hidden = !told || told.isNew;
+    put(this.head, told && [h("span", { of: "C" }, told.class), h("span", { of: "faint" }, "›"),
+      h("span", { of: "sel cut" }, told.selector || "new method"), h("span", { of: "faint cut" }, this.which())]);
+    if (told && !isShown) {
+      put(this.none, told.kernel ? `${told.class} has ${told.selector} from the kernel, which has no source.` : told.gone
+        ? `${told.class} has no method ${told.selector} now. Its versions stand below: one can be brought back.` : `No class from ${told.class} up has a method ${told.selector}.`);
+    }
+    this.chip.hidden = !this.isChanged;
+    this.buttons.install.disabled = !this.isChanged;
+    this.buttons.install.className = this.isChanged ? "main" : "plain";
+    this.buttons.revert.disabled = !this.isChanged && !this.theirs;
+    this.buttons.remove.disabled = !told || !told.version;
+    this.drawBanner();
+  }
+
+  which() {
+    const { version, versions } = this.told;
+    if (!version) return "";
+    const own = versions.filter(it => it.source !== null);
+    return `version ${version}, ${own.length === 1 ? "the only one" : `the ${ORDER(own.length)}`} here`;
+  }
+
+  drawBanner() {
+    if (!this.theirs) {
+      put(this.banner, this.said && h("div", { of: "banner bad" }, h("span", { of: "grow" }, this.said)));
+      return;
+    }
+    const { version, source } = this.theirs, began = this.began.version;
+    const what = version ? `Replaced meanwhile by version ${version}` : "Removed meanwhile";
+    put(this.banner, h("div", { of: "banner", id: "conflict" },
+      h("b", {}, what), h("span", { of: "grow" },
+        began ? ` of somebody else; you began with version ${began}. Nothing is overwritten.` : " of somebody else; you began with none. Nothing is overwritten."),
+      button("plain", "Show both", () => { this.areBoth = !this.areBoth; this.drawBanner(); },
+        { "aria-expanded": String(Boolean(this.areBoth)), id: "show-both" }),
+      button("plain", "Take theirs", () => this.takeTheirs(), { title: "What you typed is forgotten", id: "take-theirs" }),
+      button("plain", version ? `Install mine over ${version}` : "Install mine",
+        () => this.install({ selector: this.told.selector || this.other, version }), { id: "install-mine" })),
+      this.areBoth && h("div", { of: "sect", id: "both" }, h("h3", {}, "Theirs, and what yours would change in it"),
+        difference(source ?? "", this.editor.text)));
+  }
+
+  async install(seen = null) {
+    if (!this.told || (!this.isChanged && !seen)) return;
+    const { class: name, selector } = this.told, text = this.editor.text;
+    const given = seen || { selector, version: this.began.version };
+    const reply = await change("install", { class: name, source: text, seen: given });
+    if (this.told.class !== name || this.told.selector !== selector) return;
+    if (reply.ok) { this.installed(name, selector, reply); return; }
+    if (reply.error === "Stale") {
+      Object.assign(this, { theirs: reply.theirs, other: reply.selector, areBoth: true, said: "" });
+      if (reply.selector !== selector) this.began = { base: this.began.base, version: 0 };
+      this.draw();
+      return;
+    }
+    if (reply.place) { this.editor.mark({ place: reply.place, said: reply.said }); this.say(""); return; }
+    this.say(reply.said);
+  }
+
+  async installed(name, selector, reply) {
+    keep(name, selector, null);
+    keep(name, reply.selector, null);
+    toast(`${name} › ${reply.selector}: version ${reply.ok.version}`);
+    if (reply.unknown.length) toast(`no class has a method ${reply.unknown.join(", ")}`, "warn");
+    this.theirs = null;
+    Object.assign(at, { class: name, selector: reply.selector });
+    await this.open(name, reply.selector);
+  }
+
+  takeTheirs() {
+    keep(this.told.class, this.told.selector, null);
+    this.theirs = null;
+    this.open(this.told.class, this.told.selector);
+  }
+
+  revert() {
+    if (!this.told) return;
+    keep(this.told.class, this.told.selector, null);
+    this.theirs = null;
+    this.open(this.told.class, this.told.isNew ? null : this.told.selector);
+  }
+
+  async remove() {
+    const { class: name, selector, version } = this.told;
+    if (!(await confirmed(`Remove ${name} › ${selector}?`,
+      "From the next send on it is not there. Its versions stay, and one can be brought back.", "Remove"))) return;
+    const reply = await change("remove", { class: name, selector, seen: version });
+    if (reply.theirs) { this.theirs = reply.theirs; this.draw(); return; }
+    if (reply.error) { this.say(reply.said); return; }
+    keep(name, selector, null);
+    toast(`${name} › ${selector} is removed: version ${reply.ok.version}`, "",
+      button("link", "Undo", () => this.bringBack(name, selector, this.told.versions.findLast(it => it.source !== null), 0)));
+    await this.open(name, selector);
+  }
+
+  // Installs what was there in a version, over the one that is there now.
+  async bringBack(name, selector, version, over = this.told.version || 0) {
+    const reply = await change("install", { class: name, source: version.source, seen: { selector, version: over } });
+    if (reply.theirs) { this.theirs = reply.theirs; this.draw(); return; }
+    if (reply.error) { this.say(reply.said); return; }
+    toast(`${name} › ${selector}: version ${version.version} is back, as version ${reply.ok.version}`);
+    keep(name, selector, null);
+    Object.assign(at, { class: name, selector });
+    await this.open(name, selector);
+  }
+
+  // What a tick tells. Another version than the one in sight is somebody else's.
+  tell(event) {
+    const told = this.told, sites = event.sites;
+    if (!told || !sites || told.isNew || sites.class !== told.class || sites.selector !== told.selector) return;
+    if (sites.version === told.version) {
+      this.under.tell(sites);
+      told.sites = sites.sites;
+      if (this.began.version === told.version) this.editor.tell(sites.sites);
+    } else if (!this.isChanged) {
+      this.refresh(sites);
+    } else if (!this.theirs || this.theirs.version !== sites.version) {
+      this.meanwhile(sites);
+    }
+  }
+
+  async refresh(sites) {
+    const { class: name, selector } = this.told;
+    toast(sites.version
+      ? `${name} › ${selector} is version ${sites.version} now, of somebody else` : `${name} › ${selector} was removed by somebody else`,
+      "warn");
+    this.told.version = sites.version;
+    await this.open(name, selector);
+  }
+
+  async meanwhile(sites) {
+    const { class: name, selector } = this.told;
+    this.theirs = { version: sites.version, source: null };
+    const asked = await look("method", { class: name, selector });
+    if (!asked.ok || this.told.class !== name || this.told.selector !== selector) return;
+    this.told = { ...asked.ok, class: name, selector };
+    this.theirs = { version: asked.ok.class === name ? asked.ok.version || 0 : 0,
+      source: asked.ok.class === name ? asked.ok.source ?? null : null };
+    this.draw();
+    this.under.open();
+  }
+}

@@ -11,14 +11,20 @@ import tempfile
 import time
 
 TOP = os.path.dirname(os.path.dirname(os.path.dirname(os.path.realpath(__file__))))
-# A run writes down its crate, its words and its process, and its crate again at its end, and leaves a folder for what it made. The
-# program is the one that is tried.
+sys.path.insert(0, f"{TOP}/tools")
+
+from trial_parts.patience import PATIENCE, until  # noqa: E402
+from trial_parts.times import later  # noqa: E402
+
+# A run writes down its crate, its words and its process, and its crate again at its end, and leaves a folder for what it made. None goes
+# on before so many have begun. The program is the one that is tried.
 RT = """#!/usr/bin/env bash
 crate=$(basename "$PWD")
 echo "begins $crate $$ $*" >>"$LOG"
 [ "$1" != try ] || exec "$PROGRAM" "${@:3}"
 echo "so far: 1 of 2"
 [ "$crate" != "$FAILS" ] || { echo "error: no proof"; exit 1; }
+while [ "$(grep -c ^begins "$LOG")" -lt "$BEGUN" ]; do sleep 0.02; done
 sleep "$PAUSE"
 mkdir -p out/rlib
 [ "$1" != run ] || cp "$PROGRAM" out/actorimage
@@ -59,7 +65,8 @@ class Room:
             file.write(RT)
         os.chmod(f"{self.top}/bin/rt", 0o755)
         path = f"{self.top}/bin:{os.environ['PATH']}"
-        self.known = {**os.environ, "PATH": path, "LOG": self.log, "PROGRAM": program, "FAILS": "", "PAUSE": "0.1", "RT_JOBS": "3"}
+        of_runs = {"LOG": self.log, "PROGRAM": program, "FAILS": "", "PAUSE": "0.1", "BEGUN": "0"}
+        self.known = {**os.environ, "PATH": path, "RT_JOBS": "3", **of_runs}
 
     def __enter__(self):
         return self
@@ -80,7 +87,7 @@ class Room:
     def run(self, *words, text="", **known):
         """What is written, what is said, and the status."""
         process = self.start(*words, **known)
-        out, err = process.communicate(text, timeout=120)
+        out, err = process.communicate(text, timeout=PATIENCE)
         return out, err, process.returncode
 
     def lines(self):
@@ -98,9 +105,11 @@ def example(ending):
 
 
 def along_the_graph(program):
-    """Each crate is begun once, when those below it are done, up to three at a time; a second run builds nothing, and no copy is left."""
+    """Each crate is begun once, when those below it are done, up to three at a time; a second run builds nothing, and no copy is left.
+    Three stand on no other one, so three are begun at once if any are: the runs wait for that."""
+    assert len([name for name in below("actorimage") if not crates()[name]]) == 3, crates()
     with Room(program) as room:
-        out, err, status = room.run("script", text=example("jsonl"))
+        out, err, status = room.run("script", text=example("jsonl"), BEGUN="3")
         assert (out, status) == (example("replies"), 0), (out, err, status)
         running, done, most = set(), set(), 0
         for what, name, *_ in room.lines():
@@ -136,13 +145,12 @@ def all_have_ended(room):
 def names_what_failed(program):
     """A crate that is not proved is named, what was said is shown, and the others are ended; none above it is begun."""
     with Room(program) as room:
-        began = time.monotonic()
         out, err, status = room.run("script", FAILS="st_guard", PAUSE="3")
-        assert (out, status) == ("", 1) and time.monotonic() - began < 60, (out, err, status)
+        assert (out, status) == ("", 1), (out, err, status)
         assert "\nerror: no proof\nactorimage: st_guard is not proved; all that was said is in " in err, err
         begun = {words[1] for words in room.lines() if words[0] == "begins"}
         assert "st_guard" in begun and not any("st_guard" in below(name) for name in begun - {"st_guard"}), begun
-        assert all_have_ended(room), "what else was being proved goes on"
+        until(lambda: all_have_ended(room), "what else was being proved goes on")
 
 
 def ends_all_at_an_interrupt(program):
@@ -154,8 +162,9 @@ def ends_all_at_an_interrupt(program):
                 assert process.poll() is None, process.communicate()
                 time.sleep(0.02)
             os.killpg(process.pid, sign)
-            process.communicate(timeout=60)
-            assert process.returncode == 130 and all_have_ended(room), process.returncode
+            process.communicate(timeout=PATIENCE)
+            assert process.returncode == 130, process.returncode
+            until(lambda: all_have_ended(room), "what was being proved goes on")
             assert not os.path.exists(f"{room.top}/crates/actorimage/out"), "the program is built all the same"
 
 
@@ -168,7 +177,7 @@ def keeps_a_look(program):
             assert ("making a program without proofs" in err) == is_made and "nothing of this program is proved" in err, err
             assert [words[3] for words in room.lines()] == ["try"] * is_made, room.lines()
             if not is_made:
-                time.sleep(0.02)
+                later(f"{room.top}/crates/actorimage/look/actorimage-look")
                 room.edit()
         assert os.listdir(f"{room.top}/crates/actorimage/look") == ["actorimage-look"]
         assert not os.path.exists(f"{room.top}/crates/actorimage/out")

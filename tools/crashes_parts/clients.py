@@ -3,7 +3,8 @@
 import contextlib
 import json
 import random
-import socket
+
+from trial_parts.client import Client as Session
 
 CLASS = {"cmd": "define", "name": "Account", "slots": ["total", "seen"], "super": "Object"}
 METHODS = (
@@ -16,13 +17,17 @@ METHODS = (
     "keep: n seen := Account new. seen add: n. ^seen total",
 )
 
+REFUSALS = {"UnknownActor", "Closed", "Full", "Old", "TooMany", "HistoryFull"}
+# These are refused by NoMemory where the journal is far behind the image: what has not been told waits in memory, and a save is of what was.
+BEHIND = ("checkpoint", "save")
+
 
 class Told:
     """What a client was told before the server was killed: numbers that were accepted, the actors and the edits that there were, the
-    actors that were closed, and how turns ended."""
+    actors that were closed, and what it should not have been told."""
 
     def __init__(self, sender):
-        self.sender = sender
+        self.sender, self.wrong = sender, []
         self.asked = self.accepted = self.actors = self.edits = 0
         self.closed = set()
 
@@ -33,18 +38,16 @@ class Client:
 
     def run(self):
         """Until the server is gone."""
-        with contextlib.suppress(OSError, ValueError), socket.socket(socket.AF_UNIX) as end:
-            end.settimeout(60)
-            end.connect(self.path)
-            with end.makefile("rb") as lines:
-                while True:
-                    self.act(end, lines)
+        with contextlib.suppress(OSError, ValueError), Session(self.path) as session:
+            while True:
+                self.act(session)
 
-    def act(self, end, lines):
+    def act(self, session):
+        """What was told before the server is gone counts, so each reply is noted as it is read."""
         commands = [self.command() for _ in range(self.rng.choice((1, 1, 1, 8, 40)))]
-        end.sendall(b"".join(json.dumps(it).encode() + b"\n" for it in commands))
+        session.socket.sendall(b"".join(json.dumps(it).encode() + b"\n" for it in commands))
         for command in commands:
-            line = lines.readline()
+            line = session.lines.readline()
             if not line.endswith(b"\n"):
                 raise OSError("the server is gone")
             self.note(command, json.loads(line))
@@ -84,7 +87,8 @@ class Client:
 
     def note(self, command, reply):
         if "ok" not in reply:
-            assert reply["error"] in ("UnknownActor", "Closed", "Full", "Old", "TooMany", "HistoryFull"), (command, reply)
+            is_behind = reply["error"] == "NoMemory" and command["cmd"] in BEHIND
+            self.told.wrong += [] if is_behind or reply["error"] in REFUSALS else [(command, reply)]
             return
         if command["cmd"] == "post":
             self.told.accepted = command["seq"]

@@ -22,6 +22,7 @@ import time
 
 from inspect_parts.written import compact
 from second_opinion.inspecting import inspected
+from trial_parts.patience import PATIENCE
 
 from .clients import CLASS, METHODS, Client, Told
 from .journals import read, recovered
@@ -50,6 +51,8 @@ class Round:
                         client.done({"class": "Account", "cmd": "method", "source": source})
                     for _ in range(4):
                         client.done({"class": "Account", "cmd": "actor"})
+                    # So it is there behind each kill: without the class clients would be refused all that they do.
+                    client.done({"cmd": "save"})
             else:
                 self.compare(server, wanted)
             threads = [
@@ -60,7 +63,7 @@ class Round:
             time.sleep(self.rng.choice((0.02, 0.1, 0.4, 1.0)) * self.rng.random() + 0.005)
             server.kill(signal.SIGTERM if self.rng.random() < 0.125 else signal.SIGKILL)
             for thread in threads:
-                thread.join(60)
+                thread.join(PATIENCE)
         return recovered(self.file)
 
     def compare(self, server, image):
@@ -98,6 +101,7 @@ def tries(program, folder, seconds, seed):
         turn = Round(program, folder, rng, number)
         image, count = turn.run(tolds, image)
         for told in tolds:
+            assert not told.wrong, f"sender {told.sender} was told {told.wrong[0]}"
             assert image.numbers.get(told.sender, 0) <= told.asked, f"sender {told.sender} has a message that it has not sent"
         if turn.sync == 0:
             facts(image, tolds)

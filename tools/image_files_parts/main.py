@@ -26,11 +26,11 @@ from inspect_parts.main import deeply
 
 from . import try_cuts, try_fewer, try_files, try_folders, try_full, try_going_on, try_held, try_limits, try_mutated, try_paths
 from . import try_commands, try_kills, try_picked, try_random, try_refused, try_saves, try_scripts, try_served, try_unsaved, try_watched
-from . import try_journal, try_whole
+from . import try_journal, try_journal_faults, try_replay, try_script_journal, try_whole
 from .program import Different, Program
 
 OF_FILES = (try_files, try_limits, try_full, try_cuts, try_paths, try_folders, try_whole, try_fewer)
-OF_SAVES = (try_saves, try_unsaved, try_kills, try_journal)
+OF_SAVES = (try_saves, try_unsaved, try_kills, try_journal, try_journal_faults, try_script_journal, try_replay)
 OF_SESSIONS = (try_going_on, try_served, try_commands, try_held, try_watched, try_refused, try_scripts, try_picked, try_random)
 SEED = 20241107
 # How many trials go on at once.

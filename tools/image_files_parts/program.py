@@ -4,7 +4,8 @@ import os
 import subprocess
 from typing import NamedTuple
 
-SECONDS = 120
+from trial_parts.patience import PATIENCE
+
 # Of a longer text a part is shown, which begins so many letters before the first that differs.
 LONGEST, BEFORE = 300, 60
 
@@ -43,7 +44,7 @@ class Program:
         """The end of a run, to which the bytes of standard input are given."""
         if "stdin" not in more:
             more["input"] = given
-        ended = subprocess.run([self.path, *words], stderr=subprocess.PIPE, **{"stdout": subprocess.PIPE, "timeout": SECONDS, **more})
+        ended = subprocess.run([self.path, *words], stderr=subprocess.PIPE, **{"stdout": subprocess.PIPE, "timeout": PATIENCE, **more})
         return Ended(ended.returncode, ended.stdout, ended.stderr)
 
     def check(self, file):

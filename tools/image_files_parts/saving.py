@@ -7,18 +7,19 @@ import os
 import subprocess
 
 from inspect_parts.try_common import read
+from trial_parts.patience import PATIENCE
 
-from .program import SECONDS, Ended, same
+from .program import Ended, same
 from .try_served import ask, serve
 
 SAVE = {"cmd": "save"}
 
 
 @contextlib.contextmanager
-def going_on(program, path, **more):
+def going_on(program, path, *options, **more):
     """A script on a file, and how it is asked a line and replies."""
     pipes = {"stdin": subprocess.PIPE, "stdout": subprocess.PIPE, "stderr": subprocess.PIPE}
-    with subprocess.Popen([program.path, "script", "--image", path], **pipes, **more) as script:
+    with subprocess.Popen([program.path, "script", "--image", path, *options], **pipes, **more) as script:
 
         def asked(line):
             script.stdin.write(line + b"\n")
@@ -32,7 +33,7 @@ def going_on(program, path, **more):
 
 
 def end_of(script):
-    out, err = script.communicate(timeout=SECONDS)
+    out, err = script.communicate(timeout=PATIENCE)
     return Ended(script.returncode, out, err)
 
 

@@ -1,5 +1,6 @@
 """Trials on what each command leaves in the file of a served image, and on what is told of the actors of a file."""
 
+import functools
 import json
 
 from inspect_parts.try_common import good_files, read
@@ -7,6 +8,7 @@ from inspect_parts.written import compact
 
 from .loaded import Loaded
 from .program import same, settings
+from .resting import ACTORS, settle
 from .try_served import ask, serve, wait
 
 # Commands of each kind for an image with class M, whose method `a` answers 14, and actor 0 of it, for which one message waits.
@@ -71,8 +73,10 @@ def each_command(program):
         image.reply({"cmd": "run"})
 
         def talk(_number, end, lines):
+            asked = functools.partial(ask, end, lines)
             same("the turn that waited", wait(end, lines, 1), {"ok": {"answer": 14}})
-            told = ask(end, lines, command)
+            told = asked(command)
+            settle(asked)
             if wanted is None:
                 same(f"{command}: the kind of its reply", list(told), [READ[command["cmd"]]])
             else:
@@ -84,7 +88,7 @@ def each_command(program):
     return f"{len(COMMANDS)} servers"
 
 
-ACTORS, ONE_STEP = {"cmd": "actors", "from": 0, "most": 4096}, {"cmd": "run", "quanta": 1}
+ONE_STEP = {"cmd": "run", "quanta": 1}
 
 
 def actors_told(program):

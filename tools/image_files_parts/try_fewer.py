@@ -6,6 +6,7 @@ import subprocess
 import sys
 
 from inspect_parts.try_common import TOP, good_files, read
+from trial_parts.patience import PATIENCE
 
 from .program import Ended, same
 
@@ -72,7 +73,7 @@ TOLD = [
 
 
 def tool(name, *words):
-    done = subprocess.run([sys.executable, os.path.join(TOP, "tools", name), *words], capture_output=True, timeout=120)
+    done = subprocess.run([sys.executable, os.path.join(TOP, "tools", name), *words], capture_output=True, timeout=PATIENCE)
     return Ended(done.returncode, done.stdout, done.stderr)
 
 

@@ -5,15 +5,15 @@ import fcntl
 import json
 import os
 import resource
-import socket
 import stat
 import subprocess
 import sys
 import time
 
 from inspect_parts.try_common import read
+from trial_parts.patience import PATIENCE
 
-from .program import SECONDS, Ended, named, refusal, same
+from .program import Ended, named, refusal, same
 from .try_served import ask, begun, connected, not_begun, serve
 
 FIRST, SECOND = (b'{"cmd":"define","name":"%s","slots":[],"super":"Object"}' % name for name in (b"First", b"Second"))
@@ -96,14 +96,14 @@ def at_once(program):
     path, names = program.at("file"), [f"socket{number}" for number in range(TOGETHER)]
     with contextlib.ExitStack() as stack:
         servers = {stack.enter_context(begun(program, path, name=name)): name for name in names}
-        ends = time.monotonic() + SECONDS
+        ends = time.monotonic() + PATIENCE
         while len(going := [it for it in servers if it.poll() is None]) > 1 and time.monotonic() < ends:
             time.sleep(0.01)
         same("servers that serve", len(going), 1)
         with connected(going[0], program.at(servers[going[0]])) as end, end.makefile("rb") as lines:
             same("a class", ask(end, lines, json.loads(FIRST)), {"ok": {"version": 1}})
         for server in servers:
-            out, err = server.communicate(timeout=SECONDS)
+            out, err = server.communicate(timeout=PATIENCE)
             wanted = ENDED if server in going else refusal("WriteFault", f"{path}.new {HELD}")
             same("the end of a server", Ended(server.returncode, out, err), wanted)
     alone(program, "file")
@@ -129,12 +129,12 @@ def change_beside(program):
     words = [sys.executable, os.path.join(TOOLS, "add-variable"), path, "First", "x"]
 
     def run_tool():
-        ended = subprocess.run(words, capture_output=True, timeout=SECONDS)
+        ended = subprocess.run(words, capture_output=True, timeout=PATIENCE)
         wanted = (1, b"", f"tools/add-variable: {path}: a server or another program has it\n".encode())
         same("a tool", (ended.returncode, ended.stdout, ended.stderr), wanted)
 
     beside_server(program, path, one, two, run_tool)
-    same("the tool afterwards", subprocess.run(words, capture_output=True, timeout=SECONDS).returncode, 0)
+    same("the tool afterwards", subprocess.run(words, capture_output=True, timeout=PATIENCE).returncode, 0)
     alone(program, "file")
     return "1 tool"
 
@@ -188,7 +188,7 @@ def taken_away(program):
 
 
 def ended(server):
-    out, err = server.communicate(timeout=SECONDS)
+    out, err = server.communicate(timeout=PATIENCE)
     return Ended(server.returncode, out, err)
 
 

@@ -12,14 +12,20 @@ import time
 from crashes_parts.journals import recovered
 from inspect_parts.try_common import read
 from inspect_parts.written import compact
+from trial_parts.patience import PATIENCE
 
-from .program import SECONDS, refusal, same
+from .disks import NO_DISK, small_disk
+from .program import refusal, same
 from .try_held import FIRST, HELD, SECOND
-from .try_served import SOON, ask, connected, not_begun, words
+from .try_served import ask, connected, not_begun, words
 
 CLASS = json.loads(FIRST)
 ACTOR = {"class": CLASS["name"], "cmd": "actor"}
 ANOTHER = "is the journal of another image"
+# So many bytes of a journal are long with `--save-after 1`.
+LONG = 1_000_000
+# The bytes of a small disk.
+DISK = 64 << 10
 LEFT = "is there: what it tells is not in the image; serve that with --journal"
 
 
@@ -57,7 +63,7 @@ def killed(program, path, *commands, options=("--sync", "0")):
 
 
 def not_journaled(program, about, path, name, why, **more):
-    ended = program.run(*words(program, path), "--journal", timeout=SOON, **more)
+    ended = program.run(*words(program, path), "--journal", **more)
     same(f"{about}: a server with a journal", ended, refusal(name, why))
 
 
@@ -77,7 +83,7 @@ def begun_and_ended(program):
         image.reply(ACTOR)
         end.shutdown(1)
         lines.read()
-        out, err = server.communicate(timeout=SECONDS)
+        out, err = server.communicate(timeout=PATIENCE)
         same("the end", (server.returncode, err), (0, b""))
     same("the image behind the end", read(path), compact(image.file()).encode())
     same("files in the folder", os.listdir(program.folder), ["file"])
@@ -118,12 +124,12 @@ def malformed_journals(program):
         program.put("file.journal", data + b"\n")
         not_journaled(program, repr(data), path, "BadImage", f"{path}.journal line 1: {ANOTHER}")
         same(f"{data!r}: both files", (read(path), read(path + ".journal")), (image, data + b"\n"))
-    for behind in (b"", b'"actor":"Object"}\n', b"\n{\n", b'{"actor":"Object"}'):
+    for behind in (b"", b'\n"actor":"Object"}\n', b"\n{\n"):
         program.put("file.journal", journal.removesuffix(b"\n") + behind)
         with journaled(program, path) as (_, end, lines):
             same(f"behind the lines {behind!r}", ask(end, lines, ACTOR), {"ok": {"actor": 0}})
         program.put("file", image)
-    return "14 journals"
+    return "13 journals"
 
 
 def save_is_broken_off(program):
@@ -163,11 +169,13 @@ def saved_meanwhile(program):
         done(end, lines, ACTOR)
         first, number = read(path), 0
         source = "a " + 3000 * " " + "^1"
-        ends = time.monotonic() + SECONDS
-        while read(path) == first:
-            same("it saves by itself", time.monotonic() < ends and number < 600, True)
+        while read(path) == first and os.path.getsize(path + ".journal") < LONG:
             done(end, lines, {"class": CLASS["name"], "cmd": "method", "source": source})
             number += 1
+        ends = time.monotonic() + PATIENCE
+        while read(path) == first:
+            same("it saves by itself", time.monotonic() < ends, True)
+            time.sleep(0.01)
         server.send_signal(signal.SIGKILL)
         server.wait()
     image, _ = recovered(path)
@@ -188,13 +196,10 @@ def one_server(program):
 
 def journal_on_a_full_disk(program):
     """Where the disk is full, a server says once that its journal is not written, and goes on; where there is room again nothing is lost,
-    and nothing is there twice. It needs a small disk, which root mounts."""
-    small = program.at("small")
-    os.mkdir(small)
-    mount = ["mount", "-t", "tmpfs", "-o", "size=64k", "tmpfs", small]
-    if os.geteuid() != 0 or subprocess.run(mount, capture_output=True, timeout=SECONDS).returncode != 0:
-        return "no disk, since none can be mounted"
-    try:
+    and nothing is there twice. It needs a small disk."""
+    with small_disk(program, DISK) as small:
+        if small is None:
+            return NO_DISK
         path = os.path.join(small, "file")
         with journaled(program, path, "--sync", "20") as (server, end, lines):
             done(end, lines, CLASS)
@@ -207,15 +212,13 @@ def journal_on_a_full_disk(program):
             same("what is said", said.startswith(b"actorimage: the image is not saved: " + path.encode()), True)
             os.remove(os.path.join(small, "filler"))
             done(end, lines, *[ACTOR] * 10)
-            ends = time.monotonic() + SECONDS
+            ends = time.monotonic() + PATIENCE
             while len(recovered(path)[0].actors) < 310:
                 same("the journal is written", time.monotonic() < ends, True)
                 time.sleep(0.02)
             server.send_signal(signal.SIGKILL)
             server.wait()
         same("actors", len(recovered(path)[0].actors), 310)
-    finally:
-        subprocess.run(["umount", small], check=True, timeout=SECONDS)
     return "1 disk"
 
 

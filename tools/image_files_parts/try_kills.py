@@ -10,6 +10,7 @@ import time
 
 from inspect_parts.try_common import read
 from inspect_parts.written import Written, compact
+from trial_parts.patience import PATIENCE
 
 from .program import same
 from .saving import SAVE
@@ -62,7 +63,7 @@ def killed_while_saving(program):
         with begun(program, path, name=f"socket{number}") as server:
             thread = threading.Thread(target=saver.run, args=(server, program.at(f"socket{number}")))
             thread.start()
-            same(f"kill {number + 1}: a save is answered", saver.is_going.wait(60), True)
+            same(f"kill {number + 1}: a save is answered", saver.is_going.wait(PATIENCE), True)
             time.sleep(rng.uniform(0, LONGEST))
             server.kill()
             server.wait()

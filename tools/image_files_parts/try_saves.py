@@ -8,13 +8,13 @@ from inspect_parts.written import compact
 
 from .loaded import Loaded
 from .program import Ended, named, same
+from .resting import settle
 from .saving import asks, end_of, going_on, in_a_session, saves
 from .try_commands import COMMANDS
 from .try_held import ENDED, FIRST, HELD, SECOND, alone, text_of, texts
 from .try_paths import ENDINGS, NOBODY
 from .try_served import not_begun
 
-ACTORS = {"cmd": "actors", "from": 0, "most": 4096}
 # Scripts with turns in the middle, messages that wait, edits, checkpoints, and mailboxes that are closed.
 SCRIPTS = ("actors", "checkpoint", "closing", "edit", "mailboxes", "rally")
 # Behind so many commands a server is ended too.
@@ -67,12 +67,6 @@ def behind_one_another(program):
         same("the file", read(path), two if line else third)
         alone(program, "file")
     return f"{len(ENDINGS) + 1} scripts"
-
-
-def settle(asked):
-    """Waits until no actor is in a turn, and none has a message."""
-    while any(it["accepted"] > it["begun"] or it["phase"] in ("start", "frames") for it in asked(ACTORS)["ok"]["actors"]):
-        pass
 
 
 def behind_each_command(program):

@@ -9,13 +9,12 @@ import time
 
 from inspect_parts.try_common import FILES, bad_files, good_files, read
 from inspect_parts.written import compact
+from trial_parts.patience import PATIENCE
 
 from .loaded import Loaded
-from .program import SECONDS, Ended, refusal, same
+from .program import Different, Ended, refusal, same
 
 POST = {"actor": 0, "args": [], "cmd": "post", "selector": "a", "sender": 1, "seq": 2}
-# The seconds in which a server ends that does not begin to serve.
-SOON = 20
 # How sessions end: the second one is refused, which is not the end of the server.
 SESSIONS = (b"", b"\xff\n")
 
@@ -26,7 +25,7 @@ def words(program, file, sessions=1, name="socket"):
 
 def not_begun(program, about, file, name, why="", socket_name="socket", **more):
     """A server ends by a refusal of this name, with these words behind it, and nobody is served."""
-    ended = program.run(*words(program, file, name=socket_name), timeout=SOON, **more)
+    ended = program.run(*words(program, file, name=socket_name), **more)
     same(f"{about}: a server", ended, refusal(name, why))
 
 
@@ -49,16 +48,16 @@ def serve(program, file, talk, sessions=1, name="socket", **more):
                 talk(number, end, lines)
                 end.shutdown(socket.SHUT_WR)
                 lines.read()
-        out, err = server.communicate(timeout=SECONDS)
+        out, err = server.communicate(timeout=PATIENCE)
     return Ended(server.returncode, out, err)
 
 
 def connected(server, path):
     """A socket's end, once the server listens."""
-    ends = time.monotonic() + SECONDS
+    ends = time.monotonic() + PATIENCE
     while True:
         end = socket.socket(socket.AF_UNIX)
-        end.settimeout(SECONDS)
+        end.settimeout(PATIENCE)
         try:
             end.connect(path)
             return end
@@ -76,10 +75,11 @@ def ask(end, lines, command):
 
 def wait(end, lines, turn):
     """How a turn of actor 0 ends."""
-    while True:
-        told = ask(end, lines, {"actor": 0, "cmd": "outcome", "turn": turn})
-        if told != {"error": "Pending"}:
-            return told
+    ends = time.monotonic() + PATIENCE
+    while (told := ask(end, lines, {"actor": 0, "cmd": "outcome", "turn": turn})) == {"error": "Pending"}:
+        if time.monotonic() > ends:
+            raise Different(f"turn {turn} does not end")
+    return told
 
 
 def served(program):

@@ -5,20 +5,18 @@ import contextlib
 import json
 import os
 import shutil
-import subprocess
-import time
 
 from inspect_parts.try_common import read
+from trial_parts.times import later
 
-from .program import SECONDS, Ended, named, same
+from .disks import NO_DISK, small_disk
+from .program import Ended, named, same
 from .saving import asks, end_of, going_on, in_a_session, is_not_saved, said, saves
 from .try_folders import by_nobody
 from .try_held import ENDED, FIRST, HELD, NO_FILE, SECOND, alone, locked, text_of, texts
 from .try_watched import CHANGED, backup, moved, of_new_file, written_again
 
 THIRD = FIRST.replace(b"First", b"Third")
-# Seconds behind which what is written has another time.
-PAUSE = 0.02
 # The bytes of a page, and how many pages the small disk has.
 PAGE, PAGES = 4096, 16
 # A method for whose text a file takes two pages.
@@ -36,7 +34,6 @@ def changed_meanwhile(program):
             def talk(asked):
                 if is_saved:
                     saves(about, asked, path, one)
-                time.sleep(PAUSE)
                 change(path)
                 names, data = {*os.listdir(program.folder), "file.new"}, read(path)
                 for command in (json.loads(SECOND), {"cmd": "status"}):
@@ -62,7 +59,7 @@ def saved_by_another(program):
     with going_on(program, path) as (script, asked):
         saves("the first script", asks(asked), path, one)
         os.remove(path + ".new")
-        time.sleep(PAUSE)
+        later(path)
         same("the second script", program.script(path, SECOND).status, 0)
         is_not_saved("the first script", asks(asked), path, two)
         same("an edit", json.loads(asked(THIRD)), {"ok": {"version": 2}})
@@ -101,21 +98,6 @@ def in_its_way(program):
     return "6 saves"
 
 
-@contextlib.contextmanager
-def small_disk(program):
-    """The folder of a small disk, which root mounts; None where none can be."""
-    small = program.at("small")
-    os.mkdir(small)
-    mount = ["mount", "-t", "tmpfs", "-o", f"size={PAGES * PAGE}", "tmpfs", small]
-    if os.geteuid() != 0 or subprocess.run(mount, capture_output=True, timeout=SECONDS).returncode != 0:
-        yield None
-        return
-    try:
-        yield small
-    finally:
-        subprocess.run(["umount", small], check=True, timeout=SECONDS)
-
-
 def fill_up(path):
     """Writes what there is room for, but for a page."""
     with open(path, "wb", buffering=0) as file:
@@ -127,9 +109,9 @@ def fill_up(path):
 
 def save_on_a_full_disk(program):
     """Where the disk has no room for all of a text, a script and a server go on, and save once there is room."""
-    with small_disk(program) as small:
+    with small_disk(program, PAGES * PAGE) as small:
         if small is None:
-            return "no disk, since none can be mounted"
+            return NO_DISK
         one, two, three = (text_of(program, FIRST, LONG, *more) for more in ((), (SECOND,), (SECOND, THIRD)))
         path, fill = os.path.join(small, "file"), os.path.join(small, "fill")
         with open(path, "wb") as file:
@@ -161,9 +143,9 @@ def save_on_a_full_disk(program):
 
 def room_for_two(program):
     """A disk that has room for the file and a new one is saved on time and again: what was replaced takes no room any more."""
-    with small_disk(program) as small:
+    with small_disk(program, PAGES * PAGE) as small:
         if small is None:
-            return "no disk, since none can be mounted"
+            return NO_DISK
         path, one, two = texts(program)
         path = shutil.move(path, small)
         with open(os.path.join(small, "fill"), "wb") as file:

@@ -8,16 +8,22 @@ import stat
 import subprocess
 
 from inspect_parts.try_common import read
+from trial_parts.patience import PATIENCE
+from trial_parts.times import later
 
-from .program import SECONDS, Ended, named, refusal, same
+from .disks import NO_DISK, small_disk
+from .program import Ended, named, refusal, same
 from .try_held import ENDED, HELD, SECOND, alone, edit, texts, unsaved
 from .try_served import not_begun, serve
 
+# The bytes of a small disk, and those that are taken up, so that there is no room but for a file that is there.
+DISK, FILL = 16 << 10, 12 << 10
 CHANGED = "was changed by another process, and is NOT replaced: this image is saved in"
 
 
 def backup(path):
     """Another image is copied over the file."""
+    later(path)
     shutil.copyfile(path + ".other", path)
 
 
@@ -33,6 +39,7 @@ def of_new_file(path):
 
 def written_again(path):
     """The file is written again with as many bytes."""
+    later(path)
     with open(path, "r+b") as file:
         file.write(read(path))
 
@@ -93,7 +100,7 @@ def script_is_watched(program):
         script.stdin.flush()
         same("the slow script", json.loads(script.stdout.readline()), {"ok": {"version": 2}})
         same("a quick one", program.script(path, SECOND).status, 0)
-        out, err = script.communicate(timeout=SECONDS)
+        out, err = script.communicate(timeout=PATIENCE)
     wanted = Ended(1, b"", named("WriteFault", f"{path} {CHANGED} {path}.kept1"))
     same("the end of the slow one", Ended(script.returncode, out, err), wanted)
     same("the file", read(path), two)
@@ -153,21 +160,16 @@ def must_exist(program):
 
 
 def no_room(program):
-    """Where the disk is full it is said so, and the file stays. It needs a small disk, which root mounts."""
-    small = program.at("small")
-    os.mkdir(small)
-    mount = ["mount", "-t", "tmpfs", "-o", "size=16k", "tmpfs", small]
-    if os.geteuid() != 0 or subprocess.run(mount, capture_output=True, timeout=SECONDS).returncode != 0:
-        return "no disk, since none can be mounted"
-    try:
+    """Where the disk is full it is said so, and the file stays. It needs a small disk."""
+    with small_disk(program, DISK) as small:
+        if small is None:
+            return NO_DISK
         path, one, _ = texts(program)
         file = shutil.move(path, small)
-        program.put("small/fill", b"\0" * 12288)
+        program.put("small/fill", b"\0" * FILL)
         same("a script", program.script(file, SECOND).err, named("WriteFault", f"{file}: No space left on device"))
         same("the file", read(file), one)
         same("files in the folder", sorted(os.listdir(small)), ["file", "fill"])
-    finally:
-        subprocess.run(["umount", small], check=True, timeout=SECONDS)
     return "1 disk"
 
 

@@ -5,8 +5,9 @@ import select
 import subprocess
 
 from inspect_parts.try_common import bad_files, good_files, read
+from trial_parts.patience import PATIENCE
 
-from .program import SECONDS, Different, same
+from .program import Different, same
 
 RUN = b'{"cmd":"run"}\n'
 RAN = b'{"ok":{"quanta":1,"steps":7}}\n'
@@ -23,7 +24,7 @@ def answered(session):
     """The reply to a line."""
     session.stdin.write(RUN)
     session.stdin.flush()
-    ready, _, _ = select.select([session.stdout], [], [], SECONDS)
+    ready, _, _ = select.select([session.stdout], [], [], PATIENCE)
     if not ready:
         raise Different("a line is not answered")
     return session.stdout.readline()
@@ -40,7 +41,7 @@ def killed(program):
             if is_killed:
                 session.kill()
                 session.wait()
-            session.communicate(timeout=SECONDS)
+            session.communicate(timeout=PATIENCE)
         same("files in the folder", os.listdir(program.folder), ["file"])
         same("is the file as it was", read(path) == data, is_killed)
     return "2 sessions"
@@ -51,7 +52,7 @@ def unread(program):
     path = program.put("file", read(bad_files()[0]))
     with begun(program, path) as session:
         try:
-            status = session.wait(timeout=SECONDS)
+            status = session.wait(timeout=PATIENCE)
         except subprocess.TimeoutExpired:
             session.kill()
             raise Different("a malformed file waits for lines") from None

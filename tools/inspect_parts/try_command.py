@@ -5,6 +5,8 @@ import subprocess
 import sys
 import tempfile
 
+from trial_parts.patience import PATIENCE
+
 from .checked import check_page
 from .page import page
 from .reading import read_image
@@ -55,7 +57,7 @@ def outputs():
         ends.append((os.open("/dev/full", os.O_WRONLY), b"tools/inspect: standard output: No space left on device\n"))
     for output, wanted in ends:
         command = [sys.executable, INSPECT, good_files()["loop"]]
-        ended = subprocess.run(command, stdout=output, stderr=subprocess.PIPE, timeout=60)
+        ended = subprocess.run(command, stdout=output, stderr=subprocess.PIPE, timeout=PATIENCE)
         os.close(output)
         same((ended.returncode, ended.stderr), (1, wanted))
     return len(ends)

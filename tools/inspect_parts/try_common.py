@@ -5,6 +5,8 @@ import os
 import subprocess
 import sys
 
+from trial_parts.patience import PATIENCE
+
 from .reading import read_image
 from .refused import BadImage
 
@@ -52,4 +54,4 @@ def refusal(file):
 
 def run(*words, **more):
     """The tool as a program."""
-    return subprocess.run([sys.executable, INSPECT, *words], capture_output=True, timeout=120, **more)
+    return subprocess.run([sys.executable, INSPECT, *words], capture_output=True, timeout=PATIENCE, **more)

@@ -4,7 +4,7 @@ A turn takes two items of the history at least, its beginning and a quantum. So 
 messages of these wait in the file with which the session begins. A checkpoint, or a load, would forget how all but the last ended.
 """
 
-from scripts_parts.commands import accepted, actor, answer, made, method, outcome, post, run
+from scripts_parts.commands import accepted, actor, answer, made, method, outcome, post
 from scripts_parts.running import Wrong
 
 from . import most

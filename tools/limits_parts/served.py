@@ -1,14 +1,12 @@
 """The edits of a server, which all its sessions make together."""
 
 import os
-import socket
-import stat
 import subprocess
-import time
 
 from scripts_parts.commands import actor, answer, define, made, method, outcome, remove
 from scripts_parts.running import SECONDS, Ended, Wrong, compare
 from scripts_parts.script import compact
+from trial_parts.client import Client, await_socket
 
 from . import most
 from .session import Session, site
@@ -16,34 +14,6 @@ from .session import Session, site
 SESSIONS = 2
 # The dispatch of a turn and its three instructions.
 STEPS = 4
-PENDING = b'{"error":"Pending"}\n'
-
-
-class Client:
-    """A session with a server."""
-
-    def __init__(self, path):
-        self.socket = socket.socket(socket.AF_UNIX)
-        self.socket.settimeout(SECONDS)
-        self.socket.connect(path)
-        self.lines = self.socket.makefile("rb")
-
-    def __enter__(self):
-        return self
-
-    def __exit__(self, *_):
-        self.lines.close()
-        self.socket.close()
-
-    def answers(self, lines):
-        self.socket.sendall("".join(line + "\n" for line in lines).encode())
-        return b"".join(self.lines.readline() for _ in lines)
-
-    def wait(self, command):
-        """Asks until the answer is not that a turn goes on."""
-        ends = time.monotonic() + SECONDS
-        while self.answers([compact(command)]) == PENDING and time.monotonic() < ends:
-            time.sleep(0.001)
 
 
 class Server:
@@ -56,12 +26,8 @@ class Server:
     def __enter__(self):
         words = ["serve", "--socket", self.path, "--workers", "1", "--sessions", str(SESSIONS)]
         self.process = subprocess.Popen([self.program.path, *words], stdout=subprocess.PIPE, stderr=subprocess.PIPE)
-        ends = time.monotonic() + SECONDS
-        # It gives the socket's file its rights last.
-        while not os.path.exists(self.path) or stat.S_IMODE(os.stat(self.path).st_mode) != 0o600:
-            if self.process.poll() is not None or time.monotonic() > ends:
-                raise Wrong("no socket is made")
-            time.sleep(0.01)
+        if not await_socket(self.process, self.path):
+            raise Wrong("no socket is made")
         return self
 
     def __exit__(self, *_):
@@ -100,7 +66,7 @@ def has_no_room(server, client, found):
     script.post("a")
     server.ask(client)
     ended = outcome(script.turns[0])
-    client.wait(ended)
+    client.ending(ended)
     script.ask(ended, answer(False))
     script.sites("M", "a", [found])
     server.ask(client)

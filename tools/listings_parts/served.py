@@ -6,14 +6,14 @@ import socket
 import subprocess
 import time
 
-from workspace_parts.person import SECONDS, Person
+from trial_parts.patience import PATIENCE
+from trial_parts.turns import turns
+from workspace_parts.person import Person
 from workspace_parts.serving import Server
 
 SOCKET = "image.socket"
 SERVE = "./actorimage serve "
 WORKSPACE, CLIENT, PROGRAM = f"$ tools/workspace --socket {SOCKET}", f"$ nc -U {SOCKET}", "$ python3 "
-# So long the last entry of a listing is waited for, if nothing stands below it: it may go on until another terminal ends it.
-SECONDS_OF_LAST = 2
 PAUSE = 0.01
 PENDING = '{"error":"Pending"}'
 
@@ -36,10 +36,20 @@ def options(lines):
 class Workspace(Person):
     def __init__(self, folder):
         super().__init__(folder, "--socket", SOCKET)
+        self.path = os.path.join(folder, SOCKET)
 
-    def answer(self, text, seconds):
+    def answer(self, text):
         self.type(text)
-        return self.gives(seconds) or []
+        return self.gives() or []
+
+    def begin(self, text):
+        """What an entry gives that may go on; nothing, once it has a turn that goes on."""
+        before = turns(self.path)
+        self.type(text)
+        while (given := self.gives(PAUSE)) is None:
+            if turns(self.path) - before:
+                return []
+        return given
 
 
 class Client:
@@ -47,11 +57,11 @@ class Client:
 
     def __init__(self, folder):
         self.socket = socket.socket(socket.AF_UNIX)
-        self.socket.settimeout(SECONDS)
+        self.socket.settimeout(PATIENCE)
         self.socket.connect(os.path.join(folder, SOCKET))
         self.replies = self.socket.makefile("r", encoding="utf-8")
 
-    def answer(self, text, seconds):
+    def answer(self, text):
         self.socket.sendall(text.encode() + b"\n")
         return [self.replies.readline().rstrip()]
 
@@ -65,11 +75,11 @@ def is_pending(lines):
     return bool(lines) and (lines[0].startswith("Pending: ") or lines[0] == PENDING)
 
 
-def answer(terminal, text, wanted, seconds):
+def answer(terminal, text, wanted):
     """What an entry gives. One that asks how a turn ended is typed again until it has, if the listing has the end."""
-    ends = time.monotonic() + SECONDS
+    ends = time.monotonic() + PATIENCE
     while True:
-        given = terminal.answer(text, seconds)
+        given = terminal.answer(text)
         if not is_pending(given) or is_pending(wanted) or time.monotonic() > ends:
             return given
         time.sleep(PAUSE)
@@ -86,22 +96,24 @@ def answered(program, session, folder):
                     continue
                 terminal = (Workspace if first == WORKSPACE else Client)(folder)
                 ends.callback(end, terminal, listing)
-                yield listing, [first, *lines(terminal, listing.typed())]
+                yield listing, [first, *lines(terminal, listing.typed(), "--sessions" in session.options)]
         if "--sessions" in session.options:
-            server.process.wait(SECONDS)
+            server.process.wait(PATIENCE)
 
 
 def printed(command, folder):
     """What a program prints that ends by itself."""
-    ended = subprocess.run(["bash", "-c", command], capture_output=True, text=True, cwd=folder, timeout=SECONDS)
+    ended = subprocess.run(["bash", "-c", command], capture_output=True, text=True, cwd=folder, timeout=PATIENCE)
     return ended.stdout.splitlines() + ended.stderr.splitlines()
 
 
-def lines(terminal, typed):
+def lines(terminal, typed, are_counted):
+    """The last entry of a workspace's listing may go on until another terminal ends it, if nothing stands below it; but not where the server
+    counts its sessions."""
     for place, entry in enumerate(typed, 1):
-        may_go_on = place == len(typed) and not entry.wanted
+        may_go_on = place == len(typed) and not entry.wanted and isinstance(terminal, Workspace) and not are_counted
         yield from entry.lines
-        yield from answer(terminal, entry.text, entry.wanted, SECONDS_OF_LAST if may_go_on else SECONDS)
+        yield from terminal.begin(entry.text) if may_go_on else answer(terminal, entry.text, entry.wanted)
 
 
 def end(terminal, listing):

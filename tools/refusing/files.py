@@ -7,6 +7,7 @@ import subprocess
 import tempfile
 
 from inspect_parts.try_common import good_files, read
+from trial_parts.patience import PATIENCE
 
 from .scripts import NO_MEMORY, run
 from .shim import Failing
@@ -146,7 +147,7 @@ def check_unsaved(program, shim, every, file):
 
 def checked(program, file, failing=None):
     """The status of a check, and what it says on standard output and standard error."""
-    ended = subprocess.run([program, "check", file], capture_output=True, text=True, env=failing.env if failing else None, timeout=120)
+    ended = subprocess.run([program, "check", file], capture_output=True, text=True, env=failing.env if failing else None, timeout=PATIENCE)
     return ended.returncode, ended.stdout, ended.stderr
 
 

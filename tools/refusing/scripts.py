@@ -5,6 +5,8 @@ import os
 import re
 import subprocess
 
+from trial_parts.patience import PATIENCE
+
 from .shim import Failing
 
 NO_MEMORY = '{"error":"NoMemory"}'
@@ -15,7 +17,7 @@ EPOCH = re.compile(r'"epoch":"[^"\\]+"')
 def whole_replies(program, lines):
     """The replies of a script as they are, but for epochs."""
     text = "".join(line + "\n" for line in lines).encode()
-    out = subprocess.run([program, "script"], input=text, capture_output=True, timeout=120).stdout.decode()
+    out = subprocess.run([program, "script"], input=text, capture_output=True, timeout=PATIENCE).stdout.decode()
     return [without_epoch(it) for it in out.splitlines()]
 
 
@@ -27,7 +29,7 @@ def run(program, lines, failing=None, options=()):
     """The status, the replies and standard error of a script."""
     text = "".join(line + "\n" for line in lines).encode()
     env = failing.env if failing else None
-    ended = subprocess.run([program, "script", *options], input=text, capture_output=True, env=env, timeout=120)
+    ended = subprocess.run([program, "script", *options], input=text, capture_output=True, env=env, timeout=PATIENCE)
     return ended.returncode, [told(it) for it in ended.stdout.decode().splitlines()], ended.stderr.decode()
 
 

@@ -4,16 +4,16 @@ import contextlib
 import json
 import os
 import socket
-import stat
 import subprocess
 import tempfile
 import time
 
+from trial_parts.client import PENDING, await_socket
+from trial_parts.patience import PATIENCE
+
 from .shim import Failing
 
 NO_MEMORY = {"error": "NoMemory"}
-PENDING = {"error": "Pending"}
-SECONDS = 20
 
 
 def told(number, begun, is_open, phase):
@@ -65,7 +65,7 @@ class Ended(Exception):
 class Client:
     def __init__(self, path):
         self.socket = socket.socket(socket.AF_UNIX)
-        self.socket.settimeout(SECONDS)
+        self.socket.settimeout(PATIENCE)
         try:
             self.socket.connect(path)
         except OSError:
@@ -91,29 +91,11 @@ class Client:
 
     def wait(self, command):
         """The outcome of a turn."""
-        ends = time.monotonic() + SECONDS
+        ends = time.monotonic() + PATIENCE
         while (reply := self.again(command)) == PENDING and time.monotonic() < ends:
             self.ask(WAKING)
             time.sleep(0.001)
         return reply
-
-
-def listens(path):
-    """Whether a server listens there: it gives the socket's file its rights last, and takes it away where it ends."""
-    try:
-        return stat.S_IMODE(os.stat(path).st_mode) == 0o600
-    except FileNotFoundError:
-        return False
-
-
-def await_socket(process, path):
-    """Whether the server listens soon, and does not end before."""
-    ends = time.monotonic() + SECONDS
-    while not listens(path):
-        if process.poll() is not None or time.monotonic() > ends:
-            return False
-        time.sleep(0.001)
-    return True
 
 
 def converse(path):
@@ -138,7 +120,7 @@ def converse(path):
 def what_is_wrong(process, posts, is_whole, why):
     """What is wrong with the end of a server, or None."""
     try:
-        out, said = process.communicate(timeout=SECONDS)
+        out, said = process.communicate(timeout=PATIENCE)
     except subprocess.TimeoutExpired:
         process.kill()
         process.communicate()

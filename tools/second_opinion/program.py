@@ -8,11 +8,12 @@ import re
 import subprocess
 import threading
 
+from trial_parts.patience import PATIENCE
+
 from .image import EPOCH
 
 # The program's reply where it has none.
 NOTHING = "no reply"
-SECONDS = 120
 TOLD = re.compile(r'"epoch":("[^"\\]+")')
 
 
@@ -64,7 +65,7 @@ class Talk:
         found = []
         while len(found) < count:
             try:
-                line = self.read.get(timeout=SECONDS)
+                line = self.read.get(timeout=PATIENCE)
             except queue.Empty:
                 break
             if not line.endswith(b"\n"):

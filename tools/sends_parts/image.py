@@ -6,6 +6,8 @@ import os
 import re
 import subprocess
 
+from trial_parts.patience import PATIENCE
+
 # The classes with their superclasses and their own instance variables.
 CLASSES = [("A", "Object", ["s"]), ("B", "A", []), ("C", "B", []), ("D", "A", []), ("E", "Object", []), ("F", "E", [])]
 
@@ -80,7 +82,7 @@ class Script:
         """The replies, and what is wrong with the first wrong one, if one is."""
         text = "".join(json.dumps(command) + "\n" for command in self.commands)
         words = [program, "script", "--quantum", str(quantum)]
-        ended = subprocess.run(words, input=text, capture_output=True, text=True, timeout=120)
+        ended = subprocess.run(words, input=text, capture_output=True, text=True, timeout=PATIENCE)
         replies = ended.stdout.splitlines()
         if ended.returncode or len(replies) != len(self.commands):
             return None, f"it ends with status {ended.returncode} and {len(replies)} replies, and says {ended.stderr!r}"

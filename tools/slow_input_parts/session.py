@@ -3,6 +3,8 @@
 import json
 import subprocess
 
+from trial_parts.patience import PATIENCE
+
 
 class Session:
     """A session of the built program, and the processor time of each of its lines, in milliseconds, as Linux counts it."""
@@ -16,7 +18,7 @@ class Session:
 
     def __exit__(self, *_):
         self.process.stdin.close()
-        self.process.wait(timeout=60)
+        self.process.wait(timeout=PATIENCE)
         self.process.stdout.close()
 
     def spent(self):

@@ -3,8 +3,9 @@
 import socket
 import threading
 
-from sockets_parts.resources import soon, threads, unread
+from sockets_parts.resources import threads, unread
 from sockets_parts.sessions import told
+from trial_parts.patience import PATIENCE, until
 
 # How many messages each session posts.
 EACH = 100
@@ -30,6 +31,14 @@ class Stage:
     def message(self, sender, seq):
         return self.post(0, "a", [], sender, seq)
 
+    def accepted(self, client, sender):
+        """The turn of a message that is posted until it is accepted, each time with a new number: the mailbox may be full."""
+        seq = 1
+        while (reply := client.ask(**self.message(sender, seq))) == {"error": "Full"}:
+            seq += 1
+        assert "ok" in reply, reply
+        return reply["ok"]["turn"]
+
     def posts(self, client, sender):
         """Posts until its messages are accepted, each with a new number: a mailbox may be full."""
         seq, accepted = 0, 0
@@ -42,20 +51,21 @@ class Stage:
                 self.tens.release()
 
     def fails(self, client, sender):
-        """Posts half of its messages and waits until there are replies, of which it reads none. Then it reads no more, so that the next
-        write to it fails, posts the others and leaves."""
-        half = EACH // 2
-        client.send(*(self.message(sender, seq) for seq in range(1, half + 1)))
-        soon(lambda: unread(client).count(b"\n") == half, "posts are not replied to")
-        self.replied = unread(client).count(b'"ok"')
-        assert self.replied, "none of its posts is accepted"
+        """Posts half of its messages, and again until one is accepted, since a mailbox may be full, and waits until there are replies, of
+        which it reads none. Then it reads no more, so that the next write to it fails, posts the other half and leaves."""
+        half, sent = EACH // 2, 0
+        while not self.replied:
+            sent += half
+            client.send(*(self.message(sender, seq) for seq in range(sent - half + 1, sent + 1)))
+            until(lambda: unread(client).count(b"\n") == sent, "posts are not replied to")
+            self.replied = unread(client).count(b'"ok"')
         client.socket.shutdown(socket.SHUT_RD)
-        client.send(*(self.message(sender, seq) for seq in range(half + 1, EACH + 1)))
+        client.send(*(self.message(sender, seq) for seq in range(sent + 1, sent + half + 1)))
 
     def makes_checkpoints(self, client, _sender):
         """Makes a checkpoint each time that the first sender has posted a tenth of its messages."""
         for _ in range(CHECKPOINTS):
-            assert self.tens.acquire(timeout=60), "the first sender does not go on"
+            assert self.tens.acquire(timeout=PATIENCE), "the first sender does not go on"
             self.counts.append(client.done(cmd="checkpoint"))
 
     def run(self, part, sender):
@@ -74,7 +84,7 @@ class Stage:
         for thread in running:
             thread.join()
         assert not self.errors, self.errors
-        soon(lambda: len(threads(self.server)) == WORKERS + 2, "sessions whose clients have left go on")
+        until(lambda: len(threads(self.server)) == WORKERS + 2, "sessions whose clients have left go on")
 
 
 def play_with(server, post, has_checkpoints):
@@ -86,7 +96,7 @@ def play_with(server, post, has_checkpoints):
         assert first.actor("A") == 0
         parts = [stage.posts, stage.posts, stage.posts, stage.fails]
         stage.run_together(*parts, *([stage.makes_checkpoints] if has_checkpoints else []))
-        turn = first.done(**stage.message(9, 1))["turn"]
+        turn = stage.accepted(first, 9)
         count = first.wait(0, turn)["ok"]["answer"]
         assert stage.replied <= count - 1 - 3 * EACH <= stage.replied + EACH // 2, (count, stage.replied)
         assert has_checkpoints or turn == count, (turn, count)

@@ -11,10 +11,12 @@ import subprocess
 import tempfile
 import time
 
-from sockets_parts.resources import soon
+from sockets_parts import stopping
+from trial_parts.client import await_socket
+from trial_parts.patience import PATIENCE
 
 TOP = os.path.dirname(os.path.dirname(os.path.dirname(os.path.realpath(__file__))))
-STOP, SUPERVISE = f"{TOP}/tools/stop", f"{TOP}/tools/supervise"
+SUPERVISE = f"{TOP}/tools/supervise"
 PLACES = 64
 UNITS = ("actorimage.service", "actorimage-save.timer", "actorimage-save.service")
 
@@ -26,13 +28,8 @@ def without_a_number(Server, program, *options):
     return server
 
 
-def listens(path):
-    """Whether a server listens there: it gives the socket's file its rights last."""
-    return os.path.exists(path) and os.stat(path).st_mode & 0o777 == 0o600
-
-
 def checked(program, file):
-    return subprocess.run([program, "check", file], capture_output=True, text=True, timeout=60).stdout
+    return subprocess.run([program, "check", file], capture_output=True, text=True, timeout=PATIENCE).stdout
 
 
 def stopped_where_all_places_are_taken(program, Server, _post):
@@ -44,15 +41,23 @@ def stopped_where_all_places_are_taken(program, Server, _post):
             for client in clients:
                 assert client.ask(cmd="close", actor=0) == {"error": "UnknownActor"}
             clients[0].make("M", [])
-            stop = subprocess.Popen([STOP, server.path], stderr=subprocess.PIPE, text=True)
-            assert stop.stderr.readline() == "tools/stop: waits for the sessions of others to end\n"
+            stop = stopping.Waiting(server.path)
             time.sleep(0.5)
-            assert stop.poll() is None and clients[0].ask(cmd="close", actor=0) == {"error": "UnknownActor"}
+            assert stop.goes_on() and clients[0].ask(cmd="close", actor=0) == {"error": "UnknownActor"}
             for client in clients:
                 client.leave()
-            said = stop.communicate(timeout=60)[1].splitlines()
-            assert (said[-1], stop.returncode) == (f"tools/stop: the server has ended, and {file} is written", 0), said
+            ended = stop.ended()
+            assert ended == (f"tools/stop: the server has ended, and {file} is written\n", 0), ended
         assert checked(program, file) == '{"ok":{"actors":0,"classes":9,"edits":1}}\n'
+
+
+def parent_of(process):
+    """The process that started another one; None where that has ended."""
+    try:
+        with open(f"/proc/{process}/stat", encoding="utf-8", errors="replace") as file:
+            return int(file.read().rpartition(")")[2].split()[1])
+    except (FileNotFoundError, ProcessLookupError):
+        return None
 
 
 class Supervised:
@@ -62,7 +67,7 @@ class Supervised:
         self.path = os.path.join(folder, "socket")
         self.told = socket.socket(socket.AF_UNIX, socket.SOCK_DGRAM)
         self.told.bind(os.path.join(folder, "told"))
-        self.told.settimeout(60)
+        self.told.settimeout(PATIENCE)
         known = {**os.environ, "NOTIFY_SOCKET": os.path.join(folder, "told")}
         words = [SUPERVISE, "--seconds", str(seconds), *words, "--socket", self.path]
         how = {"stdout": subprocess.PIPE, "stderr": subprocess.PIPE, "text": True, "start_new_session": True}
@@ -84,8 +89,7 @@ class Supervised:
 
     def servers(self):
         """The processes that were started, which are the server."""
-        told = subprocess.run(["pgrep", "-P", str(self.process.pid)], capture_output=True, text=True)
-        return [int(it) for it in told.stdout.split()]
+        return [it for it in map(int, filter(str.isdigit, os.listdir("/proc"))) if parent_of(it) == self.process.pid]
 
     def client(self, Server):
         server = Server(None, 1)
@@ -94,7 +98,7 @@ class Supervised:
 
     def ended(self):
         """What is written and said, and the status."""
-        out, err = self.process.communicate(timeout=60)
+        out, err = self.process.communicate(timeout=PATIENCE)
         return out, err, self.process.returncode
 
 
@@ -105,13 +109,13 @@ def supervised(program, Server, _post):
         with tempfile.TemporaryDirectory() as folder:
             file = os.path.join(folder, "image")
             words = [program, "serve", "--workers", "1", *options, "--image", file]
-            with Supervised(folder, 60, *words) as them:
+            with Supervised(folder, PATIENCE, *words) as them:
                 with them.client(Server) as client:
                     client.make("M", [])
                 os.killpg(them.process.pid, sign)
                 assert them.hears() == "STOPPING=1"
                 out, err, status = them.ended()
-                assert err == f"tools/stop: the server has ended, and {file} is written\n", err
+                assert stopping.told(err) == f"tools/stop: the server has ended, and {file} is written\n", err
                 assert (out, status) == ('{"ok":{"posts":0,"steps":0}}\n', 0), (out, err, status)
             assert checked(program, file) == '{"ok":{"actors":0,"classes":9,"edits":1}}\n'
 
@@ -128,17 +132,17 @@ def supervised_in_vain(program, Server, _post):
             assert (out, status) == ("", 1) and not os.path.exists(file), (out, status)
             assert err.splitlines()[-1] == f"tools/supervise: {said}", err
     with tempfile.TemporaryDirectory() as folder:
-        with Supervised(folder, 60, program, "serve", "--workers", "1", "--sessions", "1") as them:
+        with Supervised(folder, PATIENCE, program, "serve", "--workers", "1", "--sessions", "1") as them:
             them.client(Server).leave()
             assert them.ended() == ('{"ok":{"posts":0,"steps":0}}\n', "", 0)
     with tempfile.TemporaryDirectory() as folder:
-        with Supervised(folder, 60, program, "serve", "--workers", "1") as them:
+        with Supervised(folder, PATIENCE, program, "serve", "--workers", "1") as them:
             (server,) = them.servers()
             os.kill(server, signal.SIGKILL)
             assert them.ended() == ("", "", 128 + signal.SIGKILL)
-        none = subprocess.run([SUPERVISE, program, "script"], capture_output=True, text=True, timeout=60)
+        none = subprocess.run([SUPERVISE, program, "script"], capture_output=True, text=True, timeout=PATIENCE)
         assert none.returncode == 2 and "start a server" in none.stderr, none
-        gone = subprocess.run([SUPERVISE, "./gone", "serve", "--socket", "s"], capture_output=True, text=True, timeout=60, cwd=folder)
+        gone = subprocess.run([SUPERVISE, "./gone", "serve", "--socket", "s"], capture_output=True, text=True, timeout=PATIENCE, cwd=folder)
         assert (gone.stderr, gone.returncode) == ("tools/supervise: ./gone: No such file or directory\n", 1), gone
 
 
@@ -170,20 +174,20 @@ def units_are_right(program, _Server, _post):
                 with open(os.path.join(folder, name), "w", encoding="utf-8") as file:
                     file.write(text)
             words = ["systemd-analyze", "verify", "--man=no", *UNITS]
-            verified = subprocess.run(words, cwd=folder, capture_output=True, text=True, timeout=60)
+            verified = subprocess.run(words, cwd=folder, capture_output=True, text=True, timeout=PATIENCE)
             assert (verified.stdout, verified.stderr, verified.returncode) == ("", "", 0), verified
         image = os.path.join(folder, "image")
         words = words_of(texts["actorimage.service"], "ExecStart", folder)
         process = subprocess.Popen(words, stdout=subprocess.PIPE, stderr=subprocess.PIPE, text=True)
-        soon(lambda: listens(os.path.join(folder, "socket")), "the unit's words start no server", 60)
+        assert await_socket(process, os.path.join(folder, "socket")), "the unit's words start no server"
         for key in ("ExecStart", "ExecStartPost"):
             words = words_of(texts["actorimage-save.service"], key, folder)
-            subprocess.run(words, cwd=folder, stdout=subprocess.DEVNULL, check=True, timeout=60)
+            subprocess.run(words, cwd=folder, stdout=subprocess.DEVNULL, check=True, timeout=PATIENCE)
         (copy,) = (name for name in os.listdir(folder) if re.fullmatch("image[.][0-9]{2}", name))
         assert checked(program, image) == checked(program, os.path.join(folder, copy)) != ""
         os.remove(image)
         process.terminate()
-        out, err = process.communicate(timeout=60)
+        out, err = process.communicate(timeout=PATIENCE)
         assert (process.returncode, out) == (0, '{"ok":{"posts":0,"steps":0}}\n') and os.path.exists(image), (out, err)
 
 

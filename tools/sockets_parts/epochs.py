@@ -4,18 +4,22 @@ import functools
 import random
 import time
 
+from sockets_parts.resources import LONGEST_WAIT
 from sockets_parts.together import run_together
+from trial_parts.patience import PATIENCE, until
 
 # How many messages each client has answered at the least, and how many it must see to be of an epoch of before.
 ANSWERED, EXPIRED = 300, 20
-SECONDS = 40
+# So many messages are posted between two checkpoints at most: then there is enough of both, however fast a machine does them.
+BETWEEN = 40
 
 
 class Stage:
-    """An actor that answers what it is sent. `told` counts what each client was told."""
+    """An actor that answers what it is sent. `told` counts what each client was told, and `posted` what both have posted."""
 
     def __init__(self, post):
-        self.post, self.ends = post, time.monotonic() + SECONDS
+        self.post, self.ends = post, time.monotonic() + PATIENCE
+        self.posted = {sender: 0 for sender in (1, 2)}
         self.told = {sender: {"answer": 0, "Expired": 0} for sender in (1, 2)}
 
     def goes_on(self):
@@ -29,8 +33,9 @@ class Stage:
             seq += 1
             epoch = client.done(cmd="status")["epoch"]
             turn = client.done(**self.post(0, "it:", [1_000_000 * sender + seq], sender, seq))["turn"]
+            self.posted[sender] = seq
             time.sleep(chance.choice((0, 0, 0, 0.001)))
-            reply = client.ask(cmd="wait", actor=0, epoch=epoch, ms=20_000, turn=turn)
+            reply = client.ask(cmd="wait", actor=0, epoch=epoch, ms=LONGEST_WAIT, turn=turn)
             if reply == {"error": "Expired"}:
                 self.told[sender]["Expired"] += 1
             else:
@@ -45,6 +50,8 @@ class Stage:
             assert epoch not in seen, epoch
             seen.add(epoch)
             client.done(cmd="checkpoint")
+            enough = sum(self.posted.values()) + chance.randrange(BETWEEN)
+            until(lambda: sum(self.posted.values()) >= enough or not self.goes_on(), "the clients do not go on")
             time.sleep(chance.choice((0, 0.0005, 0.002)))
 
 
@@ -70,7 +77,7 @@ def an_epoch_ends_with_its_server(program, Server, post):
             for past in told:
                 reply = client.ask(cmd="wait", actor=0, epoch=past, ms=0, turn=turn)
                 assert reply == {"error": "Expired"}, (past, epoch, reply)
-            assert client.done(cmd="wait", actor=0, epoch=epoch, ms=20_000, turn=turn) == {"answer": 1}
+            assert client.done(cmd="wait", actor=0, epoch=epoch, ms=LONGEST_WAIT, turn=turn) == {"answer": 1}
             assert epoch not in told, (epoch, told)
             told.append(epoch)
 

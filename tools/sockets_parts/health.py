@@ -4,13 +4,21 @@ import contextlib
 import os
 import re
 import subprocess
+import time
+
+from trial_parts.patience import PATIENCE
 
 STATUS = os.path.join(os.path.dirname(os.path.dirname(os.path.realpath(__file__))), "status")
+LATE = "tools/status: timed out\n"
 METRIC = re.compile(r"# HELP (\w+) .+\n# TYPE \1 (gauge|counter)\n\1 ([0-9]+)")
 
 
 def asked(*words):
-    return subprocess.run([STATUS, *words], capture_output=True, text=True, timeout=60)
+    """What the tool tells. It gives up after ten seconds, which a busy machine may take."""
+    ends = time.monotonic() + PATIENCE
+    while (told := subprocess.run([STATUS, *words], capture_output=True, text=True, timeout=PATIENCE)).stderr == LATE:
+        assert time.monotonic() < ends, told
+    return told
 
 
 def numbers_are_told(program, Server, post):

@@ -10,10 +10,17 @@ import subprocess
 import tempfile
 import time
 
+from trial_parts.client import await_socket
+from trial_parts.patience import PATIENCE, until
+
 MAKING = "a ^3 + 4 * 2"
 ENDLESS = "spin [true] whileTrue: [nil]"
 # The descriptors that a server has where they are few, and the number of the system's call that copies one of a process.
 DESCRIPTORS, PIDFD_GETFD = 12, 438
+# The longest wait of the protocol, in milliseconds.
+LONGEST_WAIT = 60_000
+# So many seconds a server may take to come to rest.
+RESTS = 60
 LONG = "count: n | i | i := 0. [i < n] whileTrue: [i := i + 1]. ^i"
 
 
@@ -29,9 +36,9 @@ def ticks(server):
 
 
 def rests(server):
-    """Whether the server soon does nothing for a second."""
-    for _ in range(5):
-        time.sleep(0.2)
+    """Whether the server comes to do nothing for a second. One that does not rest never does."""
+    ends = time.monotonic() + RESTS
+    while time.monotonic() < ends:
         before = ticks(server)
         time.sleep(1)
         if ticks(server) <= before + 5:
@@ -39,26 +46,16 @@ def rests(server):
     return False
 
 
-def switches(server):
-    """How often a thread of the server went to sleep."""
-    count = 0
-    for thread in threads(server):
-        with open(f"/proc/{server.process.pid}/task/{thread}/status", encoding="ascii") as it:
-            count += sum(int(line.split()[1]) for line in it if line.startswith("voluntary_ctxt_switches"))
-    return count
-
-
-def soon(holds, what, seconds=20):
-    ends = time.monotonic() + seconds
-    while not holds():
-        assert time.monotonic() < ends, what
-        time.sleep(0.01)
+def sleeps(process, thread):
+    """How often a thread of a process went to sleep."""
+    with open(f"/proc/{process}/task/{thread}/status", encoding="ascii") as it:
+        return next(int(line.split()[1]) for line in it if line.startswith("voluntary_ctxt_switches"))
 
 
 def each_worker_has_a_thread(program, Server, _post):
     for workers in (1, 4, 16):
         with Server(program, 1, workers) as server:
-            soon(lambda: len(threads(server)) == workers + 1, f"{workers} workers have {len(threads(server)) - 1} threads")
+            until(lambda: len(threads(server)) == workers + 1, f"{workers} workers have {len(threads(server)) - 1} threads")
             with server.client():
                 pass
             assert server.ended() == ({"posts": 0, "steps": 0}, [])
@@ -66,7 +63,7 @@ def each_worker_has_a_thread(program, Server, _post):
 
 def idle_workers_sleep(program, Server, _post):
     with Server(program, 1, 16) as server:
-        soon(lambda: len(threads(server)) == 17, "16 workers have no thread each")
+        until(lambda: len(threads(server)) == 17, "16 workers have no thread each")
         assert rests(server), "workers with nothing to do run"
 
 
@@ -79,18 +76,23 @@ def idle_sessions_sleep(program, Server, _post):
 
 
 def a_post_wakes_one(program, Server, post):
-    """16 workers of which all wake at each post go to sleep some 15 times as often as posts are made."""
-    with Server(program, 1, 16) as server, server.client() as client:
-        client.make("M", [], MAKING)
-        actor = client.actor("M")
-        time.sleep(0.2)
-        before = switches(server)
-        for seq in range(1, 501):
-            client.send(post(actor, "a", [], 1, seq))
-            assert client.reply() == {"ok": {"turn": seq}}
-            assert client.wait(actor, seq) == {"ok": {"answer": 14}}
-        woken = switches(server) - before
-        assert woken < 6000, f"threads went to sleep {woken} times for 500 posts"
+    """16 workers of which all wake at each post go to sleep 16 times as often as posts are made. How often the thread of the session does
+    so depends on how long turns take."""
+    with Server(program, 1, 16) as server:
+        until(lambda: len(threads(server)) == 17, "16 workers have no thread each")
+        workers, process = set(threads(server)) - {str(server.process.pid)}, server.process.pid
+        with server.client() as client:
+            client.make("M", [], MAKING)
+            actor = client.actor("M")
+            epoch = client.done(cmd="status")["epoch"]
+            assert rests(server), "workers with nothing to do run"
+            before = sum(sleeps(process, it) for it in workers)
+            for seq in range(1, 501):
+                client.send(post(actor, "a", [], 1, seq))
+                assert client.reply() == {"ok": {"turn": seq}}
+                assert client.done(cmd="wait", actor=actor, epoch=epoch, ms=LONGEST_WAIT, turn=seq) == {"answer": 14}
+            woken = sum(sleeps(process, it) for it in workers) - before
+        assert woken < 6000, f"workers went to sleep {woken} times for 500 posts"
 
 
 def a_turn_without_end_ends_with_the_server(program, Server, post):
@@ -99,10 +101,8 @@ def a_turn_without_end_ends_with_the_server(program, Server, post):
             client.make("M", [], ENDLESS)
             client.send(post(client.actor("M"), "spin", [], 1, 1))
             assert client.reply() == {"ok": {"turn": 1}}
-        begun = time.monotonic()
         totals, names = server.ended()
         assert totals["posts"] == 1 and names == [], (totals, names)
-        assert time.monotonic() - begun < 10, "a turn without end holds up the end of the server"
 
 
 def quanta_are_long(program, Server, post):
@@ -121,7 +121,7 @@ def sessions_leave_nothing(program, Server, _post):
         for number in range(300):
             with server.client() as client:
                 if number == 1:
-                    soon(lambda: len(threads(server)) == 4, "a session has no thread of its own, or one that has ended has one")
+                    until(lambda: len(threads(server)) == 4, "a session has no thread of its own, or one that has ended has one")
                 if number % 3 == 0:
                     client.socket.sendall(b"\xff\n")
                     assert client.lines.readline() == b'{"error":"BadCommand"}\n' and client.lines.readline() == b""
@@ -162,8 +162,9 @@ def few_descriptors(program, Server, _post):
                     more = [clients.enter_context(server.client()) for _ in range(DESCRIPTORS)]
                     for client in more:
                         client.send({"cmd": "run"})
+                    until(lambda: unread(more[0]), "nobody is let in")
                     assert rests(server), "a server runs while it has no descriptors"
-                    assert unread(more[0]) and not unread(more[-1]), "the server has more descriptors than it may"
+                    assert not unread(more[-1]), "the server has more descriptors than it may"
                     assert first.ask(cmd="run") == {"error": "BadCommand"}
                     first.leave()
                     for client in more:
@@ -172,10 +173,10 @@ def few_descriptors(program, Server, _post):
             with contextlib.ExitStack() as clients:
                 for number in range(5):
                     clients.enter_context(server.client()).make(f"M{number}", [])
-            out, err = server.process.communicate(timeout=60)
+            out, err = server.process.communicate(timeout=PATIENCE)
             said = "actorimage: nobody can be let in for now: Too many open files (os error 24)\n"
             assert (server.process.returncode, out, err) == (0, '{"ok":{"posts":0,"steps":0}}\n', said), (out, err)
-        check = subprocess.run([program, "check", image], capture_output=True, text=True, timeout=60)
+        check = subprocess.run([program, "check", image], capture_output=True, text=True, timeout=PATIENCE)
         assert json.loads(check.stdout)["ok"] == {"actors": 0, "classes": 13, "edits": 5}, check
 
 
@@ -217,14 +218,14 @@ def a_listener_that_fails(program, Server, _post):
                 return
             with listener:
                 listener.shutdown(socket.SHUT_RDWR)
-            soon(lambda: is_refused(server, clients), "clients can connect where accepting fails")
+            until(lambda: is_refused(server, clients), "clients can connect where accepting fails")
             assert first.ask(cmd="run") == {"error": "BadCommand"}
             clients.close()
-            out, err = server.process.communicate(timeout=60)
+            out, err = server.process.communicate(timeout=PATIENCE)
             assert (server.process.returncode, err) == (1, "actorimage: ReadFault\n"), (server.process.returncode, out, err)
             assert json.loads(out)["ok"] == {"posts": 0, "steps": 0}, out
             assert not os.path.exists(server.path), "the socket's file is still there"
-        check = subprocess.run([program, "check", image], capture_output=True, text=True, timeout=60)
+        check = subprocess.run([program, "check", image], capture_output=True, text=True, timeout=PATIENCE)
         assert json.loads(check.stdout)["ok"] == {"actors": 0, "classes": 9, "edits": 1}, check
 
 
@@ -238,7 +239,7 @@ def a_moved_socket_ends_the_server(program, Server, _post):
         with server.client() as late:
             assert late.lines.read() == b"", "a client is let in at a socket that was moved"
         with contextlib.ExitStack() as clients:
-            soon(lambda: is_refused(server, clients), "clients can connect behind the end")
+            until(lambda: is_refused(server, clients), "clients can connect behind the end")
         assert client.ask(cmd="run") == {"error": "BadCommand"}
         client.leave()
         os.remove(server.path)
@@ -264,21 +265,24 @@ def errors_that_nobody_reads(program, Server, _post):
         for _ in range(2000):
             with server.client() as client:
                 client.socket.sendall(b"\xff\n")
-                assert client.lines.readline() == b'{"error":"BadCommand"}\n'
+                # Whoever has read the end of a session finds its place free.
+                assert client.lines.read() == b'{"error":"BadCommand"}\n'
         with server.client() as client:
             assert client.ask(cmd="run") == {"error": "BadCommand"}
-        assert len(threads(server)) < 20, "sessions wait until somebody reads"
+        until(lambda: len(threads(server)) < 20, "sessions wait until somebody reads", RESTS)
 
 
 def another_servers_socket_stays(program, Server, _post):
     """A server takes away the file that it made, and not one that another server has made at the same path since."""
     with Server(program, 1, 1) as first:
         client = first.client()
+        # It is let in while the file is there.
+        assert client.ask(cmd="run") == {"error": "BadCommand"}
         os.remove(first.path)
         with Server(program, 1, 1) as second:
             os.link(second.path, first.path)
             client.leave()
-            first.process.communicate(timeout=60)
+            first.process.communicate(timeout=PATIENCE)
             assert os.path.exists(first.path), "the end of a server takes away the socket of another"
             os.remove(first.path)
 
@@ -291,11 +295,11 @@ def full_output(program, Server, _post):
         path = other.path + "2"
         words = [program, "serve", "--workers", "1", "--sessions", "1", "--socket", path]
         process = subprocess.Popen(words, stdout=full, stderr=subprocess.PIPE, text=True)
-        soon(lambda: os.path.exists(path) and os.stat(path).st_mode & 0o777 == 0o600, "no socket is made")
+        assert await_socket(process, path), "no socket is made"
         other.path = path
         other.client().leave()
         said = "actorimage: WriteFault\nstandard output: No space left on device\n"
-        assert (process.communicate(timeout=60)[1], process.returncode) == (said, 1)
+        assert (process.communicate(timeout=PATIENCE)[1], process.returncode) == (said, 1)
         assert not os.path.exists(path), "the socket's file is still there"
 
 

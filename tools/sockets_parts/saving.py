@@ -5,17 +5,21 @@ import fcntl
 import functools
 import json
 import os
-import select
 import socket
 import subprocess
+import sys
 import tempfile
+import termios
 import threading
 import time
 
+from sockets_parts import stopping
+from sockets_parts.resources import sleeps
 from sockets_parts.together import run_together
+from trial_parts.patience import PATIENCE, until
 
 TOOLS = os.path.dirname(os.path.dirname(os.path.realpath(__file__)))
-SAVE, STOP = os.path.join(TOOLS, "save"), os.path.join(TOOLS, "stop")
+SAVE = os.path.join(TOOLS, "save")
 # How many sessions save and how many post, 64 together, and how often each of them does.
 SAVERS, POSTERS, SAVES, POSTS = 16, 48, 4, 40
 # A save is long that takes so many seconds; then what comes in the midst of it can be told from what comes behind it.
@@ -76,22 +80,27 @@ class Stage:
                 actors = count
 
 
-def open_files(process):
-    """By which numbers a process has new files beside an image's open; none where it has ended."""
+def open_files(process, kept):
+    """The new files beside an image's that a process has open, by their numbers in the file system; none where it has ended. Each is kept
+    open here too, so that no other one gets its number meanwhile."""
     folder, found = f"/proc/{process}/fd", set()
     with contextlib.suppress(OSError):
         for number in os.listdir(folder):
             with contextlib.suppress(OSError):
-                if os.readlink(f"{folder}/{number}").removesuffix(" (deleted)").endswith(".new"):
-                    found.add(number)
+                copy = os.open(f"{folder}/{number}", os.O_PATH)
+                kept.callback(os.close, copy)
+                if os.readlink(f"/proc/self/fd/{copy}").removesuffix(" (deleted)").endswith(".new"):
+                    found.add(os.fstat(copy).st_ino)
     return found
 
 
 def new_files(process):
-    """How many of them are open at a time: what two looks see alike, since one look may see a file before it is moved, and then the next."""
-    found = open_files(process)
-    while len(found) > 1 and found != (again := open_files(process)):
-        found = again
+    """How many of them are open at a time: the same ones as two looks see them, since one look may see a file before it is moved, and then
+    the next."""
+    with contextlib.ExitStack() as kept:
+        found = open_files(process, kept)
+        while len(found) > 1 and found != (again := open_files(process, kept)):
+            found = again
     return len(found)
 
 
@@ -123,26 +132,26 @@ def saves_among_posts(program, Server, post):
         assert image["senders"] == [[it, POSTS] for it in range(1, POSTERS + 1)] and len(image["actors"]) == stage.saved + 1
 
 
-def is_answered(client):
-    """Whether a reply has come that is not read."""
-    return bool(select.select([client.socket], [], [], 0)[0])
-
-
 def seconds_of_a_save(client):
-    began = time.monotonic()
-    client.done(cmd="save")
-    return time.monotonic() - began
+    """What a save takes that is not long, or the least of three that are: on a busy machine some are."""
+    taken = []
+    while len(taken) < 3 and (not taken or taken[-1] >= LONG):
+        began = time.monotonic()
+        client.done(cmd="save")
+        taken.append(time.monotonic() - began)
+    return min(taken)
 
 
 def is_copied_behind(seconds, file, one, two, other):
-    """Whether a save that waits for another one saves what came in between; None where the first one ended too soon to tell. A save takes
-    so many seconds."""
-    one.send({"cmd": "save"})
-    time.sleep(0.2 * seconds)
-    two.send({"cmd": "save"})
-    time.sleep(0.3 * seconds)
-    number = other.actor("M")
-    is_told = not is_answered(one)
+    """Whether a save that waits for another one saves what came in between; None where the first one ended too soon to tell: the file was
+    replaced by then. It is kept open, so that no other one gets its number. A save takes so many seconds."""
+    with open(file, "rb") as before:
+        one.send({"cmd": "save"})
+        time.sleep(0.2 * seconds)
+        two.send({"cmd": "save"})
+        time.sleep(0.3 * seconds)
+        number = other.actor("M")
+        is_told = os.path.samestat(os.fstat(before.fileno()), os.stat(file))
     assert one.reply()["ok"] and two.reply()["ok"]
     return len(image_in(file)["actors"]) > number if is_told else None
 
@@ -196,24 +205,27 @@ def saved_by_the_tool(program, Server, _post):
         assert (silent.stdout, silent.returncode) == ("", 1) and "timed out" in silent.stderr, silent
 
 
+def bytes_in(pipe):
+    """How many bytes a pipe has that nobody has read."""
+    return int.from_bytes(fcntl.ioctl(pipe, termios.FIONREAD, bytes(4)), sys.byteorder)
+
+
 def refused_saves_that_nobody_reads(program, Server, _post):
     """Where nobody reads why a save was refused, and there is room for no more of it, at most that session waits: others save, and are
     told."""
     with served(program, Server, 2) as (server, file), server.client() as client, server.client() as other:
         # The least that a pipe holds.
-        fcntl.fcntl(server.process.stderr, fcntl.F_SETPIPE_SZ, 4096)
+        room = fcntl.fcntl(server.process.stderr, fcntl.F_SETPIPE_SZ, 4096)
         client.done(cmd="save")
         os.utime(file, (0, 0))
-        client.socket.settimeout(3)
-        with contextlib.suppress(TimeoutError):
-            for _ in range(100):
-                assert client.ask(cmd="save") == {"error": "WriteFault"}
-        other.socket.settimeout(20)
+        said = len(f"actorimage: the image is not saved: {file} was changed by another process, and is NOT replaced\n".encode())
+        client.send(*[{"cmd": "save"}] * (2 * room // said))
+        until(lambda: bytes_in(server.process.stderr) + said > room, "not all that is said is written")
         for _ in range(3):
             assert other.ask(cmd="save") == {"error": "WriteFault"}
         client.leave()
         other.leave()
-        out, err = server.process.communicate(timeout=60)
+        out, err = server.process.communicate(timeout=PATIENCE)
         assert out == '{"ok":{"posts":0,"steps":0}}\n' and "the image is not saved" in err, (out, err)
 
 
@@ -222,24 +234,25 @@ def stopped_behind_a_save(program, Server, _post):
     for is_in_the_way in (False, True):
         with served(program, Server, 1000) as (server, file), server.client() as client:
             client.make("M", [])
-            stop = subprocess.Popen([STOP, server.path], stderr=subprocess.PIPE, text=True)
-            assert stop.stderr.readline() == "tools/stop: waits for the sessions of others to end\n"
+            stop = stopping.Waiting(server.path)
+            stop.names_this_process()
             saved = client.done(cmd="save")["bytes"]
             client.make("N", [])
             if is_in_the_way:
                 os.remove(file + ".new")
                 os.mkdir(file + ".new")
-            # The tool looks at the file now and then.
-            time.sleep(0.5)
+            # The tool looks at the file now and then, and sleeps between two looks.
+            before = sleeps(stop.pid, stop.pid)
+            until(lambda: sleeps(stop.pid, stop.pid) > before + 10, "the tool does not look at the file")
             client.leave()
-            said = stop.communicate(timeout=60)[1].splitlines()[-1]
             told = f"and its image is NOT saved: {file} is as it was before" if is_in_the_way else f"and {file} is written"
-            assert (said, stop.returncode) == (f"tools/stop: the server has ended, {told}", int(is_in_the_way)), said
+            ended = stop.ended()
+            assert ended == (f"tools/stop: the server has ended, {told}\n", int(is_in_the_way)), ended
             assert (os.path.getsize(file) == saved) is is_in_the_way
 
 
 def asked(*words):
-    return subprocess.run([SAVE, *words], capture_output=True, text=True, timeout=120)
+    return subprocess.run([SAVE, *words], capture_output=True, text=True, timeout=PATIENCE)
 
 
 TRIALS = (saves_among_posts, saves_take_turns, saved_by_the_tool, refused_saves_that_nobody_reads, stopped_behind_a_save)

@@ -8,7 +8,8 @@ import subprocess
 import tempfile
 import time
 
-from sockets_parts.resources import is_refused, soon, threads
+from sockets_parts.resources import is_refused, threads
+from trial_parts.patience import PATIENCE, until
 
 TOOLS = os.path.dirname(os.path.dirname(os.path.realpath(__file__)))
 CLOSE = b'{"actor":0,"cmd":"close"}'
@@ -33,7 +34,7 @@ def told(program, Server, workers, sessions, play):
         with Server(program, sessions, workers, "--image", file) as server:
             play(server)
             totals, names = server.ended()
-        check = subprocess.run([program, "check", file], capture_output=True, text=True, timeout=60)
+        check = subprocess.run([program, "check", file], capture_output=True, text=True, timeout=PATIENCE)
         return totals["posts"], json.loads(check.stdout)["ok"]["edits"], totals["steps"], names
 
 
@@ -54,10 +55,7 @@ def is_admitted(server):
 
 
 def a_client_is_admitted(server):
-    ends = time.monotonic() + 20
-    while not is_admitted(server):
-        assert time.monotonic() < ends, "no place is left for another session"
-        time.sleep(0.001)
+    until(lambda: is_admitted(server), "no place is left for another session")
 
 
 def a_post_is_answered(program, Server, _post):
@@ -70,7 +68,7 @@ def a_post_is_answered(program, Server, _post):
             for line, wanted in SCRIPT:
                 reply = asked(client, line)
                 assert reply == wanted, (line, reply)
-            ends = time.monotonic() + 60
+            ends = time.monotonic() + PATIENCE
             while (reply := asked(client, OUTCOME)) == b'{"error":"Pending"}\n':
                 assert time.monotonic() < ends, "the turn does not end"
                 time.sleep(0.001)
@@ -105,15 +103,15 @@ def one_place_is_kept_for_the_operator(program, Server, _post):
             for late in (server.client(), server.client(next(names))):
                 with late:
                     assert late.lines.readline() == TOO_MANY
-        soon(lambda: len(threads(server)) == 67, "the session of the operator goes on")
+        until(lambda: len(threads(server)) == 67, "the session of the operator goes on")
         for words, given in (
             (["workspace", "--socket", server.path], "3 + 4\n"),
             (["top", "--once", server.path, "Object.isNil"], ""),
             (["status", server.path], ""),
         ):
-            run = subprocess.run([os.path.join(TOOLS, words[0]), *words[1:]], input=given, capture_output=True, text=True, timeout=60)
+            run = subprocess.run([os.path.join(TOOLS, words[0]), *words[1:]], input=given, capture_output=True, text=True, timeout=PATIENCE)
             assert run.returncode == 0, run
-            soon(lambda: len(threads(server)) == 67, f"the session of {words[0]} goes on")
+            until(lambda: len(threads(server)) == 67, f"the session of {words[0]} goes on")
 
 
 def one_of_65_sessions_is_turned_away(program, Server, _post):
@@ -164,7 +162,7 @@ def clients_behind_the_last_are_refused(program, Server, _post):
     def play(server):
         with server.client() as client, contextlib.ExitStack() as others:
             assert asked(client, CLOSE) == NO_ACTOR
-            soon(lambda: is_refused(server, others), "clients behind the last one can connect")
+            until(lambda: is_refused(server, others), "clients behind the last one can connect")
             assert asked(client, CLOSE) == NO_ACTOR
 
     found = told(program, Server, 1, 1, play)

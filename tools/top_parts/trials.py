@@ -10,6 +10,7 @@ from collections import Counter
 
 import actorimage
 from actorimage import Actor, Standing, Status
+from trial_parts.patience import PATIENCE, until
 from workspace_parts.pretend import Terminal
 from workspace_parts.serving import Server
 from workspace_parts.try_common import TOP, same
@@ -22,7 +23,6 @@ from .turns import Acting, Ends, Turns
 
 HERE = os.path.join(TOP, "tools", "top")
 COUNTER = "bump count isNil ifTrue: [count := 0]. count := count + 1. ^count"
-SECONDS = 60
 
 
 def refused(call, *arguments):
@@ -62,12 +62,6 @@ def post(image, number, *messages):
         for last in turns.values():
             with contextlib.suppress(actorimage.Fault):
                 image.wait(last)
-
-
-def until(holds):
-    ends = time.monotonic() + SECONDS
-    while not holds():
-        same(time.monotonic() < ends, True)
 
 
 def sends_are_counted(program):
@@ -147,13 +141,13 @@ def actors_are_told(program):
             post(image, 2, (jobs[2], "foo"), (jobs[3], "goes"))
             image.close(jobs[3])
             watched = Watch(image, "it", [], None)
-            until(lambda: watched.shown(False).actors[1].standing.running)
+            until(lambda: watched.shown(False).actors[1].standing.running, "the job does not run")
             actors = watched.shown(False).actors
             same([it.doing() for it in actors if it.standing.actor != jobs[1]], ["none yet", "fault notUnderstood", "answered, closed"])
             same([it.is_long for it in actors], [False, True, False, False])
             same((actors[1].doing() in ("runs Job >> work", "runs Job >> goes"), actors[1].standing.waiting), (True, 1))
             image.install("Job", "goes ^false")
-            until(lambda: watched.shown(False).actors[1].doing() == "answered")
+            until(lambda: watched.shown(False).actors[1].doing() == "answered", "the job does not end")
 
 
 STATUS = Status(3, 9, 40, 2008, "7-0", 12_345, 1_000_000, 60, 5, 2, 90, 4)
@@ -212,7 +206,7 @@ def frames_look_so(program):
 
 
 def run(*words, **more):
-    return subprocess.run([sys.executable, HERE, *words], capture_output=True, text=True, timeout=SECONDS, **more)
+    return subprocess.run([sys.executable, HERE, *words], capture_output=True, text=True, timeout=PATIENCE, **more)
 
 
 def commands_are_taken(program):
@@ -228,7 +222,7 @@ def commands_are_taken(program):
             same(run("socket", "foo", cwd=folder).returncode, 1)
             same(run(cwd=folder).returncode, 2)
             piped = f"{sys.executable} {HERE} socket --seconds 0.05 | head -n 3"
-            left = subprocess.run(piped, shell=True, cwd=folder, capture_output=True, text=True, timeout=SECONDS)
+            left = subprocess.run(piped, shell=True, cwd=folder, capture_output=True, text=True, timeout=PATIENCE)
             same((len(left.stdout.splitlines()), left.stderr), (3, ""))
 
 
@@ -250,7 +244,7 @@ def screens_are_shown(program):
             with Server(program, folder, "--workers", "1"):
                 terminal.see("Job >> work   UnknownClass")
                 terminal.type("q")
-                same(terminal.process.wait(SECONDS), 0)
+                same(terminal.process.wait(PATIENCE), 0)
         finally:
             terminal.kill()
 

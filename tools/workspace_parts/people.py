@@ -1,8 +1,12 @@
 """Transcripts of several people at work on one served image: who types what, and what it must give."""
 
+import os
 import re
 import tempfile
 from dataclasses import dataclass, field
+
+from trial_parts.patience import until
+from trial_parts.turns import turns
 
 from .person import Person
 from .serving import Server
@@ -38,8 +42,9 @@ def is_meeting(path):
 
 def meeting(path):
     """The transcript of a file. What a person types stands behind the name, as in `one> c bump`, and what it must give stands below.
-    Where that is `(goes on)`, the entry is not done before others have typed more; below `(one)` stands what it gives then. After an
-    empty line, what comes before the next of these says nothing, but for the options of the server, as in `serve --workers 2`."""
+    Where that is `(goes on)`, it has a turn that goes on, and is not done before others have typed more; below `(one)` stands what it gives
+    then. After an empty line, what comes before the next of these says nothing, but for the options of the server, as in
+    `serve --workers 2`."""
     found, last, is_over = Meeting(path, []), None, True
     with open(path, encoding="utf-8") as file:
         lines = file.read().splitlines()
@@ -78,13 +83,16 @@ def left(meeting, people):
 
 
 def play(meeting, people, folder):
+    path = os.path.join(folder, "socket")
     for entry in meeting.entries:
         if entry.person not in people:
             people[entry.person] = Person(folder, "--socket", "socket", "--sender", str(len(people)))
         person = people[entry.person]
+        before = turns(path) if entry.wanted == [GOES_ON] else None
         if entry.text:
             person.type(entry.text)
-        if entry.wanted == [GOES_ON]:
+        if before is not None:
+            until(lambda: turns(path) - before, f"{meeting.path}:{entry.line}: no turn goes on")
             continue
         given = person.gives()
         if given != entry.wanted:

@@ -5,9 +5,10 @@ import subprocess
 import sys
 import threading
 
+from trial_parts.patience import PATIENCE
+
 from .try_common import WORKSPACE
 
-SECONDS = 60
 # An entry is done once the next one begins. So two comments are typed behind each: the first is printed when the entry is done.
 DONE, NEXT = '"entry {} is done"', '"next"'
 
@@ -36,7 +37,7 @@ class Person:
         except BrokenPipeError:
             pass
 
-    def gives(self, seconds=SECONDS):
+    def gives(self, seconds=PATIENCE):
         """What the last entry gives, or None if it is not done after so many seconds. The workspace prints first what was typed."""
         done = "> " + DONE.format(self.entries)
         while True:
@@ -56,7 +57,7 @@ class Person:
         except BrokenPipeError:
             pass
         try:
-            return self.process.wait(SECONDS)
+            return self.process.wait(PATIENCE)
         finally:
             self.kill()
 

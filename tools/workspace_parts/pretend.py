@@ -9,6 +9,8 @@ import subprocess
 import sys
 import time
 
+from trial_parts.patience import PATIENCE, until
+
 # What moves the cursor or sets a mode says nothing to a reader.
 CONTROL = re.compile(r"\x1b\[\?2004l\r?|\x1b\[[?0-9;]*[A-Za-z]")
 # Whether the terminal is to say what is pasted, and how it says it.
@@ -36,8 +38,7 @@ class Terminal:
         self.type((PASTED.format(text) if self.says_pastes else text) + "\n")
 
     def interrupt(self):
-        """Ctrl-C."""
-        self.be_awaited()
+        """Ctrl-C. While an entry is done it may come at any time; else what comes next has to be awaited."""
         self.type("\x03")
 
     def signal(self, number):
@@ -47,9 +48,22 @@ class Terminal:
 
     def be_awaited(self):
         """Until what was shown last is over and something is awaited: a signal just before would wait with it."""
-        time.sleep(0.2)
+        until(self.sleeps, "the workspace awaits nothing")
 
-    def see(self, wanted, seconds=20):
+    def sleeps(self):
+        """Whether the workspace sleeps, and has not run for a while."""
+        before = self.ran()
+        time.sleep(0.2)
+        return before is not None and self.ran() == before
+
+    def ran(self):
+        """How often the workspace has gone to sleep and was interrupted, while it sleeps; None while it runs or would run."""
+        with open(f"/proc/{self.process.pid}/status", encoding="utf-8") as file:
+            told = dict(line.split(":", 1) for line in file)
+        counts = told["voluntary_ctxt_switches"], told["nonvoluntary_ctxt_switches"]
+        return counts if told["State"].split()[0] == "S" else None
+
+    def see(self, wanted, seconds=PATIENCE):
         """What is shown up to and with a text, which is awaited."""
         end = time.monotonic() + seconds
         while wanted not in self.shown:
@@ -82,7 +96,7 @@ class Terminal:
         """The status, after the end of the input."""
         self.type("\x04")
         try:
-            return self.process.wait(20)
+            return self.process.wait(PATIENCE)
         finally:
             os.close(self.ours)
 

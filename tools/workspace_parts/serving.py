@@ -2,9 +2,8 @@
 
 import os
 import subprocess
-import time
 
-SECONDS_TO_START = 60
+from trial_parts.client import await_socket
 
 
 class Server:
@@ -18,13 +17,9 @@ class Server:
     def __enter__(self):
         quiet = {"stdout": subprocess.DEVNULL, "stderr": subprocess.DEVNULL}
         self.process = subprocess.Popen(self.command, cwd=self.folder, **quiet)
-        ends = time.monotonic() + SECONDS_TO_START
-        # The server gives the socket's file its rights last.
-        while not os.path.exists(self.path) or os.stat(self.path).st_mode & 0o777 != 0o600:
-            if self.process.poll() is not None or time.monotonic() > ends:
-                self.end()
-                raise AssertionError("the server makes no socket")
-            time.sleep(0.01)
+        if not await_socket(self.process, self.path):
+            self.end()
+            raise AssertionError("the server makes no socket")
         return self
 
     def __exit__(self, *_):

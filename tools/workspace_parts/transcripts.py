@@ -8,6 +8,8 @@ import tempfile
 from contextlib import nullcontext
 from dataclasses import dataclass, field
 
+from trial_parts.patience import PATIENCE
+
 from .serving import Server
 
 PROMPT = "> "
@@ -69,7 +71,7 @@ def given(workspace, program, transcript):
         for name in ("docs", "examples", "tests"):
             os.symlink(os.path.join(top, name), os.path.join(folder, name))
         with Server(program, folder, *transcript.served) if transcript.served else nullcontext():
-            ended = subprocess.run(command, input=text.encode(), capture_output=True, timeout=120, cwd=folder)
+            ended = subprocess.run(command, input=text.encode(), capture_output=True, timeout=PATIENCE, cwd=folder)
     return (ended.stdout + ended.stderr).decode().splitlines(), ended.returncode
 
 

@@ -4,6 +4,8 @@ import os
 import subprocess
 import sys
 
+from trial_parts.patience import PATIENCE
+
 TOP = os.path.dirname(os.path.dirname(os.path.dirname(os.path.realpath(__file__))))
 WORKSPACE = os.path.join(TOP, "tools", "workspace")
 COUNTER = ["Counter : Object | count |", "Counter >> start  count := 0", "Counter >> bump  count := count + 1. ^count"]
@@ -18,7 +20,7 @@ def same(found, wanted):
 def piped(program, lines, *options, **more):
     text = "".join(line + "\n" for line in lines).encode()
     command = [sys.executable, WORKSPACE, "--program", program, *options]
-    return subprocess.run(command, input=text, capture_output=True, timeout=120, **more)
+    return subprocess.run(command, input=text, capture_output=True, timeout=PATIENCE, **more)
 
 
 def shell_program(folder, text):

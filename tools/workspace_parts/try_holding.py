@@ -2,16 +2,19 @@
 
 import contextlib
 import os
+import signal
 import subprocess
 import sys
 import tempfile
+
+from trial_parts.patience import PATIENCE
 
 from . import advice
 from .holding import TAKEN
 from .pretend import Terminal
 from .saving import CHANGED
 from .serving import Server
-from .try_common import WORKSPACE, same
+from .try_common import WORKSPACE, same, shell_program
 from .try_images import ADD, NAME, OPTIONS, content, typed
 
 REFUSED = ([], f"tools/workspace: {TAKEN.format(NAME)}\n", 1)
@@ -38,7 +41,7 @@ def one_at_a_time(program):
                 terminal.ask(":save")
                 same(typed(program, folder, ["E : Object"]), REFUSED)
                 serving = [program, "serve", "--socket", "socket", "--workers", "1", *OPTIONS]
-                ended = subprocess.run(serving, cwd=folder, capture_output=True, timeout=60)
+                ended = subprocess.run(serving, cwd=folder, capture_output=True, timeout=PATIENCE)
                 held = f"{os.path.join(os.path.realpath(folder), NAME)}.new is held by another process"
                 same((ended.stderr.decode(), ended.returncode), (f"actorimage: WriteFault\n{held}\n", 1))
                 ended = subprocess.run([sys.executable, ADD, NAME, "C", "c"], cwd=folder, capture_output=True, text=True)
@@ -103,7 +106,7 @@ def changed_and_not_written(program):
         same("WriteFault" in terminal.ask(":save"), True)
         terminal.type(":quit\n")
         terminal.see(CHANGED.format(NAME) + "; the classes and methods of this session are in lost1.st, for  :load")
-        same((terminal.process.wait(60), content(folder)), (1, other))
+        same((terminal.process.wait(PATIENCE), content(folder)), (1, other))
 
 
 def changed_file(folder):
@@ -117,16 +120,22 @@ def write(folder, data):
 
 
 def killed_program(program):
-    """Where the program has died nothing is saved, and the file stays also if it was changed."""
+    """Where the program has died nothing is saved, and the file stays also if it was changed. It is killed once it has a turn to run, which
+    does not end."""
     with tempfile.TemporaryDirectory() as folder:
         typed(program, folder, ["C : Object"])
         before = content(folder)
-        killer = os.path.join(folder, "killer")
-        with open(killer, "w", encoding="utf-8") as file:
-            file.write(f'#!/bin/sh\n(sleep 1; kill -9 $$) &\nexec "{program}" "$@"\n')
-        os.chmod(killer, 0o700)
-        spin = ["D : Object", "D >> m  [true] whileTrue: [nil]", "d := D actor", "d m", *[":checkpoint", ":run"] * 10]
-        said = typed(killer, folder, spin)[1].splitlines()[-1]
+        spin = ["D : Object", "D >> m  [true] whileTrue: [nil]", "d := D actor", "d m", *[":checkpoint", ":run"] * 1000]
+        named = shell_program(folder, f'echo $$ >"{folder}/number"\nexec "{program}" "$@"')
+        command = [sys.executable, WORKSPACE, "--program", named, *OPTIONS]
+        pipes = {"stdin": subprocess.PIPE, "stdout": subprocess.PIPE, "stderr": subprocess.PIPE}
+        with subprocess.Popen(command, cwd=folder, text=True, **pipes) as process:
+            process.stdin.write("".join(line + "\n" for line in spin))
+            process.stdin.flush()
+            while process.stdout.readline() not in ("> d m\n", ""):
+                pass
+            os.kill(int(content(folder, "number")), signal.SIGKILL)
+            said = process.communicate(timeout=PATIENCE)[1].splitlines()[-1]
         kept = "the classes and methods of this session are in lost1.st, for  :load"
         again = "the program ended with status -9; start the workspace again, on the image as it was saved last"
         same(said, f"tools/workspace: {again}; {kept}")

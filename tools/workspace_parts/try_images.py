@@ -1,5 +1,7 @@
 """Trials of images that are kept in a file: what a workspace knows of one, and how the file stands at each end."""
 
+import contextlib
+import fcntl
 import glob
 import json
 import os
@@ -8,7 +10,8 @@ import signal
 import subprocess
 import sys
 import tempfile
-import time
+
+from trial_parts.patience import PATIENCE, until
 
 from .breaks import Breaks
 from .images import OwnImage
@@ -56,7 +59,7 @@ turn 1 of actor 0 answers 3
 Closed: the mailbox of actor 0 is closed for ever; make a new actor
 c = actor 0"""
         same(typed(program, folder, lines), (wanted.split("\n"), "", 0))
-        checked = subprocess.run([program, "check", NAME], cwd=folder, capture_output=True, timeout=60).stdout
+        checked = subprocess.run([program, "check", NAME], cwd=folder, capture_output=True, timeout=PATIENCE).stdout
         same(json.loads(checked), {"ok": {"actors": 1, "classes": 9, "edits": 3}})
 
 
@@ -143,15 +146,17 @@ def at_signals(program):
             terminal.see("\n> ")
             same(terminal.ask("C : Object"), "class C, version 1\n")
             terminal.signal(number)
-            same(terminal.process.wait(20), status)
-            wait_for(os.path.join(folder, NAME))
+            same(terminal.process.wait(PATIENCE), status)
+            until(lambda: is_let_go(os.path.join(folder, NAME)), "the image is not saved")
             same(typed(program, folder, [":classes"])[0][1:], ["C : Object"])
 
 
-def wait_for(path):
-    ends = time.monotonic() + 20
-    while not os.path.exists(path) and time.monotonic() < ends:
-        time.sleep(0.01)
+def is_let_go(path):
+    """Whether a file is there that no program has."""
+    with contextlib.suppress(FileNotFoundError, BlockingIOError), open(path, "rb") as file:
+        fcntl.flock(file, fcntl.LOCK_EX | fcntl.LOCK_NB)
+        return True
+    return False
 
 
 def program_is_killed(program):
@@ -176,7 +181,7 @@ def broken_off(program):
             while process.stdout.readline() != "> c m\n":
                 pass
             process.send_signal(signal.SIGINT)
-            same((process.communicate(timeout=60)[1], process.returncode), ("", 130))
+            same((process.communicate(timeout=PATIENCE)[1], process.returncode), ("", 130))
         same(typed(program, folder, [":actors"])[0][0].partition(", 1 turn")[0], f"{NAME}: 1 class, 1 method, 1 actor")
 
 

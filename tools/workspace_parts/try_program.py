@@ -8,6 +8,8 @@ import subprocess
 import sys
 import tempfile
 
+from trial_parts.patience import PATIENCE
+
 from .try_common import COUNTER, SPIN, TOP, WORKSPACE, piped, same, shell_program
 
 
@@ -77,7 +79,7 @@ def helped(program):
     """Each tool says how it is used."""
     tools = os.path.join(TOP, "tools")
     for name in sorted(it for it in os.listdir(tools) if os.path.isfile(os.path.join(tools, it))):
-        ended = subprocess.run([os.path.join(tools, name), "--help"], capture_output=True, text=True, timeout=60)
+        ended = subprocess.run([os.path.join(tools, name), "--help"], capture_output=True, text=True, timeout=PATIENCE)
         same((name, f"tools/{name}" in ended.stdout, ended.stderr, ended.returncode), (name, True, "", 0))
 
 
@@ -91,7 +93,7 @@ def interrupted(program):
         while b"spin\n" != process.stdout.readline()[-5:]:
             pass
         process.send_signal(signal.SIGINT)
-        out, err = process.communicate(timeout=60)
+        out, err = process.communicate(timeout=PATIENCE)
         same(("broken off" in out.decode(), err, process.returncode), (True, b"", 130))
 
 
@@ -103,7 +105,7 @@ def log(program):
         with open(os.path.join(folder, "log.jsonl"), encoding="utf-8") as file:
             told = [json.loads(line) for line in file]
     text = "".join(json.dumps(it["sent"]) + "\n" for it in told)
-    again = subprocess.run([program, "script"], input=text.encode(), capture_output=True, timeout=60).stdout.decode()
+    again = subprocess.run([program, "script"], input=text.encode(), capture_output=True, timeout=PATIENCE).stdout.decode()
     same([json.loads(line) for line in again.splitlines()], [it["answered"] for it in told])
     same(len(told), 17)
 

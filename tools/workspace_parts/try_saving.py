@@ -3,6 +3,8 @@
 import os
 import tempfile
 
+from trial_parts.patience import PATIENCE
+
 from . import advice
 from .pretend import Terminal
 from .saving import LOST, NOT_KEPT, OF_SERVER
@@ -168,7 +170,7 @@ def served(program, folder, lines):
     """What a workspace prints in the only session of a server that keeps the image."""
     with Server(program, folder, "--workers", "2", "--sessions", "1", *OPTIONS) as server:
         printed = typed_to_server(folder, lines, "--sender", "7").stdout.decode().splitlines()
-        same(server.process.wait(60), 0)
+        same(server.process.wait(PATIENCE), 0)
     return [line for line in printed if not line.startswith("> ")]
 
 

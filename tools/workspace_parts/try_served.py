@@ -6,7 +6,8 @@ import socket
 import subprocess
 import sys
 import tempfile
-import time
+
+from trial_parts.patience import PATIENCE, until
 
 from .breaks import Breaks
 from .images import ServedImage
@@ -27,7 +28,7 @@ def typed(folder, lines, *options):
     """What the workspace prints and says of lines that are piped to it."""
     text = "".join(line + "\n" for line in lines).encode()
     command = [sys.executable, WORKSPACE, "--socket", "socket", *options]
-    return subprocess.run(command, input=text, capture_output=True, timeout=120, cwd=folder)
+    return subprocess.run(command, input=text, capture_output=True, timeout=PATIENCE, cwd=folder)
 
 
 def open_piped(folder, lines):
@@ -63,16 +64,13 @@ def two_workspaces(program):
             one.stdin = None
             see(one, "> s spin")
             connection = SocketConnection(server.path)
-            ends = time.monotonic() + 60
             # A quantum has up to 1,024 steps, and some steps come with each send.
-            while sends_of_spin(connection) < 10 * 1024:
-                same(time.monotonic() < ends, True)
-                time.sleep(0.01)
+            until(lambda: sends_of_spin(connection) >= 10 * 1024, "the turn does not go on")
             same(connection.ask({"cmd": "outcome", "actor": 0, "turn": 1}), {"error": "Pending"})
             connection.end()
             other = typed(folder, ["Spin >> goOn  ^false", "s := actor 0", "s spin"])
             same((other.stdout.decode().split("\n")[-2], other.returncode), ("7", 0))
-            out, err = one.communicate(timeout=60)
+            out, err = one.communicate(timeout=PATIENCE)
             same((out, err, one.returncode), ("7\n", "", 0))
 
 
@@ -175,7 +173,7 @@ def lost_server(program):
         with open_piped(folder, [*COUNTER, "c := Counter actor", "c start"]) as process:
             see(process, "actor 0")
             server.end()
-            out, err = process.communicate("c bump\nc bump\n", timeout=60)
+            out, err = process.communicate("c bump\nc bump\n", timeout=PATIENCE)
             kept = "; the classes and methods of this session are in lost1.st, for  :load"
             same((out.count("bump"), err, process.returncode), (0, f"tools/workspace: {BROKE}{kept}\n", 1))
 
@@ -230,7 +228,7 @@ def older_image(program):
         kept = (*WORKERS, "--image", "image")
         with Server(program, folder, *kept, "--sessions", "1") as server:
             same(typed(folder, [*COUNT, "c := Counter actor", "c bump. c bump"], "--sender", "7").returncode, 0)
-            same(server.process.wait(60), 0)
+            same(server.process.wait(PATIENCE), 0)
         with Server(program, folder, *kept) as server, Watching(folder) as terminal:
             same(terminal.ask("c := actor 0"), "actor 0\n")
             same(terminal.ask("c bump. c bump"), "4\n")

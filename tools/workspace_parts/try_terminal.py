@@ -3,7 +3,8 @@
 import re
 import signal
 import tempfile
-import time
+
+from trial_parts.patience import PATIENCE, until
 
 from .pretend import Terminal
 from .terminal import readline
@@ -60,7 +61,7 @@ def session(program):
         same(terminal.end(), 0)
         terminal = typing.open()
         terminal.type(":quit\n")
-        same(terminal.process.wait(20), 0)
+        same(terminal.process.wait(PATIENCE), 0)
 
 
 def keys(program):
@@ -180,6 +181,7 @@ def broken_line(program):
         terminal.see("C >> m\n  ")
         terminal.type("^3")
         terminal.see("^3")
+        terminal.be_awaited()
         terminal.interrupt()
         terminal.see("\n> ")
         same(terminal.ask(":methods"), "no method was written yet\n")
@@ -193,16 +195,14 @@ def slow_start(program):
             path = shell_program(folder, "sleep 100 & echo building $! >&2; wait")
             terminal = Terminal([WORKSPACE, "--program", path], folder)
             build = int(terminal.see("\n").removeprefix("building "))
+            terminal.be_awaited()
             if number:
                 terminal.process.send_signal(number)
             else:
                 terminal.interrupt()
                 terminal.see("tools/workspace: broken off\n")
-            same(terminal.process.wait(20), status)
-            ends = time.monotonic() + 5
-            while lives(build) and time.monotonic() < ends:
-                time.sleep(0.01)
-            same(lives(build), False)
+            same(terminal.process.wait(PATIENCE), status)
+            until(lambda: not lives(build), "the build goes on")
 
 
 def lives(number):

@@ -4,12 +4,12 @@
 //! image. So each of both images has its journal, whichever a crash leaves.
 use crate::failures::Failure;
 use crate::new_files::{HELD_BY_ANOTHER, sync_folder};
-use st_classes::refusals::Refusal;
+use st_classes::refusals::{ImagePlace, Refusal};
 use st_image::settings::Settings;
 use st_journal::files::{FileCalls, FileDevice};
 use st_journal::headers::header;
 use st_log::device::DeviceError;
-use st_log::lines::is_batch;
+use st_log::lines::{is_batch, whole_len};
 use st_log::recovered::Recovered;
 use std::alloc::{AllocError, Global};
 use std::fs::{self, File, Files, TryLockError};
@@ -35,7 +35,7 @@ impl FileCalls for SystemFile {
     }
 
     fn sync(&mut self) -> bool {
-        self.file.sync_all().is_ok()
+        self.file.sync_data().is_ok()
     }
 }
 
@@ -55,7 +55,7 @@ pub fn journal_of(alloc: Global, place: &str) -> Result<String, Refusal> {
 }
 
 /// Whether a file is at a path, or something that cannot be looked at.
-fn is_there<R: Files>(rt: &R, path: &str) -> bool {
+pub fn is_there<R: Files>(rt: &R, path: &str) -> bool {
     match fs::symlink_metadata(rt, path) {
         Ok(_) => true,
         Err(error) => error.kind() != ErrorKind::NotFound,
@@ -91,8 +91,20 @@ fn unwritten(alloc: Global, path: &str, error: DeviceError) -> Failure {
     }
 }
 
+/// Opens a journal to read it alone.
+pub fn open_to_read<R: Files<File = File>>(
+    rt: &R,
+    alloc: Global,
+    path: &str,
+) -> Result<File, Failure> {
+    match File::open(rt, path) {
+        Ok(file) => Ok(file),
+        Err(error) => Err(unread(alloc, path, &error)),
+    }
+}
+
 /// All that an open file has.
-fn read_whole(alloc: Global, mut file: &File, path: &str) -> Result<Vec<u8>, Failure> {
+pub fn read_whole(alloc: Global, mut file: &File, path: &str) -> Result<Vec<u8>, Failure> {
     let mut bytes = Vec::new(alloc);
     match file.read_to_end(&mut bytes) {
         Ok(_) => Ok(bytes),
@@ -103,27 +115,120 @@ fn read_whole(alloc: Global, mut file: &File, path: &str) -> Result<Vec<u8>, Fai
     }
 }
 
-/// Opens and locks the journal at a path, which is made if it is not there, and recovers it. The answer has its lines.
-fn open<R: Files<File = File>>(
-    rt: &R,
-    alloc: Global,
-    path: &str,
-) -> Result<(Lines, Vec<u8>), Failure> {
+/// Opens and locks the journal at a path, which is made if it is not there.
+fn locked<R: Files<File = File>>(rt: &R, alloc: Global, path: &str) -> Result<File, Failure> {
     let mut options = File::options();
-    let options = options.read(true).write(true).create(true).mode(OWNER_ALONE);
+    let options = options
+        .read(true)
+        .write(true)
+        .create(true)
+        .mode(OWNER_ALONE);
     let file = match options.open(rt, path) {
         Ok(file) => file,
         Err(error) => return Err(Failure::at(alloc, Refusal::WriteFault, path, &error)),
     };
-    if let Err(TryLockError::WouldBlock) = file.try_lock() {
-        return Err(Failure::of(alloc, Refusal::WriteFault, path, HELD_BY_ANOTHER));
+    match file.try_lock() {
+        Err(TryLockError::WouldBlock) => {
+            Err(Failure::of(alloc, Refusal::WriteFault, path, HELD_BY_ANOTHER))
+        }
+        _ => Ok(file),
     }
+}
+
+/// Whether a crash may have left this behind the whole lines of a journal: nothing, or an empty line, and whatever was written behind that;
+/// or bytes that no write has reached.
+fn may_be_left(rest: &[u8]) -> bool {
+    rest.first() == Some(&b'\n') || rest.iter().all(|byte| *byte == 0)
+}
+
+/// Refuses a journal with something behind its whole lines that no crash leaves: it was damaged there, or is no journal.
+fn refuse_damage(alloc: Global, path: &str, bytes: &[u8]) -> Result<(), Failure> {
+    let end = whole_len(bytes);
+    if may_be_left(bytes.get(end..).unwrap_or(&[])) {
+        return Ok(());
+    }
+    let lines = bytes.get(..end).unwrap_or(&[]);
+    let before = lines.iter().filter(|byte| **byte == b'\n').count();
+    let line = before.saturating_add(1);
+    Err(Failure {
+        refusal: Refusal::BadImage {
+            place: ImagePlace::Shape,
+        },
+        words: format!(in alloc; "{path}: line {line}: is damaged").ok(),
+    })
+}
+
+/// Recovers the journal in an open file. The answer has its lines.
+fn recovered(alloc: Global, path: &str, file: File) -> Result<(Lines, Vec<u8>), Failure> {
     let bytes = read_whole(alloc, &file, path)?;
+    refuse_damage(alloc, path, &bytes)?;
     let device = FileDevice::new(alloc, SystemFile { file }, bytes);
     match Recovered::open(alloc, device) {
         Ok(found) => Ok(found),
         Err(error) => Err(unwritten(alloc, path, error)),
     }
+}
+
+/// Opens, locks and recovers the journal at a path, which is made if it is not there. The answer has its lines.
+fn open<R: Files<File = File>>(
+    rt: &R,
+    alloc: Global,
+    path: &str,
+) -> Result<(Lines, Vec<u8>), Failure> {
+    let file = locked(rt, alloc, path)?;
+    recovered(alloc, path, file)
+}
+
+/// The same, if the journal begins with a header. One that a save was writing may not be whole, and does not count then.
+fn open_whole<R: Files<File = File>>(
+    rt: &R,
+    alloc: Global,
+    path: &str,
+    header: &[u8],
+) -> Result<Option<(Lines, Vec<u8>)>, Failure> {
+    match open(rt, alloc, path) {
+        Ok((lines, text)) if text.starts_with(header) => Ok(Some((lines, text))),
+        Ok((lines, text)) => {
+            drop((lines, text));
+            Ok(None)
+        }
+        Err(failure) => match failure.refusal {
+            Refusal::BadImage { .. } => Ok(None),
+            _ => Err(failure),
+        },
+    }
+}
+
+/// Opens the journal at a path again, of which so many bytes are known to be on the disk, and cuts off what is behind them.
+fn open_again<R: Files<File = File>>(
+    rt: &R,
+    alloc: Global,
+    path: &str,
+    end: usize,
+) -> Result<(Lines, Vec<u8>), Failure> {
+    let file = locked(rt, alloc, path)?;
+    let end = end as u64;
+    let has_all = match file.metadata() {
+        Ok(found) => end <= found.len(),
+        Err(_) => false,
+    };
+    if !has_all {
+        return Err(changed_by_another(alloc, path));
+    }
+    match file.set_len(end) {
+        Ok(()) => recovered(alloc, path, file),
+        Err(error) => Err(Failure::at(alloc, Refusal::WriteFault, path, &error)),
+    }
+}
+
+/// The refusal of a journal that another process has changed.
+fn changed_by_another(alloc: Global, path: &str) -> Failure {
+    Failure::of(
+        alloc,
+        Refusal::WriteFault,
+        path,
+        "was changed by another process",
+    )
 }
 
 /// The journal of an image.
@@ -137,7 +242,8 @@ pub struct Journal {
     lines: Option<Lines>,
     /// How many bytes its lines have.
     end: usize,
-    /// Whether nobody knows which image is kept, and so where its journal goes on.
+    /// Whether another image was moved into the file's place, and it is not known to be on the disk there, with its journal in this one's
+    /// place. Nothing is appended before that is so.
     is_unsure: bool,
 }
 
@@ -158,19 +264,23 @@ impl Found {
 }
 
 /// The header of a journal that goes on from the image with a digest.
-fn header_of(alloc: Global, digest: &str) -> Result<Vec<u8>, Failure> {
+pub fn header_of(alloc: Global, digest: &str) -> Result<Vec<u8>, Failure> {
     match header(alloc, digest, Settings::DEFAULT.capacity) {
         Ok(line) => Ok(line),
         Err(_) => Err(Failure::from(Refusal::NoMemory)),
     }
 }
 
-/// Whether a text has no second line.
-fn is_one_line(lines: &[u8]) -> bool {
-    match lines.iter().position(|byte| *byte == b'\n') {
-        Some(end) => lines.len() - end <= 1,
-        None => true,
-    }
+/// The refusal of a journal that goes on from another image.
+pub fn journal_of_another_image(alloc: Global, path: &str) -> Failure {
+    Failure::of(
+        alloc,
+        Refusal::BadImage {
+            place: ImagePlace::Shape,
+        },
+        path,
+        "line 1: is the journal of another image",
+    )
 }
 
 impl Journal {
@@ -189,14 +299,12 @@ impl Journal {
         let new = path_with(alloc, path.as_str(), ".new")?;
         let found = open(rt, alloc, path.as_str())?;
         if !found.1.starts_with(&header) && is_there(rt, new.as_str()) {
-            let (other, lines) = open(rt, alloc, new.as_str())?;
-            if lines.starts_with(&header) {
+            if let Some(other) = open_whole(rt, alloc, new.as_str(), &header)? {
                 drop(found);
-                return Journal::moved(rt, alloc, place, path, new, (other, lines), header.len());
+                return Journal::moved(rt, alloc, place, path, new, other, header.len());
             }
-            drop(other);
         }
-        Journal::of(alloc, place, path, found, header)
+        Journal::of(rt, alloc, place, path, found, header)
     }
 
     /// The journal that takes the place of an earlier one.
@@ -230,7 +338,8 @@ impl Journal {
     }
 
     /// A journal that was opened. Where it has no lines of its own, it begins with the header.
-    fn of(
+    fn of<R: Files<File = File>>(
+        rt: &R,
         alloc: Global,
         place: &str,
         path: String,
@@ -249,16 +358,9 @@ impl Journal {
         };
         if !goes_on {
             if !text.is_empty() {
-                return Err(Failure::of(
-                    alloc,
-                    Refusal::BadImage {
-                        place: st_classes::refusals::ImagePlace::Shape,
-                    },
-                    journal.path.as_str(),
-                    "line 1: is the journal of another image",
-                ));
+                return Err(journal_of_another_image(alloc, journal.path.as_str()));
             }
-            journal.begin(alloc, header)?;
+            journal.begin(rt, alloc, header)?;
         }
         Ok(Found {
             journal,
@@ -267,12 +369,20 @@ impl Journal {
         })
     }
 
-    /// Writes the header of a journal without lines.
-    fn begin(&mut self, alloc: Global, mut header: Vec<u8>) -> Result<(), Failure> {
+    /// Writes the header of a journal without lines. It is on the disk then, and so is the file's name.
+    fn begin<R: Files<File = File>>(
+        &mut self,
+        rt: &R,
+        alloc: Global,
+        mut header: Vec<u8>,
+    ) -> Result<(), Failure> {
         header.extend_from_slice(b"\n")?;
-        match self.add(alloc, &header) {
-            Ok(()) => Ok(()),
-            Err(error) => Err(unwritten(alloc, self.path.as_str(), error)),
+        if let Err(error) = self.add(&header) {
+            return Err(unwritten(alloc, self.path.as_str(), error));
+        }
+        match sync_folder(rt, alloc, self.path.as_str()) {
+            Some(failure) => Err(failure),
+            None => Ok(()),
         }
     }
 
@@ -287,7 +397,7 @@ impl Journal {
     }
 
     /// Adds a batch to the log, which is there.
-    fn add(&mut self, _alloc: Global, batch: &[u8]) -> Result<(), DeviceError> {
+    fn add(&mut self, batch: &[u8]) -> Result<(), DeviceError> {
         let Some(lines) = self.lines.take() else {
             return Err(DeviceError::Failed);
         };
@@ -301,55 +411,34 @@ impl Journal {
         Ok(())
     }
 
-    /// Recovers the log behind a change that failed. The answer is whether that was the change that adds a batch, and it was done.
-    fn reopen<R: Files<File = File>>(
-        &mut self,
-        rt: &R,
-        alloc: Global,
-        batch: &[u8],
-    ) -> Result<bool, Failure> {
-        let (lines, text) = open(rt, alloc, self.path.as_str())?;
-        let more = text.get(self.end..).unwrap_or(&[]);
-        let added = batch.get(..batch.len().saturating_sub(1)).unwrap_or(&[]);
-        let is_done = !more.is_empty();
-        if text.len() < self.end || is_done && more != added {
-            return Err(Failure::of(
-                alloc,
-                Refusal::WriteFault,
-                self.path.as_str(),
-                "was changed by another process",
-            ));
+    /// Opens the journal again behind a change that failed: what was not acknowledged is cut off.
+    fn reopen<R: Files<File = File>>(&mut self, rt: &R, alloc: Global) -> Result<(), Failure> {
+        let (lines, text) = open_again(rt, alloc, self.path.as_str(), self.end)?;
+        if text.len() != self.end {
+            return Err(changed_by_another(alloc, self.path.as_str()));
         }
-        self.end = lines.end();
         self.lines = Some(lines);
-        Ok(is_done)
+        Ok(())
     }
 
-    /// Appends a batch. After a failure the same batch may be tried again.
+    /// Appends a batch. After a failure a crash may leave it or not, and the next batch takes its place.
     pub fn append<R: Files<File = File>>(
         &mut self,
         rt: &R,
         alloc: Global,
         batch: &[u8],
     ) -> Result<(), Failure> {
-        if self.is_unsure {
-            return Err(Failure::of(
-                alloc,
-                Refusal::WriteFault,
-                self.place.as_str(),
-                "may not be on the disk; save it again",
-            ));
+        self.be_sure(rt, alloc)?;
+        if self.lines.is_none() {
+            self.reopen(rt, alloc)?;
         }
-        if self.lines.is_none() && self.reopen(rt, alloc, batch)? {
-            return Ok(());
-        }
-        match self.add(alloc, batch) {
+        match self.add(batch) {
             Ok(()) => Ok(()),
             Err(error) => Err(unwritten(alloc, self.path.as_str(), error)),
         }
     }
 
-    /// The lines behind so many bytes, and the empty line.
+    /// The lines behind so many bytes. What stands behind the last that was acknowledged is not among them.
     fn behind<R: Files<File = File>>(
         &self,
         rt: &R,
@@ -357,59 +446,83 @@ impl Journal {
         from: u64,
     ) -> Result<Vec<u8>, Failure> {
         let path = self.path.as_str();
-        let mut file = match File::open(rt, path) {
-            Ok(file) => file,
-            Err(error) => return Err(unread(alloc, path, &error)),
-        };
-        match file.seek(SeekFrom::Start(from)) {
-            Ok(_) => read_whole(alloc, &file, path),
-            Err(error) => Err(unread(alloc, path, &error)),
+        let mut file = open_to_read(rt, alloc, path)?;
+        if let Err(error) = file.seek(SeekFrom::Start(from)) {
+            return Err(unread(alloc, path, &error));
         }
+        let mut lines = read_whole(alloc, &file, path)?;
+        let count = match self.end().checked_sub(from) {
+            Some(count) if count <= lines.len() as u64 => count,
+            _ => return Err(changed_by_another(alloc, path)),
+        };
+        lines.truncate(count as usize);
+        Ok(lines)
     }
 
     /// Writes the journal that goes on from the image with a digest, with the lines behind so many bytes, under its other name. It is on
-    /// the disk then.
+    /// the disk then, and so is its name.
     pub fn write_new<R: Files<File = File>>(
-        &self,
+        &mut self,
         rt: &R,
         alloc: Global,
         digest: &str,
         from: u64,
     ) -> Result<(), Failure> {
+        self.be_sure(rt, alloc)?;
         let mut text = header_of(alloc, digest)?;
         let behind = self.behind(rt, alloc, from)?;
         text.extend_from_slice(&behind)?;
+        text.extend_from_slice(b"\n")?;
         let path = path_with(alloc, self.path.as_str(), ".new")?;
-        write_whole(rt, alloc, path.as_str(), &text)
+        write_whole(rt, alloc, path.as_str(), &text)?;
+        match sync_folder(rt, alloc, path.as_str()) {
+            Some(failure) => Err(failure),
+            None => Ok(()),
+        }
     }
 
-    /// Moves the journal that was written for the new image into the place of the old one. If that fails, nobody knows where it goes on,
-    /// until another save.
+    /// Moves the journal that was written for the new image into the place of the old one, once that image is known to be on the disk in its
+    /// place. If that fails, it is tried again before anything is appended or saved.
     pub fn take_place<R: Files<File = File>>(
         &mut self,
         rt: &R,
         alloc: Global,
     ) -> Result<(), Failure> {
         self.doubt();
-        let new = path_with(alloc, self.path.as_str(), ".new")?;
-        if let Err(error) = fs::rename(rt, new.as_str(), self.path.as_str()) {
-            return Err(Failure::at(alloc, Refusal::WriteFault, self.path.as_str(), &error));
+        self.be_sure(rt, alloc)
+    }
+
+    /// Nobody knows any more where the journal goes on, until the new image and its journal are on the disk.
+    pub fn doubt(&mut self) {
+        self.lines = None;
+        self.is_unsure = true;
+    }
+
+    /// Has the new image and its journal on the disk, each in its place, if that is not known.
+    fn be_sure<R: Files<File = File>>(&mut self, rt: &R, alloc: Global) -> Result<(), Failure> {
+        if !self.is_unsure {
+            return Ok(());
         }
-        if let Some(failure) = sync_folder(rt, alloc, self.path.as_str()) {
+        let path = self.path.as_str();
+        if let Some(failure) = sync_folder(rt, alloc, path) {
             return Err(failure);
         }
-        let (lines, text) = open(rt, alloc, self.path.as_str())?;
+        // If it was moved before, only the wait for that failed.
+        let new = path_with(alloc, path, ".new")?;
+        if is_there(rt, new.as_str()) {
+            if let Err(error) = fs::rename(rt, new.as_str(), path) {
+                return Err(Failure::at(alloc, Refusal::WriteFault, path, &error));
+            }
+            if let Some(failure) = sync_folder(rt, alloc, path) {
+                return Err(failure);
+            }
+        }
+        let (lines, text) = open(rt, alloc, path)?;
         drop(text);
         self.end = lines.end();
         self.lines = Some(lines);
         self.is_unsure = false;
         Ok(())
-    }
-
-    /// Nobody knows any more where the journal goes on: nothing is appended until another save.
-    pub fn doubt(&mut self) {
-        self.lines = None;
-        self.is_unsure = true;
     }
 
     /// Removes the journal.
@@ -426,7 +539,11 @@ fn write_whole<R: Files<File = File>>(
     text: &[u8],
 ) -> Result<(), Failure> {
     let mut options = File::options();
-    let options = options.write(true).create(true).truncate(true).mode(OWNER_ALONE);
+    let options = options
+        .write(true)
+        .create(true)
+        .truncate(true)
+        .mode(OWNER_ALONE);
     let written = match options.open(rt, path) {
         Ok(mut file) => match file.write_all(text) {
             Ok(()) => file.sync_all(),

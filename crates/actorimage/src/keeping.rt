@@ -5,6 +5,7 @@ ghost use Rattle.st_server.specs.Keepers.{IsFault, Keeps};
 use crate::failures::Failure;
 use crate::journals::Journal;
 use crate::new_files::{NewFile, hold, hold_beside};
+use crate::noting::Noted;
 use crate::stamps::Stamp;
 use st_classes::refusals::Refusal;
 use st_file::moments::Moment;
@@ -137,8 +138,7 @@ impl Held {
         let Ready { new, digest } = ready;
         if let Some(journal) = journal {
             if let Err(failure) = journal.write_new(rt, alloc, digest.as_str(), from) {
-                new.remove(rt);
-                return Err(failure);
+                return Err(new.kept_for(rt, alloc, is_last, failure));
             }
         }
         let unsure = new.take_place(rt, alloc, self.seen, is_last)?;
@@ -172,10 +172,14 @@ pub struct FileKeeper<'a> {
     journal: Mutex<Option<Journal>>,
     /// How the journal is kept, if there is one.
     settings: Option<JournalSettings>,
+    /// What a script has led to, if its journal tells that.
+    noted: Mutex<Option<Noted>>,
     /// Why the image could not be saved last, or its journal not be written, if that was not said yet.
     why: Mutex<Option<String>>,
     /// Whether somebody says why an image could not be saved.
     is_telling: AtomicBool,
+    /// Whether the journal could not be written last: that is said once.
+    is_unwritten: AtomicBool,
 }
 
 /// The refusal of a save: that there was no memory, or that the file could not be written, whatever was in the way.
@@ -219,8 +223,10 @@ impl<'a> FileKeeper<'a> {
             }),
             journal: Mutex::new(None),
             settings: None,
+            noted: Mutex::new(None),
             why: Mutex::new(None),
             is_telling: AtomicBool::new(false),
+            is_unwritten: AtomicBool::new(false),
         }
     }
 
@@ -242,8 +248,7 @@ impl<'a> FileKeeper<'a> {
         from: u64,
         is_last: bool,
     ) -> Result<(), Failure> {
-        let (Some(mut held), Some(mut journal)) =
-            (self.held.try_lock(), self.journal.try_lock())
+        let (Some(mut held), Some(mut journal)) = (self.held.try_lock(), self.journal.try_lock())
         else {
             return Err(Failure::from(Refusal::WriteFault));
         };
@@ -317,8 +322,10 @@ impl<'a> FileKeeper<'a> {
             held,
             journal: _,
             settings: _,
+            noted,
             why,
             is_telling,
+            is_unwritten,
         } = self;
         FileKeeper {
             rt,
@@ -326,8 +333,28 @@ impl<'a> FileKeeper<'a> {
             held,
             journal: Mutex::new(Some(journal)),
             settings: Some(settings),
+            noted,
             why,
             is_telling,
+            is_unwritten,
+        }
+    }
+
+    /// From now on what the commands of a script lead to is told in the journal. All that there is of the image is told there.
+    pub fn begin_noting(&self, alloc: Global, image: &Image) {
+        if let Some(mut noted) = self.noted.try_lock() {
+            *noted = Some(Noted::new(alloc, image));
+        }
+    }
+
+    /// Has what was noted written to the journal. It is on the disk then.
+    pub fn write_noted(&self, alloc: Global) -> Result<(), Refusal> {
+        let Some(mut noted) = self.noted.try_lock() else {
+            return Err(Refusal::WriteFault);
+        };
+        match &mut *noted {
+            Some(noted) => noted.write(alloc, self),
+            None => Ok(()),
         }
     }
 
@@ -357,6 +384,9 @@ impl<'a> Keeper for FileKeeper<'a> {
         let Some(path) = self.path else {
             return Err(Refusal::BadArguments);
         };
+        if let Err(refusal) = self.write_noted(alloc) {
+            return Err(refused(refusal));
+        }
         match self.write_at(alloc, path, moment) {
             Ok(bytes) => Ok(bytes),
             Err(failure) => Err(self.refusal_of(alloc, failure)),
@@ -385,7 +415,13 @@ impl<'a> Keeper for FileKeeper<'a> {
             return Err(Refusal::WriteFault);
         };
         match journal.append(self.rt, alloc, batch) {
-            Ok(()) => Ok(()),
+            Ok(()) => {
+                self.is_unwritten.store(false, Ordering::SeqCst);
+                Ok(())
+            }
+            Err(failure) if self.is_unwritten.swap(true, Ordering::SeqCst) => {
+                Err(refused(failure.refusal))
+            }
             Err(failure) => Err(self.refusal_of(alloc, failure)),
         }
     }
@@ -396,7 +432,23 @@ impl<'a> Keeper for FileKeeper<'a> {
                 Some(journal) => journal.end(),
                 None => 0,
             },
-            None => 0,
+            None => u64::MAX,
+        }
+    }
+
+    fn note(&self, alloc: Global, image: &Image) {
+        if let Some(mut noted) = self.noted.try_lock() {
+            if let Some(noted) = &mut *noted {
+                noted.note(alloc, self, image);
+            }
+        }
+    }
+
+    fn note_checkpoint(&self, alloc: Global, image: &Image) {
+        if let Some(mut noted) = self.noted.try_lock() {
+            if let Some(noted) = &mut *noted {
+                noted.note_checkpoint(alloc, image);
+            }
         }
     }
 

@@ -1,10 +1,12 @@
-//! The image with which a server begins, and what keeps it.
+//! The image with which a run begins that has hold of its file, and what keeps it.
 use crate::failures::Failure;
 use crate::image_files::{Opened, digest_of_file, load_file, path_of};
-use crate::journals::{Found, Journal, refuse_journal};
+use crate::journals::{
+    Found, Journal, is_there, journal_of, journal_of_another_image, refuse_journal,
+};
 use crate::keeping::FileKeeper;
 use crate::new_files::NewFile;
-use crate::options::ServeOptions;
+use crate::options::Keeping;
 use crate::runs::begin_with;
 use st_classes::refusals::{ImagePlace, Refusal};
 use st_journal::redo_error::{LineError, RedoError, RefusedLine};
@@ -15,7 +17,7 @@ use std::alloc::Global;
 use std::fs::{File, Files};
 
 /// The refusal of a journal's line, by its number, from 1. The first line is the header.
-fn refused_line(alloc: Global, path: &str, refused: RefusedLine) -> Failure {
+pub fn refused_line(alloc: Global, path: &str, refused: RefusedLine) -> Failure {
     let number = refused.place.saturating_add(2);
     let words = match refused.error {
         LineError::Redo(RedoError::Refused(Refusal::NoMemory)) => {
@@ -44,7 +46,7 @@ fn recovered(alloc: Global, image: Image, found: Found) -> Result<(Image, Journa
 }
 
 /// The image of a file, or a new one.
-fn loaded(alloc: Global, file: Option<&File>) -> Result<Image, Failure> {
+pub fn loaded(alloc: Global, file: Option<&File>) -> Result<Image, Failure> {
     let image = begin_with(alloc, load_file(alloc, file))?;
     Ok(image)
 }
@@ -60,6 +62,21 @@ fn loaded_with_digest(
     Ok((image, digest))
 }
 
+/// Saves the image that is in no file, unless the journal of another one is there. The answer is the digest of its text.
+fn first_digest<R: Files<File = File>>(
+    rt: &R,
+    alloc: Global,
+    place: &str,
+    keeper: &FileKeeper<'_>,
+    image: &Image,
+) -> Result<String, Failure> {
+    let path = journal_of(alloc, place)?;
+    if is_there(rt, path.as_str()) {
+        return Err(journal_of_another_image(alloc, path.as_str()));
+    }
+    keeper.save_first(alloc, image)
+}
+
 /// Begins or goes on with the journal of an image, which comes back to what it was. An image that is in no file is saved first.
 fn with_journal<'a, R: Files<File = File>>(
     rt: &R,
@@ -71,7 +88,7 @@ fn with_journal<'a, R: Files<File = File>>(
 ) -> (FileKeeper<'a>, Result<Image, Failure>) {
     let digest = match digest {
         Some(digest) => Ok(digest),
-        None => keeper.save_first(alloc, &image),
+        None => first_digest(rt, alloc, place, &keeper, &image),
     };
     let found = match digest {
         Ok(digest) => Journal::find(rt, alloc, place, digest.as_str()),
@@ -98,17 +115,17 @@ fn place_beside(alloc: Global, held: &Option<NewFile>) -> Result<String, Failure
     }
 }
 
-/// The image with which a server begins, and if it has a journal the digest of its file. Without a journal an image whose journal is there
+/// The image with which a run begins, and if it has a journal the digest of its file. Without a journal an image whose journal is there
 /// is refused.
 fn found_at<R: Files>(
     rt: &R,
     alloc: Global,
-    options: ServeOptions<'_>,
+    keeping: Keeping<'_>,
     place: &str,
     file: Option<&File>,
 ) -> Result<(Image, Option<String>), Failure> {
-    if let Some(image) = options.image {
-        if options.journal.is_some() {
+    if let Some(image) = keeping.image {
+        if keeping.journal.is_some() {
             return loaded_with_digest(alloc, image.path, file);
         }
         refuse_journal(rt, alloc, place)?;
@@ -117,18 +134,18 @@ fn found_at<R: Files>(
     Ok((image, None))
 }
 
-/// The image with which a server begins, and what keeps it in the file that was opened. The new file beside that is held, if there is one.
+/// The image with which a run begins, and what keeps it in the file that was opened. The new file beside that is held, if there is one.
 pub fn begin_keeping<'a, R: Files<File = File>>(
     rt: &R,
     program: &'a HostRuntime,
     alloc: Global,
-    options: ServeOptions<'a>,
+    keeping: Keeping<'a>,
     held: Option<NewFile>,
     opened: Opened,
 ) -> (FileKeeper<'a>, Result<Image, Failure>) {
     let place = place_beside(alloc, &held);
     let Opened { file, seen } = opened;
-    let path = path_of(options.image);
+    let path = path_of(keeping.image);
     let place = match place {
         Ok(place) => place,
         Err(failure) => {
@@ -136,13 +153,13 @@ pub fn begin_keeping<'a, R: Files<File = File>>(
             return (keeper, Err(failure));
         }
     };
-    let found = found_at(rt, alloc, options, place.as_str(), file.as_ref());
+    let found = found_at(rt, alloc, keeping, place.as_str(), file.as_ref());
     let keeper = FileKeeper::new(program, path, held, seen, file);
     let found = match found {
         Ok(found) => found,
         Err(failure) => return (keeper, Err(failure)),
     };
-    match options.journal {
+    match keeping.journal {
         Some(settings) => with_journal(rt, alloc, place.as_str(), settings, keeper, found),
         None => {
             let (image, _) = found;

@@ -11,7 +11,9 @@ mod journals;
 mod keeping;
 mod loading;
 mod new_files;
+mod noting;
 mod options;
+mod replaying;
 mod runs;
 mod socket_files;
 mod stamps;
@@ -23,7 +25,12 @@ use crate::journals::refuse_journal;
 use crate::keeping::FileKeeper;
 use crate::loading::begin_keeping;
 use crate::new_files::{NewFile, hold, place_of};
-use crate::options::{Request, ScriptOptions, ServeOptions, invalid_utf8_error, parsed_request};
+use crate::noting::NotedOutput;
+use crate::options::{
+    Keeping, ReplayOptions, Request, ScriptOptions, ServeOptions, invalid_utf8_error,
+    parsed_request,
+};
+use crate::replaying::{replayed, save_at};
 use crate::runs::{begin_with, saved_at};
 use crate::socket_files::{SocketFile, bind};
 use boxcar::Vec as Faults;
@@ -34,7 +41,8 @@ use st_server::checking::check_on;
 use st_server::images::Image;
 use st_server::keepers::Keeper;
 use st_server::porters::FaultList;
-use st_server::scripts::script_with;
+use st_server::quantum::Quantum;
+use st_server::scripts::{run_script, script_with};
 use st_server::sockets::{Served, serve_image};
 use st_server::starts::now;
 use st_wire::names::refusal_name;
@@ -58,9 +66,69 @@ fn first_image(alloc: Global, file: Option<&File>) -> Result<Image, Refusal>
     begin_with(alloc, found)
 }
 
+/// Opens the file at an image's place, if one is given.
+fn open_at<R: Files<File = File>>(
+    rt: &R,
+    alloc: Global,
+    place: Option<Place<'_>>,
+) -> Result<Opened, Failure> {
+    match place {
+        Some(place) => open_file(rt, alloc, place),
+        None => Ok(Opened::nothing()),
+    }
+}
+
+/// The same, and locks the file.
+fn lock_at<R: Files<File = File>>(
+    rt: &R,
+    alloc: Global,
+    place: Option<Place<'_>>,
+) -> Result<Opened, Failure> {
+    let opened = open_at(rt, alloc, place)?;
+    if let Some(place) = place {
+        opened.lock(alloc, place.path)?;
+    }
+    Ok(opened)
+}
+
+/// Takes hold of the new file beside the file at a place, if one is given.
+fn hold_at<R: Files<File = File>>(
+    rt: &R,
+    alloc: Global,
+    place: Option<Place<'_>>,
+) -> Result<Option<NewFile>, Failure> {
+    match place {
+        Some(place) => {
+            let new = hold(rt, alloc, place.path)?;
+            Ok(Some(new))
+        }
+        None => Ok(None),
+    }
+}
+
+/// Takes hold of an image's file, and loads the image. The new file beside the file is held from before the file is opened: if that is
+/// refused, nothing begins.
+fn begin_held<'a, R: Files<File = File> + AllocGlobal>(
+    rt: &R,
+    program: &'a HostRuntime,
+    keeping: Keeping<'a>,
+) -> Result<(FileKeeper<'a>, Result<Image, Failure>), Failure> {
+    let alloc = rt.alloc();
+    let held = hold_at(rt, alloc, keeping.image)?;
+    match lock_at(rt, alloc, keeping.image) {
+        Ok(opened) => Ok(begin_keeping(rt, program, alloc, keeping, held, opened)),
+        Err(failure) => {
+            if let Some(new) = &held {
+                new.remove(rt);
+            }
+            Err(failure)
+        }
+    }
+}
+
 /// Runs the commands of standard input on an image, and writes the replies to standard output. The keeper keeps the image where a
 /// command saves it.
-fn run_script<R: Input + Print + Clock + AllocGlobal, S: Keeper>(
+fn run_anew<R: Input + Print + Clock + AllocGlobal, S: Keeper>(
     rt: &R,
     options: ScriptOptions<'_>,
     keeper: &S,
@@ -76,6 +144,45 @@ fn run_script<R: Input + Print + Clock + AllocGlobal, S: Keeper>(
     let mut output = Writer::new(buffered);
     let settings = options.settings(now(rt));
     let (image, result) = script_with(alloc, &mut input, &mut output, settings, keeper, image);
+    match output.finish() {
+        Ok(_) => (image, result),
+        Err(_) => (image, Err(Refusal::WriteFault)),
+    }
+}
+
+/// The same, on an image as it is, of which all is told in its journal. Before a reply is passed on, what it tells is there too.
+fn run_noted<R: Input + Print + Clock + AllocGlobal>(
+    rt: &R,
+    options: ScriptOptions<'_>,
+    keeper: &FileKeeper<'_>,
+    image: Image,
+) -> (Image, Result<u64, Refusal>) {
+    let alloc = rt.alloc();
+    let settings = options.settings(now(rt));
+    let Some(quantum) = Quantum::new(settings.quantum) else {
+        return (image, Err(Refusal::BadArguments));
+    };
+    keeper.begin_noting(alloc, &image);
+    let noted = NotedOutput {
+        alloc,
+        keeper,
+        output: io::writer(rt),
+    };
+    let Ok(buffered) = BufWriter::new(alloc, noted) else {
+        return (image, Err(Refusal::NoMemory));
+    };
+    let mut input = Reader::new(rt.reader());
+    let mut output = Writer::new(buffered);
+    let start = settings.start;
+    let (image, result) = run_script(
+        alloc,
+        &mut input,
+        &mut output,
+        quantum,
+        start,
+        keeper,
+        image,
+    );
     match output.finish() {
         Ok(_) => (image, result),
         Err(_) => (image, Err(Refusal::WriteFault)),
@@ -99,6 +206,19 @@ fn end_keeping(
     }
 }
 
+/// Saves the image of a script that has ended, unless the session was refused.
+fn end_script(
+    alloc: Global,
+    keeper: &FileKeeper<'_>,
+    (image, ended): (Image, Result<u64, Refusal>),
+) -> Result<(), Failure> {
+    end_keeping(alloc, keeper, saved_at(Some(keeper), &ended), image)?;
+    match ended {
+        Ok(_) => Ok(()),
+        Err(refusal) => Err(Failure::from(refusal)),
+    }
+}
+
 /// Runs a script on a new image or on the image of a file. That file then gets the image, unless the session is refused. `program` is
 /// the program's runtime, by which the file is kept.
 fn script<R: Input + Print + Files<File = File> + Clock + AllocGlobal>(
@@ -107,18 +227,52 @@ fn script<R: Input + Print + Files<File = File> + Clock + AllocGlobal>(
     options: ScriptOptions<'_>,
 ) -> Result<(), Failure> {
     let alloc = rt.alloc();
-    let opened = open_at(rt, alloc, options.image)?;
+    let place = options.keeping.image;
+    let opened = open_at(rt, alloc, place)?;
     let Opened { file, seen } = opened;
-    if let Some(path) = path_of(options.image) {
+    if let Some(path) = path_of(place) {
         refuse_journal(rt, alloc, place_of(rt, alloc, path)?.as_str())?;
     }
     let image = first_image(alloc, file.as_ref())?;
-    let keeper = FileKeeper::new(program, path_of(options.image), None, seen, file);
-    let (image, ended) = run_script(rt, options, &keeper, image);
-    end_keeping(alloc, &keeper, saved_at(Some(&keeper), &ended), image)?;
-    match ended {
-        Ok(_) => Ok(()),
-        Err(refusal) => Err(Failure::from(refusal)),
+    let keeper = FileKeeper::new(program, path_of(place), None, seen, file);
+    let ran = run_anew(rt, options, &keeper, image);
+    end_script(alloc, &keeper, ran)
+}
+
+/// Runs a script on the image of a file as its journal tells it, and goes on with the journal. When the session has ended well, the file
+/// gets the image and the journal is removed; else both stay.
+fn script_with_journal<R: Input + Print + Files<File = File> + Clock + AllocGlobal>(
+    rt: &R,
+    program: &HostRuntime,
+    options: ScriptOptions<'_>,
+) -> Result<(), Failure> {
+    let alloc = rt.alloc();
+    let (keeper, loaded) = begin_held(rt, program, options.keeping)?;
+    match loaded {
+        Ok(image) => {
+            let ran = run_noted(rt, options, &keeper, image);
+            end_script(alloc, &keeper, ran)
+        }
+        Err(failure) => {
+            keeper.leave();
+            Err(failure)
+        }
+    }
+}
+
+/// Saves the image that was, and writes to standard output how many lines of the journal and how many steps led there.
+fn replay<R: Print + Files<File = File> + AllocGlobal>(
+    rt: &R,
+    program: &HostRuntime,
+    options: ReplayOptions<'_>,
+) -> Result<(), Failure> {
+    let alloc = rt.alloc();
+    let (image, lines) = replayed(rt, alloc, options)?;
+    let steps = image.counted().steps;
+    save_at(rt, program, alloc, options.image, image)?;
+    match println!(rt; "{{\"ok\":{{\"lines\":{lines},\"steps\":{steps}}}}}") {
+        Ok(()) => Ok(()),
+        Err(error) => Err(Failure::at(alloc, Refusal::WriteFault, "standard output", &error)),
     }
 }
 
@@ -229,46 +383,6 @@ fn serve_loaded<R: Threads + Wait + Net + Files + Eprint + Clock + AllocGlobal +
     }
 }
 
-/// Opens the file at an image's place, if one is given.
-fn open_at<R: Files<File = File>>(
-    rt: &R,
-    alloc: Global,
-    place: Option<Place<'_>>,
-) -> Result<Opened, Failure> {
-    match place {
-        Some(place) => open_file(rt, alloc, place),
-        None => Ok(Opened::nothing()),
-    }
-}
-
-/// The same, and locks the file.
-fn lock_at<R: Files<File = File>>(
-    rt: &R,
-    alloc: Global,
-    place: Option<Place<'_>>,
-) -> Result<Opened, Failure> {
-    let opened = open_at(rt, alloc, place)?;
-    if let Some(place) = place {
-        opened.lock(alloc, place.path)?;
-    }
-    Ok(opened)
-}
-
-/// Takes hold of the new file beside the file at a place, if one is given.
-fn hold_at<R: Files<File = File>>(
-    rt: &R,
-    alloc: Global,
-    place: Option<Place<'_>>,
-) -> Result<Option<NewFile>, Failure> {
-    match place {
-        Some(place) => {
-            let new = hold(rt, alloc, place.path)?;
-            Ok(Some(new))
-        }
-        None => Ok(None),
-    }
-}
-
 /// Saves the image of a server whose sessions have ended, if there is a place for it, and reports the end. Both are done even if
 /// accepting failed; the answer is then that refusal. Neither is done if serving was refused.
 fn end_serving<R: Print + Eprint + AllocGlobal>(
@@ -300,8 +414,7 @@ fn end_serving<R: Print + Eprint + AllocGlobal>(
     }
 }
 
-/// Serves an image as `serve_loaded` does, and saves it. The new file beside the image's file is held from before the file is opened:
-/// if that is refused, nothing is served.
+/// Serves an image as `serve_loaded` does, and saves it.
 fn serve_with<
     R: Threads + Wait + Net + Files<File = File> + Print + Eprint + Clock + AllocGlobal + Sync,
 >(
@@ -310,21 +423,9 @@ fn serve_with<
     options: ServeOptions<'_>,
     faults: &Faults<Refusal>,
 ) -> Result<(), Failure> {
-    let alloc = rt.alloc();
-    let held = hold_at(rt, alloc, options.image)?;
-    match lock_at(rt, alloc, options.image) {
-        Ok(opened) => {
-            let (keeper, loaded) = begin_keeping(rt, program, alloc, options, held, opened);
-            let ended = serve_loaded(rt, options, loaded, faults, &keeper);
-            end_serving(rt, &keeper, faults, ended)
-        }
-        Err(failure) => {
-            if let Some(new) = &held {
-                new.remove(rt);
-            }
-            Err(failure)
-        }
-    }
+    let (keeper, loaded) = begin_held(rt, program, options.keeping)?;
+    let ended = serve_loaded(rt, options, loaded, faults, &keeper);
+    end_serving(rt, &keeper, faults, ended)
 }
 
 /// Serves a new image or the image of a file. That file gets the image when all sessions have ended.
@@ -378,8 +479,12 @@ fn main(rt: HostRuntime) -> io::Result<ExitCode> {
         Err(error) => return Ok(show_error(&rt, error)),
     };
     let result = match request {
+        Request::Script(options) if options.keeping.journal.is_some() => {
+            script_with_journal(&rt, &rt, options).map(|_| 0)
+        }
         Request::Script(options) => script(&rt, &rt, options).map(|_| 0),
         Request::Serve(options) => serve(&rt, &rt, options).map(|_| 0),
+        Request::Replay(options) => replay(&rt, &rt, options).map(|_| 0),
         Request::Check(path) => Ok(check(&rt, path)),
     };
     match result {

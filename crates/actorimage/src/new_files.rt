@@ -325,6 +325,27 @@ impl NewFile {
         }
     }
 
+    /// The failure of a save whose journal cannot be written, for which the new file, which is filled, does not take the old one's place. It
+    /// is kept beside it if it is the last; else it is removed.
+    pub fn kept_for<R: Files<File = File>>(
+        &self,
+        rt: &R,
+        alloc: Global,
+        is_last: bool,
+        failure: Failure,
+    ) -> Failure {
+        if !is_last {
+            self.remove(rt);
+            return failure;
+        }
+        self.kept(
+            rt,
+            alloc,
+            is_last,
+            "has a journal that cannot be written, and is NOT replaced",
+        )
+    }
+
     /// Writes an image's text to the new file. If the new file was taken away or moved, another one is held in its stead. The answer is how
     /// many bytes the text has, and its digest. If the text is not written whole, the new file is gone then.
     pub fn write<R: Files<File = File>>(

@@ -13,6 +13,7 @@ use Rattle.st_journal.specs.Entries.{Leads}
 use Rattle.st_journal.specs.EntryMeanings.{IsMeaningless, TellsEntry, entry_meant}
 use Rattle.st_journal.specs.EntryShapes.{entry_in}
 use Rattle.st_journal.specs.EntryTexts.{ReadingLeads, ReadsAll, RefusesLine, SaysAt, StopsAtLine, lines_of}
+use Rattle.st_journal.specs.Replays.{StandsAt}
 
 -- ---- values that tell no entry
 
@@ -98,3 +99,30 @@ read_stops i j text rest line behind place r h next at refuses =
       there = rw (all, here) parts.1;
       refused = refuses;
     }
+
+-- the next line says an entry
+pub read_at : (i j : ImageView) (text rest line behind : List ℕ) (place : ℕ) (e : Entry) → HasRead i text place rest j → lines_of rest ≡ line ∷ lines_of behind
+    → SaysAt j line e → StandsAt i (lines_of text) place (Some e) j
+read_at i j text rest line behind place e h next says =
+    let all : lines_of text ≡ h.lines ++ line ∷ lines_of behind = h.all ∙ ap (λ ls. h.lines ++ ls) next in
+    let parts = front h.lines (lines_of behind) line in
+    record {
+      entries = h.entries;
+      reads = rw (all, h.counted, parts.0) h.reads;
+      behind = (line, rw (all, h.counted) parts.1, says);
+    }
+
+whole : {X : Type 0} (xs : List X) → take (length xs) xs ≡ xs
+whole [] = refl
+whole (x ∷ xs) = ap (λ ys. x ∷ ys) (whole xs)
+
+-- there is no further line
+pub read_to_end : (i j : ImageView) (text rest : List ℕ) (place : ℕ) → HasRead i text place rest j → length rest ≡ 0 → StandsAt i (lines_of text) place None j
+read_to_end i j text [] place h none =
+    let all : lines_of text ≡ h.lines = h.all ∙ append-nil h.lines in
+    record {
+      entries = h.entries;
+      reads = rw (all, h.counted, whole h.lines) h.reads;
+      behind = rw all h.counted;
+    }
+read_to_end i j text (b ∷ rest) place h none = absurd (omega (arith, none))

@@ -13,4 +13,5 @@ pub mod Marks
 pub mod Opened
 pub mod Recovery
 pub mod Refused
+pub mod Replays
 pub mod Saved

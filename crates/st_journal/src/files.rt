@@ -8,8 +8,8 @@ ghost use Rattle.std.specs.declared.alloc.Global.{Global};
 ghost use Rattle.st_journal.specs.FileDevices.{BeginWithin, BeginWithin-prop, all_done, first_bytes, contents_of, counts_now, left_since_of, may_leave_of, only_now};
 
 use crate::changes::Change;
-use st_turn::log::Log;
 use st_log::device::{Device, DeviceError};
+use st_turn::log::Log;
 use std::alloc::Global;
 
 /// A file has fewer bytes.

@@ -9,7 +9,8 @@
 //!
 //! As text an entry is a line: [`lines::line_of`] tells it, by the names and the class table of an image, and [`reading::read_entry`] reads
 //! its JSON value by them, in two layers: its form, as [`texts`], and what that means. What is told is read as the very same entry
-//! ([`laws::entries_are_read`]). [`redoing::lines::redo_text`] does the lines of a text again.
+//! ([`laws::entries_are_read`]). [`redoing::lines::redo_text`] does the lines of a text again, and [`redoing::replaying::replay`] the
+//! first of them.
 #![tactic(auto)]
 
 pub mod changes;

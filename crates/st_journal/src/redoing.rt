@@ -7,6 +7,7 @@ mod actors;
 mod edits;
 pub mod lines;
 mod names;
+pub mod replaying;
 mod turns;
 
 use crate::entries::Entry;

@@ -41,7 +41,11 @@ fn put(bytes: &mut Vec<u8>, at: usize, written: &[u8]) -> bool {
 impl<'a> FileCalls for Kept<'a> {
     fn write(&mut self, at: usize, bytes: &[u8]) -> bool {
         let is_whole = is_done(&mut self.until_failure);
-        let count = if is_whole { bytes.len() } else { bytes.len() / 2 };
+        let count = if is_whole {
+            bytes.len()
+        } else {
+            bytes.len() / 2
+        };
         match self.bytes.try_lock() {
             Some(mut kept) => put(&mut kept, at, bytes.get(..count).unwrap_or(&[])) && is_whole,
             None => false,

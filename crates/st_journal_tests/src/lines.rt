@@ -134,7 +134,10 @@ fn of_many_entries(rt: HostRuntime) -> Result<(), Fail> {
     for said in said() {
         whole.extend_from_slice(&with_newline(rt.alloc(), *said)?)?;
     }
-    assert_eq!(rt; told.as_ref().map(|it| it.as_slice()), Some(whole.as_slice()));
+    assert_eq!(rt;
+        told.as_ref().map(|it| it.as_slice()),
+        Some(whole.as_slice())
+    );
     entries.push(Entry::Name(Seq::from_vec(Vec::from_slice(rt.alloc(), b"a\xff")?)))?;
     assert!(rt; lines(rt.alloc(), &image, &entries).is_err());
     Ok(())

@@ -169,7 +169,7 @@ impl<'a, R: Wait + Clock, K: Naming, S: Keeper> PoolHandler<'a, R, K, S> {
         ensures same { self.new ≡ self.old }
     {
         let recorder = self.desk.recorder;
-        let told = recorder.round(self.rt, alloc, progress);
+        let told = recorder.round_before_copying(self.rt, alloc, progress);
         let behind = recorder.behind(progress);
         let copied = self.caller.hold(self.rt, alloc, CopyingBehind { behind });
         recorder.settle(alloc, progress, told, copied)

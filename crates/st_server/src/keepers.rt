@@ -43,16 +43,22 @@ pub trait Keeper {
 
     /// Appends a batch to the journal: whole lines, and an empty line. At `Ok` it is on the disk.
     ///
-    /// Refusals: `NoMemory`, `WriteFault`. After these it is there or not, and the same batch may be tried again; if it is there, nothing
-    /// more is written.
+    /// Refusals: `NoMemory`, `WriteFault`. After these a crash may leave it or not, and the next batch takes its place: so it begins with
+    /// the same lines.
     fn append(&self, alloc: Global, batch: &[u8]) -> Result<(), Refusal>
         ensures { IfErr result IsFault };
 
     /// How many bytes the lines of the journal have; 0 if there is none.
     fn end(&self) -> u64;
 
-    /// Says why it could not keep an image or append to the journal last, if that is said anywhere and was not said yet. This may take its time, so it is asked
-    /// where no other session waits for it.
+    /// Tells what a command of a script has led to, if there is a journal: what there is of the image and was not told before.
+    fn note(&self, alloc: Global, image: &Image);
+
+    /// Tells that a command of a script has made a checkpoint, if there is a journal. All that was before was noted.
+    fn note_checkpoint(&self, alloc: Global, image: &Image);
+
+    /// Says why it could not keep an image or append to the journal last, if that is said anywhere and was not said yet. This may take
+    /// its time, so it is asked where no other session waits for it.
     fn tell(&self);
 }
 
@@ -79,6 +85,10 @@ impl Keeper for Nobody {
     fn end(&self) -> u64 {
         0
     }
+
+    fn note(&self, _alloc: Global, _image: &Image) {}
+
+    fn note_checkpoint(&self, _alloc: Global, _image: &Image) {}
 
     fn tell(&self) {}
 }

@@ -24,7 +24,7 @@ impl Model for Quantum {
 
 impl Quantum {
     /// A quantum of this many steps, if it is in the range.
-    pub(crate) fn new(steps: u32) -> Option<Quantum>
+    pub fn new(steps: u32) -> Option<Quantum>
         ensures { MatchOption result (is_quantum steps ≡ false) (λ q. (is_quantum steps ≡ true) × (q ≡ steps)) }
     {
         if 1 <= steps && steps <= 1024 {

@@ -8,6 +8,7 @@ ghost use Rattle.st_server.specs.Keepers.{IsFault, StaysOrFails};
 
 use crate::images::Mailbox;
 use crate::keepers::{JournalSettings, Keeper, copied};
+use crate::telling::{MOST_TOLD, Telling};
 use crate::turns::Turns;
 use st_classes::names::Names;
 use st_classes::refusals::Refusal;
@@ -15,34 +16,36 @@ use st_classes::token::Token;
 use st_file::moments::Moment;
 use st_image::items::Item;
 use st_journal::copying::copied_items;
-use st_journal::entries::Entry;
-use st_journal::lines::write_lines;
-use st_journal::telling::tell_since;
 use st_pool::holds::Reading;
 use st_pool::naming::Naming;
 use st_pool::office::Office;
 use st_pool::shared::Shared;
-use st_wire::streams::MemoryOutput;
 use std::alloc::{AllocError, Global};
 use std::sync::atomic::{AtomicU64, Ordering};
 use std::sync::{Condvar, CondvarTimeouts, Mutex, MutexGuard, Wait};
 use std::time::{Clock, Duration};
 
-/// How many items are copied in a hold at most, and told at once.
-const MOST_COPIED: usize = 1024;
+/// How many items are copied in a hold at most, so that it is short.
+const MOST_READ: usize = 128;
 
-/// A batch of so many bytes is written before more is told.
-const MOST_BYTES: usize = 1 << 20;
+/// The same where an image is copied too: what has happened meanwhile is to be read whole.
+const MOST_COPIED: usize = 1 << 16;
 
 /// How often is read in a round at most. With so many readings all has been read that had happened when the round began: the history, and
 /// those that checkpoints have emptied.
-const READINGS: u32 = 1 << 15;
+const READINGS: u32 = 1 << 18;
 
 /// How often an image is copied to save it, until nothing has happened that the journal does not tell.
 const COPIES: u32 = 16;
 
-/// The least pause between two rounds of the journal's thread, in milliseconds.
+/// The least pause between two rounds of the journal's thread, in milliseconds. Where replies wait for the journal, sessions make rounds,
+/// and the thread has only that to do which nobody waits for.
 const LEAST_PAUSE: u32 = 10;
+
+const PAUSE_BEHIND_REPLIES: u32 = 1000;
+
+/// The pause between two looks whether the image is to be saved, in milliseconds.
+const SAVING_PAUSE: u32 = 100;
 
 /// How many bytes and how many steps a unit of [`JournalSettings::save_after`] stands for.
 const BYTES: u64 = 1_000_000;
@@ -63,15 +66,35 @@ pub(crate) struct Read {
     steps: u64,
 }
 
-/// Reads what has happened behind so many items of the history. If a checkpoint has emptied a history that was not taken, that is taken.
+/// Reads what has happened behind so many items of the history, and so many items at most. If a checkpoint has emptied a history that was
+/// not taken, that is taken, unless an earlier one is not told yet: then nothing is read.
 #[derive(Drop)]
 pub(crate) struct Behind {
-    pub(crate) items: usize,
+    items: usize,
+    most: usize,
+    takes_past: bool,
 }
 
 impl Behind {
+    /// The items of the history that are read.
+    fn items_in<K: Naming>(
+        &self,
+        alloc: Global,
+        office: &Office<K, Mailbox>,
+    ) -> Result<(Vec<Item>, bool), AllocError> {
+        if !self.takes_past {
+            return Ok((Vec::new(alloc), true));
+        }
+        let history = office.image().history();
+        let all = history.len();
+        let from = self.items.min(all);
+        let count = self.most.min(all - from);
+        let items = copied_items(alloc, &history[from..from + count])?;
+        Ok((items, from + count < all))
+    }
+
     /// What has happened, in a hold of the lock.
-    pub(crate) fn read_in<K: Naming>(
+    fn read_in<K: Naming>(
         &self,
         alloc: Global,
         office: &mut Office<K, Mailbox>,
@@ -81,26 +104,25 @@ impl Behind {
         let names = office.image().names().again()?;
         let table = office.image().token().again()?;
         let steps = office.image().counted().steps;
-        if let Some(items) = office.take_past() {
-            return Ok(Read {
-                names,
-                table,
-                items,
-                is_past: true,
-                is_left: true,
-                steps,
-            });
+        if self.takes_past {
+            if let Some(items) = office.take_past() {
+                return Ok(Read {
+                    names,
+                    table,
+                    items,
+                    is_past: true,
+                    is_left: true,
+                    steps,
+                });
+            }
         }
-        let history = office.image().history();
-        let all = history.len();
-        let from = self.items.min(all);
-        let count = MOST_COPIED.min(all - from);
+        let (items, is_left) = self.items_in(alloc, office)?;
         Ok(Read {
             names,
             table,
-            items: copied_items(alloc, &history[from..from + count])?,
+            items,
             is_past: false,
-            is_left: from + count < all,
+            is_left,
             steps,
         })
     }
@@ -114,10 +136,18 @@ impl<K: Naming> Reading<K, Mailbox> for Behind {
     }
 }
 
-/// Copies an image to save it, and reads what has happened that its journal does not tell.
+/// Copies an image to save it, and reads what has happened that its journal does not tell. If more has happened, nothing is copied.
 #[derive(Drop)]
 pub(crate) struct CopyingBehind {
     pub(crate) behind: Behind,
+}
+
+/// Whether all was read that had happened.
+fn is_all(read: &Result<Read, AllocError>) -> bool {
+    match read {
+        Ok(read) => !read.is_left,
+        Err(_) => false,
+    }
 }
 
 /// What was copied, and what was read.
@@ -134,9 +164,12 @@ impl CopyingBehind {
         ensures moment { IfOk result.0 (λ m. m ≡ moment_of office.old.image) }
         ensures fault { IfErr result.0 IsFault }
     {
-        let moment = copied(alloc, office.image());
         let read = self.behind.read_in(alloc, office);
-        (moment, read)
+        if is_all(&read) {
+            (copied(alloc, office.image()), read)
+        } else {
+            (Err(Refusal::NoMemory), read)
+        }
     }
 }
 
@@ -151,16 +184,10 @@ impl<K: Naming> Reading<K, Mailbox> for CopyingBehind {
 /// How far a journal is.
 #[derive(Drop)]
 pub(crate) struct Progress {
-    /// How many names are told.
-    names: u32,
+    /// What is told, of the history that was read or else of the present one.
+    telling: Telling,
     /// What was read of a history that a checkpoint has emptied, until all of it is told.
     past: Option<Read>,
-    /// How many items are told, of that history or else of the present one.
-    items: usize,
-    /// What is told and not on the disk.
-    text: Vec<u8>,
-    /// Whether the text is a batch, with an empty line at its end.
-    is_batch: bool,
     /// The number of the last round that has ended.
     round: u64,
     /// How many steps the image had counted by then.
@@ -181,31 +208,14 @@ fn as_fault(refusal: Refusal) -> Refusal
     }
 }
 
-/// The lines of entries.
-fn lines(alloc: Global, read: &Read, entries: &[Entry]) -> Result<MemoryOutput, Refusal> {
-    let mut lines = MemoryOutput::new(alloc);
-    match write_lines(alloc, &read.names, read.table.shown(), entries, &mut lines) {
-        Ok(_) => Ok(lines),
-        Err(_) => Err(Refusal::NoMemory),
-    }
-}
-
-/// The lines of a checkpoint.
-fn checkpoint(alloc: Global, read: &Read) -> Result<MemoryOutput, Refusal> {
-    lines(alloc, read, &[Entry::Checkpoint])
-}
-
 impl Progress {
-    /// Nothing is told but so many names and items.
-    fn new(alloc: Global, names: u32, items: usize) -> Progress {
+    /// Nothing is told but so many names and items, of an image that has counted so many steps.
+    fn new(alloc: Global, names: u32, items: usize, steps: u64) -> Progress {
         Progress {
-            names,
+            telling: Telling::new(alloc, names, items),
             past: None,
-            items,
-            text: Vec::new(alloc),
-            is_batch: false,
             round: 0,
-            steps: 0,
+            steps,
             most_bytes: u64::MAX,
             most_steps: u64::MAX,
         }
@@ -223,52 +233,33 @@ impl Progress {
         self.most_steps = self.steps.saturating_add(units.saturating_mul(STEPS));
     }
 
-    /// Tells the names that were read and the items from one place to another. After an error nothing is told.
-    fn tell(&mut self, alloc: Global, read: &Read, from: usize, to: usize) -> Result<(), Refusal> {
-        let items = read.items.get(from..to).unwrap_or(&[]);
-        let entries = tell_since(alloc, &read.names, self.names, items)?;
-        let lines = lines(alloc, read, entries.as_slice())?;
-        self.text.extend_from_slice(lines.as_slice())?;
-        self.names = read.names.len();
-        Ok(())
+    /// What is to be read next, so many items at most.
+    fn behind(&self, most: usize) -> Behind {
+        Behind {
+            items: self.telling.items(),
+            most,
+            takes_past: self.past.is_none(),
+        }
     }
 
     /// Tells what was read of the present history. After an error nothing is told.
     fn tell_present(&mut self, alloc: Global, read: &Read) -> Result<(), Refusal> {
-        let count = read.items.len();
-        self.tell(alloc, read, 0, count)?;
-        self.items = self.items.saturating_add(count);
-        Ok(())
+        self.telling
+            .tell(alloc, &read.names, read.table.shown(), &read.items)
     }
 
     /// Tells some of a history that a checkpoint has emptied, and the checkpoint behind the last of it. The answer is whether all is told.
     fn tell_past(&mut self, alloc: Global, read: &Read) -> Result<bool, Refusal> {
-        let from = self.items.min(read.items.len());
-        let count = MOST_COPIED.min(read.items.len() - from);
+        let from = self.telling.items().min(read.items.len());
+        let count = MOST_TOLD.min(read.items.len() - from);
+        let (names, table) = (&read.names, read.table.shown());
         if count > 0 {
-            self.tell(alloc, read, from, from + count)?;
-            self.items = from + count;
+            let items = &read.items[from..from + count];
+            self.telling.tell(alloc, names, table, items)?;
             return Ok(false);
         }
-        let lines = checkpoint(alloc, read)?;
-        self.text.extend_from_slice(lines.as_slice())?;
-        self.items = 0;
+        self.telling.tell_checkpoint(alloc, names, table)?;
         Ok(true)
-    }
-
-    /// Has what is told written, if anything is.
-    fn write<S: Keeper>(&mut self, alloc: Global, keeper: &S) -> Result<(), Refusal> {
-        if self.text.is_empty() {
-            return Ok(());
-        }
-        if !self.is_batch {
-            self.text.extend_from_slice(b"\n")?;
-            self.is_batch = true;
-        }
-        keeper.append(alloc, self.text.as_slice())?;
-        self.text.clear();
-        self.is_batch = false;
-        Ok(())
     }
 }
 
@@ -285,19 +276,20 @@ pub struct Recorder<'a, K: Naming, S: Keeper> {
 }
 
 impl<'a, K: Naming, S: Keeper> Recorder<'a, K, S> {
-    /// Of the image that is shared the keeper's journal has so many names and items, if there is one.
+    /// Of the image that is shared, which has counted so many steps, the keeper's journal has so many names and items, if there is one.
     pub fn new(
         alloc: Global,
         shared: &'a Shared<K, Mailbox>,
         keeper: &'a S,
         names: u32,
         items: usize,
+        steps: u64,
     ) -> Recorder<'a, K, S> {
         Recorder {
             shared,
             keeper,
             rounds: AtomicU64::new(0),
-            progress: Mutex::new(Progress::new(alloc, names, items)),
+            progress: Mutex::new(Progress::new(alloc, names, items, steps)),
             is_ended: Mutex::new(false),
             ending: Condvar::new(),
         }
@@ -331,23 +323,13 @@ impl<'a, K: Naming, S: Keeper> Recorder<'a, K, S> {
                 Err(refusal) => Err(refusal),
             };
         }
-        let read = self.shared.read(
-            rt,
-            alloc,
-            Behind {
-                items: progress.items,
-            },
-        )?;
+        let behind = progress.behind(MOST_READ);
+        let read = self.shared.read(rt, alloc, behind)?;
         self.take_in(alloc, progress, read)
     }
 
     /// Tells what was read of the present history, or keeps what was read of an earlier one. The answer is whether there may be more.
-    fn take_in(
-        &self,
-        alloc: Global,
-        progress: &mut Progress,
-        read: Read,
-    ) -> Result<bool, Refusal> {
+    fn take_in(&self, alloc: Global, progress: &mut Progress, read: Read) -> Result<bool, Refusal> {
         progress.steps = read.steps;
         if read.is_past {
             progress.past = Some(read);
@@ -357,25 +339,47 @@ impl<'a, K: Naming, S: Keeper> Recorder<'a, K, S> {
         Ok(read.is_left)
     }
 
+    /// Tells all that has happened until now, and has it written where it is much. After an error some of it is told.
+    fn tell_all<R: Wait>(
+        &self,
+        rt: &R,
+        alloc: Global,
+        progress: &mut Progress,
+    ) -> Result<(), Refusal> {
+        for _ in 0..READINGS {
+            if progress.telling.is_much() {
+                progress.telling.write(alloc, self.keeper)?;
+            }
+            if !self.tell_some(rt, alloc, progress)? {
+                return Ok(());
+            }
+        }
+        Ok(())
+    }
+
     /// Tells and writes all that has happened until now. After an error some of it is, and the next round goes on from there.
-    pub(crate) fn round<R: Wait>(
+    fn round<R: Wait>(
         &self,
         rt: &R,
         alloc: Global,
         progress: &mut Progress,
     ) -> Result<(), Refusal> {
         let number = self.rounds.fetch_add(1, Ordering::SeqCst).wrapping_add(1);
-        for _ in 0..READINGS {
-            if progress.is_batch || progress.text.len() >= MOST_BYTES {
-                progress.write(alloc, self.keeper)?;
-            }
-            if !self.tell_some(rt, alloc, progress)? {
-                break;
-            }
-        }
-        progress.write(alloc, self.keeper)?;
+        self.tell_all(rt, alloc, progress)?;
+        progress.telling.write(alloc, self.keeper)?;
         progress.round = number;
         Ok(())
+    }
+
+    /// A round, and behind it what has happened meanwhile is told, and not written: so a hold that follows finds little more.
+    pub(crate) fn round_before_copying<R: Wait>(
+        &self,
+        rt: &R,
+        alloc: Global,
+        progress: &mut Progress,
+    ) -> Result<(), Refusal> {
+        self.round(rt, alloc, progress)?;
+        self.tell_all(rt, alloc, progress)
     }
 
     /// Waits until all that has happened until now is on the disk, if replies wait for that. Sessions that wait together share a round.
@@ -392,11 +396,9 @@ impl<'a, K: Naming, S: Keeper> Recorder<'a, K, S> {
         self.round(rt, alloc, &mut progress)
     }
 
-    /// Where the next reading begins.
+    /// What is to be read in the hold in which an image is copied.
     pub(crate) fn behind(&self, progress: &Progress) -> Behind {
-        Behind {
-            items: progress.items,
-        }
+        progress.behind(MOST_COPIED)
     }
 
     /// Writes what was read in a hold behind a round, in which an image was copied. The answer is what was copied, and where the journal
@@ -425,12 +427,18 @@ impl<'a, K: Naming, S: Keeper> Recorder<'a, K, S> {
         told: Result<(), Refusal>,
         read: Result<Read, AllocError>,
     ) -> Result<Option<u64>, Refusal> {
-        told?;
         let read = read?;
+        if read.is_past {
+            // It was taken, and nobody else has it.
+            progress.past = Some(read);
+            told?;
+            return Ok(None);
+        }
+        told?;
         if self.take_in(alloc, progress, read)? {
             return Ok(None);
         }
-        progress.write(alloc, self.keeper)?;
+        progress.telling.write(alloc, self.keeper)?;
         Ok(Some(self.keeper.end()))
     }
 
@@ -450,17 +458,33 @@ impl<'a, K: Naming, S: Keeper> Recorder<'a, K, S> {
         *behind
     }
 
-    /// Writes what has happened now and then, until the end, and saves the image where much has. Why that cannot be is told by the keeper.
-    pub(crate) fn go_on<R: Wait + Clock>(&self, rt: &R, alloc: Global, turns: &Turns) {
+    /// Writes what has happened now and then, until the end. Why that cannot be is told by the keeper.
+    pub(crate) fn go_on<R: Wait + Clock>(&self, rt: &R, alloc: Global) {
+        let Some(settings) = self.keeper.journal() else {
+            return;
+        };
+        let pause = match settings.pause {
+            0 => PAUSE_BEHIND_REPLIES,
+            pause => pause.max(LEAST_PAUSE),
+        };
+        for _ in rt.forever() {
+            if self.pause(rt, pause) {
+                return;
+            }
+            self.write_all(rt, alloc);
+        }
+    }
+
+    /// Saves the image where much has happened, until the end. Why that cannot be is told by the keeper.
+    pub(crate) fn go_on_saving<R: Wait + Clock>(&self, rt: &R, alloc: Global, turns: &Turns) {
         let Some(settings) = self.keeper.journal() else {
             return;
         };
         self.progress.lock(rt).wait_for_more(0, settings);
         for _ in rt.forever() {
-            if self.pause(rt, settings.pause.max(LEAST_PAUSE)) {
+            if self.pause(rt, SAVING_PAUSE) {
                 return;
             }
-            self.write_all(rt, alloc);
             if self.is_due(rt) {
                 self.save(rt, alloc, turns, settings);
             }
@@ -488,7 +512,7 @@ impl<'a, K: Naming, S: Keeper> Recorder<'a, K, S> {
     fn copy<R: Wait>(&self, rt: &R, alloc: Global) -> Result<(Moment, u64), Refusal> {
         let mut progress = self.progress.lock(rt);
         for _ in 0..COPIES {
-            let told = self.round(rt, alloc, &mut progress);
+            let told = self.round_before_copying(rt, alloc, &mut progress);
             let behind = self.behind(&progress);
             let copied = self.shared.read(rt, alloc, CopyingBehind { behind });
             let (moment, read) = copied;

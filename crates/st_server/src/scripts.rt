@@ -43,8 +43,9 @@ fn answer_input<I: Input, O: Output, S: Keeper>(
     (handler.runner, result)
 }
 
-/// Runs the commands of an input on an image with a new worker, and writes a reply to each.
-fn run_script<I: Input, O: Output, S: Keeper>(
+/// Runs the commands of an input on an image as it is, with its settings and a new worker, and writes a reply to each, as
+/// [`script_with`] does. `start` is when the program began, in nanoseconds since 1970.
+pub fn run_script<I: Input, O: Output, S: Keeper>(
     alloc: Global,
     input: &mut I,
     output: &mut O,

@@ -2,6 +2,7 @@
 ghost use Rattle.std.specs.Prelude.{◌≡◌};
 ghost use Rattle.st_server.specs.CommandReplies.{Runs, Serves};
 
+use crate::images::Image;
 use crate::keepers::{Keeper, save};
 use crate::quantum::Quantum;
 use crate::runner::Runner;
@@ -46,6 +47,14 @@ fn serve<S: Keeper>(
     }
 }
 
+/// Has the keeper tell what a command has led to, by the reply to it.
+fn note<S: Keeper>(alloc: Global, keeper: &S, image: &Image, reply: &Reply) {
+    match reply {
+        Reply::Counted { .. } => keeper.note_checkpoint(alloc, image),
+        _ => keeper.note(alloc, image),
+    }
+}
+
 /// An image and its worker, as the handler of a session, and who keeps the image where it is saved.
 #[derive(Drop)]
 pub struct ImageHandler<'a, S: Keeper> {
@@ -58,6 +67,8 @@ impl<'a, S: Keeper> Handler for ImageHandler<'a, S> {
     ghost answers = { λ i c r j. Serves i.quantum i.runner c r j.runner × (j.quantum ≡ i.quantum) };
 
     fn reply(&mut self, alloc: Global, command: Command) -> Reply {
-        serve(alloc, &mut self.runner, self.quantum, self.keeper, command)
+        let reply = serve(alloc, &mut self.runner, self.quantum, self.keeper, command);
+        note(alloc, self.keeper, self.runner.image(), &reply);
+        reply
     }
 }

@@ -97,10 +97,20 @@ fn go_on<K: Naming, W, S: Keeper, R: Wait + Clock>(
     alloc: Global,
     room: &Room<'_, K, W, S>,
 ) {
-    room.recorder.go_on(rt, alloc, room.turns);
+    room.recorder.go_on(rt, alloc);
 }
 
-/// Starts the thread that goes on with the journal, if there is one. The answer is false if it gets no thread.
+/// Saves the image where its journal has become long, until the end.
+fn go_on_saving<K: Naming, W, S: Keeper, R: Wait + Clock>(
+    rt: &R,
+    alloc: Global,
+    room: &Room<'_, K, W, S>,
+) {
+    room.recorder.go_on_saving(rt, alloc, room.turns);
+}
+
+/// Starts the thread that goes on with the journal, if there is one, and the one that saves. The answer is false if one of them gets no
+/// thread.
 fn start_recorder<
     's,
     E,
@@ -108,16 +118,12 @@ fn start_recorder<
     W: Witness<R> + Sync,
     S: Keeper + Sync,
     R: Threads + Wait + Clock + Sync,
->(
-    scope: &Scope<'s, E>,
-    rt: &'s R,
-    alloc: Global,
-    room: &'s Room<'_, K, W, S>,
-) -> bool {
+>(scope: &Scope<'s, E>, rt: &'s R, alloc: Global, room: &'s Room<'_, K, W, S>) -> bool {
     if !room.recorder.is_kept() {
         return true;
     }
     scope.spawn(move || go_on(rt, alloc, room)).is_ok()
+        && scope.spawn(move || go_on_saving(rt, alloc, room)).is_ok()
 }
 
 /// Adds the shares of workers that were told to end. `shares` must have room for them. A worker that ended without a share is
@@ -214,7 +220,16 @@ struct Left<K: Naming> {
     are_accepted: bool,
 }
 
-/// Lets sessions and workers go on with an image that they share. So many of its names and items are told in its journal, if there is one.
+/// How much of an image is told in its journal, if there is one, when it begins to be served.
+#[derive(Clone, Copy)]
+struct Told {
+    names: u32,
+    items: usize,
+    /// The steps that the image has counted.
+    steps: u64,
+}
+
+/// Lets sessions and workers go on with an image that they share.
 fn serve_shared<
     'a,
     K: Naming + Send + Sync,
@@ -226,15 +241,21 @@ fn serve_shared<
     rt: &R,
     alloc: Global,
     shared: &'a Shared<K, Mailbox>,
-    told: (u32, usize),
+    told: Told,
     door: Door<'a, P, W, S>,
     workers: Vec<Worker>,
 ) -> Result<Left<K>, Refusal>
     ensures workers { IfOk result (λ l. vec_len l.shares.workers ≡ vec_len workers) }
     ensures refused { IfErr result (λ e. (e ≡ refusals.NoMemory) ⊎ (e ≡ refusals.BadArguments)) }
 {
-    let (names, items) = told;
-    let recorder = Recorder::new(alloc, shared, door.keeper, names, items);
+    let recorder = Recorder::new(
+        alloc,
+        shared,
+        door.keeper,
+        told.names,
+        told.items,
+        told.steps,
+    );
     if recorder.is_kept() {
         shared.keep_past(rt, alloc);
     }
@@ -302,7 +323,11 @@ fn serve<
     ensures fault { IfOk result (λ r. IfSome r.fault (λ e. e ≡ refusals.ReadFault)) }
     ensures refused { IfErr result (λ e. (e ≡ refusals.BadArguments) ⊎ (e ≡ refusals.NoMemory) ⊎ (e ≡ refusals.Changed)) }
 {
-    let told = (image.names().len(), image.history().len());
+    let told = Told {
+        names: image.names().len(),
+        items: image.history().len(),
+        steps: image.counted().steps,
+    };
     let shared = Shared::<K, Mailbox>::new(image, blanks, opened);
     let Left {
         shares,

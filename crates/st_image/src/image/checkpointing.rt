@@ -63,11 +63,7 @@ impl<M: Mailbox> Image<M> {
 
     /// The same, and the history that is emptied takes the place of what is in `past`. It is moved there, and not copied. After an error
     /// nothing has changed there either.
-    pub fn checkpoint_into(
-        &mut self,
-        alloc: Global,
-        past: &mut Vec<Item>,
-    ) -> Result<(), AllocError>
+    pub fn checkpoint_into(&mut self, alloc: Global, past: &mut Vec<Item>) -> Result<(), AllocError>
         ensures ok { OnOk result (BeginsAnew self.old self.new) }
         ensures past { OnOk result (past.new.items ≡ self.old.history) }
         ensures err { OnErr result ((self.new ≡ self.old) × (past.new ≡ past.old)) }

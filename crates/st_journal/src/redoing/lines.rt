@@ -26,7 +26,7 @@ fn newline(text: &[u8]) -> Option<usize>
 }
 
 /// The first line of a text, and what stands behind its newline.
-fn first_line(text: &[u8]) -> (&[u8], &[u8])
+pub(super) fn first_line(text: &[u8]) -> (&[u8], &[u8])
     requires { 0 < length text.now }
     ensures line { lines_of text.now ≡ result.0.now ∷ lines_of result.1.now }
     ensures less { length result.1.now < length text.now }
@@ -38,7 +38,11 @@ fn first_line(text: &[u8]) -> (&[u8], &[u8])
 }
 
 /// The entry that a line says, by the names and the present class table of an image.
-fn entry_of<M: Mailbox>(alloc: Global, image: &Image<M>, line: &[u8]) -> Result<Entry, LineError>
+pub(super) fn entry_of<M: Mailbox>(
+    alloc: Global,
+    image: &Image<M>,
+    line: &[u8],
+) -> Result<Entry, LineError>
     ensures ok { IfOk result (λ e. SaysAt image.now line.now e) }
     ensures err { IfErr result (λ e. RefusesLine image.now line.now e) }
 {

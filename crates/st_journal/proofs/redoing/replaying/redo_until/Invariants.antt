@@ -1,0 +1,12 @@
+use Rattle.std.proofs.Common.{◌+◌, ◌≤◌, length}
+use Rattle.st_journal.proofs.SaidLines.{HasRead}
+use Rattle.st_journal.proofs.redoing.replaying.redo_until.Given as goal
+
+abbrev pub invariant-loop-rest : goal.invariant-loop-rest
+invariant-loop-rest g l = record {
+  read : HasRead l.fn.image l.fn.text l.done l.rest l.image;
+  within : l.done + length l.rest ≤ length l.fn.text;
+}
+
+abbrev pub decreases-loop-rest : goal.decreases-loop-rest
+decreases-loop-rest g l = length l.rest

@@ -1,0 +1,101 @@
+"""Trials on the journal of a script: what is there behind a kill, and how the next script goes on."""
+
+import os
+
+from crashes_parts.journals import recovered
+from inspect_parts.try_common import EXAMPLES, read
+from inspect_parts.written import compact
+
+from .program import Ended, named, refusal, same
+from .saving import end_of, going_on
+from .try_held import FIRST, HELD, SECOND, alone, text_of
+from .try_journal import LEFT, header
+from .try_paths import ENDINGS
+from .try_saves import SCRIPTS
+
+JOURNAL = ("--journal",)
+SAVE = b'{"cmd":"save"}'
+# Behind so many lines a script is killed.
+FEW = 4
+
+
+def kept(about, path, text):
+    """The image of a file and its journal is that of a text."""
+    same(about, compact(recovered(path)[0].file()).encode(), text)
+
+
+def ends(program, about, path, *lines):
+    """A script with a journal ends well: the image has all, and no journal is there."""
+    same(f"{about}: the end", program.script(path, *lines, options=JOURNAL)._replace(out=b""), Ended(0, b"", b""))
+
+
+def script_is_killed(program):
+    """Behind each reply what it tells is there, and the next script goes on: its replies are those of one script of all lines, also the
+    numbers of turns."""
+    kills = 0
+    for name in SCRIPTS:
+        lines, path, whole = read(os.path.join(EXAMPLES, f"{name}.jsonl")).splitlines(), program.at(name), program.at("whole")
+        wanted = program.replies(name, whole, lines)
+        for first in range(0, len(lines), FEW):
+            behind = min(first + FEW, len(lines))
+            with going_on(program, path, *JOURNAL) as (script, asked):
+                for place in range(first, behind):
+                    same(f"{name}, line {place + 1}", asked(lines[place]), wanted[place])
+                script.kill()
+                script.wait()
+            kept(f"{name}, behind line {behind}", path, text_of(program, *lines[:behind]))
+            kills += 1
+        ends(program, name, path)
+        same(f"{name}: what is left", read(path), read(whole))
+        # Nobody lets the new file of a killed script go, but the next one takes it.
+        alone(program, name, "whole")
+        for it in (path, whole):
+            os.remove(it)
+    return f"{len(SCRIPTS)} scripts, {kills} kills"
+
+
+def script_saves_and_is_killed(program):
+    """A save begins the journal anew, and what comes behind it is there too."""
+    kills = 0
+    for name in SCRIPTS:
+        lines, path = read(os.path.join(EXAMPLES, f"{name}.jsonl")).splitlines(), program.at(name)
+        for saved in range(0, len(lines), FEW):
+            behind = min(saved + FEW // 2, len(lines))
+            with going_on(program, path, *JOURNAL) as (script, asked):
+                for place in range(behind):
+                    asked(lines[place])
+                    if place == saved:
+                        asked(SAVE)
+                        same(f"{name}, a save behind line {place + 1}", read(path + ".journal"), header(read(path)) + b"\n")
+                script.kill()
+                script.wait()
+            text = text_of(program, *lines[:behind])
+            kept(f"{name}, behind line {behind}", path, text)
+            ends(program, name, path)
+            same(f"{name}, behind line {behind}: what is left", read(path), text)
+            os.remove(path)
+            kills += 1
+    return f"{len(SCRIPTS)} scripts, {kills} kills"
+
+
+def refused_script_keeps_its_journal(program):
+    """A script with a journal that is refused leaves image and journal, and nothing of it is lost. Without the journal no script goes on
+    from there, and while a script goes on no other has the journal."""
+    for line, name in ENDINGS:
+        path = program.at("file")
+        refused = program.script(path, FIRST, line, options=JOURNAL)
+        same(f"{name}: its end", (refused.status, refused.err), (1, named(name.decode())))
+        kept(f"{name}: both files", path, text_of(program, FIRST))
+        same("a script without a journal", program.script(path, SECOND), refusal("WriteFault", f"{path}.journal {LEFT}"))
+        with going_on(program, path, *JOURNAL) as (script, asked):
+            same("an edit", asked(SECOND), b'{"ok":{"version":2}}')
+            another = program.script(path, options=JOURNAL)
+            same("a second script", another, refusal("WriteFault", f"{path}.new {HELD}"))
+            same("the end", end_of(script), Ended(0, b"", b""))
+        same("what is left", read(path), text_of(program, FIRST, SECOND))
+        alone(program, "file")
+        os.remove(path)
+    return f"{len(ENDINGS)} scripts"
+
+
+TRIALS = (script_is_killed, script_saves_and_is_killed, refused_script_keeps_its_journal)

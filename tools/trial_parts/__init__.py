@@ -1,0 +1,1 @@
+"""What trials of several tools have in common."""

@@ -1,13 +1,11 @@
 """Trials in a real browser of large images and of narrow windows."""
 
-import time
-
 from .try_common import many, same, true
 from .try_in_browser import choose, shown, traffic
 
 CLASSES, OF_KERNEL, ACTORS = 1_024, 8, 65_536
-# Seconds in which a view of a full image is drawn, elements that it may have, and those that a list of classes may.
-DRAWN, MOST_ELEMENTS, OF_CLASSES = 10.0, 4_000, 12_000
+# Elements that a view of a full image may have, and those that a list of classes may.
+MOST_ELEMENTS, OF_CLASSES = 4_000, 12_000
 ELEMENTS = "return document.getElementsByTagName('*').length"
 
 
@@ -22,10 +20,8 @@ def full_images_are_shown(program):
         browser.wait("return document.querySelectorAll('[role=treeitem]').length === 11")
         browser.click("#tab-actors")
         browser.wait("return Number(document.querySelector('[role=table]').getAttribute('aria-rowcount')) === arguments[0]", ACTORS + 1)
-        began = time.monotonic()
         browser.run("document.querySelector('#actor-rows').scrollTop = 1e9")
         browser.wait("return [...document.querySelectorAll('.rows .arow')].some(it => it.actor === arguments[0] && it.style.display !== 'none')", ACTORS - 1)
-        true(time.monotonic() - began < DRAWN, "the last rows were drawn late")
         browser.run("[...document.querySelectorAll('.ahead button')].find(it => it.innerText.startsWith('class')).click()")
         browser.wait("return document.querySelector('.rows .arow.on, .rows .arow') && [...document.querySelectorAll('.ahead [aria-sort=ascending]')].length === 1")
         browser.write("#actor-filter", "C7")

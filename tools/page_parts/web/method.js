@@ -38,6 +38,7 @@ export class MethodPane {
   // Opens what a send of the selector to an object of the class runs; without a selector a new method.
   async open(name, selector) {
     this.theirs = this.other = null;
+    this.turn = (this.turn || 0) + 1;
     if (selector === null) {
       this.take({ class: name, selector: "", source: "", version: 0, sites: [], versions: [], isNew: true });
       return;
@@ -49,7 +50,7 @@ export class MethodPane {
   }
 
   take(told) {
-    this.told = told;
+    Object.assign(this, { told, theirs: null });
     at.shown = told.source !== undefined && !told.isNew ? [told.class, told.selector] : null;
     const kept = draft(told.class, told.selector);
     if (kept && !told.kernel) {
@@ -139,7 +140,9 @@ export class MethodPane {
     if (!this.told || (!this.isChanged && !seen)) return;
     const { class: name, selector } = this.told, text = this.editor.text;
     const given = seen || { selector, version: this.began.version };
+    this.isInstalling = true;
     const reply = await change("install", { class: name, source: text, seen: given });
+    this.isInstalling = false;
     if (this.told.class !== name || this.told.selector !== selector) return;
     if (reply.ok) { this.installed(name, selector, reply); return; }
     if (reply.error === "Stale") {
@@ -180,7 +183,9 @@ export class MethodPane {
     const { class: name, selector, version } = this.told;
     if (!(await confirmed(`Remove ${name} › ${selector}?`,
       "From the next send on it is not there. Its versions stay, and one can be brought back.", "Remove"))) return;
+    this.isInstalling = true;
     const reply = await change("remove", { class: name, selector, seen: version });
+    this.isInstalling = false;
     if (reply.theirs) { this.theirs = reply.theirs; this.draw(); return; }
     if (reply.error) { this.say(reply.said); return; }
     keep(name, selector, null);
@@ -191,7 +196,9 @@ export class MethodPane {
 
   // Installs what was there in a version, over the one that is there now.
   async bringBack(name, selector, version, over = this.told.version || 0) {
+    this.isInstalling = true;
     const reply = await change("install", { class: name, source: version.source, seen: { selector, version: over } });
+    this.isInstalling = false;
     if (reply.theirs) { this.theirs = reply.theirs; this.draw(); return; }
     if (reply.error) { this.say(reply.said); return; }
     toast(`${name} › ${selector}: version ${version.version} is back, as version ${reply.ok.version}`);
@@ -204,34 +211,44 @@ export class MethodPane {
   tell(event) {
     const told = this.told, sites = event.sites;
     if (!told || !sites || told.isNew || sites.class !== told.class || sites.selector !== told.selector) return;
+    if (this.isInstalling || this.isAsking) return;
     if (sites.version === told.version) {
       this.under.tell(sites);
       told.sites = sites.sites;
       if (this.began.version === told.version) this.editor.tell(sites.sites);
     } else if (!this.isChanged) {
-      this.refresh(sites);
+      this.refresh();
     } else if (!this.theirs || this.theirs.version !== sites.version) {
-      this.meanwhile(sites);
+      this.meanwhile();
     }
   }
 
-  async refresh(sites) {
-    const { class: name, selector } = this.told;
-    toast(sites.version
-      ? `${name} › ${selector} is version ${sites.version} now, of somebody else` : `${name} › ${selector} was removed by somebody else`,
-      "warn");
-    this.told.version = sites.version;
-    await this.open(name, selector);
+  // Asks what is there now, as long as nothing else is opened or installed meanwhile: an event may be of before.
+  async asked() {
+    const { class: name, selector } = this.told, turn = this.turn;
+    this.isAsking = true;
+    const reply = await look("method", { class: name, selector });
+    this.isAsking = false;
+    if (!reply.ok || turn !== this.turn || this.isInstalling) return null;
+    const isOwn = reply.ok.class === name && reply.ok.version;
+    return { told: reply.ok, version: isOwn ? reply.ok.version : 0, source: isOwn ? reply.ok.source : null };
   }
 
-  async meanwhile(sites) {
-    const { class: name, selector } = this.told;
-    Object.assign(this, { theirs: { version: sites.version, source: null }, other: null });
-    const asked = await look("method", { class: name, selector });
-    if (!asked.ok || this.told.class !== name || this.told.selector !== selector) return;
-    this.told = { ...asked.ok, class: name, selector };
-    this.theirs = { version: asked.ok.class === name ? asked.ok.version || 0 : 0,
-      source: asked.ok.class === name ? asked.ok.source ?? null : null };
+  // Nothing was typed: what is there now is shown.
+  async refresh() {
+    const { class: name, selector, version } = this.told, now = await this.asked();
+    if (!now || now.version === (version || 0) || this.isChanged) return;
+    const what = now.version ? `is version ${now.version} now, of somebody else` : "was removed by somebody else";
+    toast(`${name} › ${selector} ${what}`, "warn");
+    this.take(now.told);
+  }
+
+  // Something was typed: it stays, and another version is told.
+  async meanwhile() {
+    const { class: name, selector } = this.told, now = await this.asked();
+    if (!now || now.version === this.began.version) return;
+    this.told = { ...now.told, class: name, selector };
+    Object.assign(this, { theirs: { version: now.version, source: now.source }, other: null });
     this.draw();
     this.under.open();
   }

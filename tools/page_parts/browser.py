@@ -11,14 +11,12 @@ import time
 import urllib.error
 import urllib.request
 
+from trial_parts.patience import PATIENCE
+
 # The key under which WebDriver names an element, and the keys of a keyboard that are no letters.
 ELEMENT = "element-6066-11e4-a52e-4f735466cecf"
 ENTER, ESCAPE, TAB, DOWN, UP, LEFT, RIGHT, END = "\ue007", "\ue00c", "\ue004", "\ue015", "\ue013", "\ue012", "\ue014", "\ue010"
 HELD = {"ctrl": "\ue009", "shift": "\ue008", "alt": "\ue00a"}
-# Seconds in which what is waited for has to be there, on a machine that may have other work to do.
-PATIENCE = float(os.environ.get("SECONDS_OF_PATIENCE", "60"))
-
-
 # What a driver says of an element that is not there yet or no more.
 PASSING = ("stale element reference", "no such element", "element not interactable", "element click intercepted")
 
@@ -76,7 +74,7 @@ class Browser:
         request = urllib.request.Request(self.address + self.session + path, data, {"Content-Type": "application/json"}, method=how)
         try:
             # The driver is on this machine, so no proxy is asked.
-            with urllib.request.build_opener(urllib.request.ProxyHandler({})).open(request, timeout=120) as reply:
+            with urllib.request.build_opener(urllib.request.ProxyHandler({})).open(request, timeout=PATIENCE) as reply:
                 return json.load(reply)["value"]
         except urllib.error.HTTPError as error:
             told = json.load(error)["value"]

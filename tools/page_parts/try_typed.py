@@ -1,6 +1,5 @@
 """Trials of the workspace of the page, of an image that is lost or full, and of the sessions that a page has."""
 
-
 import actorimage
 from workspace_parts.serving import Server as ImageServer
 

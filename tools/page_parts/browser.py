@@ -17,6 +17,8 @@ from trial_parts.patience import PATIENCE
 ELEMENT = "element-6066-11e4-a52e-4f735466cecf"
 ENTER, ESCAPE, TAB, DOWN, UP, LEFT, RIGHT, END = "\ue007", "\ue00c", "\ue004", "\ue015", "\ue013", "\ue012", "\ue014", "\ue010"
 HELD = {"ctrl": "\ue009", "shift": "\ue008", "alt": "\ue00a"}
+# How often a driver is started at most.
+STARTS = 10
 # What a driver says of an element that is not there yet or no more.
 PASSING = ("stale element reference", "no such element", "element not interactable", "element click intercepted")
 
@@ -29,13 +31,25 @@ def is_there():
     return bool(shutil.which("chromium") and shutil.which("chromedriver"))
 
 
+def started():
+    """A driver, and its port. It looks for a free one, which another program may take before it does: then it ends, and is started again."""
+    pipes = {"stdout": subprocess.PIPE, "stderr": subprocess.DEVNULL, "text": True, "start_new_session": True}
+    for _ in range(STARTS):
+        driver = subprocess.Popen([shutil.which("chromedriver"), "--port=0"], **pipes)
+        for line in driver.stdout:
+            if found := re.search(r"started successfully on port (\d+)", line):
+                return driver, int(found[1])
+        driver.wait()
+        driver.stdout.close()
+    raise Failed("chromedriver does not start")
+
+
 class Browser:
     def __init__(self, width=1280, height=900, is_dark=False):
         self.folder, self.session = tempfile.TemporaryDirectory(prefix="browser-"), ""
-        pipes = {"stdout": subprocess.PIPE, "stderr": subprocess.DEVNULL, "text": True, "start_new_session": True}
-        self.driver = subprocess.Popen([shutil.which("chromedriver"), "--port=0"], **pipes)
+        self.driver, port = started()
         try:
-            self.address = f"http://127.0.0.1:{self.port()}"
+            self.address = f"http://127.0.0.1:{port}"
             words = ["--headless=new", f"--window-size={width},{height}", f"--user-data-dir={self.folder.name}", "--no-first-run"]
             words += ["--disable-dev-shm-usage", "--force-device-scale-factor=1"] + (["--no-sandbox"] if os.geteuid() == 0 else [])
             options = {"args": words, "binary": shutil.which("chromium")}
@@ -62,12 +76,6 @@ class Browser:
         self.driver.wait()
         self.driver.stdout.close()
         self.folder.cleanup()
-
-    def port(self):
-        for line in self.driver.stdout:
-            if found := re.search(r"started successfully on port (\d+)", line):
-                return int(found[1])
-        raise Failed("chromedriver did not start")
 
     def ask(self, how, path, body=None):
         data = None if body is None else json.dumps(body).encode()

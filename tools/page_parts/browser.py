@@ -5,13 +5,14 @@ import json
 import os
 import re
 import shutil
+import signal
 import subprocess
 import tempfile
 import time
 import urllib.error
 import urllib.request
 
-from trial_parts.patience import PATIENCE
+from trial_parts.patience import PATIENCE, until
 
 # The key under which WebDriver names an element, and the keys of a keyboard that are no letters.
 ELEMENT = "element-6066-11e4-a52e-4f735466cecf"
@@ -72,10 +73,17 @@ class Browser:
                 self.ask("DELETE", "")
         except (Failed, OSError):
             pass
-        self.driver.terminate()
+        # Of what the driver has started none goes on, which would write into the folder.
+        os.killpg(self.driver.pid, signal.SIGKILL)
         self.driver.wait()
         self.driver.stdout.close()
+        until(self.is_cleared, f"{self.folder.name} cannot be removed")
         self.folder.cleanup()
+
+    def is_cleared(self):
+        """Whether nothing is in the folder any more. What is being ended may have written into it meanwhile."""
+        shutil.rmtree(self.folder.name, ignore_errors=True)
+        return not os.path.exists(self.folder.name)
 
     def ask(self, how, path, body=None):
         data = None if body is None else json.dumps(body).encode()
@@ -108,12 +116,12 @@ class Browser:
 
     def on(self, selector, what, body):
         """Does something with an element, once it is there and nothing lies over it: a page may draw it anew in between."""
-        until = time.monotonic() + PATIENCE
+        ends = time.monotonic() + PATIENCE
         while True:
             try:
                 return self.ask("POST", f"/element/{self.one(selector)}/{what}", body)
             except Failed as failed:
-                if not str(failed).startswith(PASSING) or time.monotonic() > until:
+                if not str(failed).startswith(PASSING) or time.monotonic() > ends:
                     raise
             time.sleep(0.05)
 
@@ -144,9 +152,9 @@ class Browser:
 
     def wait(self, script, *arguments, seconds=PATIENCE):
         """Waits until a script gives something true, and gives that."""
-        until = time.monotonic() + seconds
+        ends = time.monotonic() + seconds
         while not (found := self.run(script, *arguments)):
-            if time.monotonic() > until:
+            if time.monotonic() > ends:
                 raise Failed(f"not within {seconds:.0f} seconds: {script} {arguments}; seen is {self.text('body')[:2000]!r}")
             time.sleep(0.05)
         return found

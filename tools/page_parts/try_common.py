@@ -12,6 +12,7 @@ import threading
 import time
 
 import actorimage
+from trial_parts.patience import PATIENCE
 from workspace_parts.serving import Server as ImageServer
 from workspace_parts.try_common import TOP, same
 
@@ -21,8 +22,6 @@ from .serving import Server
 
 HERE = os.path.dirname(os.path.realpath(__file__))
 WORKSPACE, PAGE, SHOP = os.path.join(TOP, "tools", "workspace"), os.path.join(TOP, "tools", "page"), os.path.join(HERE, "shop.st")
-# Seconds in which what is waited for has to come, on a machine that may have other work to do.
-PATIENCE = float(os.environ.get("SECONDS_OF_PATIENCE", "60"))
 SECRET = "t" * 43
 
 

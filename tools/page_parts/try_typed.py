@@ -1,12 +1,10 @@
 """Trials of the workspace of the page, of an image that is lost or full, and of the sessions that a page has."""
 
-import time
-
 import actorimage
 from workspace_parts.serving import Server as ImageServer
 
 from . import desk, watch
-from .try_common import Opened, image_of, load, post, same, true, until
+from .try_common import Opened, image_of, load, same, true, until
 
 
 def entries_are_done(program):

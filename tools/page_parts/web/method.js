@@ -3,11 +3,12 @@
 import { change, look } from "./ask.js";
 import { confirmed } from "./dialog.js";
 import { difference } from "./diff.js";
-import { button, h, plural, put, toast } from "./dom.js";
+import { button, h, put, toast } from "./dom.js";
 import { draft, keep } from "./drafts.js";
 import { Editor } from "./editor.js";
 import { find } from "./find.js";
 import { at, image, see } from "./image.js";
+import { makeRoom } from "./source.js";
 import { Under } from "./under.js";
 
 const ORDER = n => `${n}${n % 100 > 10 && n % 100 < 14 ? "th" : ["th", "st", "nd", "rd"][n % 10] || "th"}`;
@@ -22,7 +23,7 @@ export class MethodPane {
     this.head = h("div", { of: "crumbs grow" });
     this.chip = h("span", { of: "chip changed", hidden: true }, "● changed");
     this.buttons = {
-      remove: button("plain danger", "Remove", () => this.remove(), { title: "Removes the method from its class" }),
+      remove: button("plain danger changes", "Remove", () => this.remove(), { title: "Removes the method from its class" }),
       revert: button("plain", "Revert", () => this.revert(), { title: "Forgets what was typed" }),
       install: button("plain", "Install", () => this.install(), { title: "Ctrl+S", id: "install" }),
     };
@@ -36,7 +37,7 @@ export class MethodPane {
 
   // Opens what a send of the selector to an object of the class runs; without a selector a new method.
   async open(name, selector) {
-    this.theirs = null;
+    this.theirs = this.other = null;
     if (selector === null) {
       this.take({ class: name, selector: "", source: "", version: 0, sites: [], versions: [], isNew: true });
       return;
@@ -62,6 +63,7 @@ export class MethodPane {
     }
     this.said = "";
     this.draw();
+    makeRoom(this.editor.root);
     this.under.open();
     see();
   }
@@ -88,8 +90,7 @@ export class MethodPane {
     put(this.head, told && [h("span", { of: "C" }, told.class), h("span", { of: "faint" }, "›"),
       h("span", { of: "sel cut" }, told.selector || "new method"), h("span", { of: "faint cut" }, this.which())]);
     if (told && !isShown) {
-      put(this.none, told.kernel ? `${told.class} has ${told.selector} from the kernel, which has no source.` : told.gone
-        ? `${told.class} has no method ${told.selector} now. Its versions stand below: one can be brought back.` : `No class from ${told.class} up has a method ${told.selector}.`);
+      put(this.none, this.whyNone());
     }
     this.chip.hidden = !this.isChanged;
     this.buttons.install.disabled = !this.isChanged;
@@ -97,6 +98,14 @@ export class MethodPane {
     this.buttons.revert.disabled = !this.isChanged && !this.theirs;
     this.buttons.remove.disabled = !told || !told.version;
     this.drawBanner();
+  }
+
+  // What is said where there is no source.
+  whyNone() {
+    const { class: name, selector, kernel, gone } = this.told;
+    if (kernel) return `${name} has ${selector} from the kernel, which has no source.`;
+    if (gone) return `${name} has no method ${selector} now. Its versions stand below: one can be brought back.`;
+    return `No class from ${name} up has a method ${selector}.`;
   }
 
   which() {
@@ -112,15 +121,16 @@ export class MethodPane {
       return;
     }
     const { version, source } = this.theirs, began = this.began.version;
-    const what = version ? `Replaced meanwhile by version ${version}` : "Removed meanwhile";
+    const isOther = this.other && this.other !== this.told.selector, mine = isOther ? this.other : this.told.selector;
+    const what = isOther ? `There is a method ${mine} already, version ${version}` : version ? `Replaced meanwhile by version ${version}` : "Removed meanwhile";
+    const how = isOther ? "" : began ? ` of somebody else; you began with version ${began}` : " of somebody else; you began with none";
     put(this.banner, h("div", { of: "banner", id: "conflict" },
-      h("b", {}, what), h("span", { of: "grow" },
-        began ? ` of somebody else; you began with version ${began}. Nothing is overwritten.` : " of somebody else; you began with none. Nothing is overwritten."),
+      h("b", {}, what), h("span", { of: "grow" }, `${how}. Nothing is overwritten.`),
       button("plain", "Show both", () => { this.areBoth = !this.areBoth; this.drawBanner(); },
         { "aria-expanded": String(Boolean(this.areBoth)), id: "show-both" }),
       button("plain", "Take theirs", () => this.takeTheirs(), { title: "What you typed is forgotten", id: "take-theirs" }),
       button("plain", version ? `Install mine over ${version}` : "Install mine",
-        () => this.install({ selector: this.told.selector || this.other, version }), { id: "install-mine" })),
+        () => this.install({ selector: mine, version }), { id: "install-mine" })),
       this.areBoth && h("div", { of: "sect", id: "both" }, h("h3", {}, "Theirs, and what yours would change in it"),
         difference(source ?? "", this.editor.text)));
   }
@@ -134,7 +144,6 @@ export class MethodPane {
     if (reply.ok) { this.installed(name, selector, reply); return; }
     if (reply.error === "Stale") {
       Object.assign(this, { theirs: reply.theirs, other: reply.selector, areBoth: true, said: "" });
-      if (reply.selector !== selector) this.began = { base: this.began.base, version: 0 };
       this.draw();
       return;
     }
@@ -153,9 +162,11 @@ export class MethodPane {
   }
 
   takeTheirs() {
-    keep(this.told.class, this.told.selector, null);
+    const { class: name, selector } = this.told, to = this.other || selector;
+    keep(name, selector, null);
     this.theirs = null;
-    this.open(this.told.class, this.told.selector);
+    Object.assign(at, { class: name, selector: to });
+    this.open(name, to);
   }
 
   revert() {
@@ -215,7 +226,7 @@ export class MethodPane {
 
   async meanwhile(sites) {
     const { class: name, selector } = this.told;
-    this.theirs = { version: sites.version, source: null };
+    Object.assign(this, { theirs: { version: sites.version, source: null }, other: null });
     const asked = await look("method", { class: name, selector });
     if (!asked.ok || this.told.class !== name || this.told.selector !== selector) return;
     this.told = { ...asked.ok, class: name, selector };

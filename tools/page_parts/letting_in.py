@@ -35,6 +35,8 @@ HEADERS = {
 }
 # The states of a connection in /proc/net/tcp that stands. One that its owner has closed is listed there as root's.
 STANDS = "01"
+# How often that is read at most.
+LOOKS = 3
 
 
 class Refused(Exception):
@@ -49,14 +51,19 @@ def end_in_table(address):
 
 def user_of(peer, own, table="/proc/net/tcp"):
     """The user at the other end of a connection of this machine; None if the connection is not listed as one that stands. Where
-    the system has no such table, the token alone decides."""
-    try:
-        with open(table, encoding="ascii") as file:
-            rows = [line.split() for line in file]
-    except OSError:
-        return os.getuid()
+    the system has no such table, the token alone decides. The table is read in parts, and a row may be passed over where others come and
+    go meanwhile: so it is read again before nobody is there."""
     ends = end_in_table(peer), end_in_table(own)
-    return next((int(row[7]) for row in rows if (row[1], row[2]) == ends and row[3] == STANDS), None)
+    for _ in range(LOOKS):
+        try:
+            with open(table, encoding="ascii") as file:
+                rows = [line.split() for line in file]
+        except OSError:
+            return os.getuid()
+        for row in rows:
+            if (row[1], row[2]) == ends and row[3] == STANDS:
+                return int(row[7])
+    return None
 
 
 def same_user(gate, request):

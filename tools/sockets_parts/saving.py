@@ -14,7 +14,7 @@ import threading
 import time
 
 from sockets_parts import stopping
-from sockets_parts.resources import sleeps
+from sockets_parts.resources import sleeps, unread
 from sockets_parts.together import run_together
 from trial_parts.patience import PATIENCE, until
 
@@ -211,20 +211,28 @@ def bytes_in(pipe):
 
 
 def refused_saves_that_nobody_reads(program, Server, _post):
-    """Where nobody reads why a save was refused, and there is room for no more of it, at most that session waits: others save, and are
-    told."""
-    with served(program, Server, 2) as (server, file), server.client() as client, server.client() as other:
+    """Where nobody reads why a save was refused, and there is room for no more of it, at most one session waits that was to say it: others
+    save, and are told."""
+    with served(program, Server, 3) as (server, file), contextlib.ExitStack() as stack:
+        clients = [stack.enter_context(server.client()) for _ in range(3)]
         # The least that a pipe holds.
         room = fcntl.fcntl(server.process.stderr, fcntl.F_SETPIPE_SZ, 4096)
-        client.done(cmd="save")
+        clients[0].done(cmd="save")
         os.utime(file, (0, 0))
         said = len(f"actorimage: the image is not saved: {file} was changed by another process, and is NOT replaced\n".encode())
-        client.send(*[{"cmd": "save"}] * (2 * room // said))
+        asked = [2 * room // said, 3, 3]
+        clients[0].send(*[{"cmd": "save"}] * asked[0])
         until(lambda: bytes_in(server.process.stderr) + said > room, "not all that is said is written")
-        for _ in range(3):
-            assert other.ask(cmd="save") == {"error": "WriteFault"}
-        client.leave()
-        other.leave()
+        for client, count in zip(clients[1:], asked[1:]):
+            client.send(*[{"cmd": "save"}] * count)
+
+        def are_told():
+            """The sessions of which each save is answered."""
+            return [it for it, count in zip(clients, asked) if unread(it).count(b"\n") == count]
+
+        until(lambda: len(are_told()) >= 2, "more than one session waits")
+        assert all(set(unread(it).splitlines()) == {b'{"error":"WriteFault"}'} for it in are_told()), "a save is not refused"
+        stack.close()
         out, err = server.process.communicate(timeout=PATIENCE)
         assert out == '{"ok":{"posts":0,"steps":0}}\n' and "the image is not saved" in err, (out, err)
 

@@ -1,11 +1,11 @@
 //! The file in which a run keeps its image.
-ghost use Rattle.std.specs.Prelude.{IfOk, Ok};
+ghost use Rattle.std.specs.Prelude.{IfErr, IfOk, Ok};
 ghost use Rattle.st_server.specs.Keepers.{IsFault, Keeps};
 
 use crate::failures::Failure;
 use crate::journals::Journal;
 use crate::new_files::{NewFile, hold, hold_beside};
-use crate::noting::Noted;
+use crate::noting::{Appender, Noted};
 use crate::stamps::Stamp;
 use st_classes::refusals::Refusal;
 use st_file::moments::Moment;
@@ -353,7 +353,7 @@ impl<'a> FileKeeper<'a> {
             return Err(Refusal::WriteFault);
         };
         match &mut *noted {
-            Some(noted) => noted.write(alloc, self),
+            Some(noted) => noted.write(alloc, &Appender { keeper: self }),
             None => Ok(()),
         }
     }
@@ -364,6 +364,28 @@ impl<'a> FileKeeper<'a> {
             if let Some(new) = &held.new {
                 new.remove(self.rt);
             }
+        }
+    }
+
+    /// Appends a batch to the journal, as [`Keeper::append`] does.
+    pub fn append_batch(&self, alloc: Global, batch: &[u8]) -> Result<(), Refusal>
+        ensures { IfErr result IsFault }
+    {
+        let Some(mut journal) = self.journal.try_lock() else {
+            return Err(Refusal::WriteFault);
+        };
+        let Some(journal) = &mut *journal else {
+            return Err(Refusal::WriteFault);
+        };
+        match journal.append(self.rt, alloc, batch) {
+            Ok(()) => {
+                self.is_unwritten.store(false, Ordering::SeqCst);
+                Ok(())
+            }
+            Err(failure) if self.is_unwritten.swap(true, Ordering::SeqCst) => {
+                Err(refused(failure.refusal))
+            }
+            Err(failure) => Err(self.refusal_of(alloc, failure)),
         }
     }
 
@@ -408,22 +430,7 @@ impl<'a> Keeper for FileKeeper<'a> {
     }
 
     fn append(&self, alloc: Global, batch: &[u8]) -> Result<(), Refusal> {
-        let Some(mut journal) = self.journal.try_lock() else {
-            return Err(Refusal::WriteFault);
-        };
-        let Some(journal) = &mut *journal else {
-            return Err(Refusal::WriteFault);
-        };
-        match journal.append(self.rt, alloc, batch) {
-            Ok(()) => {
-                self.is_unwritten.store(false, Ordering::SeqCst);
-                Ok(())
-            }
-            Err(failure) if self.is_unwritten.swap(true, Ordering::SeqCst) => {
-                Err(refused(failure.refusal))
-            }
-            Err(failure) => Err(self.refusal_of(alloc, failure)),
-        }
+        self.append_batch(alloc, batch)
     }
 
     fn end(&self) -> u64 {
@@ -439,7 +446,7 @@ impl<'a> Keeper for FileKeeper<'a> {
     fn note(&self, alloc: Global, image: &Image) {
         if let Some(mut noted) = self.noted.try_lock() {
             if let Some(noted) = &mut *noted {
-                noted.note(alloc, self, image);
+                noted.note(alloc, &Appender { keeper: self }, image);
             }
         }
     }

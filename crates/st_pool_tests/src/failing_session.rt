@@ -87,7 +87,7 @@ fn talk<K: Naming, R: Wait + Clock>(
         workers: 1,
     };
     let turns = Turns::new();
-    let recorder = Recorder::new(alloc, &stage.shared, &Nobody, 0, 0);
+    let recorder = Recorder::new(alloc, &stage.shared, &Nobody, 0, 0, 0);
     let desk = Desk {
         keeper: &Nobody,
         recorder: &recorder,

@@ -78,14 +78,31 @@ class Line:
             if image is not None:
                 image.end()
 
+    def tidy(self):
+        """Ends a session that is old, if nobody asks anything just now."""
+        if time.monotonic() - self.since > LONGEST_SESSION and self.lock.acquire(blocking=False):
+            try:
+                self.rest()
+            finally:
+                self.lock.release()
+
 
 class Desk:
     """The three sessions. A window that waits for what was typed holds up no look."""
 
-    def __init__(self, path, looks_only=False):
-        self.path, self.looks_only = path, looks_only
-        self.looks, self.changes, self.typed = (Line(path, it) for it in (True, looks_only, looks_only))
+    def __init__(self, path, looks_only=False, line=None):
+        """`line` is what there is in place of sessions: an image file."""
+        self.path, self.looks_only = path, looks_only or line is not None
+        self.looks, self.changes, self.typed = (line or Line(path, it) for it in (True, looks_only, looks_only))
+
+    @property
+    def lines(self):
+        return self.looks, self.changes, self.typed
 
     def rest(self):
-        for line in (self.looks, self.changes, self.typed):
+        for line in self.lines:
             line.rest()
+
+    def tidy(self):
+        for line in self.lines:
+            line.tidy()

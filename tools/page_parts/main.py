@@ -1,12 +1,14 @@
 """A page in the browser on a served image: its classes, its actors, pictures of what they do, and a workspace.
 
     tools/page SOCKET [--port N] [--open] [--look]
+    tools/page FILE [--port N] [--open]
     tools/page --try PROGRAM [TRIAL..]
 
 The page is served on 127.0.0.1 alone, to programs of the user who starts this, and to the page whose address is printed: behind # it has
 a token, new at each start, without which nothing of the image is told. Do not hand it on: whoever has it, as this user, can do all
 that a client of the image can. --open opens the page in a browser. --look makes a page that changes nothing. Without --port the
-system chooses a port. From afar:  ssh -L N:127.0.0.1:N HOST  with --port N, and the same address.
+system chooses a port. From afar:  ssh -L N:127.0.0.1:N HOST  with --port N, and the same address. Of an image FILE the page shows what is in
+it; nothing of it runs, and nothing is changed.
 
 It asks the image once a second while a window of it is seen, and has three sessions then, each of a minute at most. Ctrl-C ends it; the
 image goes on.
@@ -24,6 +26,8 @@ import tempfile
 import threading
 import webbrowser
 
+from inspect_parts.refused import BadImage
+
 from .page import Page
 from .serving import Server
 
@@ -31,7 +35,7 @@ from .serving import Server
 def arguments():
     plain = argparse.RawDescriptionHelpFormatter
     parser = argparse.ArgumentParser(prog="tools/page", description=__doc__, formatter_class=plain, usage=argparse.SUPPRESS)
-    parser.add_argument("socket", metavar="SOCKET", nargs="?", help="where the server of the image listens")
+    parser.add_argument("socket", metavar="SOCKET", nargs="?", help="where the server of the image listens, or an image file")
     parser.add_argument("--port", metavar="N", type=int, default=0, help="the port of the page")
     parser.add_argument("--open", action="store_true", help="open the page in a browser")
     parser.add_argument("--look", action="store_true", help="change nothing")
@@ -61,9 +65,12 @@ def opened(address):
 def serve(found):
     """The status."""
     try:
-        if not stat.S_ISSOCK(os.stat(found.socket).st_mode):
-            return wrong(f"{found.socket} is no socket")
-        server = Server(Page(found.socket, found.look), secrets.token_urlsafe(32), found.port)
+        mode = os.stat(found.socket).st_mode
+        if not stat.S_ISSOCK(mode) and not stat.S_ISREG(mode):
+            return wrong(f"{found.socket} is no socket, and no image file")
+        server = Server(Page(found.socket, found.look, stat.S_ISREG(mode)), secrets.token_urlsafe(32), found.port)
+    except BadImage as bad:
+        return wrong(f"{found.socket}: {bad.line()}")
     except OSError as error:
         return wrong(f"{found.socket if error.filename else 'the port'}: {error.strerror}")
     print(server.address, flush=True)

@@ -5,6 +5,7 @@ import actorimage
 from . import installing, methods
 from .desk import ONLY_LOOKS, Desk, Lost, OnlyLooks
 from .faults import faults
+from .image_file import FileLine
 from .typed import Typed
 from .watch import Watch
 
@@ -12,11 +13,11 @@ from .watch import Watch
 class Page:
     """All windows of one image. An answer has `error` and `said` where there is none."""
 
-    def __init__(self, path, looks_only=False):
-        self.desk = Desk(path, looks_only)
+    def __init__(self, path, looks_only=False, of_file=False):
+        self.desk = Desk(path, looks_only, FileLine(path) if of_file else None)
         self.watched = Watch(self.desk, lambda told: Typed(self.desk.typed, told))
         self.typed, self.kept, self.stats = self.watched.typed, self.watched.kept, self.watched.stats
-        self.about = {"socket": path, "looksOnly": looks_only, "sender": self.typed.sender}
+        self.about = {"socket": path, "looksOnly": self.desk.looks_only, "isFile": of_file, "sender": self.typed.sender}
 
     def watch(self, asked):
         return self.watched.stream(asked, self.about)
@@ -49,14 +50,14 @@ class Page:
             return {"error": "OnlyLooks", "said": str(only)}
         except actorimage.Refused as refused:
             return {"error": refused.name, "said": str(refused)}
-        except (KeyError, TypeError, ValueError) as error:
+        except (AttributeError, KeyError, TypeError, ValueError) as error:
             return {"error": "BadCommand", "said": f"this page's server cannot take that: {error!r}"}
 
 
 def see(page, asked):
     """What a window shows from now on, and what it shows of that at once."""
     page.watched.see(asked["window"], asked["view"])
-    view = asked["view"]
+    view = page.watched.views.get(asked["window"]) or {}
     with page.watched.moved:
         told = page.watched.table(view)
     if view.get("view") == "actors" and view.get("actor") is not None and page.watched.epoch:

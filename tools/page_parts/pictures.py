@@ -22,8 +22,7 @@ class Boxes:
         self.ticks.clear()
 
     def take(self, rows):
-        full = [it for it, code in enumerate(rows.codes) if code % 4] if rows.waiting else []
-        waiting = [(rows.all[it]["accepted"] - rows.all[it]["begun"], it) for it in full]
+        waiting = [(number, it) for it, number in enumerate(rows.waits) if number] if rows.waiting else []
         self.ticks.append(dict((it, number) for number, it in sorted(waiting, reverse=True)[:KEPT]))
 
     def shown(self, rows):

@@ -16,7 +16,7 @@ class Rows:
         self.clear()
 
     def clear(self):
-        self.all, self.codes, self.rates, self.at = [], bytearray(), {}, None
+        self.all, self.codes, self.waits, self.rates, self.at = [], bytearray(), [], {}, None
         self.turns = self.waiting = self.tick = 0
         self.orders = {}
 
@@ -38,13 +38,15 @@ class Rows:
             before = old[number] if number < len(old) else None
             if row == before:
                 continue
+            waits = row["accepted"] - row["begun"]
             if before is None:
                 self.codes.append(code_of(row))
-                waiting += row["accepted"] - row["begun"]
+                self.waits.append(waits)
+                waiting += waits
                 begun += row["begun"]
                 continue
-            self.codes[number] = code_of(row)
-            waiting += row["accepted"] - row["begun"] - before["accepted"] + before["begun"]
+            waiting += waits - self.waits[number]
+            self.codes[number], self.waits[number] = code_of(row), waits
             more = row["begun"] - before["begun"]
             if more:
                 begun += more
@@ -59,6 +61,8 @@ class Rows:
         for number, row in enumerate(new, first):
             if number < len(self.all):
                 self.all[number], self.codes[number] = row, code_of(row)
+                self.waiting += row["accepted"] - row["begun"] - self.waits[number]
+                self.waits[number] = row["accepted"] - row["begun"]
 
     # ---- what a page shows
 
@@ -78,11 +82,11 @@ class Rows:
         by = SORTS.get(sort)
         if by is None:
             return found[::-1] if is_down else found
-        return sorted(found, key=lambda it: by(self, it), reverse=is_down)
+        return sorted(found, key=by(self), reverse=is_down)
 
     def part(self, asked):
         """The rows that a page shows, and how many there are with its filter."""
-        order = self.order(asked.get("sort", ""), bool(asked.get("down")), asked.get("only", "all"), asked.get("text", "").lower())
+        order = self.order(asked.get("sort", ""), bool(asked.get("down")), asked.get("only") or "all", asked.get("text", "").lower())
         first = max(0, int(asked.get("first", 0)))
         count = min(MOST_SHOWN, int(asked.get("count", 0)))
         return {"first": first, "there": len(order), "rows": [self.row(it) for it in order[first : first + count]]}
@@ -131,10 +135,11 @@ def last(row, class_of):
     return {"none": "begins" if phase == "start" else ""}
 
 
+# What the actors are sorted by, as a function of their numbers.
 SORTS = {
-    "class": lambda rows, it: rows.all[it]["class"],
-    "state": lambda rows, it: rows.codes[it],
-    "waiting": lambda rows, it: rows.all[it]["accepted"] - rows.all[it]["begun"],
-    "rate": lambda rows, it: rows.rates.get(it, 0),
-    "turns": lambda rows, it: rows.all[it]["begun"],
+    "class": lambda rows: lambda it: rows.all[it]["class"],
+    "state": lambda rows: rows.codes.__getitem__,
+    "waiting": lambda rows: rows.waits.__getitem__,
+    "rate": lambda rows: lambda it: rows.rates.get(it, 0),
+    "turns": lambda rows: lambda it: rows.all[it]["begun"],
 }

@@ -3,12 +3,16 @@
 import random
 import time
 
+import actorimage
+
 from .exact import exact, message, shown
 from .figures import Figures
 from .rows import Rows
 from .states import STATES, cells, code_of, state_of
-from .try_common import Opened, image_of, post, same, true, until
+from .try_common import Opened, image_of, many, post, same, true, until
 
+# Seconds of processor time.
+MOST_OF_TICK = 0.05
 JOB = ["a ^self b + 1", "b | x | x := 7. ^self c: x", "c: n [self goesOn] whileTrue: [nil]. ^n", "goesOn ^true", "stop ^3 zork"]
 
 
@@ -61,6 +65,7 @@ def the_table_sorts_and_filters(program):
     same([it["actor"] for it in rows.part({"text": "777", "count": 9})["rows"]], [777])
     same(rows.part({"first": 65_530, "count": 200})["rows"][-1]["actor"], 65_535)
     rows.take_some(10, [row(10, 90, 2, "frames", "Auditor")])
+    same(rows.waiting, sum(it["accepted"] - it["begun"] for it in rows.all))
     same((rows.row(10)["class"], rows.row(10)["state"], rows.row(10)["waiting"]), ("Auditor", "turn", 88))
 
 
@@ -156,8 +161,8 @@ def pictures_are_drawn(program):
             same(box["class"], "Spin")
             until(lambda: events[-1].get("figures", {}).get("historyFull"))
             until(lambda: any(edit["class_name"] == "Spin" for it in events for edit in it.get("edits", [])))
-            # An event between two ticks has none.
-            figures = until(lambda: next((it["figures"] for it in reversed(events) if it.get("figures")), None))
+            until(lambda: events[-1].get("figures", {}).get("waiting") == 3, "the end of all other messages")
+            figures = next(it["figures"] for it in reversed(events) if it.get("figures"))
             same((figures["waiting"], figures["workers"], figures["editsLeft"] + image.status().edits), (3, 2, 2048))
             true(len([it for each in events for it in each.get("points", [])]) >= 2, "there are no curves")
     figures = Figures("/nowhere")
@@ -169,25 +174,23 @@ def pictures_are_drawn(program):
 
 
 def a_tick_costs_little(program):
-    """Processor time of the page's server for a tick of 10,000 actors, a tenth of which changed, with a table of 50 rows and the map: the
-    least of several. It depends on the machine, so it fails nothing; fifty milliseconds were in view."""
-    with image_of(program, shop=False) as (server, image), Opened(server.path) as opened:
-        image.define("Counter", slots=["count"])
-        image.install("Counter", "bump ^count isNil")
-        list(image.ask_all([{"cmd": "actor", "class": "Counter"}] * 10_000))
-        actors, sender, watch = [it.actor for first in (0, 4_096, 8_192)
-            for it in image.actors(first)], image.sender(1), opened.page.watched
+    """Processor time of the page's server for a tick of 10,000 actors, a tenth of which changed, with a table of 50 rows and the map:
+    under 50 milliseconds in one of several, since other work of the machine makes each longer."""
+    with image_of(program, file=many(1, 10_000)) as (server, image), Opened(server.path) as opened:
+        actors, sender, watch = [actorimage.Actor(number) for number in range(10_000)], image.sender(1), opened.page.watched
         view = {"view": "actors", "table": {"first": 40, "count": 50, "sort": "waiting", "down": True}, "cells": 4_000}
         seen, spent = {"window": 1, "ticks": -1, "typed": -1}, []
-        for number in range(6):
-            list(sender.post_all([(it, "bump") for it in actors[number::10]]))
+        while len(spent) < 3 or min(spent[1:]) >= MOST_OF_TICK and len(spent) < 20:
+            list(sender.post_all([(it, "bump") for it in actors[len(spent) % 10 :: 10]]))
             began = time.thread_time()
             watch.tick()
             watch.ticks += 1
             event = watch.event(view, seen)
             spent.append(time.thread_time() - began)
             same((len(event["table"]["rows"]), event["table"]["there"], len(event["map"])), (50, 10_000, 3_334))
-        return f"{1_000 * min(spent[1:]):.0f} ms a tick of 10,000 actors"
+        least = f"{1_000 * min(spent[1:]):.0f} ms a tick of 10,000 actors"
+        true(min(spent[1:]) < MOST_OF_TICK, least)
+        return least
 
 
 TRIALS = (

@@ -148,6 +148,8 @@ def a_method_is_told(program):
             same((event["sites"]["version"], event["sites"]["sites"]), (told["version"], told["sites"]))
             until(lambda: any(it.get("heat", {}).get("Till") for it in events))
             until(lambda: any(len(it.get("shapes", {}).get("Till sell:", [])) == len(of_image) for it in events))
+            opened.look("see", window=events[0]["window"], view={"view": "browse", "class": "NightTill"})
+            until(lambda: {"NightTill sell:", "Till sell:"} <= set(events[-1].get("shapes", {})), "the shapes of inherited methods")
             version = image.install("Till", "sold ^sold + 0")
             edit = until(lambda: next((row for it in events for row in it.get("edits", []) if row["version"] == version), None))
             same((edit["what"], edit["class_name"], edit["selector"]), ("install", "Till", "sold"))

@@ -12,7 +12,7 @@ import threading
 import time
 
 import actorimage
-from trial_parts.patience import PATIENCE
+from trial_parts.patience import PATIENCE, PAUSE
 from workspace_parts.serving import Server as ImageServer
 from workspace_parts.try_common import TOP, same
 
@@ -31,7 +31,7 @@ def until(holds, what="what was waited for"):
     while not (found := holds()):
         if time.monotonic() > ends:
             raise AssertionError(f"{what} did not come")
-        time.sleep(0.02)
+        time.sleep(PAUSE)
     return found
 
 
@@ -41,13 +41,32 @@ def true(found, what):
 
 
 @contextlib.contextmanager
-def image_of(program, *options, shop=True, workers="2"):
-    """A served image, with the classes of the shop, and a client of it."""
-    with tempfile.TemporaryDirectory() as folder, ImageServer(program, folder, "--workers", workers, *options) as server:
-        if shop:
-            load(server.path)
-        with actorimage.connect(server.path) as image:
-            yield server, image
+def image_of(program, *options, shop=True, workers="2", file=None):
+    """A served image, with the classes of the shop or as a file has it, and a client of it."""
+    with tempfile.TemporaryDirectory() as folder:
+        if file is not None:
+            with open(os.path.join(folder, "image"), "w", encoding="utf-8") as text:
+                json.dump(file, text)
+            shop, options = False, ("--image", "image", *options)
+        with ImageServer(program, folder, "--workers", workers, *options) as server:
+            if shop:
+                load(server.path)
+            with actorimage.connect(server.path) as image:
+                yield server, image
+
+
+def many(classes, actors):
+    """An image file of so many classes beside the kernel's, C0 and on, and so many actors of the first 50 of them."""
+    names = [f"C{number}" for number in range(classes)]
+    edits = [{"define": {"name": it, "slots": [], "super": "Object" if number < 60 else names[number - 60]}} for number, it in enumerate(names)]
+    edits.append({"install": {"class": "C0", "source": "bump ^7"}})
+
+    def actor(name):
+        body = {"objects": [{"class": name, "slots": []}], "phase": "fresh"}
+        return {"body": body, "capacity": 64, "class": name, "last": 0, "open": True, "pending": []}
+
+    made = [actor(names[number % min(50, classes)]) for number in range(actors)]
+    return {"actors": made, "edits": edits, "format": 2, "names": ["bump"], "posts": 0, "senders": [], "steps": 0}
 
 
 def load(path):
@@ -60,13 +79,9 @@ def load(path):
 class Opened:
     """A page on an image, in this process, and what one asks of it."""
 
-    def __init__(self, path, looks_only=False, checks=None, headers=None):
-        self.page = Page(path, looks_only)
+    def __init__(self, path, looks_only=False, of_file=False):
+        self.page = Page(path, looks_only, of_file)
         self.server = Server(self.page, SECRET)
-        if checks is not None:
-            self.server.gate.checks = checks
-        if headers is not None:
-            self.server.headers = headers
         threading.Thread(target=self.server.serve_forever, args=(0.05,), daemon=True).start()
 
     def __enter__(self):
@@ -141,6 +156,7 @@ class Opened:
 
         threading.Thread(target=read, daemon=True).start()
         try:
+            until(lambda: events, "the first event")
             yield events
         finally:
             with contextlib.suppress(OSError):

@@ -11,9 +11,9 @@ FIELD = "const it = document.querySelector('#source'); it.focus(); it.setSelecti
 
 
 @contextlib.contextmanager
-def shown(program, *options, width=1280, height=900, is_dark=False, shop=True, workers="2", may_say=()):
+def shown(program, *options, width=1280, height=900, is_dark=False, workers="2", file=None, may_say=()):
     """An image, a page on it, and a browser that has opened it. What its console says besides is wrong."""
-    with image_of(program, *options, shop=shop, workers=workers) as (server, image), Opened(server.path) as opened, Browser(width, height,
+    with image_of(program, *options, workers=workers, file=file) as (server, image), Opened(server.path) as opened, Browser(width, height,
         is_dark) as browser:
         browser.open(opened.address)
         connected(browser)
@@ -137,6 +137,15 @@ def an_edit_of_another_is_seen(program):
         browser.wait("return document.querySelector('#source').value === 'sold ^0'")
         image.remove("Till", "sold")
         browser.wait_text(".nothing", "has no method sold now")
+        # A pattern that was changed overwrites no other method that is there.
+        choose(browser, "Till", "weigh:")
+        typed_over(browser, "weigh: n  ^true", "audit ^9")
+        browser.press("s", "ctrl")
+        browser.wait_text("#conflict", "There is a method audit already")
+        true(image.source("Till", "audit").source != "audit ^9", "a method was overwritten unseen")
+        browser.click("#install-mine")
+        until(lambda: image.source("Till", "audit").source == "audit ^9")
+        same(image.source("Till", "weigh:").source, "weigh: n  ^true")
         # Without anything typed another person's version is shown at once.
         choose(browser, "Till", "audit")
         image.install("Till", "audit ^5")
@@ -175,6 +184,7 @@ def messages_are_answered(program):
         browser.wait_text(".card .said.fault", "fault notUnderstood in turn 2 of actor 0")
         browser.run("document.querySelector('.card .said.fault').parentNode.querySelector('button').click()")
         browser.wait_text(".card .why", "Till understands")
+        browser.wait_text(".card button", "inspect actor 0")
         browser.wait_text("#names", "t")
         browser.write("#entry", "t audit\n")
         browser.wait_text(".card .said.runs", "Till › ")

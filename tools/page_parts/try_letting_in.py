@@ -1,7 +1,5 @@
 """Trials of who gets in. Each danger is tried twice: as it is, and with its answer taken out, where it must get through."""
 
-import contextlib
-import http.client
 import json
 import os
 import shutil
@@ -9,12 +7,13 @@ import socket
 import subprocess
 import sys
 import threading
+import webbrowser
 
-from trial_parts.patience import PATIENCE
-
+from . import serving
 from .letting_in import CHECKS, HEADERS, MOST_BYTES, MOST_CONNECTIONS, user_of
+from .main import opened as led
 from .serving import Request
-from .try_common import PAGE, SECRET, Opened, image_of, same, true, until
+from .try_common import PAGE, PATIENCE, SECRET, Opened, image_of, same, true, until
 
 LOOK = json.dumps({"what": "implementors", "selector": "isNil"}).encode()
 
@@ -113,54 +112,54 @@ def bodies_are_bounded(program):
         big = b'{"what":"' + b"x" * MOST_BYTES + b'"}'
         for body in (big, b"[1]", b"{", b"\xff", b"[" * 20_000):
             same(opened.asked("POST", "/look", opened.good(), body)[0], 403)
+        before, serving.MOST_BYTES = MOST_BYTES, 10**9
+        try:
+            same(opened.asked("POST", "/look", opened.good(), b'{"what":"' + b"x" * MOST_BYTES + b'"}')[0], 200)
+        finally:
+            serving.MOST_BYTES = before
         for length in ("-1", "x", "", "99999999999999999999"):
             same(opened.asked("POST", "/look", {**opened.good(), "Content-Length": length}, b"")[0], 403)
         same(opened.look("none such")["error"], "BadCommand")
         same(opened.look("method")["error"], "BadCommand")
+        bad = {"method": {"class": [], "selector": 3}, "senders": {"selector": {}}, "running": {}, "gone": {"class": {}},
+            "see": {"view": 7}}
+        for what, more in bad.items():
+            same((what, opened.look(what, **more).get("error")), (what, "BadCommand"))
+        with opened.watching(view="actors", table={"first": 0, "count": 5}) as events:
+            until(lambda: events[-1].get("table"))
+            for view in (7, {"view": "actors", "table": 7}, {"view": "actors", "actor": "x"}, {"method": 1}):
+                same(opened.look("see", window=events[0]["window"], view=view)["error"], "BadCommand")
+            last = len(events)
+            until(lambda: len(events) > last and events[-1].get("table"), "a tick behind questions that are none")
         many = [socket.create_connection(("127.0.0.1", opened.port)) for _ in range(MOST_CONNECTIONS)]
         try:
             until(lambda: not opened.server.room.acquire(blocking=False) or opened.server.room.release())
             with socket.create_connection(("127.0.0.1", opened.port), timeout=PATIENCE) as late:
                 same(late.recv(1), b"")
+            bounded, opened.server.room = opened.server.room, threading.BoundedSemaphore(2 * MOST_CONNECTIONS)
+            same(opened.asked("GET", "/", {"Host": opened.server.gate.host})[0], 200)
+            opened.server.room = bounded
         finally:
             for it in many:
                 it.close()
-        until(lambda: is_let_in(opened))
-
-
-def is_let_in(opened):
-    """Whether the page is given out. Where there are as many connections as there may be, this one is let go without a word."""
-    with contextlib.suppress(ConnectionError, http.client.BadStatusLine):
-        return opened.asked("GET", "/", {"Host": opened.server.gate.host})[0] == 200
-    return False
+        until(lambda: opened.asked("GET", "/", {"Host": opened.server.gate.host})[0] == 200)
 
 
 def slow_ones_are_let_go(program):
-    """A request that does not come whole ends its connection, and the page is there for others meanwhile. Only this connection is let go
-    soon: a busy machine may be slow with the others too."""
-    begun = threading.Event()
-
-    class Hasty(Request):
-        timeout = 0.5
-
-        def setup(self):
-            super().setup()
-            begun.set()
-
-    with image_of(program, shop=False) as (server, _), Opened(server.path) as opened:
-        opened.server.RequestHandlerClass = Hasty
-        with socket.create_connection(("127.0.0.1", opened.port), timeout=PATIENCE) as slow:
-            slow.sendall(b"POST /look HTTP/1.1\r\nHost: ")
-            true(begun.wait(PATIENCE), "the connection is not taken")
-            opened.server.RequestHandlerClass = Request
-            same(opened.asked("POST", "/look", opened.good(), LOOK)[0], 200)
-            same(slow.recv(1), b"")
+    """A request that does not come whole ends its connection, and the page is there for others meanwhile."""
+    before, Request.timeout = Request.timeout, 0.5
+    try:
+        with image_of(program, shop=False) as (server, _), Opened(server.path) as opened:
+            with socket.create_connection(("127.0.0.1", opened.port), timeout=PATIENCE) as slow:
+                slow.sendall(b"POST /look HTTP/1.1\r\nHost: ")
+                same(opened.asked("POST", "/look", opened.good(), LOOK)[0], 200)
+                same(slow.recv(1), b"")
+    finally:
+        Request.timeout = before
 
 
 def the_token_is_hidden(program):
     """It is new at each start, behind #, in no header and in no word of a command; and the headers forbid what a page need not do."""
-    from .main import opened as led
-
     with image_of(program, shop=False) as (server, _), Opened(server.path) as opened:
         true(opened.address.endswith(f"/#{SECRET}"), "the token stands behind #")
         with socket.create_connection(("127.0.0.1", opened.port), timeout=PATIENCE) as stream:
@@ -181,8 +180,6 @@ def the_token_is_hidden(program):
                 it.terminate()
                 it.wait()
                 it.stdout.close()
-        import webbrowser
-
         calls, before = [], webbrowser.open
         webbrowser.open = calls.append
         try:

@@ -5,14 +5,16 @@ import http.server
 import subprocess
 import sys
 import threading
+import webbrowser
 
 import actorimage
 from workspace_parts.serving import Server as ImageServer
 
 from .browser import Browser
 from .letting_in import CHECKS, HEADERS, POLICY
+from .main import opened as led
 from .try_common import PAGE, SECRET, Opened, image_of, same, true, until
-from .try_in_browser import choose, connected, shown, typed_over
+from .try_in_browser import choose, connected, quiet, shown, typed_over
 
 # What the browser's console says where a server is gone.
 GONE = ("ERR_CONNECTION_REFUSED", "ERR_INCOMPLETE_CHUNKED_ENCODING", "ERR_CONNECTION_RESET", "ERR_EMPTY_RESPONSE",
@@ -62,6 +64,20 @@ def a_hidden_window_rests(program):
         browser.open("about:blank")
         browser.open(opened.address.partition("#")[0])
         browser.wait_text("#nothing", "without its token")
+
+
+def a_file_leads_to_the_page(program):
+    """What --open writes leads a browser to the page, as from another site; nothing of the token stays in the address."""
+    before, webbrowser.open = webbrowser.open, lambda address: None
+    try:
+        with image_of(program) as (server, _), Opened(server.path) as opened, Browser(900, 600) as browser:
+            with led(opened.address) as folder:
+                browser.open(f"file://{folder}/page.html")
+                connected(browser)
+                same(browser.run("return location.hash"), "")
+            quiet(browser)
+    finally:
+        webbrowser.open = before
 
 
 def texts_are_texts(program):
@@ -194,5 +210,5 @@ def the_end_of_the_page_is_told(program):
 
 
 TRIALS = (
-    drafts_stay, a_hidden_window_rests, texts_are_texts, the_browser_keeps_others_out, only_looks_in_the_browser, the_end_of_the_page_is_told,
+    drafts_stay, a_hidden_window_rests, a_file_leads_to_the_page, texts_are_texts, the_browser_keeps_others_out, only_looks_in_the_browser, the_end_of_the_page_is_told,
 )

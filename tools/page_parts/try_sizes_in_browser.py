@@ -1,33 +1,17 @@
 """Trials in a real browser of large images and of narrow windows."""
 
-import time
-
-from .try_common import same, true
+from .try_common import many, same, true
 from .try_in_browser import choose, shown, traffic
 
-CLASSES, ACTORS = 1_024, 65_536
+CLASSES, OF_KERNEL, ACTORS = 1_024, 8, 65_536
 # Elements that a view of a full image may have, and those that a list of classes may.
 MOST_ELEMENTS, OF_CLASSES = 4_000, 12_000
 ELEMENTS = "return document.getElementsByTagName('*').length"
 
 
-def full(image):
-    """An image with as many classes and actors as there may be."""
-    of_kernel = 8
-    told = list(image.ask_all([{"cmd": "define", "name": f"C{number}", "slots": [],
-        "super": "Object" if number < 60 else f"C{number - 60}"} for number in range(CLASSES - of_kernel)]))
-    same(told[-1].get("version"), CLASSES - of_kernel)
-    image.install("C7", "bump ^7")
-    told = list(image.ask_all([{"cmd": "actor", "class": f"C{number % 50}"} for number in range(ACTORS)], 1_000))
-    same(told[-1], {"actor": ACTORS - 1})
-
-
 def full_images_are_shown(program):
     """1,024 classes and 65,536 actors: the lists scroll, filter and sort, and have no more elements than are in sight."""
-    with shown(program, shop=False) as (server, image, opened, browser):
-        began = time.monotonic()
-        full(image)
-        made = time.monotonic() - began
+    with shown(program, file=many(CLASSES - OF_KERNEL, ACTORS)) as (server, image, opened, browser):
         browser.wait("return document.querySelectorAll('[role=treeitem]').length === arguments[0]", CLASSES)
         true(browser.run(ELEMENTS) < OF_CLASSES, "the tree has too many elements")
         choose(browser, "C1000")
@@ -36,10 +20,8 @@ def full_images_are_shown(program):
         browser.wait("return document.querySelectorAll('[role=treeitem]').length === 11")
         browser.click("#tab-actors")
         browser.wait("return Number(document.querySelector('[role=table]').getAttribute('aria-rowcount')) === arguments[0]", ACTORS + 1)
-        began = time.monotonic()
         browser.run("document.querySelector('#actor-rows').scrollTop = 1e9")
         browser.wait("return [...document.querySelectorAll('.rows .arow')].some(it => it.actor === arguments[0] && it.style.display !== 'none')", ACTORS - 1)
-        drawn = time.monotonic() - began
         browser.run("[...document.querySelectorAll('.ahead button')].find(it => it.innerText.startsWith('class')).click()")
         browser.wait("return document.querySelector('.rows .arow.on, .rows .arow') && [...document.querySelectorAll('.ahead [aria-sort=ascending]')].length === 1")
         browser.write("#actor-filter", "C7")
@@ -54,7 +36,6 @@ def full_images_are_shown(program):
         browser.wait_text("#found .item", "actor 65535")
         browser.click("#found .item")
         browser.wait_text(".crumbs", "actor 65535")
-        return f"made in {made:.0f} seconds, its last rows drawn in {drawn:.1f}"
 
 
 def narrow_windows_hold_all(program):

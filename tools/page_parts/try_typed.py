@@ -1,5 +1,6 @@
 """Trials of the workspace of the page, of an image that is lost or full, and of the sessions that a page has."""
 
+
 import actorimage
 from workspace_parts.serving import Server as ImageServer
 
@@ -58,7 +59,7 @@ def a_server_that_ends_is_told(program):
     with image_of(program) as (server, image), Opened(server.path) as opened:
         opened.type("t := Till actor. t sold")
         with opened.watching(view="actors", table={"count": 5}) as events:
-            until(lambda: events[-1:] and events[-1].get("figures"))
+            until(lambda: events[-1].get("figures"))
             image.end()
             server.end()
             lost = until(lambda: next((it for it in events if it["state"] == "lost" and it["asOf"]), None))
@@ -106,7 +107,7 @@ def a_checkpoint_of_somebody_is_told(program):
         opened.ask("/type", "", text="t := Till actor. t audit")
         until(lambda: opened.page.typed.waits_for())
         version = opened.look("method", **{"class": "Till", "selector": "sold"})["ok"]["version"]
-        until(lambda: events[-1:] and events[-1].get("figures", {}).get("actors") == 1)
+        until(lambda: events[-1].get("figures", {}).get("actors") == 1)
         epoch = events[-1]["epoch"]
         image.checkpoint()
         event = until(lambda: next((it for it in events if it.get("epoch") not in (epoch, None) and it.get("isAnew")), None))
@@ -127,23 +128,24 @@ def sessions_are_few(program):
         with image_of(program) as (server, image), Opened(server.path) as opened:
             until(lambda: image.status().sessions == 1, "the end of the workspace's session")
             with opened.watching() as events:
-                until(lambda: events[-1:] and events[-1].get("figures"))
-                same(image.status().sessions, 2)
+                until(lambda: events[-1].get("figures"))
+                until(lambda: image.status().sessions == 2, "the one session for looks")
                 opened.type("Till actor")
                 opened.do("define", name="A", above="Object", slots=[])
-                same(image.status().sessions, 4)
+                until(lambda: image.status().sessions == 4, "three sessions")
                 with opened.watching() as more:
-                    until(lambda: more[-1:] and more[-1].get("figures"))
-                    same(image.status().sessions, 4)
+                    until(lambda: more[-1].get("figures"))
+                    until(lambda: image.status().sessions == 4, "the same three sessions")
                 desk.LONGEST_SESSION = 0.1
                 first = opened.page.desk.looks.since
                 begun = opened.page.desk.looks.begun
                 until(lambda: opened.page.desk.looks.since > first)
                 same(opened.page.desk.looks.begun, begun)
+                until(lambda: opened.page.desk.typed.image is None and opened.page.desk.changes.image is None, "the end of idle sessions")
                 desk.LONGEST_SESSION = longest
             until(lambda: image.status().sessions == 1, "the end of the page's sessions")
             with opened.watching() as events:
-                until(lambda: events[-1:] and events[-1].get("figures"))
+                until(lambda: events[-1].get("figures"))
     finally:
         watch.REST, desk.LONGEST_SESSION = rest, longest
 

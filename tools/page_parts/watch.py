@@ -25,6 +25,23 @@ MANY, TENTH = 10_000, 10
 MOST_LISTED, MOST_CELLS = 120, 4_000
 
 
+def cleaned(view):
+    """What a window shows, as far as it can be shown. A question that is none stops no tick."""
+    found = {"view": str(view.get("view", "browse")), "cells": int(view.get("cells") or 0)}
+    if view.get("class"):
+        found["class"] = str(view["class"])
+    if view.get("method"):
+        name, selector = view["method"]
+        found["method"] = str(name), str(selector)
+    if view.get("actor") is not None:
+        found["actor"], found["object"] = int(view["actor"]), int(view.get("object") or 0)
+    if view.get("table"):
+        it = view["table"]
+        found["table"] = {"first": int(it.get("first") or 0), "count": int(it.get("count") or 0), "down": bool(it.get("down"))}
+        found["table"].update((key, str(it.get(key) or "")) for key in ("sort", "text", "only"))
+    return found
+
+
 class Watch:
     """What is known of the image now. `state` is `there`, `lost` or `full`, and `said` why. `ticks` counts what was told."""
 
@@ -35,7 +52,7 @@ class Watch:
         self.boxes, self.posts, self.ends = Boxes(), Posts(), Ends(self.line)
         self.moved, self.views, self.ticks = threading.Condition(threading.RLock()), {}, 0
         self.state, self.said, self.epoch, self.as_of, self.next = "lost", "not connected yet", None, None, 0
-        self.is_running, self.spent = False, 0.0
+        self.is_running = False
         self.typed = typed_of(self.nudge)
 
     # ---- the image
@@ -80,16 +97,15 @@ class Watch:
         """The sites of methods, as far as a window shows any."""
         views = list(self.views.values())
         if any(it.get("view") == "browse" for it in views):
-            listed = [(it["class"], selector) for it in views if it.get("class") for selector in self.listed(it["class"])]
+            listed = [method for it in views if it.get("class") for method in self.listed(it["class"])]
             self.stats.round(listed, self.ticks)
             self.stats.ask([tuple(it["method"]) for it in views if it.get("method")], self.ticks)
         if any(it.get("view") == "pictures" for it in views):
             self.posts.take(self.kept, self.stats, self.rows, time.monotonic())
 
     def listed(self, name):
-        """The methods that a class has of its own, as far as they are shown with their sites."""
-        found = self.kept.classes.get(name)
-        return list(found.methods)[:MOST_LISTED] if found else []
+        """The methods of a class, its own first and then those that it inherits, as far as they are shown with their sites."""
+        return [(it.name, selector) for it in self.kept.chain(name) for selector in list(it.methods)][:MOST_LISTED]
 
     # ---- windows
 
@@ -97,7 +113,7 @@ class Watch:
         """What a window shows from now on."""
         with self.moved:
             if number in self.views:
-                self.views[number] = view
+                self.views[number] = cleaned(view)
 
     def stream(self, view, about):
         """The events for a window, until it is closed. The first says what the page is about."""
@@ -117,7 +133,7 @@ class Watch:
     def enter(self, view):
         with self.moved:
             self.next += 1
-            self.views[self.next] = view
+            self.views[self.next] = cleaned(view)
             if not self.is_running:
                 self.is_running = True
                 threading.Thread(target=self.go_on, daemon=True).start()
@@ -132,14 +148,14 @@ class Watch:
         """Ticks while there are windows, and a little longer: one that is loaded anew is there again at once."""
         last = time.monotonic()
         while True:
-            began, spent = time.monotonic(), time.thread_time()
+            began = time.monotonic()
             try:
                 self.tick()
             except Lost as lost:
                 self.state, self.said = "full" if lost.is_full else "lost", lost.sentence
-            except actorimage.ActorImageError as error:
-                self.state, self.said = "lost", str(error)
-            self.spent = time.thread_time() - spent
+            except Exception as error:  # The next tick is tried all the same.
+                self.state, self.said = "lost", f"{type(error).__name__}: {error}"
+            self.desk.tidy()
             with self.moved:
                 self.ticks += 1
                 self.moved.notify_all()
@@ -207,7 +223,7 @@ class Watch:
             told["heat"] = {name: sends for name, sends in heat.items() if before.get(name) != sends or told_anew}
             seen["heat"] = heat
             if view.get("class"):
-                told["shapes"] = self.stats.shapes([(view["class"], it) for it in self.listed(view["class"])])
+                told["shapes"] = self.stats.shapes(self.listed(view["class"]))
             if view.get("method"):
                 told["sites"] = self.sites(tuple(view["method"]))
         if view.get("view") == "actors" and view.get("actor") is not None:

@@ -1,5 +1,5 @@
 -- Lines that say entries, one after the other.
-use Rattle.std.proofs.Common.{◌≡◌, ◌⊎◌, ℕ, ◌+◌, List, [], ◌∷◌, ◌++◌, length, take, None, Some, slice_get, refl, sym, ap, ◌∙◌, subst, append_assoc, append-nil, length-append, arith, inl, inr}
+use Rattle.std.proofs.Common.{◌≡◌, ◌⊎◌, ℕ, ◌+◌, true, false, Option, is_some, List, [], ◌∷◌, ◌++◌, length, take, None, Some, slice_get, refl, sym, ap, ◌∙◌, subst, append_assoc, append-nil, length-append, arith, inl, inr}
 use Rattle.serde_json.specs.Data.{Data}
 use Rattle.st_classes.specs.declared.edits.Edit.{Edit}
 use Rattle.st_classes.specs.declared.refusals.ImagePlace.TheVariants.{Actors, Shape}
@@ -13,7 +13,7 @@ use Rattle.st_journal.specs.Entries.{Leads}
 use Rattle.st_journal.specs.EntryMeanings.{IsMeaningless, TellsEntry, entry_meant}
 use Rattle.st_journal.specs.EntryShapes.{entry_in}
 use Rattle.st_journal.specs.EntryTexts.{ReadingLeads, ReadsAll, RefusesLine, SaysAt, StopsAtLine, lines_of}
-use Rattle.st_journal.specs.Replays.{StandsAt}
+use Rattle.st_journal.specs.Replays.{DoesOrLeaves, StandsAt}
 
 -- ---- values that tell no entry
 
@@ -126,3 +126,16 @@ read_to_end i j text [] place h none =
       behind = rw all h.counted;
     }
 read_to_end i j text (b ∷ rest) place h none = absurd (omega (arith, none))
+
+-- the entry of the next line lies behind
+pub read_left : (i j k : ImageView) (text rest line behind : List ℕ) (place : ℕ) (next : Option Entry) → HasRead i text place rest j
+    → lines_of rest ≡ line ∷ lines_of behind → is_some next ≡ true → DoesOrLeaves j line next k → StandsAt i (lines_of text) place next k
+read_left i j k text rest line behind place (Some e) h at there left =
+    subst (λ (x : ImageView). StandsAt i (lines_of text) place (Some e) x) (sym left.1) (read_at i j text rest line behind place e h at left.0)
+read_left i j k text rest line behind place None h at there left = let never : false ≡ true = there in cc
+
+-- the entry of the next line was done
+pub read_next : (i j k : ImageView) (text rest line behind : List ℕ) (place : ℕ) (next : Option Entry) → HasRead i text place rest j
+    → lines_of rest ≡ line ∷ lines_of behind → is_some next ≡ false → DoesOrLeaves j line next k → IsLawful k → HasRead i text (place + 1) behind k
+read_next i j k text rest line behind place None h at there did lawful = read_more i j k text rest line behind place did.0 h at did.1 did.2 lawful
+read_next i j k text rest line behind place (Some e) h at there did lawful = let never : true ≡ false = there in cc

@@ -7,6 +7,11 @@ use Rattle.st_journal.specs.declared.entries.Entry.TheVariants.{Ran}
 use Rattle.st_journal.specs.Entries.{Leads}
 use Rattle.st_journal.specs.EntryTexts.{ReadsAll, SaysAt}
 
+-- a line says an entry, which was done; or it lies behind, and nothing was done
+abbrev pub DoesOrLeaves : ImageView → List ℕ → Option Entry → ImageView → Type 0
+DoesOrLeaves i line None j = (e : Entry) × SaysAt i line e × Leads i e j
+DoesOrLeaves i line (Some e) j = SaysAt i line e × (j ≡ i)
+
 -- the line at a place says an entry at an image; or there is no such line
 abbrev pub NextSays : ImageView → List (List ℕ) → ℕ → Option Entry → Type 0
 NextSays i lines place (Some e) = (line : List ℕ) × (slice_get lines place ≡ Some line) × SaysAt i line e
@@ -18,15 +23,11 @@ pub record StandsAt (i : ImageView) (lines : List (List ℕ)) (done : ℕ) (next
   pub reads : ReadsAll i (take done lines) entries j
   pub behind : NextSays j lines done next
 
--- some first steps of those that the line at a place tells were taken, or all of them
-pub record RunsSome (i : ImageView) (lines : List (List ℕ)) (place : ℕ) (j : ImageView) : Type 0 where
-  pub actor : ActorId
-  pub steps : ℕ
-  pub taken : ℕ
-  pub says : NextSays i lines place (Some (Ran actor steps))
-  pub some : taken ≤ steps
-  pub leads : Leads i (Ran actor taken) j
+-- nothing was done; or some first steps of those that an entry tells were taken, or all of them
+abbrev pub TakesSome : ImageView → Option Entry → ImageView → Type 0
+TakesSome i next j = (j ≡ i)
+    ⊎ ((actor : ActorId) × (steps : ℕ) × (taken : ℕ) × (next ≡ Some (Ran actor steps)) × (taken ≤ steps) × Leads i (Ran actor taken) j)
 
 -- the first lines of a text were done, and perhaps some first steps of the line behind them
 abbrev pub Replays : ImageView → List (List ℕ) → ℕ → ImageView → Type 0
-Replays i lines done k = (j : ImageView) × (next : Option Entry) × StandsAt i lines done next j × ((k ≡ j) ⊎ RunsSome j lines done k)
+Replays i lines done k = (j : ImageView) × (next : Option Entry) × StandsAt i lines done next j × TakesSome j next k

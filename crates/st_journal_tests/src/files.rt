@@ -88,16 +88,48 @@ fn opened<'a>(
     Recovered::open(alloc, FileDevice::new(alloc, file, copy))
 }
 
+/// Whether a batch is added to a log.
+fn is_appended(log: Recovered<FileDevice<Kept<'_>>>, batch: &[u8]) -> bool {
+    if !is_batch(batch) {
+        drop(log);
+        return false;
+    }
+    match log.append(batch) {
+        Ok(log) => {
+            drop(log);
+            true
+        }
+        Err(_) => false,
+    }
+}
+
+/// Whether a batch is added to the log of a file, of which one call fails.
+fn is_added(alloc: Global, bytes: &Mutex<Vec<u8>>, until_failure: u32, batch: &[u8]) -> bool {
+    match opened(alloc, bytes, until_failure) {
+        Ok((log, lines)) => {
+            drop(lines);
+            is_appended(log, batch)
+        }
+        Err(_) => false,
+    }
+}
+
+/// The lines of the log of a file.
+fn lines_of(alloc: Global, bytes: &Mutex<Vec<u8>>) -> Result<Vec<u8>, DeviceError> {
+    match opened(alloc, bytes, u32::MAX) {
+        Ok((log, lines)) => {
+            drop(log);
+            Ok(lines)
+        }
+        Err(error) => Err(error),
+    }
+}
+
 /// What a recovery and an append answer where one call fails, and the lines that are there then.
 fn appended(alloc: Global, until_failure: u32) -> Result<(bool, Vec<u8>), Fail> {
-    let batch = b"{1}\n{2}\n\n";
     let bytes = Mutex::new(Vec::from_slice(alloc, b"{0}\n\n1}\n\n")?);
-    let is_added = match opened(alloc, &bytes, until_failure) {
-        Ok((log, _)) => is_batch(batch) && log.append(batch).is_ok(),
-        Err(_) => false,
-    };
-    let (log, lines) = opened(alloc, &bytes, u32::MAX)?;
-    drop(log);
+    let is_added = is_added(alloc, &bytes, until_failure, b"{1}\n{2}\n\n");
+    let lines = lines_of(alloc, &bytes)?;
     Ok((is_added, lines))
 }
 

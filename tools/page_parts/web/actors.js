@@ -1,7 +1,7 @@
 // The view of actors: the map, and the table that sorts and filters, of which the rows in sight alone are here.
 
 import { button, h, many, plural, put, setText, short } from "./dom.js";
-import { at, go, image, see } from "./image.js";
+import { at, image, see } from "./image.js";
 import { Inspector } from "./inspector.js";
 import { ActorMap, STATES } from "./map.js";
 

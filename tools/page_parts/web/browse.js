@@ -1,7 +1,7 @@
 // The view of classes and methods: lists side by side, and the source.
 
 import { change, look } from "./ask.js";
-import { button, h, plural, put, toast } from "./dom.js";
+import { button, h, put, toast } from "./dom.js";
 import { hasDraft } from "./drafts.js";
 import { at, go, image, selectors, slotsOf } from "./image.js";
 import { oneStop, walkable } from "./lists.js";
@@ -22,9 +22,9 @@ const definition = h("div", { of: "definition" });
 const box = h("div", { role: "listbox", "aria-label": "Methods" });
 const scroll = h("div", { of: "scroll" }, box);
 const actorsOf = h("div", { of: "tools" });
-const middle = h("section", { of: "pane", "aria-label": "Methods" },
+const middle = h("section", { of: "pane methods", "aria-label": "Methods" },
   h("header", {}, h("h2", { of: "grow" }, "Methods"), sides,
-    button("plain", "+", () => fresh(), { title: "Writes a new method", "aria-label": "New method", id: "new-method" })),
+    button("plain changes", "+", () => fresh(), { title: "Writes a new method", "aria-label": "New method", id: "new-method" })),
   definition, scroll, actorsOf);
 walkable(box, it => choose(it.dataset.text));
 
@@ -76,7 +76,7 @@ function drawDefinition() {
     h("div", { of: "code dim", title: from || "no instance variables" },
       slots.length ? `| ${slots.map(each => each.slot).join(" ")} |` : "| |"));
   put(actorsOf, button("link", "its actors", () => go("actors", { table: { ...at.table, text: at.class, first: 0, only: "all" } })),
-    !it.isKernel || it.name === "Object" ? button("plain", "New actor", newActor, { title: `Makes an actor of ${it.name}` }) : "");
+    !it.isKernel || it.name === "Object" ? button("plain changes", "New actor", newActor, { title: `Makes an actor of ${it.name}` }) : "");
 }
 
 async function newActor() {

@@ -75,8 +75,8 @@ export class Boxes {
     if (!wide || !high) return;
     Object.assign(this.canvas, { width: wide, height: high });
     const pen = this.canvas.getContext("2d"), row = high / rows;
-    const mix = p => (p < 0.5
-      ? `color-mix(in srgb, ${colour("--fresh")} ${100 - 200 * p}%, ${colour("--amber")})` : `color-mix(in srgb, ${colour("--amber")} ${200 - 200 * p}%, ${colour("--red")})`);
+    const half = (from, to, p) => `color-mix(in srgb, ${colour(from)} ${100 - 200 * p}%, ${colour(to)})`;
+    const mix = p => (p < 0.5 ? half("--fresh", "--amber", p) : half("--amber", "--red", p - 0.5));
     const shades = Array.from({ length: SHADES + 1 }, (_, n) => mix(n / SHADES));
     boxes.forEach((it, n) => it.waits.forEach((waits, k) => {
       const x = Math.floor((k * wide) / it.waits.length), next = Math.floor(((k + 1) * wide) / it.waits.length);

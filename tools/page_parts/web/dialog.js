@@ -59,7 +59,8 @@ export async function defineClass(above) {
 export function reparentClass(name) {
   const it = image.classes.get(name), own = slotsOf(it.above).map(each => each.slot).join(" ");
   const text = h("p", { of: "dim", style: { margin: 0 } },
-    own ? `Objects keep their variables, so the new superclass has to give it the same ones: ${own}.` : "Objects keep their variables, so the new superclass may have none, as the present one.");
+    own ? `Objects keep their variables, so the new superclass has to give it the same ones: ${own}.`
+      : "Objects keep their variables, so the new superclass may have none, as the present one.");
   return form(`Put ${name} under another class`, [text, classes("Superclass", it.above, name)], "Put it there", async given => {
     const reply = await change("reparent", { class: name, above: given.above });
     if (reply.error) return reply.said;

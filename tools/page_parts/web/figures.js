@@ -40,7 +40,7 @@ export function figures() {
     one("waiting", "messages that wait", "now", short(it.waiting), spark(4, "var(--poly)"),
       `${many(it.waiting)} in the mailboxes of ${many(it.actors)} actors`),
     one("processors", "processors", plural(it.workers, "worker"), it.processors === null ? "–" : it.processors.toFixed(1),
-      gauge((it.processors || 0) / it.workers), "processor time of the server, as the system counts it"),
+      gauge((it.processors || 0) / Math.max(1, it.workers)), "processor time of the server, as the system counts it"),
     one("history", "history", isFull ? "have a checkpoint" : it.historyFull === null ? "" : `full in ${duration(it.historyFull)}`,
       isFull ? h("span", { of: "bad" }, "full") : `${full < 0.1 ? (100 * full).toFixed(1) : Math.floor(100 * full)}%`,
       gauge(full, full > 0.8), `${many(it.history)} items of ${many(it.historyMost)}, ${many(left)} left; a checkpoint empties it`),

@@ -4,6 +4,8 @@ import { button, g, h, many, put, short } from "./dom.js";
 import { go } from "./image.js";
 
 const FULL = 64, CLIENTS = "";
+const HOW = "What each site posts and each actor accepts is counted by the image. To which of the classes that understand a message a site "
+  + "posts is not; there it is shared out by what they accepted. A line begins at the class that has the method which posts.";
 const name = it => (it === CLIENTS ? "clients" : it);
 
 export class Graph {
@@ -18,7 +20,7 @@ export class Graph {
       h("header", {}, h("h2", {}, "Who posts to whom"), h("span", { of: "dim grow cut" }, "messages a second, by class"),
         h("span",
           { of: "chip cut",
-          title: "What each site posts and each actor accepts is counted by the image. To which of the classes that understand a message a site posts is not; there it is shared out by what they accepted. A line begins at the class that has the method which posts." }, "widths: in part inferred"), this.seg), this.body);
+          title: HOW }, "widths: in part inferred"), this.seg), this.body);
   }
 
   tell(graph) {

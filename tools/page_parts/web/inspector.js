@@ -19,8 +19,8 @@ export class Inspector {
     this.backs = button("plain", "‹", () => this.goBack(), { title: "Back", "aria-label": "Back to what was inspected before" });
     this.crumbs = h("div", { of: "crumbs grow" });
     this.chip = h("span", { of: "chip" });
-    this.posts = button("plain", "Post…", () => prefill(`actor ${at.actor} `), { title: "Writes a message to it in the workspace" });
-    this.closes = button("plain danger", "Close", () => this.close(), { title: "Closes its mailbox, for good" });
+    this.posts = button("plain changes", "Post…", () => prefill(`actor ${at.actor} `), { title: "Writes a message to it in the workspace" });
+    this.closes = button("plain danger changes", "Close", () => this.close(), { title: "Closes its mailbox, for good" });
     this.body = h("div", { of: "scroll", id: "inspected" });
     this.root = h("section", { of: "pane", "aria-label": "Inspector" },
       h("header", {}, this.backs, this.crumbs, this.chip, this.posts, this.closes), this.body);

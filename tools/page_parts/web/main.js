@@ -43,6 +43,7 @@ function about(it) {
   document.title = `${name} · actorimage`;
   document.body.classList.toggle("looks-only", it.looksOnly);
   for (const id of ["#checkpoint", "#save"]) $(id).hidden = it.looksOnly;
+  $("#work").hidden = it.isFile;
   image.sender = it.sender;
 }
 
@@ -97,7 +98,9 @@ function seen() {
 
 const doing = {
   checkpoint: ["Have a checkpoint?",
-    "It empties the history, for everybody. Turns are numbered anew, how they ended is forgotten but for the last of each actor, and counts of call sites begin at 0.", "Checkpoint", it => `the history is empty; ${many(it.posts)} posts and ${many(it.steps)} steps in all`],
+    "It empties the history, for everybody. Turns are numbered anew, how they ended is forgotten but for the last of each actor, and "
+      + "counts of call sites begin at 0.", "Checkpoint",
+    it => `the history is empty; ${many(it.posts)} posts and ${many(it.steps)} steps in all`],
   save: ["Save the image?", "The server writes its image file now, in place of the one before.", "Save",
     it => `saved: ${many(it.bytes)} bytes`],
 };

@@ -27,7 +27,8 @@ export class ActorMap {
   get room() { return Math.min(4000, Math.floor((this.canvas.clientWidth || 800) / LEAST) * Math.floor(HIGH / LEAST)); }
 
   said(n) { return this.each > 1
-    ? `actors ${many(n)} to ${many(n + this.each - 1)}: ${STATES[state(this.letters[n / this.each])][0]} among them` : `actor ${n}: ${STATES[state(this.letters[n])][0]}`; }
+    ? `actors ${many(n)} to ${many(n + this.each - 1)}: ${STATES[state(this.letters[n / this.each])][0]} among them`
+      : `actor ${n}: ${STATES[state(this.letters[n])][0]}`; }
 
   tell(letters, each, actor, counts) {
     if (letters === this.letters && each === this.each && actor === this.actor && this.width === this.canvas.clientWidth) return;

@@ -3,11 +3,12 @@
 import { change, look } from "./ask.js";
 import { confirmed } from "./dialog.js";
 import { difference } from "./diff.js";
-import { button, h, plural, put, toast } from "./dom.js";
+import { button, h, put, toast } from "./dom.js";
 import { draft, keep } from "./drafts.js";
 import { Editor } from "./editor.js";
 import { find } from "./find.js";
 import { at, image, see } from "./image.js";
+import { makeRoom } from "./source.js";
 import { Under } from "./under.js";
 
 const ORDER = n => `${n}${n % 100 > 10 && n % 100 < 14 ? "th" : ["th", "st", "nd", "rd"][n % 10] || "th"}`;
@@ -22,7 +23,7 @@ export class MethodPane {
     this.head = h("div", { of: "crumbs grow" });
     this.chip = h("span", { of: "chip changed", hidden: true }, "● changed");
     this.buttons = {
-      remove: button("plain danger", "Remove", () => this.remove(), { title: "Removes the method from its class" }),
+      remove: button("plain danger changes", "Remove", () => this.remove(), { title: "Removes the method from its class" }),
       revert: button("plain", "Revert", () => this.revert(), { title: "Forgets what was typed" }),
       install: button("plain", "Install", () => this.install(), { title: "Ctrl+S", id: "install" }),
     };
@@ -36,7 +37,8 @@ export class MethodPane {
 
   // Opens what a send of the selector to an object of the class runs; without a selector a new method.
   async open(name, selector) {
-    this.theirs = null;
+    this.theirs = this.other = null;
+    this.turn = (this.turn || 0) + 1;
     if (selector === null) {
       this.take({ class: name, selector: "", source: "", version: 0, sites: [], versions: [], isNew: true });
       return;
@@ -48,7 +50,7 @@ export class MethodPane {
   }
 
   take(told) {
-    this.told = told;
+    Object.assign(this, { told, theirs: null });
     at.shown = told.source !== undefined && !told.isNew ? [told.class, told.selector] : null;
     const kept = draft(told.class, told.selector);
     if (kept && !told.kernel) {
@@ -62,6 +64,7 @@ export class MethodPane {
     }
     this.said = "";
     this.draw();
+    makeRoom(this.editor.root);
     this.under.open();
     see();
   }
@@ -88,8 +91,7 @@ export class MethodPane {
     put(this.head, told && [h("span", { of: "C" }, told.class), h("span", { of: "faint" }, "›"),
       h("span", { of: "sel cut" }, told.selector || "new method"), h("span", { of: "faint cut" }, this.which())]);
     if (told && !isShown) {
-      put(this.none, told.kernel ? `${told.class} has ${told.selector} from the kernel, which has no source.` : told.gone
-        ? `${told.class} has no method ${told.selector} now. Its versions stand below: one can be brought back.` : `No class from ${told.class} up has a method ${told.selector}.`);
+      put(this.none, this.whyNone());
     }
     this.chip.hidden = !this.isChanged;
     this.buttons.install.disabled = !this.isChanged;
@@ -97,6 +99,14 @@ export class MethodPane {
     this.buttons.revert.disabled = !this.isChanged && !this.theirs;
     this.buttons.remove.disabled = !told || !told.version;
     this.drawBanner();
+  }
+
+  // What is said where there is no source.
+  whyNone() {
+    const { class: name, selector, kernel, gone } = this.told;
+    if (kernel) return `${name} has ${selector} from the kernel, which has no source.`;
+    if (gone) return `${name} has no method ${selector} now. Its versions stand below: one can be brought back.`;
+    return `No class from ${name} up has a method ${selector}.`;
   }
 
   which() {
@@ -112,15 +122,16 @@ export class MethodPane {
       return;
     }
     const { version, source } = this.theirs, began = this.began.version;
-    const what = version ? `Replaced meanwhile by version ${version}` : "Removed meanwhile";
+    const isOther = this.other && this.other !== this.told.selector, mine = isOther ? this.other : this.told.selector;
+    const what = isOther ? `There is a method ${mine} already, version ${version}` : version ? `Replaced meanwhile by version ${version}` : "Removed meanwhile";
+    const how = isOther ? "" : began ? ` of somebody else; you began with version ${began}` : " of somebody else; you began with none";
     put(this.banner, h("div", { of: "banner", id: "conflict" },
-      h("b", {}, what), h("span", { of: "grow" },
-        began ? ` of somebody else; you began with version ${began}. Nothing is overwritten.` : " of somebody else; you began with none. Nothing is overwritten."),
+      h("b", {}, what), h("span", { of: "grow" }, `${how}. Nothing is overwritten.`),
       button("plain", "Show both", () => { this.areBoth = !this.areBoth; this.drawBanner(); },
         { "aria-expanded": String(Boolean(this.areBoth)), id: "show-both" }),
       button("plain", "Take theirs", () => this.takeTheirs(), { title: "What you typed is forgotten", id: "take-theirs" }),
       button("plain", version ? `Install mine over ${version}` : "Install mine",
-        () => this.install({ selector: this.told.selector || this.other, version }), { id: "install-mine" })),
+        () => this.install({ selector: mine, version }), { id: "install-mine" })),
       this.areBoth && h("div", { of: "sect", id: "both" }, h("h3", {}, "Theirs, and what yours would change in it"),
         difference(source ?? "", this.editor.text)));
   }
@@ -129,12 +140,13 @@ export class MethodPane {
     if (!this.told || (!this.isChanged && !seen)) return;
     const { class: name, selector } = this.told, text = this.editor.text;
     const given = seen || { selector, version: this.began.version };
+    this.isInstalling = true;
     const reply = await change("install", { class: name, source: text, seen: given });
+    this.isInstalling = false;
     if (this.told.class !== name || this.told.selector !== selector) return;
     if (reply.ok) { this.installed(name, selector, reply); return; }
     if (reply.error === "Stale") {
       Object.assign(this, { theirs: reply.theirs, other: reply.selector, areBoth: true, said: "" });
-      if (reply.selector !== selector) this.began = { base: this.began.base, version: 0 };
       this.draw();
       return;
     }
@@ -153,9 +165,11 @@ export class MethodPane {
   }
 
   takeTheirs() {
-    keep(this.told.class, this.told.selector, null);
+    const { class: name, selector } = this.told, to = this.other || selector;
+    keep(name, selector, null);
     this.theirs = null;
-    this.open(this.told.class, this.told.selector);
+    Object.assign(at, { class: name, selector: to });
+    this.open(name, to);
   }
 
   revert() {
@@ -169,7 +183,9 @@ export class MethodPane {
     const { class: name, selector, version } = this.told;
     if (!(await confirmed(`Remove ${name} › ${selector}?`,
       "From the next send on it is not there. Its versions stay, and one can be brought back.", "Remove"))) return;
+    this.isInstalling = true;
     const reply = await change("remove", { class: name, selector, seen: version });
+    this.isInstalling = false;
     if (reply.theirs) { this.theirs = reply.theirs; this.draw(); return; }
     if (reply.error) { this.say(reply.said); return; }
     keep(name, selector, null);
@@ -180,7 +196,9 @@ export class MethodPane {
 
   // Installs what was there in a version, over the one that is there now.
   async bringBack(name, selector, version, over = this.told.version || 0) {
+    this.isInstalling = true;
     const reply = await change("install", { class: name, source: version.source, seen: { selector, version: over } });
+    this.isInstalling = false;
     if (reply.theirs) { this.theirs = reply.theirs; this.draw(); return; }
     if (reply.error) { this.say(reply.said); return; }
     toast(`${name} › ${selector}: version ${version.version} is back, as version ${reply.ok.version}`);
@@ -193,34 +211,44 @@ export class MethodPane {
   tell(event) {
     const told = this.told, sites = event.sites;
     if (!told || !sites || told.isNew || sites.class !== told.class || sites.selector !== told.selector) return;
+    if (this.isInstalling || this.isAsking) return;
     if (sites.version === told.version) {
       this.under.tell(sites);
       told.sites = sites.sites;
       if (this.began.version === told.version) this.editor.tell(sites.sites);
     } else if (!this.isChanged) {
-      this.refresh(sites);
+      this.refresh();
     } else if (!this.theirs || this.theirs.version !== sites.version) {
-      this.meanwhile(sites);
+      this.meanwhile();
     }
   }
 
-  async refresh(sites) {
-    const { class: name, selector } = this.told;
-    toast(sites.version
-      ? `${name} › ${selector} is version ${sites.version} now, of somebody else` : `${name} › ${selector} was removed by somebody else`,
-      "warn");
-    this.told.version = sites.version;
-    await this.open(name, selector);
+  // Asks what is there now, as long as nothing else is opened or installed meanwhile: an event may be of before.
+  async asked() {
+    const { class: name, selector } = this.told, turn = this.turn;
+    this.isAsking = true;
+    const reply = await look("method", { class: name, selector });
+    this.isAsking = false;
+    if (!reply.ok || turn !== this.turn || this.isInstalling) return null;
+    const isOwn = reply.ok.class === name && reply.ok.version;
+    return { told: reply.ok, version: isOwn ? reply.ok.version : 0, source: isOwn ? reply.ok.source : null };
   }
 
-  async meanwhile(sites) {
-    const { class: name, selector } = this.told;
-    this.theirs = { version: sites.version, source: null };
-    const asked = await look("method", { class: name, selector });
-    if (!asked.ok || this.told.class !== name || this.told.selector !== selector) return;
-    this.told = { ...asked.ok, class: name, selector };
-    this.theirs = { version: asked.ok.class === name ? asked.ok.version || 0 : 0,
-      source: asked.ok.class === name ? asked.ok.source ?? null : null };
+  // Nothing was typed: what is there now is shown.
+  async refresh() {
+    const { class: name, selector, version } = this.told, now = await this.asked();
+    if (!now || now.version === (version || 0) || this.isChanged) return;
+    const what = now.version ? `is version ${now.version} now, of somebody else` : "was removed by somebody else";
+    toast(`${name} › ${selector} ${what}`, "warn");
+    this.take(now.told);
+  }
+
+  // Something was typed: it stays, and another version is told.
+  async meanwhile() {
+    const { class: name, selector } = this.told, now = await this.asked();
+    if (!now || now.version === this.began.version) return;
+    this.told = { ...now.told, class: name, selector };
+    Object.assign(this, { theirs: { version: now.version, source: now.source }, other: null });
     this.draw();
     this.under.open();
   }

@@ -87,6 +87,9 @@ export function moved(sites, old, now) {
 const RANK = { mega: 0, poly: 1, post: 2, mono: 3, empty: 4 };
 export function makeRoom(root) {
   const taken = [], all = [...root.querySelectorAll(".tell")];
+  // Where nothing is in sight yet no place is taken.
+  if (!root.offsetParent) return;
+  for (const it of all) it.style.visibility = "";
   const rank = it => RANK[it.parentNode.classList[1]];
   const boxes = new Map(all.map(it => [it, it.getBoundingClientRect()]));
   for (const it of all.sort((a, b) => rank(a) - rank(b))) {

@@ -2,7 +2,7 @@
 
 import { defineClass, reparentClass } from "./dialog.js";
 import { button, h, many, put } from "./dom.js";
-import { at, below, go, image } from "./image.js";
+import { at, go, image } from "./image.js";
 import { oneStop, walkable } from "./lists.js";
 import { heat } from "./shapes.js";
 
@@ -22,9 +22,9 @@ export class ClassTree {
     this.scroll = h("div", { of: "scroll" }, this.box);
     this.root = h("section", { of: "pane", "aria-label": "Classes" },
       h("header", {}, h("h2", {}, "Classes"), this.input, this.number,
-        button("plain", "+", () => this.define(), { title: "Defines a class", "aria-label": "Define a class", id: "new-class" })),
+        button("plain changes", "+", () => this.define(), { title: "Defines a class", "aria-label": "Define a class", id: "new-class" })),
       this.scroll, h("div", { of: "tools" },
-        this.move = button("plain", "Superclass…", () => reparentClass(at.class), { title: "Puts the class under another one" })));
+        this.move = button("plain changes", "Superclass…", () => reparentClass(at.class), { title: "Puts the class under another one" })));
   }
 
   choose(name) { if (name !== at.class) go("browse", { class: name, selector: undefined }); }

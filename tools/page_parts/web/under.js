@@ -2,7 +2,7 @@
 
 import { look } from "./ask.js";
 import { difference } from "./diff.js";
-import { aOrAn, button, h, many, plural, put, short } from "./dom.js";
+import { aOrAn, button, h, many, put, short } from "./dom.js";
 import { light } from "./editor.js";
 import { at, go } from "./image.js";
 import { legend, shapes } from "./shapes.js";
@@ -112,7 +112,7 @@ export class Under {
       const before = all[all.length - 2 - n]?.source ?? null, isNow = n === 0 && it.source !== null;
       const end = isNow ? h("span", { of: "chip mono" }, "runs now")
         : it.source === null ? h("span", { of: "chip" }, "removed")
-        : button("plain", "Bring back", () => this.pane.bringBack(told.class, told.selector, it),
+        : button("plain changes", "Bring back", () => this.pane.bringBack(told.class, told.selector, it),
           { "aria-label": `Bring back version ${it.version}` });
       return h("div", { of: "sect" }, h("h3", {}, `version ${it.version}`, end), it.source !== null && difference(before, it.source));
     });

@@ -2,7 +2,7 @@
 
 import { type } from "./ask.js";
 import { $, button, h, put } from "./dom.js";
-import { at, go, image } from "./image.js";
+import { go, image } from "./image.js";
 import { tokens } from "./source.js";
 
 const WORDS = { waits: "waits for the entry before", runs: "runs", broken: "broken off" };
@@ -97,10 +97,12 @@ function card(it) {
     why = it.why.length > 0 && button("link", "where", event => { event.target.nextSibling.hidden ^= true; });
   const said = h("pre", { of: `said ${it.state}` }, it.state === "runs" && h("span", { of: "spin", "aria-hidden": "true" }),
     it.state === "fault" && "✕ ", it.lines.join("\n"), state);
+  const number = /^fault \w+ in turn \d+ of actor (\d+)$/m.exec(it.lines.join("\n"))?.[1];
+  const of = number && button("link", `inspect actor ${number}`, () => go("actors", { actor: Number(number), object: 0 }));
   if (WORDS[it.state]) state.textContent = ` ${WORDS[it.state]}${it.state === "runs" && waits ? doing() : ""}`;
   return h("div", { of: "card", "data-number": it.number }, h("span", { of: "faint code", "aria-hidden": "true" }, "›"),
     h("pre", {}, coloured(it.typed)),
-    h("div", {}, said, why, why && h("pre", { of: "why", hidden: true }, it.why.join("\n"))),
+    h("div", {}, said, why, why && h("pre", { of: "why", hidden: true }, it.why.join("\n")), of && [why && " · ", of]),
       h("time", {}, it.seconds === null ? "" : took(it.seconds)));
 }
 

@@ -2,8 +2,8 @@
 ghost use Rattle.std.specs.Prelude.{◌≡◌, ◌≤◌, ◌⊎◌, Some, IfErr, IfOk, OnOk};
 ghost use Rattle.st_journal.specs.declared.entries.Entry.TheVariants as entry;
 ghost use Rattle.st_journal.specs.Entries.{Leads};
-ghost use Rattle.st_journal.specs.EntryTexts.{StopsAtLine, lines_of};
-ghost use Rattle.st_journal.specs.Replays.{Replays, StandsAt};
+ghost use Rattle.st_journal.specs.EntryTexts.{RefusesLine, StopsAtLine, lines_of};
+ghost use Rattle.st_journal.specs.Replays.{DoesOrLeaves, Replays, StandsAt, TakesSome};
 
 use crate::entries::Entry;
 use crate::redo_error::{LineError, RedoError, RefusedLine};
@@ -71,6 +71,28 @@ impl Until {
     }
 }
 
+/// Does the entry that a line says again, unless it lies behind: then nothing is done, and the answer is that entry.
+fn redo_unless<M: Mailbox, G: Guard>(
+    alloc: Global,
+    image: &mut Image<M>,
+    worker: &mut Worker<G>,
+    line: &[u8],
+    done: usize,
+    until: Until,
+) -> Result<Option<Entry>, LineError>
+    ensures ok { IfOk result (λ next. DoesOrLeaves image.old line.now next image.new) }
+    ensures err { IfErr result (λ e. RefusesLine image.old line.now e) }
+{
+    let entry = entry_of(alloc, image, line)?;
+    if until.is_before(done, image.counted().steps, &entry) {
+        return Ok(Some(entry));
+    }
+    match redo(alloc, image, worker, &entry) {
+        Ok(()) => Ok(None),
+        Err(error) => Err(LineError::Redo(error)),
+    }
+}
+
 /// Does the entries that the first lines of a text say again, one after the other. Where it fails, the lines before the one that is refused
 /// were done, and the image is to be dropped.
 fn redo_until<M: Mailbox, G: Guard>(
@@ -87,25 +109,14 @@ fn redo_until<M: Mailbox, G: Guard>(
     let mut rest = text;
     while !rest.is_empty() {
         let (line, behind) = first_line(rest);
-        let entry = match entry_of(alloc, image, line) {
-            Ok(entry) => entry,
+        let next = match redo_unless(alloc, image, worker, line, done, until) {
+            Ok(next) => next,
             Err(error) => return Err(RefusedLine { place: done, error }),
         };
-        if until.is_before(done, image.counted().steps, &entry) {
-            return Ok(Stopped {
-                done,
-                next: Some(entry),
-            });
+        if next.is_some() {
+            return Ok(Stopped { done, next });
         }
-        match redo(alloc, image, worker, &entry) {
-            Ok(()) => done += 1,
-            Err(error) => {
-                return Err(RefusedLine {
-                    place: done,
-                    error: LineError::Redo(error),
-                });
-            }
-        }
+        done += 1;
         image.known();
         rest = behind;
     }
@@ -132,6 +143,25 @@ fn run_some<M: Mailbox, G: Guard>(
     }
 }
 
+/// Takes some first steps of those that an entry tells, if any of them are wanted.
+fn run_part<M: Mailbox, G: Guard>(
+    alloc: Global,
+    image: &mut Image<M>,
+    worker: &mut Worker<G>,
+    next: &Option<Entry>,
+    until: Until,
+) -> Result<(), ReplayError>
+    ensures { OnOk result (TakesSome image.old next.now image.new) }
+{
+    match next {
+        Some(Entry::Ran { actor, steps }) => {
+            let wanted = until.wanted(image.counted().steps, *steps);
+            run_some(alloc, image, worker, *actor, wanted)
+        }
+        _ => Ok(()),
+    }
+}
+
 /// Does the beginning of a text again: the entries that its first lines say, and where a number of steps is wanted, as many of the first
 /// steps of the line behind them.
 ///
@@ -143,15 +173,12 @@ pub fn replay<M: Mailbox, G: Guard>(
     text: &[u8],
     until: Until,
 ) -> Result<usize, ReplayError>
-    ensures ok { IfOk result (λ n. Replays image.old (lines_of text.now) n image.new) }
+    ensures { IfOk result (λ n. Replays image.old (lines_of text.now) n image.new) }
 {
-    let Stopped { done, next } = match redo_until(alloc, image, worker, text, until) {
+    let stopped = match redo_until(alloc, image, worker, text, until) {
         Ok(stopped) => stopped,
         Err(refused) => return Err(ReplayError::Line(refused)),
     };
-    if let Some(Entry::Ran { actor, steps }) = next {
-        let wanted = until.wanted(image.counted().steps, steps);
-        run_some(alloc, image, worker, actor, wanted)?;
-    }
-    Ok(done)
+    run_part(alloc, image, worker, &stopped.next, until)?;
+    Ok(stopped.done)
 }

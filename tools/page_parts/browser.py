@@ -5,20 +5,21 @@ import json
 import os
 import re
 import shutil
+import signal
 import subprocess
 import tempfile
 import time
 import urllib.error
 import urllib.request
 
-from trial_parts.patience import PATIENCE
+from trial_parts.patience import PATIENCE, until
 
 # The key under which WebDriver names an element, and the keys of a keyboard that are no letters.
 ELEMENT = "element-6066-11e4-a52e-4f735466cecf"
 ENTER, ESCAPE, TAB, DOWN, UP, LEFT, RIGHT, END = "\ue007", "\ue00c", "\ue004", "\ue015", "\ue013", "\ue012", "\ue014", "\ue010"
 HELD = {"ctrl": "\ue009", "shift": "\ue008", "alt": "\ue00a"}
-
-
+# How often a driver is started at most.
+STARTS = 10
 # What a driver says of an element that is not there yet or no more.
 PASSING = ("stale element reference", "no such element", "element not interactable", "element click intercepted")
 
@@ -31,13 +32,25 @@ def is_there():
     return bool(shutil.which("chromium") and shutil.which("chromedriver"))
 
 
+def started():
+    """A driver, and its port. It looks for a free one, which another program may take before it does: then it ends, and is started again."""
+    pipes = {"stdout": subprocess.PIPE, "stderr": subprocess.DEVNULL, "text": True, "start_new_session": True}
+    for _ in range(STARTS):
+        driver = subprocess.Popen([shutil.which("chromedriver"), "--port=0"], **pipes)
+        for line in driver.stdout:
+            if found := re.search(r"started successfully on port (\d+)", line):
+                return driver, int(found[1])
+        driver.wait()
+        driver.stdout.close()
+    raise Failed("chromedriver does not start")
+
+
 class Browser:
     def __init__(self, width=1280, height=900, is_dark=False):
         self.folder, self.session = tempfile.TemporaryDirectory(prefix="browser-"), ""
-        pipes = {"stdout": subprocess.PIPE, "stderr": subprocess.DEVNULL, "text": True, "start_new_session": True}
-        self.driver = subprocess.Popen([shutil.which("chromedriver"), "--port=0"], **pipes)
+        self.driver, port = started()
         try:
-            self.address = f"http://127.0.0.1:{self.port()}"
+            self.address = f"http://127.0.0.1:{port}"
             words = ["--headless=new", f"--window-size={width},{height}", f"--user-data-dir={self.folder.name}", "--no-first-run"]
             words += ["--disable-dev-shm-usage", "--force-device-scale-factor=1"] + (["--no-sandbox"] if os.geteuid() == 0 else [])
             options = {"args": words, "binary": shutil.which("chromium")}
@@ -61,16 +74,17 @@ class Browser:
                 self.ask("DELETE", "")
         except (Failed, OSError):
             pass
-        self.driver.terminate()
+        # Of what the driver has started none goes on, which would write into the folder.
+        os.killpg(self.driver.pid, signal.SIGKILL)
         self.driver.wait()
         self.driver.stdout.close()
+        until(self.is_cleared, f"{self.folder.name} cannot be removed")
         self.folder.cleanup()
 
-    def port(self):
-        for line in self.driver.stdout:
-            if found := re.search(r"started successfully on port (\d+)", line):
-                return int(found[1])
-        raise Failed("chromedriver did not start")
+    def is_cleared(self):
+        """Whether nothing is in the folder any more. What is being ended may have written into it meanwhile."""
+        shutil.rmtree(self.folder.name, ignore_errors=True)
+        return not os.path.exists(self.folder.name)
 
     def ask(self, how, path, body=None):
         data = None if body is None else json.dumps(body).encode()
@@ -103,12 +117,12 @@ class Browser:
 
     def on(self, selector, what, body):
         """Does something with an element, once it is there and nothing lies over it: a page may draw it anew in between."""
-        until = time.monotonic() + PATIENCE
+        ends = time.monotonic() + PATIENCE
         while True:
             try:
                 return self.ask("POST", f"/element/{self.one(selector)}/{what}", body)
             except Failed as failed:
-                if not str(failed).startswith(PASSING) or time.monotonic() > until:
+                if not str(failed).startswith(PASSING) or time.monotonic() > ends:
                     raise
             time.sleep(0.05)
 
@@ -139,9 +153,9 @@ class Browser:
 
     def wait(self, script, *arguments, seconds=PATIENCE):
         """Waits until a script gives something true, and gives that."""
-        until = time.monotonic() + seconds
+        ends = time.monotonic() + seconds
         while not (found := self.run(script, *arguments)):
-            if time.monotonic() > until:
+            if time.monotonic() > ends:
                 raise Failed(f"not within {seconds:.0f} seconds: {script} {arguments}; seen is {self.text('body')[:2000]!r}")
             time.sleep(0.05)
         return found

@@ -1,5 +1,7 @@
 """Trials of who gets in. Each danger is tried twice: as it is, and with its answer taken out, where it must get through."""
 
+import contextlib
+import http.client
 import json
 import os
 import shutil
@@ -126,7 +128,7 @@ def bodies_are_bounded(program):
         for what, more in bad.items():
             same((what, opened.look(what, **more).get("error")), (what, "BadCommand"))
         with opened.watching(view="actors", table={"first": 0, "count": 5}) as events:
-            until(lambda: events[-1].get("table"))
+            until(lambda: events[-1:] and events[-1].get("table"))
             for view in (7, {"view": "actors", "table": 7}, {"view": "actors", "actor": "x"}, {"method": 1}):
                 same(opened.look("see", window=events[0]["window"], view=view)["error"], "BadCommand")
             last = len(events)
@@ -142,20 +144,36 @@ def bodies_are_bounded(program):
         finally:
             for it in many:
                 it.close()
-        until(lambda: opened.asked("GET", "/", {"Host": opened.server.gate.host})[0] == 200)
+        until(lambda: is_let_in(opened))
+
+
+def is_let_in(opened):
+    """Whether the page is given out. Where there are as many connections as there may be, this one is let go without a word."""
+    with contextlib.suppress(ConnectionError, http.client.BadStatusLine):
+        return opened.asked("GET", "/", {"Host": opened.server.gate.host})[0] == 200
+    return False
 
 
 def slow_ones_are_let_go(program):
-    """A request that does not come whole ends its connection, and the page is there for others meanwhile."""
-    before, Request.timeout = Request.timeout, 0.5
-    try:
-        with image_of(program, shop=False) as (server, _), Opened(server.path) as opened:
-            with socket.create_connection(("127.0.0.1", opened.port), timeout=PATIENCE) as slow:
-                slow.sendall(b"POST /look HTTP/1.1\r\nHost: ")
-                same(opened.asked("POST", "/look", opened.good(), LOOK)[0], 200)
-                same(slow.recv(1), b"")
-    finally:
-        Request.timeout = before
+    """A request that does not come whole ends its connection, and the page is there for others meanwhile. Only this connection is let go
+    soon: a busy machine may be slow with the others too."""
+    begun = threading.Event()
+
+    class Hasty(Request):
+        timeout = 0.5
+
+        def setup(self):
+            super().setup()
+            begun.set()
+
+    with image_of(program, shop=False) as (server, _), Opened(server.path) as opened:
+        opened.server.RequestHandlerClass = Hasty
+        with socket.create_connection(("127.0.0.1", opened.port), timeout=PATIENCE) as slow:
+            slow.sendall(b"POST /look HTTP/1.1\r\nHost: ")
+            true(begun.wait(PATIENCE), "the connection is not taken")
+            opened.server.RequestHandlerClass = Request
+            same(opened.asked("POST", "/look", opened.good(), LOOK)[0], 200)
+            same(slow.recv(1), b"")
 
 
 def the_token_is_hidden(program):

@@ -276,11 +276,16 @@ impl<'a> FileKeeper<'a> {
         let moment = Moment::of(alloc, &image);
         drop(image);
         match moment {
-            Ok(moment) => {
-                self.save(alloc, path, &moment, true)?;
-                self.remove_journal();
-                Ok(())
-            }
+            Ok(moment) => match self.save(alloc, path, &moment, true) {
+                Ok(()) => {
+                    self.remove_journal();
+                    Ok(())
+                }
+                Err(failure) => {
+                    self.leave();
+                    Err(failure)
+                }
+            },
             Err(_) => {
                 self.leave();
                 Err(Failure::from(Refusal::NoMemory))

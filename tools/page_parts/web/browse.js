@@ -118,6 +118,7 @@ export function show(main) {
 // What an event tells, with whether classes have changed.
 export function tell(event, isChanged) {
   if (isChanged) { tree.draw(); list(); }
+  else if (box.querySelector("[aria-selected=true]")?.dataset.text !== at.selector) mark();
   if (event.heat) tree.warm();
   if (event.shapes) { told = event.shapes; drawShapes(); }
   pane.tell(event);

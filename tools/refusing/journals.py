@@ -40,8 +40,8 @@ def killed(program, path):
 
 
 def without_names(image):
-    """What an image's file has beside its names: a refused line may have brought some."""
-    return {key: value for key, value in image.file().items() if key != "names"}
+    """What an image's file has now beside its names, as a text: a refused line may have brought some."""
+    return json.dumps({key: value for key, value in image.file().items() if key != "names"}, sort_keys=True)
 
 
 def may_be_there(path, replies):

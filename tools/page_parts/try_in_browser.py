@@ -101,10 +101,13 @@ def an_edit_is_made(program):
         browser.wait_text(".card", "audit")
         browser.wait_text(".card .said", "Till › ")
         choose(browser, "Till", "weigh:")
+        # A mouse on a word is one on the field that lies over it.
+        at_word = "const it = document.querySelector('.source .row').getBoundingClientRect(); return document.elementFromPoint(it.x + 40, it.y + it.height / 2)?.id"
+        same(browser.run(at_word), "source")
         typed_over(browser, "true", "n < 5")
         browser.wait("return !document.querySelector('#install').disabled")
         browser.click("#install")
-        browser.wait_text(".toast", "Till › weigh:: version")
+        browser.wait_text(".toast", "Till › weigh: is version")
         same(image.source("Till", "weigh:").source, "weigh: n  ^n < 5")
         browser.wait("return [...document.querySelectorAll('.card .said.done')].some(it => /^\\d+$/.test(it.innerText.trim()))")
         browser.click("#under-versions")

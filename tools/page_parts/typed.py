@@ -157,7 +157,7 @@ class Typed:
     def done(self, text):
         """How an entry ended."""
         session = self.session
-        session.answer, session.why = None, None
+        session.answer, before = None, session.why
         try:
             kind = session.do(text)
         except LostEntry as lost:
@@ -169,7 +169,7 @@ class Typed:
         except Exception as error:  # The next entry is done all the same.
             self.say(f"this went wrong in the page's server: {type(error).__name__}: {error}")
             return "refused"
-        if kind == "refused" and str(session.answer).startswith("fault "):
+        if kind == "refused" and session.why is not before and str(session.answer).startswith("fault "):
             self.explain()
             return "fault"
         if kind != "refused":

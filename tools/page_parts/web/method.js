@@ -124,7 +124,7 @@ export class MethodPane {
     const { version, source } = this.theirs, began = this.began.version;
     const isOther = this.other && this.other !== this.told.selector, mine = isOther ? this.other : this.told.selector;
     const what = isOther ? `There is a method ${mine} already, version ${version}` : version ? `Replaced meanwhile by version ${version}` : "Removed meanwhile";
-    const how = isOther ? "" : began ? ` of somebody else; you began with version ${began}` : " of somebody else; you began with none";
+    const how = isOther ? "" : began ? ` by somebody else; you began with ${began}` : " by somebody else; you began with none";
     put(this.banner, h("div", { of: "banner", id: "conflict" },
       h("b", {}, what), h("span", { of: "grow" }, `${how}. Nothing is overwritten.`),
       button("plain", "Show both", () => { this.areBoth = !this.areBoth; this.drawBanner(); },
@@ -157,7 +157,7 @@ export class MethodPane {
   async installed(name, selector, reply) {
     keep(name, selector, null);
     keep(name, reply.selector, null);
-    toast(`${name} › ${reply.selector}: version ${reply.ok.version}`);
+    toast(`${name} › ${reply.selector} is version ${reply.ok.version}`);
     if (reply.unknown.length) toast(`no class has a method ${reply.unknown.join(", ")}`, "warn");
     this.theirs = null;
     Object.assign(at, { class: name, selector: reply.selector });

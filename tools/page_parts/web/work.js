@@ -76,6 +76,7 @@ async function send() {
   write("");
   const reply = await type({ text });
   if (reply.error) { refused(reply.said); write(text + field.value); }
+  list.scrollTop = list.scrollHeight;
 }
 
 function write(text) {
@@ -94,7 +95,8 @@ const coloured = text => tokens(text).map(it => h("span", { of: it.of }, it.text
 
 function card(it) {
   const state = h("span", { of: "dim" }),
-    why = it.why.length > 0 && button("link", "where", event => { event.target.nextSibling.hidden ^= true; });
+    why = it.why.length > 0 && button("link", "where", () => { what.hidden ^= true; what.scrollIntoView({ block: "nearest" }); });
+  const what = why && h("pre", { of: "why", hidden: true }, it.why.join("\n"));
   const said = h("pre", { of: `said ${it.state}` }, it.state === "runs" && h("span", { of: "spin", "aria-hidden": "true" }),
     it.state === "fault" && "✕ ", it.lines.join("\n"), state);
   const number = /^fault \w+ in turn \d+ of actor (\d+)$/m.exec(it.lines.join("\n"))?.[1];
@@ -102,7 +104,7 @@ function card(it) {
   if (WORDS[it.state]) state.textContent = ` ${WORDS[it.state]}${it.state === "runs" && waits ? doing() : ""}`;
   return h("div", { of: "card", "data-number": it.number }, h("span", { of: "faint code", "aria-hidden": "true" }, "›"),
     h("pre", {}, coloured(it.typed)),
-    h("div", {}, said, why, why && h("pre", { of: "why", hidden: true }, it.why.join("\n")), of && [why && " · ", of]),
+    h("div", {}, said, why, of && [why && " · ", of], what),
       h("time", {}, it.seconds === null ? "" : took(it.seconds)));
 }
 

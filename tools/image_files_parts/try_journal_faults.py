@@ -15,6 +15,8 @@ from .try_served import ask
 CHECKPOINT, SAVE = {"cmd": "checkpoint"}, {"cmd": "save"}
 # So many actors are made while the disk is full, so that no batch of them is written.
 MANY = 300
+# And so many methods with long sources, which is more than is told at once.
+LONG = 400
 
 
 def filled(folder):
@@ -30,19 +32,21 @@ def filled(folder):
 
 
 def checkpoint_on_a_full_disk(program):
-    """What a checkpoint has emptied while the disk was full is told once there is room, also behind a save that was refused meanwhile; with
-    0 milliseconds what was replied to then is there behind a kill."""
-    with small_disk(program, "256k") as small:
+    """What a checkpoint has emptied while the disk was full is told once there is room, also behind a save that was refused meanwhile, before
+    which more waits than is told at once."""
+    with small_disk(program, "16m") as small:
         if small is None:
             return NO_DISK
         path = os.path.join(small, "file")
         with journaled(program, path, "--sync", "60000") as (server, end, lines):
             done(end, lines, CLASS, *[ACTOR] * 10)
             filler = filled(small)
-            done(end, lines, *[ACTOR] * MANY, CHECKPOINT, ACTOR)
+            method = {"class": CLASS["name"], "cmd": "method", "source": "a " + 3000 * " " + "^1"}
+            done(end, lines, *[method] * LONG, *[ACTOR] * MANY)
             same("a save", ask(end, lines, SAVE), {"error": "WriteFault"})
-            done(end, lines, CHECKPOINT, ACTOR)
-            same("another save", ask(end, lines, SAVE), {"error": "WriteFault"})
+            for _ in range(2):
+                done(end, lines, ACTOR, CHECKPOINT, ACTOR)
+                same("another save", ask(end, lines, SAVE), {"error": "WriteFault"})
             os.remove(filler)
             done(end, lines, ACTOR)
             same("a save where there is room", list(ask(end, lines, SAVE)), ["ok"])
@@ -50,7 +54,8 @@ def checkpoint_on_a_full_disk(program):
             same("a save behind it", list(ask(end, lines, SAVE)), ["ok"])
             server.send_signal(signal.SIGKILL)
             server.wait()
-        same("actors", len(recovered(path)[0].actors), 10 + MANY + 4)
+        image, _ = recovered(path)
+        same("actors and edits", (len(image.actors), image.classes.edits), (10 + MANY + 6, 1 + LONG))
     return "1 disk"
 
 

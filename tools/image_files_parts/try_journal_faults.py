@@ -61,14 +61,15 @@ def checkpoint_on_a_full_disk(program):
 
 def refused_save_on_a_full_disk(program):
     """A save that is refused where the disk is full loses nothing of what waits to be told: it comes into the journal with what follows."""
-    with small_disk(program, "256k") as small:
+    with small_disk(program, "16m") as small:
         if small is None:
             return NO_DISK
         path = os.path.join(small, "file")
         with journaled(program, path, "--sync", "20") as (server, end, lines):
             done(end, lines, CLASS)
             filler = filled(small)
-            done(end, lines, *[ACTOR] * MANY, CHECKPOINT)
+            method = {"class": CLASS["name"], "cmd": "method", "source": "a " + 3000 * " " + "^1"}
+            done(end, lines, *[method] * LONG, *[ACTOR] * MANY, CHECKPOINT)
             same("a save", ask(end, lines, SAVE), {"error": "WriteFault"})
             os.remove(filler)
             done(end, lines, *[ACTOR] * 5)

@@ -13,7 +13,8 @@
 gives an `Image`, whose methods are the commands of docs/PROTOCOL.md.
 
 A refused command raises the refusal's exception, a subclass of `Refused` with its name (`Full`, `Old`, `BadSource`, ..), its fields
-as attributes, and `stands`: what is true afterwards. A turn that ended with a fault raises `Fault` where its answer is asked for.
+as attributes, and `stands`: what is true afterwards. A turn that ended with a fault raises `Fault` where its answer is asked for, with
+the message that failed and the methods that ran. `Image.faults` tells which turns failed, whoever posted their messages.
 Where the other side ends or is not there, `Ended` is raised. Then `Image.reconnect` connects again, and each sender goes on behind
 its last message that the image has. `Sender.post_once` posts a message once, whatever breaks meanwhile.
 
@@ -29,6 +30,7 @@ from __future__ import annotations
 import contextlib
 import json
 import os
+import re
 import socket
 import subprocess
 import threading
@@ -38,6 +40,9 @@ from typing import Any, Callable, Iterable, Iterator, Mapping, Optional, Sequenc
 
 GREETING = 30.0  # Seconds that a server may take to say that it takes a session.
 LONGEST_WAIT = 60.0  # Seconds of the longest `wait` of the protocol.
+FIRST_FRAMES, LAST_FRAMES = 2, 5  # Of many frames of a fault these are shown,
+MOST_SHOWN = 10  # of one of them so many variables,
+WIDEST = 76  # and so many letters of a line of its source.
 
 
 @dataclass(frozen=True)
@@ -96,7 +101,8 @@ class Counted:
 class Status:
     """How an image does: how many actors, classes, edits and names it has, how many edits it still takes, what the history holds and may
     hold, what was counted over all checkpoints and files, and the sessions and workers of the server. `epoch` is another text behind
-    each checkpoint and each start."""
+    each checkpoint and each start. `faults` are the turns that have ended with a fault since the last checkpoint or start; `None` of a
+    program that does not count them."""
     actors: int
     classes: int
     edits: int
@@ -109,6 +115,7 @@ class Status:
     sessions: int
     steps: int
     workers: int
+    faults: Optional[int] = None
 
 
 @dataclass(frozen=True)
@@ -248,6 +255,85 @@ class Inspected:
     fault: Optional[str]
 
 
+@dataclass(frozen=True)
+class Sent:
+    """A message that was sent: its selector and arguments, its receiver and the class of that. A message to `super` goes to `self`."""
+    selector: str
+    args: tuple[Value, ...]
+    receiver: Value
+    class_name: str
+    is_super: bool
+
+
+@dataclass(frozen=True)
+class Activation:
+    """A method that was open when its turn failed: the class that has it, its selector, its source and the version of its install; what
+    `self` is, the class of that, and the values of its instance variables where it is an object of the actor; and the arguments and then
+    the temporaries. At the byte `offset` of the source stands the selector of the send that it waits for, or that failed if it is the
+    running one; `None` where that is not known."""
+    holder: str
+    selector: str
+    source: str
+    version: int
+    receiver: Value
+    class_name: str
+    slots: tuple[Value, ...]
+    temps: tuple[Value, ...]
+    offset: Optional[int]
+
+
+@dataclass(frozen=True)
+class Failure:
+    """How a turn came to end with a fault: how all stood just before the step that failed, of which `step` is the image's number.
+    `frames` are the open methods, from the first to the running one; there are none where nothing understood the message of the turn.
+    `send` is the message that failed. It is `None` of mustBeBoolean, which has the value that was tested."""
+    fault: str
+    step: int
+    frames: tuple[Activation, ...]
+    send: Optional[Sent]
+    value: Value
+
+    def message(self, actor: Callable[[int], str] = "actor {}".format) -> str:
+        """What failed, as it is typed: the message, or of mustBeBoolean the value. `actor` names actors by their numbers."""
+        words = _Words(self, actor)
+        if self.send is None:
+            return words.value(self.value)
+        receiver = "super" if self.send.is_super else words.value(self.send.receiver)
+        return f"{receiver} {words.message(self.send.selector, self.send.args)}"
+
+    def lines(
+        self, slots: Callable[[str], Sequence[str]] = lambda name: (), actor: Callable[[int], str] = "actor {}".format
+    ) -> list[str]:
+        """The frames, from the first to the running one, each with the line of its source where the send stands and a mark below that.
+        Of many the first and the last are shown. `slots` names the instance variables of a class, inherited ones first; where it names
+        none, their values stand alone."""
+        words, between, found = _Words(self, actor), len(self.frames) - FIRST_FRAMES - LAST_FRAMES, []
+        for place, it in enumerate(self.frames):
+            if not FIRST_FRAMES <= place < FIRST_FRAMES + between:
+                found += [words.frame(it, slots(it.class_name)), *(f"  {line}" for line in _marked(it.source, it.offset))]
+            elif place == FIRST_FRAMES:
+                found.append(f".. {between} more ..")
+        return found
+
+
+@dataclass(frozen=True)
+class Failed:
+    """A turn that ended with a fault, the fault's name, and the image's number of the step that failed."""
+    turn: Turn
+    fault: str
+    step: int
+
+
+@dataclass(frozen=True)
+class Faults:
+    """The turns that ended with a fault behind the step `since`, the oldest first, as far as they are kept. `steps` are all that the image
+    has taken: who asks for those after them misses none. Where `since` is above the step that was asked for, some may be lost, since
+    the newest 64 are kept, and none over a checkpoint or a start; where `steps` is below it, this is an older image."""
+    failed: tuple[Failed, ...]
+    since: int
+    steps: int
+
+
 class ActorImageError(Exception):
     """All errors of this module."""
 
@@ -257,14 +343,26 @@ class Ended(ActorImageError):
 
 
 class Fault(ActorImageError):
-    """A turn ended with a fault. What it changed before stays, and the actor goes on with its next message."""
+    """A turn ended with a fault. What it changed before stays, and the actor goes on with its next message. `failure` says how it came,
+    with the message that failed in `send` and the open methods in `frames`; it is `None` where the image does not keep it any more."""
 
-    def __init__(self, name: str, turn: Turn):
-        super().__init__(name, turn)
-        self.name, self.turn = name, turn
+    def __init__(self, name: str, turn: Turn, failure: Optional[Failure] = None):
+        super().__init__(name, turn, failure)
+        self.name, self.turn, self.failure = name, turn, failure
+
+    @property
+    def frames(self) -> tuple[Activation, ...]:
+        return self.failure.frames if self.failure else ()
+
+    @property
+    def send(self) -> Optional[Sent]:
+        return self.failure.send if self.failure else None
 
     def __str__(self) -> str:
-        return f"fault {self.name} in turn {self.turn.number} of actor {self.turn.actor.number}"
+        said = f"fault {self.name} in turn {self.turn.number} of actor {self.turn.actor.number}"
+        if not self.failure:
+            return said
+        return "\n  ".join([f"{said}: {self.failure.message()}", *self.failure.lines()])
 
 
 class Refused(ActorImageError):
@@ -334,6 +432,18 @@ MOST_OF = {
     "sessions": "The server has 64 sessions, and this one has not begun: end another one, or try again later.",
 }  # What `TooMany` means, by its `what`.
 REFUSALS: dict[str, type[Refused]] = {kind.__name__: kind for kind in Refused.__subclasses__()}
+FAULTS = {
+    "badArgument": "a kernel method got an argument or a receiver that it cannot take; look at what is added, compared or posted there",
+    "heapFull": "the actor has 1,024 objects, as many as it may; let it make fewer, or share the work among actors",
+    "localArgument": "a message would take an object to another actor; send numbers, symbols or actors instead",
+    "mustBeBoolean": "a condition was neither true nor false; look at what is asked before ifTrue:, whileTrue: and their like",
+    "notUnderstood": "no class up the chain has a method for a message that was sent, or for the one that began the turn; define the "
+    "method, or look for a slip in its name",
+    "overflow": "a result has over 64 bits; let the numbers stay smaller",
+    "stackOverflow": "128 methods were open at once; look for a recursion that does not end, or use a loop",
+    "tooManyActors": "there are 65,536 actors, as many as there may be; let the old ones do more",
+    "zeroDivide": "a number was divided by 0; ask before the division",
+}  # What each fault means, and what to do.
 
 
 def _refusal(reply: Reply) -> Refused:
@@ -414,6 +524,106 @@ def _inspected(actor: Actor, told: Reply) -> Inspected:
         _received(stands.get("answer")),
         stands.get("fault"),
     )
+
+
+def failure(told: Reply) -> Failure:
+    """What the command `fault` replies, where it tells how a fault came."""
+    send = told.get("send")
+    return Failure(
+        told["fault"],
+        told["step"],
+        tuple(map(_activation, told["frames"])),
+        send and Sent(send["selector"], _all(send["args"]), _received(send["receiver"]), send["class"], send["super"]),
+        _received(told.get("value")),
+    )
+
+
+def _activation(told: Reply) -> Activation:
+    return Activation(
+        told["holder"],
+        told["selector"],
+        told["source"],
+        told["method"] + 1,
+        _received(told["receiver"]),
+        told["class"],
+        _all(told["slots"]),
+        _all(told["temps"]),
+        told["offset"],
+    )
+
+
+class _Words:
+    """The values of a failure as Smalltalk prints them. `classes` has those of the actor's objects that the failure tells of, and `actor`
+    names actors by their numbers."""
+
+    def __init__(self, failure: Failure, actor: Callable[[int], str]):
+        told = [*failure.frames, *([failure.send] if failure.send else [])]
+        self.actor = actor
+        self.classes = {it.receiver.number: it.class_name for it in told if isinstance(it.receiver, Local)}
+
+    def value(self, value: Value) -> str:
+        if isinstance(value, Symbol):
+            return f"#{value.name}"
+        if isinstance(value, ClassName):
+            return value.name
+        if isinstance(value, Actor):
+            return self.actor(value.number)
+        if isinstance(value, Local):
+            return self.object(value.number)
+        return "nil" if value is None else str(value).lower()
+
+    def object(self, number: int) -> str:
+        """The actor itself is object 0."""
+        name = self.classes.get(number)
+        if name is None:
+            return f"object {number}"
+        said = f"{'an' if name[0] in 'AEIOU' else 'a'} {name}"
+        return f"{said} (object {number})" if number else said
+
+    def message(self, selector: str, args: Sequence[Value]) -> str:
+        """A message as it is typed."""
+        words = [f"{word}:" for word in selector.split(":")[:-1]] if ":" in selector else [selector]
+        return " ".join(f"{word} {self.value(it)}" for word, it in zip(words, args)) if args else selector
+
+    def frame(self, frame: Activation, slots: Sequence[str]) -> str:
+        """A method with its arguments, and what it runs in with the values of the variables there."""
+        count = frame.selector.count(":") if frame.selector[0].isalpha() else 1
+        args, temps = frame.temps[:count], frame.temps[count:]
+        begun = f"{frame.holder} >> {self.message(frame.selector, args)}    {self.value(frame.receiver)}"
+        own = f", {self.named(slots, frame.slots)}" if slots else f" with {self.named((), frame.slots)}"
+        return begun + (own if frame.slots else "") + (f"; {self.named(_temporaries(frame, count), temps)}" if temps else "")
+
+    def named(self, names: Sequence[str], values: Sequence[Value]) -> str:
+        """Values behind their names."""
+        shown = [" ".join([*names[place : place + 1], self.value(it)]) for place, it in enumerate(values[:MOST_SHOWN])]
+        return ", ".join(shown + [".."] * (len(values) > MOST_SHOWN))
+
+
+def _temporaries(frame: Activation, count: int) -> list[str]:
+    """The names of the temporaries of a method that takes so many arguments: they stand between bars behind its pattern."""
+    words = [it for it in re.findall(r'"[^"]*"|[A-Za-z][A-Za-z0-9]*:?|\S', frame.source) if it[0] != '"']
+    pattern = 2 * count if ":" in frame.selector else len(frame.selector) + 1 if count else 1
+    return words[pattern + 1 : pattern + 1 + len(frame.temps) - count]
+
+
+def _marked(source: str, offset: Optional[int]) -> list[str]:
+    """The line of a source where a byte stands, with those above and below it, and a mark under the byte; the first line where no byte is
+    known. Sources are ASCII."""
+    lines = [re.sub(r"\s", " ", line) for line in source.split("\n")]
+    if offset is None:
+        return [_cut(lines[0])]
+    at, column = source.count("\n", 0, offset), offset - source.rfind("\n", 0, offset) - 1
+    before, line, behind = lines[max(0, at - 1) : at], lines[at], lines[at + 1 : at + 2]
+    blank = min(len(it) - len(it.lstrip()) for it in (*before, line, *behind) if it.strip())
+    # Of a long line the beginning is left out where the place would be near the end of what is shown.
+    first = column - WIDEST // 2 if len(line) - blank > WIDEST and column - blank > 2 * WIDEST // 3 else blank
+    left = ".." if first > blank else ""
+    marked = [left + _cut(line[first:]), " " * (len(left) + column - first) + "^"]
+    return [*(_cut(it[blank:]) for it in before), *marked, *(_cut(it[blank:]) for it in behind)]
+
+
+def _cut(line: str) -> str:
+    return (line if len(line) <= WIDEST else line[: WIDEST - 2] + "..").rstrip()
 
 
 def _edit(told: Reply) -> Edit:
@@ -618,6 +828,19 @@ class Image:
         self._epoch = status.epoch
         return status
 
+    def faults(self, after: int = 0) -> Faults:
+        """The turns that ended with a fault behind a step, as far as they are kept. `BadCommand` is raised by a program that keeps none."""
+        told = self.ask({"cmd": "faults", "after": _bounded(after, 2**64 - 1, "the number of a step")})
+        failed = tuple(Failed(Turn(Actor(it["actor"]), it["turn"]), it["fault"], it["step"]) for it in told["faults"])
+        return Faults(failed, told["from"], told["steps"])
+
+    def fault(self, actor: Actor, turn: int) -> Optional[Failure]:
+        """How a turn came to end with a fault; `None` if it answered, or if that is not kept any more. The refusals are those of
+        `answer`, and `BadCommand` where the program keeps none."""
+        number = _bounded(turn, 2**64 - 1, "the number of a turn")
+        told = self.ask({"cmd": "fault", "actor": _number(actor), "turn": number})
+        return failure(told) if "frames" in told else None
+
     def edits(self, first: int = 0) -> Iterator[Edit]:
         """The edits behind the first so many, in their order, up to the last: the one at place n, from 1, made version n. They are asked
         for by 256. `BadArguments` is raised where the image has fewer edits."""
@@ -716,14 +939,23 @@ class Image:
         number = _bounded(turn.number, 2**64 - 1, "the number of a turn")
         command = {"cmd": "wait", "actor": _number(turn.actor), "turn": number, "ms": round(1_000 * seconds)}
         try:
-            told = self.ask({**command, "epoch": turn.epoch or self.status().epoch})
+            told = self.ask(command := {**command, "epoch": turn.epoch or self.status().epoch})
         except Expired:
             # Perhaps since there is another epoch, of which the next message is to be.
             self._epoch = None
             raise
         if "fault" in told:
-            raise Fault(told["fault"], turn)
+            raise Fault(told["fault"], turn, self._failure(command))
         return _received(told["answer"])
+
+    def _failure(self, wait: Reply) -> Optional[Failure]:
+        """How the turn that was waited for came to end with a fault, if that is kept. The image is asked by the epoch once more: if that is
+        the same still, this is told of no other turn."""
+        asked = {"cmd": "fault", "actor": wait["actor"], "turn": wait["turn"]}
+        told, again = self.ask_all([asked, {**wait, "ms": 0}])
+        if isinstance(told, Refused) or isinstance(again, Refused) or "frames" not in told:
+            return None
+        return failure(told)
 
 
 class Sender:

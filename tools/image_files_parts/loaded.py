@@ -1,6 +1,7 @@
 """Image files that the second implementation goes on from."""
 
 from inspect_parts.written import Written
+from second_opinion.failing import Failures
 from second_opinion.machine import Frame, Message
 from second_opinion.values import Value
 
@@ -21,6 +22,7 @@ class Loaded(Written):
             self.add(part)
         self.numbers = {client: last for client, last in file["senders"]}
         self.posts, self.steps = file.get("posts", 0), file.get("steps", 0)
+        self.failures = Failures(self.steps)
 
     def edit(self, place, edit):
         [(kind, parts)] = edit.items()

@@ -4,11 +4,12 @@ import json
 
 from inspect_parts.try_common import read
 from inspect_parts.written import Written, compact
+from second_opinion.failing import Failures
 
 from .program import same, settings
 
 # Other commands than these change nothing where they are refused; a refused post may bring names.
-TRIED = ("post", "outcome", "run")
+TRIED = ("post", "outcome", "fault", "run")
 # A script that runs more is too long for the second implementation.
 MOST_STEPS = 100_000
 # What is counted anew in each session.
@@ -22,8 +23,9 @@ class Kept(Written):
     begun = ()
 
     def load(self):
-        """Begins anew with what no file keeps: the numbers of turns, and which actor had the last quantum."""
+        """Begins anew with what no file keeps: the numbers of turns, which of them failed, and which actor had the last quantum."""
         self.last = -1
+        self.failures = Failures(self.steps)
         self.begun = [actor.accepted - len(actor.pending) for actor in self.actors]
 
     def earlier(self, number):
@@ -128,7 +130,7 @@ class Cut:
     def line(self, place):
         """A line with the numbers of the session; None where the session has no such turn."""
         command = command_of(self.lines[place])
-        if command["cmd"] != "outcome" or b"BadCommand" in self.whole[place]:
+        if command["cmd"] not in ("outcome", "fault") or b"BadCommand" in self.whole[place]:
             return self.lines[place]
         turn = command["turn"] - self.image.earlier(command["actor"])
         return None if turn < 0 else json.dumps({**command, "turn": turn}).encode()
@@ -141,11 +143,17 @@ class Cut:
             reply = {"ok": {"turn": reply["ok"]["turn"] - self.image.earlier(command["actor"])}}
         if command["cmd"] == "actors" and "ok" in reply:
             reply = {"ok": {**reply["ok"], "actors": [self.counted(row) for row in reply["ok"]["actors"]]}}
+        if command["cmd"] == "faults" and "ok" in reply:
+            reply = {"ok": {**reply["ok"], "faults": [self.numbered(row) for row in reply["ok"]["faults"]]}}
         if command["cmd"] == "inspect" and reply.get("ok", {}).get("turn") is not None:
             reply = {"ok": {**reply["ok"], "turn": reply["ok"]["turn"] - self.image.earlier(command["actor"])}}
         if command["cmd"] == "stats" and "ok" in reply:
             reply = {"ok": {"sites": [{**site, **UNCOUNTED} for site in reply["ok"]["sites"]]}}
         return compact(reply).encode().rstrip(b"\n")
+
+    def numbered(self, row):
+        """What is told of a turn that failed, with the number of the session."""
+        return {**row, "turn": row["turn"] - self.image.earlier(row["actor"])}
 
     def counted(self, row):
         """What is told of an actor, with its messages counted from the session on."""

@@ -124,7 +124,7 @@ def steps_of(replies):
 
 def kept(line, reply):
     """A reply without what a checkpoint forgets."""
-    if command_of(line)["cmd"] in ("outcome", "actors"):
+    if command_of(line)["cmd"] in ("outcome", "fault", "faults", "actors"):
         return None
     reply = json.loads(reply)
     if command_of(line)["cmd"] == "inspect" and "ok" in reply:

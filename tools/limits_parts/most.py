@@ -7,6 +7,7 @@ Other tools go up to the limits that are not used here:
 - bytes, brackets, names, keywords, variables and operands of a source: tools/replies, tests/sources/, and tests/scripts/codes.txt;
 - integers: tools/scripts, tests/scripts/dialogues.txt;
 - the number of an actor's last message: tools/image-files, `last_numbers`;
+- faults that are kept: tools/client-library, `keeps_the_newest_faults`;
 - sessions of a server: tools/sockets, `one_of_65_sessions_is_turned_away`;
 - workers and steps of a quantum: tools/command-line.
 """

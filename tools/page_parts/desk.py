@@ -9,7 +9,7 @@ import actorimage
 # may take.
 LONGEST_SESSION, PATIENCE = 60, 30
 LOOKS = ("classes", "methods", "source", "versions", "implementors", "senders", "edits", "actors", "inspect", "status", "outcome", "wait",
-    "stats")
+    "stats", "fault", "faults")
 ONLY_LOOKS = "this page was started with --look, and changes nothing"
 
 

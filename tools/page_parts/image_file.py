@@ -34,6 +34,11 @@ def refused(name):
     return actorimage.REFUSALS[name](name, {})
 
 
+def no_faults(_):
+    """A file keeps none, and answers as a server does that knows no such command."""
+    return refused("BadCommand")
+
+
 class FileLine:
     """What a session is to the page. `begun` stays: a file is read once."""
 
@@ -59,7 +64,7 @@ class FileLine:
 
     def answer(self, command):
         answers = {"status": self.status, "edits": self.edits, "actors": self.actors, "inspect": self.inspect, "stats": self.stats,
-            "senders": self.senders, "wait": self.wait}
+            "senders": self.senders, "wait": self.wait, "fault": no_faults, "faults": no_faults}
         if command["cmd"] not in answers:
             raise OnlyLooks
         return answers[command["cmd"]](command)

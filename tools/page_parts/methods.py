@@ -20,10 +20,11 @@ def sites_of(source, told):
     ]
 
 
-def method(kept, stats, name, selector, tick):
-    """What a send of the selector to an object of a class runs; without a class where there is none."""
+def method(kept, stats, name, selector, tick, is_own=False):
+    """What a send of the selector to an object of a class runs; without a source where there is none, or none of its own if that is
+    asked for."""
     holder = kept.found(name, selector)
-    if holder is None:
+    if holder is None or is_own and holder.name != name:
         gone = kept.history.get((name, selector), [])
         return {"class": name, "selector": selector, "gone": bool(gone), "versions": versions(kept, name, selector)}
     found = kept.source(holder.name, selector)

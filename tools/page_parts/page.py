@@ -3,10 +3,11 @@
 import actorimage
 
 from . import installing, methods
+from .completing import AllKnown, complete
 from .desk import ONLY_LOOKS, Desk, Lost, OnlyLooks
-from .faults import faults
+from .failure import failure
 from .image_file import FileLine
-from .typed import Typed
+from .typed import NOT_HERE, Typed
 from .watch import Watch
 
 
@@ -67,7 +68,7 @@ def see(page, asked):
 
 def method(page, asked):
     page.kept.catch_up()
-    return {"ok": methods.method(page.kept, page.stats, asked["class"], asked["selector"], page.watched.ticks)}
+    return {"ok": methods.method(page.kept, page.stats, asked["class"], asked["selector"], page.watched.ticks, bool(asked.get("own")))}
 
 
 def senders(page, asked):
@@ -91,8 +92,20 @@ def gone(page, asked):
     return {"ok": page.kept.gone(asked["class"])}
 
 
-def told_faults(page, asked):
-    return {"ok": faults(page.watched.rows)}
+def faults(page, asked):
+    return {"ok": page.watched.faults.told(page.watched.rows)}
+
+
+def completed(page, asked):
+    """What Tab makes of what stands before the cursor."""
+    names = page.typed.session.known.names
+    return {"ok": complete(AllKnown(dict(names), page.kept, page.watched.rows), str(asked["before"]), NOT_HERE)}
+
+
+def fault(page, asked):
+    """Where a turn failed."""
+    page.kept.catch_up()
+    return failure(page.watched, asked)
 
 
 LOOKS = {
@@ -102,7 +115,9 @@ LOOKS = {
     "implementors": implementors,
     "running": running,
     "gone": gone,
-    "faults": told_faults,
+    "faults": faults,
+    "fault": fault,
+    "complete": completed,
 }
 
 

@@ -91,6 +91,11 @@ def sends_of_message(message, is_super_send):
     yield Place(str(message.selector), is_super_send, tuple(message.selector.places), posted)
 
 
+def send_at(source, letter):
+    """The send whose selector begins at a letter; None if none does."""
+    return next((it for it in sends_of(source) if it.words[0][0] == letter), None)
+
+
 def waits_at(source, code, pc):
     """The send at which a frame stands that has taken the instructions before `pc`: the last one of these. None if there is none."""
     number = sum(it.name in ("Send", "SuperSend") for it in code[:pc])

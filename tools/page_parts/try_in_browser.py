@@ -155,6 +155,81 @@ def an_edit_of_another_is_seen(program):
         browser.wait("return document.querySelector('#source').value === 'audit ^5'")
 
 
+def a_removal_of_another_is_seen(program):
+    """While one types, somebody else removes the method: the text stays, also behind another method and a page that is loaded anew, and its
+    row is marked; it can be installed, or given up."""
+    row = "(document.querySelector('[role=option][data-text=\"sell:\"]')?.innerText ?? '')"
+    with shown(program) as (server, image, opened, browser):
+        choose(browser, "NightTill", "sell:")
+        typed_over(browser, "// 2", "// 3")
+        typed = browser.run("return document.querySelector('#source').value")
+        image.remove("NightTill", "sell:")
+        browser.wait_text("#conflict", "Removed meanwhile")
+        browser.wait(f"return {row}.includes('removed')")
+        same(browser.run("return [document.querySelector('#source').value, document.querySelector('#source').offsetParent !== null]"), [typed, True])
+        # Till has a method of that name, which is not taken for the one that was removed.
+        choose(browser, "Till", "sell:")
+        true("removed" not in browser.run(f"return {row}"), "another class's method is marked")
+        choose(browser, "NightTill", "sell:")
+        browser.wait("return document.querySelector('#source').value === arguments[0]", typed)
+        browser.open(opened.address.partition("#")[0])
+        connected(browser)
+        browser.wait_text("#conflict", "Removed meanwhile")
+        same(browser.run("return document.querySelector('#source').value"), typed)
+        browser.press("s", "ctrl")
+        browser.wait_text("#both", "// 3")
+        browser.click("#install-mine")
+        until(lambda: any(it.selector == "sell:" for it in image.methods("NightTill")))
+        browser.wait(f"return {row}.startsWith('sell:') && !{row}.includes('removed')")
+        typed_over(browser, "// 3", "// 4")
+        image.remove("NightTill", "sell:")
+        browser.wait(f"return {row}.includes('removed')")
+        browser.click("#take-theirs")
+        browser.wait("return !document.querySelector('[role=option][data-text=\"sell:\"]')")
+
+
+def words_are_completed(program):
+    """Tab completes what is typed, by the whole image; a choice is shown; and without a text, or behind Escape, Tab goes on."""
+    value = "return document.querySelector('#entry').value"
+    with shown(program) as (server, image, opened, browser):
+        browser.write("#entry", "Customer >> lo")
+        browser.press(TAB)
+        browser.wait(value + " === arguments[0]", "Customer >> " + image.source("Customer", "lose").source)
+        browser.run("document.querySelector('#entry').value = ''")
+        browser.write("#entry", ":sen")
+        browser.press(TAB)
+        browser.wait(value + " === ':senders '")
+        browser.press("s")
+        browser.press(TAB)
+        browser.wait_text("#offers", "shop")
+        browser.wait_text("#offers", "sell:")
+        browser.press("ho")
+        browser.wait("return document.querySelector('#offers').hidden")
+        browser.press(TAB)
+        browser.wait(value + " === ':senders shop'")
+        browser.press(ESCAPE + TAB)
+        browser.wait("return document.activeElement.id !== 'entry'")
+        browser.run("document.querySelector('#entry').value = ''; document.querySelector('#entry').focus()")
+        browser.press(TAB)
+        browser.wait("return document.activeElement.id !== 'entry'")
+        browser.write("#entry", ":help\n")
+        browser.wait_text(".card.long .said", "On this page Enter does what is typed")
+
+
+def a_class_and_a_selector_are_found(program):
+    """Ctrl K takes a class and the beginning of a selector; what the class inherits comes behind its own."""
+    with shown(program) as (server, image, opened, browser):
+        browser.press("k", "ctrl")
+        browser.press("nighttill>>s")
+        browser.wait("return document.querySelectorAll('#found .item').length === 2")
+        same(browser.texts("#found .code"), ["NightTill › sell:", "Till › sold"])
+        browser.run("document.querySelector('#palette input').value = ''")
+        browser.press("Till >> w")
+        browser.wait("return document.querySelector('#found .code')?.innerText === 'Till › weigh:'")
+        browser.press(ENTER)
+        browser.wait("return document.querySelector('.crumbs .sel')?.textContent === 'weigh:'")
+
+
 def an_error_stands_in_its_place(program):
     """What is wrong is marked where it is, with advice; the cursor goes there; and nothing is installed."""
     with shown(program) as (server, image, opened, browser):
@@ -286,6 +361,6 @@ def keys_alone_are_enough(program):
 
 
 TRIALS = (
-    each_view_is_shown, an_edit_is_made, an_edit_of_another_is_seen, an_error_stands_in_its_place, messages_are_answered, classes_are_changed,
-    keys_alone_are_enough,
+    each_view_is_shown, an_edit_is_made, an_edit_of_another_is_seen, a_removal_of_another_is_seen, words_are_completed,
+    a_class_and_a_selector_are_found, an_error_stands_in_its_place, messages_are_answered, classes_are_changed, keys_alone_are_enough,
 )

@@ -28,6 +28,15 @@ NOT_HERE = {
     "restart": "the image is served to others too; tools/stop ends its server",
 }
 
+# What `:help` says of this image besides, in place of what a workspace at a terminal says of a served one.
+HELP = """\
+On this page Enter does what is typed, Shift+Enter begins a line, and the keys up and down bring back what was typed. Tab completes
+commands, names, classes, messages and methods of the whole image; in an empty field, and behind Escape, it goes on to what comes next.
+The image is served to many, and the server's workers run the actors: a message that is typed waits until its turn has ended, and
+Break off, or Ctrl-C, stops the waiting; the turn goes on. :post does not wait. Edits of others take effect here at the next send, and
+a method that somebody has changed since it was shown or written here is not written over unseen. c := actor 0 names any actor.
+""".splitlines()
+
 
 class Breaks:
     """Whether the entry is to be broken off."""
@@ -82,7 +91,8 @@ class PageTurns(ServedTurns):
 class PageImage(ServedImage):
     """A served image whose session is one of the page."""
 
-    not_there = {**ServedImage.not_there, **NOT_HERE}
+    not_there, commands = {**ServedImage.not_there, **NOT_HERE}, {**ServedImage.commands, **NOT_HERE}
+    help = HELP
 
     def __init__(self, line, sender, say):
         super().__init__(line.path, sender)
@@ -106,6 +116,8 @@ class Typed:
         self.lock = threading.Condition()
         self.breaks = Breaks()
         self.session = Session(PageImage(line, self.sender, self.say), self.breaks, self.say)
+        # What the session asks when it begins is asked in one that ends: nobody types yet.
+        line.rest()
         threading.Thread(target=self.work, daemon=True).start()
 
     def type(self, text):
@@ -150,6 +162,7 @@ class Typed:
             self.changed()
             began = time.monotonic()
             self.card["state"] = self.done(self.card["typed"])
+            self.card["epoch"] = self.epoch()
             self.card["seconds"] = round(time.monotonic() - began, 3)
             self.changed()
             self.card = None
@@ -175,6 +188,10 @@ class Typed:
         if kind != "refused":
             return "done"
         return "refused" if session.log.connection.line.image else "lost"
+
+    def epoch(self):
+        """That of the image in which the entry was done: turns have their numbers in it alone."""
+        return (self.session.log.connection.before or (0, None))[1]
 
     def explain(self):
         """What is said of a fault besides, for whoever asks where it was."""

@@ -7,7 +7,7 @@ import time
 import actorimage
 
 from .desk import Lost
-from .faults import faults
+from .faults import Faults
 from .figures import Figures
 from .inspecting import Ends, Inspected
 from .kept import Kept
@@ -49,7 +49,7 @@ class Watch:
         self.line = desk.looks
         self.desk, self.kept = desk, Kept(self.line)
         self.rows, self.figures, self.stats = Rows(), Figures(desk.path), Stats(self.line, self.kept)
-        self.boxes, self.posts, self.ends = Boxes(), Posts(), Ends(self.line)
+        self.boxes, self.posts, self.ends, self.faults = Boxes(), Posts(), Ends(self.line), Faults(self.line)
         self.moved, self.views, self.ticks = threading.Condition(threading.RLock()), {}, 0
         self.state, self.said, self.epoch, self.as_of, self.next = "lost", "not connected yet", None, None, 0
         self.is_running = False
@@ -72,7 +72,10 @@ class Watch:
                 self.boxes.take(self.rows)
         else:
             self.see_some()
+        told = self.faults.ask(status)
         with self.moved:
+            if told is not None:
+                self.faults.take(told, self.rows, time.time())
             self.figures.take(status, self.rows.turns, self.rows.waiting, time.monotonic())
             self.state, self.said, self.as_of = "there", "", time.time()
         self.look_at_methods()
@@ -80,7 +83,7 @@ class Watch:
     def begin(self, epoch):
         """Behind a checkpoint or a restart turns have other numbers, so nothing of before goes on."""
         self.epoch = epoch
-        for it in (self.rows, self.figures, self.stats, self.boxes, self.posts):
+        for it in (self.rows, self.figures, self.stats, self.boxes, self.posts, self.faults):
             it.clear()
 
     def see_some(self):
@@ -203,6 +206,8 @@ class Watch:
             told["classes"] = [self.kept.classes[it].row() for it in names if it in self.kept.classes]
         seen["anew"], seen["edits"] = self.kept.anew, self.kept.version
         told["version"] = self.kept.version
+        if self.faults.count is not None and seen.get("faults") != self.faults.version:
+            told["faults"], seen["faults"] = self.faults.told(self.rows), self.faults.version
         return told
 
     def table(self, view):
@@ -230,7 +235,8 @@ class Watch:
             told["inspected"] = self.inspected(view["actor"], view.get("object", 0))
         if view.get("view") == "pictures":
             told["boxes"], told["graph"] = self.boxes.shown(self.rows), {"nodes": self.posts.nodes, "edges": self.posts.edges}
-            told["faults"] = faults(self.rows)
+            if self.faults.count is None:
+                told["faults"] = self.faults.told(self.rows)
         return told
 
     def sites(self, method):

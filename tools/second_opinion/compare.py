@@ -97,7 +97,7 @@ class Difference:
         if not rest:
             return False
         last = rest[-1]
-        if last["cmd"] in ("outcome", "wait"):
+        if last["cmd"] in ("outcome", "fault", "wait"):
             posts = [one for one in self.commands[start:stop] if one["cmd"] == "post" and one["actor"] == last["actor"]]
             if self.keep(rest[:-1] + [dict(last, turn=max(0, last["turn"] - len(posts)))]):
                 return True

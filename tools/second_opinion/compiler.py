@@ -7,6 +7,7 @@ from .language import BadSource, MOST_INSTRUCTIONS, MOST_OPERANDS, RESERVED
 from .tree import Assignment, Cascade, Name, Number, Parenthesis, Symbol, is_inlined, is_super
 from .values import FALSE, NIL, TRUE, Instruction, Value
 
+JUMPS = ("JumpFalse", "JumpTrue")
 PUSHES = ("PushLit", "PushSelf", "PushActor", "PushTemp", "PushSlot", "Dup")
 
 # The code of a reserved name.
@@ -117,7 +118,7 @@ class Compiler:
 
     def message(self, message, name="Send"):
         code = [instruction for argument in message.arguments for instruction in self.code(argument)]
-        return code + [Instruction(name, message.selector, len(message.arguments))]
+        return code + [Instruction(name, message.selector, len(message.arguments), message.start)]
 
     def send(self, send):
         name = "SuperSend" if is_super(send.receiver) else "Send"
@@ -187,6 +188,15 @@ def change(instruction):
     if instruction.name in ("Send", "SuperSend"):
         return -instruction.arguments
     return 0
+
+
+def place_of(code, pc):
+    """Where the send at a place of a code stands in the source; of a conditional jump, the send that gave what is tested. None where there
+    is no send, or not the same one on all ways to the jump."""
+    if code[pc].name not in JUMPS:
+        return code[pc].start
+    is_joined = any(it.name == "Jump" and place + 1 + it.operand == pc for place, it in enumerate(code))
+    return None if is_joined else code[pc - 1].start
 
 
 def compile_method(method, slots, classes):

@@ -3,6 +3,7 @@
 from collections import Counter
 
 from .classes import Classes, Refused
+from .failing import Failures
 from .inspecting import inspected
 from .language import BadSource, LARGEST_NUMBER, LONGEST_WAIT, MOST_ACTORS, MOST_COUNTED, MOST_RESULTS, arguments_of, is_selector
 from .looking import LOOKS, actors, look, status
@@ -26,7 +27,7 @@ class Image:
     that a run may take, where there is one. `posts` and `steps` are all that were ever counted; `stands` has the numbers of the
     actors that had begun a turn before the last checkpoint: the last one of these is turn 0. `sent` has methods with the sends of their
     call sites since then, by the places in their code. `items` are those of the history, `checkpoints` how many there were, `told` the
-    epochs that a `status` told, and `loaded` the edits that a file brought."""
+    epochs that a `status` told, and `loaded` the edits that a file brought. `taking` is the number of the step that is being taken."""
 
     def __init__(self, quantum=256, capacity=64, patience=None):
         self.quantum = quantum
@@ -43,6 +44,8 @@ class Image:
         self.installed = None
         self.items = self.checkpoints = self.loaded = 0
         self.told = set()
+        self.taking = 0
+        self.failures = Failures()
 
     def reply(self, command):
         """The reply to a command of those that the scripts here have: a definition, a method and an actor name a class that is
@@ -206,28 +209,32 @@ class Image:
             return None
         steps = 0
         while steps < self.quantum and actor.in_turn() and not actor.at_outer_step():
-            actor.step()
             steps += 1
+            self.take_step(actor, self.steps + steps)
         if actor.at_outer_step():
-            actor.step()
             steps += 1
+            self.take_step(actor, self.steps + steps)
         if not actor.is_ready():
             self.ready.discard(actor.number)
         self.steps += steps
         self.items += 1
         return steps
 
+    def take_step(self, actor, number):
+        self.taking = number
+        actor.step()
+
     def passes(self, actor):
         """Whether the steps of the actor's next quantum are more than can be counted. The actor stays as it is."""
-        before, steps, sent = actor.body(), self.steps, self.sent
-        self.sent = {}
+        before, steps, sent, failures = actor.body(), self.steps, self.sent, self.failures
+        self.sent, self.failures = {}, Failures()
         for _ in range(self.quantum):
             if actor.in_turn() and not actor.at_outer_step():
                 actor.step()
                 steps += 1
         steps += actor.at_outer_step()
         actor.message, actor.objects, actor.frames, actor.results = before
-        self.sent = sent
+        self.sent, self.failures = sent, failures
         return steps > MOST_COUNTED
 
     def checkpoint(self, command):
@@ -235,6 +242,7 @@ class Image:
         self.stands = {actor.number for actor in self.actors if actor.in_turn() or actor.results}
         self.sent = {}
         self.items = 0
+        self.failures = Failures(self.steps)
         self.checkpoints += 1
         for actor in self.actors:
             actor.forget()
@@ -269,8 +277,8 @@ class Image:
         if method is None:
             return {"error": "NoSuchMethod"}
         _, sends = self.sent.get(id(method), (None, Counter()))
-        sites = [(place, name, selector) for place, (name, selector, _) in enumerate(method.code) if name in ("Send", "SuperSend")]
-        return {"ok": {"sites": [{"selector": it, "sends": sends[place], "super": name == "SuperSend"} for place, name, it in sites]}}
+        sites = [(place, it) for place, it in enumerate(method.code) if it.name in ("Send", "SuperSend")]
+        return {"ok": {"sites": [{"selector": it.operand, "sends": sends[place], "super": it.name == "SuperSend"} for place, it in sites]}}
 
     def inspect(self, command):
         if command["actor"] >= len(self.actors):
@@ -308,6 +316,14 @@ class Image:
             return {"error": "Expired"}
         result = results[command["turn"] - 1]
         return {"ok": {"answer": self.json(result)} if isinstance(result, Value) else {"fault": result}}
+
+    def fault(self, command):
+        """What is kept of a turn that failed. Of another turn it is told how it ended."""
+        told = self.failures.of_turn(command["actor"], command["turn"])
+        return {"ok": told} if told else self.outcome(command)
+
+    def faults(self, command):
+        return {"ok": self.failures.behind(command["after"], self.steps)}
 
     def json(self, value):
         if value.kind == "class":

@@ -167,6 +167,7 @@ def status(image):
         "edits": image.classes.edits,
         "edits_left": edits_left(image),
         "epoch": image.epoch(),
+        "faults": image.failures.count,
         "history": image.items,
         "history_most": MOST_ITEMS,
         "names": len(image.classes.names.numbers),

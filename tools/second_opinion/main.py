@@ -5,7 +5,8 @@
 
 PROGRAM is `crates/actorimage/out/actorimage`. Compared are the replies to each command of scripts: which sources are refused, with which
 kind and at which byte; which methods are removed or replaced, and which classes moved; what looks at classes, edits, actors and the image
-show; which messages mailboxes take; how turns end, in how many quanta and steps, and of which epoch; and how often each call site sent.
+show; which messages mailboxes take; how turns end, in how many quanta and steps, and of which epoch; what is told of turns that failed; how
+often each call site sent; and, before all of this, where each send of some methods stands in its source.
 How sends are found is not compared, but they have to be found in all three ways. Some scripts are picked by hand; the replies that are
 said in these are asked of the second reader first, and where it gives others, the status is 3. Where it and the program differ, the status
 is 1, and the shortest source and script that show it are printed; with --briefly only that they do. With --minutes it ends with the first
@@ -21,6 +22,7 @@ import time
 from collections import Counter
 
 from .compare import WAYS, Difference, differences, found
+from .places import METHODS, compare_places
 from .program import program_replies
 from .scripts import all_scripts
 from .sharp import try_wrong_rules
@@ -50,6 +52,12 @@ def arguments():
 
 def compare(program, seed, sources, briefly, minutes=None):
     """The status: 0 where there is no difference."""
+    what, places = compare_places(program, seed, min(sources, METHODS))
+    if what:
+        if not briefly:
+            print(what)
+        print(f"tools/second-opinion: a difference within {places:,} places of sends")
+        return 1
     read = turns = scripts = answers = 0
     ways = Counter()
     ends = None if minutes is None else time.monotonic() + 60 * minutes
@@ -71,7 +79,8 @@ def compare(program, seed, sources, briefly, minutes=None):
         if ends is not None and time.monotonic() > ends:
             break
     told = ", ".join(f"{ways[way]:,} by {way}" for way in WAYS)
-    print(f"tools/second-opinion: {scripts:,} scripts, {read:,} sources and {turns:,} turns, no difference; sends of sites: {told}")
+    print(f"tools/second-opinion: {places:,} places of sends, {scripts:,} scripts, {read:,} sources and {turns:,} turns, no difference")
+    print(f"tools/second-opinion: sends of sites: {told}")
     if ends is None and sources >= SOURCES and (min(ways[way] for way in WAYS) < LEAST_SENDS or answers < LEAST_ANSWERS):
         print(f"tools/second-opinion: too little was compared: {answers} answers, and sends are to be found often in all ways")
         return 1

@@ -127,15 +127,23 @@ class Parser:
 
     def message(self):
         if self.here.kind == "word":
-            return Message(self.take().text, [])
+            return self.unary_message()
         if self.here.kind == "binary":
-            return Message(self.take().text, [self.unary_expression(("word",))])
+            return self.binary_message()
         if self.here.kind == "keyword":
             return self.keyword_message()
         self.stuck()
 
+    def unary_message(self):
+        token = self.take()
+        return Message(token.text, [], token.start)
+
+    def binary_message(self):
+        token = self.take()
+        return Message(token.text, [self.unary_expression(("word",))], token.start)
+
     def keyword_message(self):
-        message = Message("", [])
+        message = Message("", [], self.here.start)
         for keyword in self.keywords():
             message.selector += keyword
             message.arguments.append(self.binary_expression(("word", "binary")))
@@ -149,8 +157,7 @@ class Parser:
         """`messages` are the kinds of tokens that begin a message to the first operand."""
         left = self.unary_expression(messages)
         while self.here.kind == "binary":
-            selector = self.take().text
-            left = Send(left, Message(selector, [self.unary_expression(("word",))]))
+            left = Send(left, self.binary_message())
         return left
 
     def unary_expression(self, messages):
@@ -158,7 +165,7 @@ class Parser:
         if is_super(operand) and self.here.kind not in messages:
             self.method.bare_supers.append(operand.start)
         while self.here.kind == "word":
-            operand = Send(operand, Message(self.take().text, []))
+            operand = Send(operand, self.unary_message())
         return operand
 
     def primary(self):

@@ -14,13 +14,14 @@ rules, and the second reader is held to them before it is compared with anything
     look actors 0 4096    the actors from 0 on, at most so many             look inspect 0        checkpoint
     look edits 3          replace C 7 source, over version 7
     save                  status                wait 0 1 20 E, for turn 1 of actor 0 of the epoch E, and 20 milliseconds
+    fault 0 1             of turn 1 of actor 0  faults 7, behind step 7
 """
 
 import json
 from dataclasses import dataclass
 
-from . import picked_actors, picked_edits, picked_epochs, picked_inspecting, picked_looking, picked_lookup, picked_mailboxes, picked_moves
-from . import picked_objects
+from . import picked_actors, picked_edits, picked_epochs, picked_failing, picked_inspecting, picked_looking, picked_lookup
+from . import picked_mailboxes, picked_moves, picked_objects
 from .language import LONGEST_WORD
 
 
@@ -49,6 +50,7 @@ def all_picked():
         picked_looking.LOOKING,
         picked_edits.LISTED,
         picked_edits.REPLACING,
+        picked_failing.FAILING,
     ):
         for says, text in texts.items():
             yield Picked(says, text)
@@ -150,6 +152,13 @@ class Taker:
         actors = self.script.image.actors
         last = actors[number].accepted if number < len(actors) else 1
         self.script.add({"actor": number, "cmd": "outcome", "turn": turn[0] if turn else last})
+
+    def take_fault(self, rest):
+        number, turn = map(int, rest.split())
+        self.script.add({"actor": number, "cmd": "fault", "turn": turn})
+
+    def take_faults(self, rest):
+        self.script.ask_faults(int(rest))
 
     def take_turn(self, rest):
         reply = self.take_post(rest)

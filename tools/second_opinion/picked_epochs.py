@@ -1,8 +1,8 @@
 """Picked scripts of an image's status, and of waits for turns. The epochs are the second reader's words."""
 
 
-def status(epoch, actors, classes, edits, history, names, posts, steps):
-    sizes = f'"actors":{actors},"classes":{classes},"edits":{edits},"edits_left":{2048 - edits},"epoch":"epoch {epoch}"'
+def status(epoch, actors, classes, edits, history, names, posts, steps, faults=0):
+    sizes = f'"actors":{actors},"classes":{classes},"edits":{edits},"edits_left":{2048 - edits},"epoch":"epoch {epoch}","faults":{faults}'
     counts = f'"history":{history},"history_most":1000000,"names":{names},"posts":{posts},"sessions":1,"steps":{steps},"workers":1'
     return f'> {{"ok":{{{sizes},{counts}}}}}'
 
@@ -26,9 +26,9 @@ EPOCHS = {
         run
         > {{"ok":{{"quanta":1,"steps":4}}}}
         status
-        {status(0, actors=1, classes=9, edits=2, history=6, names=26, posts=1, steps=4)}
+        {status(0, actors=1, classes=9, edits=2, history=6, names=26, posts=1, steps=4, faults=1)}
         status
-        {status(0, actors=1, classes=9, edits=2, history=6, names=26, posts=1, steps=4)}
+        {status(0, actors=1, classes=9, edits=2, history=6, names=26, posts=1, steps=4, faults=1)}
         close 0
         close 0
         > {{"error":"Closed"}}
@@ -40,7 +40,7 @@ EPOCHS = {
         replace A 0 more ^1
         move A Object
         status
-        {status(0, actors=1, classes=9, edits=5, history=10, names=27, posts=1, steps=4)}
+        {status(0, actors=1, classes=9, edits=5, history=10, names=27, posts=1, steps=4, faults=1)}
         checkpoint
         > {{"ok":{{"posts":1,"steps":4}}}}
         status

@@ -111,6 +111,9 @@ class Script:
     def save(self):
         self.add({"cmd": "save"})
 
+    def ask_faults(self, after):
+        self.add({"after": after, "cmd": "faults"})
+
     def post(self, number, selector, arguments):
         return self.send(1, len(self.lines) + 1, number, selector, arguments)
 
@@ -122,12 +125,15 @@ class Script:
         return reply
 
     def run_turn(self, number, selector, arguments):
-        """Posts, runs all there is, and asks how it ended; nothing where the turn would take too long."""
+        """Posts, runs all there is, and asks how it ended, and what it failed at; nothing where the turn would take too long."""
         if self.ends(number, selector, arguments):
             reply = self.post(number, selector, arguments)
             if "ok" in reply:
                 self.add({"cmd": "run"})
-                self.add({"actor": number, "cmd": "outcome", "turn": reply["ok"]["turn"]})
+                asked = {"actor": number, "turn": reply["ok"]["turn"]}
+                ended = self.add({**asked, "cmd": "outcome"})
+                if "fault" in ended.get("ok", ()):
+                    self.add({**asked, "cmd": "fault"})
 
     def ends(self, number, selector, arguments):
         """Whether all actors come to rest after the post."""
@@ -218,6 +224,7 @@ def random_script(rng, sources, size):
             looks.ask(script.commands[-1]["class"])
     looks.ask_all_edits()
     waits.ask_status()
+    script.ask_faults(0)
     return script
 
 
@@ -274,6 +281,12 @@ class CutTurns:
         if self.apart.random() < 0.5:
             self.script.save()
 
+    def ask_faults(self):
+        """Often of those behind a step that is near the last one, or near the oldest that is kept."""
+        image = self.script.image
+        steps = [0, image.steps, image.steps + 1, self.apart.randrange(image.steps + 1), *(it.step for it in image.failures.kept)]
+        self.script.ask_faults(max(0, self.apart.choice(steps) - self.apart.choice([0, 0, 1, 2])))
+
     def look_at_actors(self):
         """Often, where there are looks, behind what changes actors."""
         if "look" in self.aside and self.apart.random() < 0.25:
@@ -309,6 +322,9 @@ class CutTurns:
                 self.script.add({"actor": number, "cmd": "outcome", "turn": turn})
         self.looks.ask_all_edits()
         self.waits.ask_status()
+        self.script.ask_faults(0)
+        for failure in list(self.script.image.failures.kept):
+            self.script.add({"actor": failure.actor, "cmd": "fault", "turn": failure.turn})
         return self.script
 
     def run(self):
@@ -366,11 +382,12 @@ class CutTurns:
         return some_actor(self.rng, self.script.image)
 
     def ask(self):
-        self.script.add({**some_turn(self.rng, self.script.image), "cmd": "outcome"})
+        asked = some_turn(self.rng, self.script.image)
+        self.script.add({**asked, "cmd": "fault" if self.apart.random() < 0.3 else "outcome"})
 
 
 def cut_turns(rng, sources):
-    turns = CutTurns(rng, sources, aside=("define", "ask_sends", "look", "checkpoint", "replace", "save", "wait"))
+    turns = CutTurns(rng, sources, aside=("define", "ask_sends", "ask_faults", "look", "checkpoint", "replace", "save", "wait"))
     turns.grow(900)
     return turns.asked_in_the_end()
 

@@ -9,22 +9,37 @@ import tempfile
 from .wrong_acting import WRONG_ACTING
 from .wrong_edits import WRONG_EDITS
 from .wrong_epochs import WRONG_EPOCHS
+from .wrong_failing import WRONG_FAILING
 from .wrong_inspecting import WRONG_INSPECTING
 from .wrong_looking import WRONG_LOOKING
 from .wrong_mailboxes import WRONG_MAILBOXES
+from .wrong_places import WRONG_PLACES
 from .wrong_reading import WRONG_READING
 from .wrong_running import WRONG_RUNNING
 
+HERE = os.path.dirname(os.path.realpath(__file__))
+TOOLS = os.path.dirname(HERE)
 # What the copy's status says. It may also trip over itself, which tells the rules apart too.
 TRIALS = {0: "NOT told apart", 1: "told apart"}
 TRIPPED = "trips over itself"
 
 
-def put_wrong_rule(rule, folder):
-    """Makes a copy of the second reader with the wrong rule."""
-    here = os.path.dirname(os.path.realpath(__file__))
+def furnish(room):
+    """Makes a folder like the repository, with what the second reader reads beside itself."""
+    os.mkdir(os.path.join(room, "tools"))
+    os.symlink(os.path.join(TOOLS, "trial_parts"), os.path.join(room, "tools", "trial_parts"))
+    os.symlink(os.path.join(os.path.dirname(TOOLS), "tests"), os.path.join(room, "tests"))
+
+
+def put_copy(room):
+    """The folder of a new copy of the second reader."""
+    folder = os.path.join(room, "tools", "second_opinion")
     shutil.rmtree(folder, ignore_errors=True)
-    shutil.copytree(here, folder, ignore=shutil.ignore_patterns("__pycache__"))
+    shutil.copytree(HERE, folder, ignore=shutil.ignore_patterns("__pycache__"))
+    return folder
+
+
+def put_wrong_rule(rule, folder):
     path = os.path.join(folder, rule.file + ".py")
     with open(path) as file:
         text = file.read()
@@ -34,19 +49,29 @@ def put_wrong_rule(rule, folder):
         file.write(text.replace(rule.right, rule.wrong))
 
 
-def trial(rule, program, room):
-    put_wrong_rule(rule, os.path.join(room, "second_opinion"))
+def status_of_copy(program, room):
     start = "import sys; sys.dont_write_bytecode = True; from second_opinion.main import main; main()"
     words = [sys.executable, "-c", start, program, "--briefly"]
-    run = subprocess.run(words, cwd=room, stdout=subprocess.DEVNULL, stderr=subprocess.DEVNULL)
-    return TRIALS.get(run.returncode, TRIPPED)
+    where = os.path.join(room, "tools")
+    return subprocess.run(words, cwd=where, stdout=subprocess.DEVNULL, stderr=subprocess.DEVNULL).returncode
+
+
+def trial(rule, program, room):
+    put_wrong_rule(rule, put_copy(room))
+    return TRIALS.get(status_of_copy(program, room), TRIPPED)
 
 
 def try_wrong_rules(program):
-    """The status: 0 where each wrong rule is told apart."""
-    rules = WRONG_READING + WRONG_RUNNING + WRONG_ACTING + WRONG_MAILBOXES + WRONG_LOOKING + WRONG_INSPECTING + WRONG_EDITS + WRONG_EPOCHS
+    """The status: 0 where each wrong rule is told apart. A copy with the right rules has to find no difference, or nothing is shown."""
+    rules = WRONG_READING + WRONG_PLACES + WRONG_RUNNING + WRONG_ACTING + WRONG_MAILBOXES + WRONG_LOOKING + WRONG_INSPECTING + WRONG_EDITS
+    rules += WRONG_EPOCHS + WRONG_FAILING
     missed = 0
     with tempfile.TemporaryDirectory(prefix="second-opinion-") as room:
+        furnish(room)
+        put_copy(room)
+        if status_of_copy(program, room) != 0:
+            print("tools/second-opinion: a copy of the second reader with the right rules finds a difference, or does not run")
+            return 1
         for rule in rules:
             result = trial(rule, program, room)
             missed += result == TRIALS[0]

@@ -40,8 +40,11 @@ class Block:
 
 @dataclass
 class Message:
+    """`start` is the place of its selector, of keywords that of the first."""
+
     selector: str
     arguments: list
+    start: int = 0
 
 
 @dataclass

@@ -20,8 +20,9 @@ def boolean(truth):
 
 
 class Instruction(NamedTuple):
-    """`arguments` counts those of a send."""
+    """`arguments` counts those of a send, and `start` is its place in the source."""
 
     name: str
     operand: object = None
     arguments: int = 0
+    start: int = None

@@ -48,8 +48,8 @@ GRAMMAR = [
     WrongRule(
         "an argument's super gets a binary message",
         "parser",
-        '[self.unary_expression(("word",))]))',
-        '[self.unary_expression(("word", "binary"))]))',
+        '[self.unary_expression(("word",))]',
+        '[self.unary_expression(("word", "binary"))]',
     ),
     WrongRule(
         "an argument may begin with a capital",

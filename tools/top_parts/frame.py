@@ -90,12 +90,12 @@ def head(shown: Shown) -> Iterator[Line]:
     room = f"history: {status.history:,} of {status.history_most:,} items; edits left: {status.edits_left:,}"
     yield [Piece(f"{room}; {count(status.sessions, 'session')}")]
     turns = f"turns: {short(ends.turns / shown.seconds)} a second, of {count(len(shown.actors), 'actor')}"
-    told = "" if ends.told == ends.turns else f" in the {ends.told:,} of {ends.turns:,} turns that were asked for"
     names = ", ".join(f"{name} {number:,}" for name, number in ends.faults.most_common())
-    faults = f"faults: {names}{told}" if ends.faults else f"faults: none{told}"
-    yield [Piece(turns + "; "), Piece(faults, FAULTY if ends.faults else PLAIN)]
-    if ends.last:
-        yield [Piece(f"last fault that was seen: {ends.last}")]
+    known = sum(ends.faults.values())
+    told = "" if known == ends.failed else f" in the newest {known:,} of {ends.failed:,}"
+    in_all = f"; {status.faults:,} since the last checkpoint" if status.faults else ""
+    yield [Piece(turns + "; "), Piece(f"faults: {names or 'none'}{told}", FAULTY if ends.failed else PLAIN), Piece(in_all)]
+    yield from ([Piece(it)] for it in ends.newest)
 
 
 def legend() -> Line:

@@ -5,8 +5,8 @@
 
 Of each actor, or of those that --actors names, there are its turns a second, all its turns since the last checkpoint, how many messages
 wait, and what it runs or how its last turn ended. Those that are in one turn all the time come first, and then those that end most.
-Above stand the turns of all and their faults. An image tells how an actor's newest 64 turns ended; where more end between two frames,
-the faults are those of a part.
+Above stand the turns of all, how many of them failed by which faults, and the newest faults with the time at which they were seen. An image
+keeps its newest 64 faults; where more come between two frames, those are named and the others counted.
 
 A METHOD is written as Counter.bump, or as Counter for all that the class has. Of each there are its sends a second, all its sends since
 it was installed, the share of the newest ones that the sites answered, the lookup cache and the walk, and a letter for each call site:
@@ -45,7 +45,7 @@ class Watch:
 
     def begin(self):
         self.turns = Turns(self.actors)
-        self.turns.sample(self.image, self.image.status().epoch)
+        self.turns.sample(self.image, self.image.status())
         self.at, self.sites = time.monotonic(), sample(self.image, named(self.image, self.words))
 
     def again(self):
@@ -61,7 +61,7 @@ class Watch:
     def shown(self, with_sites):
         """What was done since the last sample."""
         now, status, sites = time.monotonic(), self.image.status(), sample(self.image, named(self.image, self.words))
-        actors, ends = self.turns.sample(self.image, status.epoch)
+        actors, ends = self.turns.sample(self.image, status)
         found = list(rows(self.sites, sites, with_sites))
         seconds, self.at, self.sites = now - self.at, now, sites
         return Shown(self.path, time.strftime("%H:%M:%S"), seconds, status, actors, ends, found)

@@ -1,6 +1,7 @@
 """Trials: which methods are named, what is counted between two samples, and how frames look."""
 
 import contextlib
+import dataclasses
 import os
 import subprocess
 import sys
@@ -19,7 +20,7 @@ from .frame import Shown, as_coloured, as_text, frame, short
 from .main import Watch, numbers
 from .named import Method, NoMethods, given, named
 from .sites import Found, Row
-from .turns import Acting, Ends, Turns
+from .turns import BEFORE, Acting, Ends, Turns
 
 HERE = os.path.join(TOP, "tools", "top")
 COUNTER = "bump count isNil ifTrue: [count := 0]. count := count + 1. ^count"
@@ -94,37 +95,54 @@ def sends_are_counted(program):
             same((watched.is_old(), [(row.all.sends, row.now.sends) for row in watched.shown(False).rows[:1]]), (False, [(2, 0)]))
 
 
+def sampled(turns, image, **changes):
+    """How many turns of each actor ended, and what is told of all. Lines on faults begin with a time."""
+    actors, ends = turns.sample(image, dataclasses.replace(image.status(), **changes))
+    newest = [line[len(BEFORE) + 2 :].replace("notUnderstood in turn ", "") for line in ends.newest]
+    return {it.standing.actor.number: it.turns for it in actors}, (ends.turns, ends.failed, dict(ends.faults), newest)
+
+
 def turns_are_counted(program):
-    """Turns and faults between two samples, also of actors that are made meanwhile; where over 64 ended, those of the newest."""
+    """Turns and faults between two samples, also of actors that are made meanwhile; where over 64 failed, the names are those of the newest."""
     with tempfile.TemporaryDirectory() as folder, Server(program, folder, "--workers", "2") as server:
         with actorimage.connect(server.path) as image:
             image.define("Counter", slots=["count"])
             image.install("Counter", COUNTER)
             every, some = Turns(None), Turns({1, 9})
-
-            def sampled(turns):
-                actors, ends = turns.sample(image, image.status().epoch)
-                return {it.standing.actor.number: it.turns for it in actors}, ends
-
-            same((sampled(every), sampled(some)), (({}, Ends()), ({}, Ends())))
+            nothing = 0, 0, {}, []
+            same([sampled(it, image) for it in (every, some)], [({}, nothing)] * 2)
             one = image.new_actor("Counter")
-            same([sampled(it) for it in (every, some)], [({0: 0}, Ends()), ({}, Ends())])
+            same([sampled(it, image) for it in (every, some)], [({0: 0}, nothing), ({}, nothing)])
             post(image, 1, *[(one, "bump")] * 3, (one, "foo"), (one, "bump"))
-            last = "notUnderstood in turn 4 of actor 0"
-            same(sampled(every), ({0: 5}, Ends(5, 5, {"notUnderstood": 1}, last)))
+            same(sampled(every, image), ({0: 5}, (5, 1, {"notUnderstood": 1}, ["4 of actor 0, Counter"])))
             two = image.new_actor("Counter")
             post(image, 1, *[(two, "foo"), (two, "bump")] * 100)
-            ends = Ends(200, 64, {"notUnderstood": 32}, "notUnderstood in turn 199 of actor 1")
-            same([sampled(it) for it in (some, every)], [({1: 200}, ends), ({0: 0, 1: 200}, ends)])
+            newest = [f"{it} of actor 1, Counter" for it in (199, 197, 195, 193)]
+            same(sampled(some, image), ({1: 200}, (200, 64, {"notUnderstood": 64}, newest)))
+            same(sampled(every, image), ({0: 0, 1: 200}, (200, 100, {"notUnderstood": 64}, newest)))
             post(image, 1, *[(one, "bump")] * 2, *[(two, "foo"), (two, "bump")] * 100)
-            ends = Ends(202, 66, {"notUnderstood": 32}, "notUnderstood in turn 399 of actor 1")
-            same(sampled(every), ({0: 2, 1: 200}, ends))
+            newest = [f"{it} of actor 1, Counter" for it in (399, 397, 395, 393)]
+            same(sampled(every, image), ({0: 2, 1: 200}, (202, 100, {"notUnderstood": 64}, newest)))
             image.checkpoint()
             post(image, 1, (one, "bump"), (one, "foo"))
-            last = "notUnderstood in turn 2 of actor 0"
-            same(sampled(every), ({0: 2, 1: 0}, Ends(2, 2, {"notUnderstood": 1}, last)))
+            newest = ["2 of actor 0, Counter", *newest[:3]]
+            same(sampled(every, image), ({0: 2, 1: 0}, (2, 1, {"notUnderstood": 1}, newest)))
             list(image.ask_all([{"cmd": "actor", "class": "Counter"}] * 5000))
-            same(sampled(every), (dict.fromkeys(range(5002), 0), Ends(last=last)))
+            same(sampled(every, image), (dict.fromkeys(range(5002), 0), (0, 0, {}, newest)))
+            _, before = Turns({0}).sample(image, image.status())
+            same((before.failed, before.newest), (0, [f"{BEFORE}  notUnderstood in turn 2 of actor 0, Counter"]))
+
+
+def faults_are_asked_for(program):
+    """Of an image that keeps no faults: of each actor those of the newest 64 turns."""
+    with tempfile.TemporaryDirectory() as folder, Server(program, folder, "--workers", "2") as server:
+        with actorimage.connect(server.path) as image:
+            image.define("A")
+            one, turns = image.new_actor("A"), Turns(None)
+            same(sampled(turns, image, faults=None), ({0: 0}, (0, 0, {}, [])))
+            post(image, 1, *[(one, "foo"), (one, "isNil")] * 50)
+            newest = [f"{it} of actor 0, A" for it in (99, 97, 95, 93)]
+            same(sampled(turns, image, faults=None), ({0: 100}, (100, 32, {"notUnderstood": 32}, newest)))
 
 
 def actors_are_told(program):
@@ -150,7 +168,7 @@ def actors_are_told(program):
             until(lambda: watched.shown(False).actors[1].doing() == "answered", "the job does not end")
 
 
-STATUS = Status(3, 9, 40, 2008, "7-0", 12_345, 1_000_000, 60, 5, 2, 90, 4)
+STATUS = Status(3, 9, 40, 2008, "7-0", 12_345, 1_000_000, 60, 5, 2, 90, 4, 1_300)
 SHOP = ("Shop", 9, 7, True, "frames", None, None, ("Shop", "sell:"))
 ACTORS = [
     Acting(Standing(Actor(0), "Counter", 1_700, 1_700, True, "fault", None, "overflow", None), 1_234),
@@ -167,8 +185,9 @@ ROWS = [
 FRAME = """\
 shop.socket: 1.5 seconds up to 14:03:21
 history: 12,345 of 1,000,000 items; edits left: 2,008; 2 sessions
-turns: 823 a second, of 4 actors; faults: overflow 2, zeroDivide 1 in the 64 of 1,234 turns that were asked for
-last fault that was seen: overflow in turn 7 of actor 1
+turns: 823 a second, of 4 actors; faults: overflow 62, zeroDivide 2 in the newest 64 of 1,200; 1,300 since the last checkpoint
+14:03:20  overflow in turn 7 of actor 0, Counter
+before    zeroDivide in turn 6 of actor 1, Shop
 
 ACTOR  CLASS     TURNS/S   TURNS  WAITS  LAST TURN
    12  Shop            0       6      2  runs Shop >> sell:
@@ -186,20 +205,21 @@ SITES, in the order of the code: . empty  m mono  p poly  M mega"""
 
 def frames_look_so(program):
     """A frame, narrow and low ones, and the colours."""
-    ends = Ends(1234, 64, Counter({"overflow": 2, "zeroDivide": 1}), "overflow in turn 7 of actor 1")
+    newest = ["14:03:20  overflow in turn 7 of actor 0, Counter", "before    zeroDivide in turn 6 of actor 1, Shop"]
+    ends = Ends(1234, 1200, Counter({"overflow": 62, "zeroDivide": 2}), newest)
     shown = Shown("shop.socket", "14:03:21", 1.5, STATUS, ACTORS, ends, ROWS)
-    same("\n".join(as_text(it) for it in frame(shown, 120)), FRAME)
-    same([len(as_text(it)) <= 40 for it in frame(shown, 40)], [True] * 17)
-    low, lines = [as_text(it) for it in frame(shown, 120, 14)], FRAME.split("\n")
-    same((len(low), low[5:9]), (14, [lines[5], lines[6], lines[7], "and 2 more that do less"]))
-    same(low[10:13], [lines[11], lines[12], "and 3 more that send less"])
-    coloured = [as_coloured(it) for it in frame(shown, 120)]
-    same(coloured[12].endswith("  \x1b[32mm\x1b[0m\x1b[33mp\x1b[0m\x1b[31mM\x1b[0m\x1b[90m.\x1b[0m"), True)
-    same("\x1b[31mUnknownClass\x1b[0m" in coloured[15] and "\x1b[31mfaults: overflow" in coloured[2], True)
-    same("\x1b[31mfault overflow\x1b[0m" in coloured[7], True)
-    none = Shown("it", "x", 1, STATUS, [], Ends(), [])
+    same("\n".join(as_text(it) for it in frame(shown, 130)), FRAME)
+    same([len(as_text(it)) <= 40 for it in frame(shown, 40)], [True] * 18)
+    low, lines = [as_text(it) for it in frame(shown, 130, 15)], FRAME.split("\n")
+    same((len(low), low[6:10]), (15, [lines[6], lines[7], lines[8], "and 2 more that do less"]))
+    same(low[11:14], [lines[12], lines[13], "and 3 more that send less"])
+    coloured = [as_coloured(it) for it in frame(shown, 130)]
+    same(coloured[13].endswith("  \x1b[32mm\x1b[0m\x1b[33mp\x1b[0m\x1b[31mM\x1b[0m\x1b[90m.\x1b[0m"), True)
+    same("\x1b[31mUnknownClass\x1b[0m" in coloured[16] and "\x1b[31mfaults: overflow" in coloured[2], True)
+    same("\x1b[31mfault overflow\x1b[0m" in coloured[8], True)
+    none = Shown("it", "x", 1, dataclasses.replace(STATUS, faults=0), [], Ends(), [])
     same([as_text(it) for it in frame(none, 80)][2:], ["turns: 0 a second, of 0 actors; faults: none", "", "no actors"])
-    many = Shown("it", "x", 1, STATUS, [], Ends(), [Row("A >> m", Found(1), Found(1), ["mono"] * 1024)])
+    many = Shown("it", "x", 1, dataclasses.replace(STATUS, faults=None), [], Ends(), [Row("A >> m", Found(1), Found(1), ["mono"] * 1024)])
     same(as_text(frame(many, 80)[7]), "A >> m              1       1   0.0%   0.0%   0.0%  " + "m" * 23 + "+1001")
     same([short(it) for it in (0, 0.5, 7, 12.6, 999, 1000, 12_345, 999_499, 999_500, 4_488_040, 10**13)],
          ["0", "0.5", "7", "13", "999", "1.00k", "12.3k", "999k", "1.00M", "4.49M", "10.0T"])
@@ -250,7 +270,8 @@ def screens_are_shown(program):
 
 
 TRIALS = (
-    methods_are_named, frames_look_so, sends_are_counted, turns_are_counted, actors_are_told, commands_are_taken, screens_are_shown,
+    methods_are_named, frames_look_so, sends_are_counted, turns_are_counted, faults_are_asked_for, actors_are_told, commands_are_taken,
+    screens_are_shown,
 )
 
 

@@ -1,9 +1,12 @@
 """What a refusal or a fault means, in one sentence with what to do about it. docs/PROTOCOL.md and docs/LANGUAGE.md say when
-each comes; tools/transcripts checks that none of their names is missing here.
+each comes; tools/transcripts checks that none of their names is missing here. The sentences on faults are those of the library for
+clients.
 
 Words in braces are what the refused command named."""
 
 import re
+
+from actorimage import FAULTS
 
 from .in_general import IN_GENERAL
 from .known import KERNEL
@@ -67,20 +70,6 @@ KINDS = {
     "ReadOnly": "{token} is not a variable that can be assigned to; assign to a temporary between bars",
     "TooLarge": "something is larger than docs/LIMITS.md lets it be; make it smaller, or put a part into another method",
     "UnknownName": "no variable or class is named {token}; name it between bars in the method, or in its class",
-}
-
-FAULTS = {
-    "badArgument": "a kernel method got an argument or a receiver that it cannot take; look at what is added, compared or "
-    "posted there",
-    "heapFull": "the actor has 1,024 objects, as many as it may; let it make fewer, or share the work among actors",
-    "localArgument": "a message would take an object to another actor; send numbers, symbols or actors instead",
-    "mustBeBoolean": "a condition was neither true nor false; look at what is asked before ifTrue:, whileTrue: and their like",
-    "notUnderstood": "no class up the chain has a method for a message that was sent, or for the one that began the turn; define "
-    "the method, or look for a slip in its name",
-    "overflow": "a result has over 64 bits; let the numbers stay smaller",
-    "stackOverflow": "128 methods were open at once; look for a recursion that does not end, or use a loop",
-    "tooManyActors": "there are 65,536 actors, as many as there may be; let the old ones do more",
-    "zeroDivide": "a number was divided by 0; ask before the division",
 }
 
 

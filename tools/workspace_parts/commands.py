@@ -2,7 +2,7 @@
 
 from dataclasses import dataclass
 
-from . import advice, browsing, files, inspecting, running, saving
+from . import advice, browsing, failures, files, inspecting, running, saving
 from .known import near
 from .wrong import Wrong
 
@@ -41,7 +41,9 @@ def do(session, command):
 
 
 def why(session, rest):
-    if rest:
+    if failures.asks(session, rest) and not advice.explain(rest):
+        failures.why(session, rest)
+    elif rest:
         explain(session, rest)
     elif session.why:
         session.tell(session.why())
@@ -52,7 +54,7 @@ def why(session, rest):
 def explain(session, name):
     sentence = advice.explain(name, session.image.in_general)
     if not sentence:
-        raise Wrong(f"there is no refusal and no fault {name}{near(name, advice.names())}")
+        raise Wrong(f"there is no refusal, no fault and no actor {name}{near(name, [*advice.names(), *session.known.names])}")
     session.say(f"{name}: {sentence}")
 
 
@@ -96,6 +98,7 @@ COMMANDS = {
         Described(":senders bump", "lists the methods that send a message, but not those that post it", browsing.senders),
         Described(":actors 7", "lists the actors from a number on, with what they run; alone, from the first", browsing.actors),
         Described(":inspect c", "shows an actor: variables, mailbox, turn; as  :inspect c 1  an object of its own", inspecting.inspect),
+        Described(":faults", "lists the turns that ended with a fault, as far as they are kept", failures.faults),
         Described(":names", "lists what was named", browsing.names),
         Described(":stats Counter bump", "shows how the caches answered the sends of a method", browsing.stats),
         Described(":expect 5", "is refused where the messages before have another answer, so that a file can check", running.expect),
@@ -103,7 +106,7 @@ COMMANDS = {
         Described(":save FILE", "writes the image to a file now; alone, to that of --image", saving.save),
         Described(":sources FILE", "writes all classes and methods to a file, for :load", files.sources),
         Described(":log FILE", "writes what was sent so far, and answered, as JSON; alone, shows it for the line before", files.log),
-        Described(":why heapFull", "says what a refusal or fault means, and what to do; alone, the last one", why),
+        Described(":why c 12", "shows how a turn came to a fault; as  :why c  the actor's last fault, and alone the last that was told", why),
         Described(":help :step", "helps with a command; alone, with all", help_on),
         Described(":restart", "starts anew, with nothing defined; with --image, as it was saved last", saving.restart),
         Described(":quit", "ends the workspace; with --image, the image is kept", quit_session),

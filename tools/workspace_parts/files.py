@@ -131,7 +131,7 @@ def log(session, rest):
         write(rest, session.log.lines)
         session.say(f"{rest}: {count(len(session.log.lines), 'command')} with their replies")
     else:
-        session.tell(session.log.lines[session.told :] or ["the line before sent nothing"])
+        session.tell(session.log.lines[session.told : session.ended] or ["the line before sent nothing"])
 
 
 def write(name, lines):

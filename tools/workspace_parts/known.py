@@ -27,9 +27,10 @@ class KnownClass:
 
 @dataclass
 class KnownActor:
-    """`class_name` is None where the image was not asked for it."""
+    """`class_name` is None where the image was not asked for it. `is_own` says that this session has made it, or has posted to it."""
 
     class_name: str = None
+    is_own: bool = field(default=False, compare=False)
 
 
 class Known:
@@ -89,7 +90,8 @@ class Known:
             name = self.classes[name].parent
 
     def slots(self, name):
-        return [slot for known in self.chain(name) for slot in known.slots]
+        """The instance variables of a class, inherited ones first."""
+        return [slot for known in reversed(list(self.chain(name))) for slot in known.slots]
 
     def selectors(self, name):
         """The selectors of the methods of a class and those above it; of all classes if it is not known."""

@@ -120,7 +120,7 @@ def inspect(session, number):
 def slots(session, name):
     """The instance variables of a class, inherited ones first."""
     classes(session)
-    return [slot for it in reversed(list(session.known.chain(name))) for slot in it.slots]
+    return session.known.slots(name)
 
 
 def installed(session, place):

@@ -115,6 +115,8 @@ def work(session, names):
         session.say(WELCOME)
     saving.begin(session)
     are_whole = [load(session, name) for name in names]
+    if names:
+        session.tell_news()
     if is_terminal:
         talk(session)
     else:

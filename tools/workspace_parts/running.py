@@ -29,7 +29,7 @@ def post_one(session, sending, send):
     actor = sending.receiver(sending.value_of(send.receiver)[0], send.place)
     for message in send.messages:
         arguments = [sending.value_of(argument)[0] for argument in message.arguments]
-        turn = session.turns.post(actor, message.selector, arguments)
+        turn = sending.post(actor, message.selector, arguments)
         session.say(f"{turn} is posted" if session.image.is_served else f"{turn} waits")
 
 
@@ -94,7 +94,7 @@ def expect(session, rest):
     session.is_as_expected = False
     wrong = f"{rest} is expected, and the answer is {session.answer or 'none'}"
     before = session.why if (session.answer or "").startswith("fault ") else list
-    session.why = lambda: [wrong, *before()]
+    session.explain(lambda: [wrong, *before()])
     raise Wrong(wrong)
 
 

@@ -108,7 +108,12 @@ class Sending:
         actor = self.receiver(receiver, place)
         if any(isinstance(argument, dict) and "local" in argument for argument in arguments):
             raise Wrong("an object of an actor's own cannot be sent to another one; send a number, a symbol or an actor", place)
-        return self.answer(self.turns.post(actor, selector, arguments)), actor
+        return self.answer(self.post(actor, selector, arguments)), actor
+
+    def post(self, actor, selector, arguments):
+        """The turn of a message, which is posted."""
+        self.known.actor(actor).is_own = True
+        return self.turns.post(actor, selector, arguments)
 
     def receiver(self, value, place=None):
         """The number of the actor that a value is, whose class is asked for if it is not known."""

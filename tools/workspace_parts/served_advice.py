@@ -36,7 +36,8 @@ A session asks the image for its classes and methods, whoever wrote them (:class
 a turn of any actor ended (:turn 3 of actor 0), what the actors run (:actors), what one of them holds and which messages wait for it
 (:inspect actor 0), and how often a method's sends were done (:stats).
 :names, :sources and Tab have what this session typed, and what it was told of classes and methods; :methods alone tells of all.
-It cannot see who else is connected, what others named, or when a turn ends that it does not ask for. Edits of
+It cannot see who else is connected, what others named, or what a turn answers that it does not ask for. Turns that failed since the last
+prompt are told of before the next one, whoever posted their messages (:faults, :why actor 0), and Enter alone asks for them. Edits of
 others take effect here at the next send, and are not told; but a method that somebody has changed since it was shown or written here
 is not written over: what is there now is shown, and what is typed again takes the place of that. c := actor 0 names any actor by its
 number. Where somebody has a checkpoint, turns of before are not told of any more.

@@ -1,10 +1,11 @@
 """A session: each entry is done, and what it gives is said."""
 
-from . import advice, commands, fault_places, looks, shown
+from . import commands, failures, looks, shown
 from .entries import Command, Definition, Method, form
 from .known import Known
 from .learning import learn
 from .log import Log
+from .news import News, Told
 from .refused import lines as refused_lines
 from .sending import Sending
 from .sources import marked
@@ -13,14 +14,16 @@ from .tokens import has_body, pattern, posted
 from .values import show
 from .wrong import Died, Faulted, Lost, Refused, Stopped, Wrong
 
+# The kind of an entry that has nothing but comments.
+NOTHING = type(None).__name__
 OFFER = "a tenth of the history is left;  :checkpoint  empties it, and all goes on"
 
 
 class Session:
     """`say` takes each line that is told. `loading` are the files that are being loaded, `why` gives what `:why` says, if there is
-    anything, and `told` is where in the log the last entry begins. `answer` is what the last entry showed, or the fault that ended it, if
-    it sent messages; `faulted` is the file in which that fault came, until `:expect` has looked at it, and `is_as_expected` is what
-    `:expect` found so far."""
+    anything, and the last entry goes from `told` to `ended` in the log. `answer` is what the last entry showed, or the fault that ended it,
+    if it sent messages; `faulted` is the file in which that fault came, until `:expect` has looked at it, and `is_as_expected` is what
+    `:expect` found so far. `is_lost` says that the connection broke in the last entry, and `is_explained` that `:why` is about it."""
 
     command_names = tuple(commands.COMMANDS)
 
@@ -35,13 +38,15 @@ class Session:
     def start(self):
         """An image of which nothing is known but what stands in its file."""
         self.log = Log(self.image.connect(self))
-        self.told = 0
-        self.is_offered = False
+        self.told = self.ended = 0
+        self.is_offered = self.is_lost = self.is_explained = False
         self.why = None
         self.known = Known()
         self.turns = self.image.turns(self.log, self.breaks)
         if self.image.loaded:
             learn(self.image.loaded, self.known, self.turns)
+        self.news = News(self)
+        self.news.begin()
 
     def save(self):
         """The bytes of the image's file, once the image is there."""
@@ -57,7 +62,9 @@ class Session:
     def begin_again(self):
         """Says with what it goes on behind a new connection. In a new image the numbers of actors, of versions and of edits mean others."""
         self.known.actors, self.known.versions, self.known.installed = {}, {}, {}
-        return self.turns.begin_again()
+        said = self.turns.begin_again()
+        self.news.begin()
+        return said
 
     def close(self):
         """Ends the session, and says whether what was to be kept is kept: in its file, or beside it."""
@@ -72,10 +79,29 @@ class Session:
         self.log.connection.end()
 
     def do(self, text):
-        """Does one entry, and returns the name of its kind, or `refused` where it was not done whole."""
+        """Does one entry, and tells what happened meanwhile. Returns the name of its kind, or `refused` where it was not done whole."""
+        is_log, begun = text.lstrip().startswith(":log"), len(self.log.lines)
+        kind = self.done(text)
+        if not is_log:
+            self.told, self.ended = begun, len(self.log.lines)
+        is_comment = kind == NOTHING and text.strip()
+        if not (is_comment or self.loading or self.is_over or self.is_lost):
+            self.tell_news()
+        return kind
+
+    def tell_news(self):
+        """Tells of the faults that nobody has told of here."""
+        try:
+            self.news.tell()
+        except Lost as lost:
+            self.say(lost.sentence)
+
+    def done(self, text):
+        """Does one entry, and returns the name of its kind."""
         self.log.connection.begin()
-        if not text.lstrip().startswith(":log"):
-            self.told = len(self.log.lines)
+        self.is_lost = False
+        if not self.loading:
+            self.is_explained = False
         try:
             found = form(text)
             self.do_form(text, found)
@@ -269,6 +295,7 @@ class Session:
     # What is said.
 
     def tell_stop(self, text, stopped):
+        self.is_lost = isinstance(stopped, Lost)
         if isinstance(stopped, Wrong):
             self.tell([stopped.sentence] if stopped.place is None else marked(text, stopped.place, stopped.sentence))
         elif isinstance(stopped, Refused):
@@ -296,13 +323,26 @@ class Session:
             self.say(f"{turn} has ended, and its answer is no longer kept")
 
     def tell_fault(self, turn, fault):
-        self.why = lambda: [f"{fault}: {advice.explain(fault)}", *fault_places.lines(self, turn, fault)]
+        told = Told(turn, fault)
+        self.news.told.append(told)
+        self.explain(lambda: failures.lines(self, told))
         self.say(f"fault {fault} in {turn}")
+
+    def tell_fault_of_others(self, told):
+        """A fault of a turn for which nobody has waited here. A turn that was posted is not told of again."""
+        self.turns.forget(told.turn)
+        if not self.is_explained:
+            self.why = lambda: failures.lines(self, told)
+        self.say(f"actor {told.turn.actor}: fault {told.fault} in turn {told.turn.number}")
+
+    def explain(self, why):
+        """What `:why` says from now on. It goes before what happened besides."""
+        self.why, self.is_explained = why, True
 
     def tell_refusal(self, refused):
         try:
             lines = refused_lines(self, refused.command, refused.reply) + refused.more
         except Lost as lost:
-            lines = [lost.sentence]
-        self.why = lambda: lines
+            self.is_lost, lines = True, [lost.sentence]
+        self.explain(lambda: lines)
         self.tell(lines)

@@ -96,8 +96,10 @@ def talk(session):
 
 
 def do_text(session, text):
-    """Does what was typed, or pasted: that may be several entries."""
+    """Does what was typed, or pasted: that may be several entries. Enter alone asks what happened meanwhile."""
     with session.breaks:
+        if not text.strip():
+            session.do("")
         for entry in entries(text.split("\n")):
             session.do(entry.text)
             if session.breaks.asked or session.is_over:

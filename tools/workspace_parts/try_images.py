@@ -97,8 +97,10 @@ turn 0 of actor 0 answers 3002
 turn 1 of actor 0 answers 3000
 2000
 fault badArgument in turn 3 of actor 0
-badArgument: a kernel method got an argument or a receiver that it cannot take; look at what is added, compared or posted there
-to find the place:  :stats Job work:
+0 < #a: badArgument, a kernel method got an argument or a receiver that it cannot take; look at what is added, compared or posted there
+Job >> work: #a    a Job, paid 0; day 0
+  work: days | day | paid := 0. day := 0. [day < days] whileTrue: [day := da..
+                                               ^
 turn 0 of actor 0 answers 3002"""
         same(typed(program, folder, lines), (wanted.split("\n"), "", 0))
 

@@ -19,6 +19,7 @@ from .wrong import Ended, Lost
 
 GREETED = '{"error":"BadCommand"}'
 STATUS = '{"ok":{"epoch":"7","history":899999,"history_most":1000000}}'
+NEWS = '{"ok":{"faults":[],"from":12,"steps":12}}'
 POST = {"cmd": "post", "actor": 0, "selector": "bump", "args": [], "sender": 7, "seq": 3}
 OUTCOME = {"cmd": "outcome", "actor": 0, "turn": 1}
 BROKE = "the connection to {} broke, perhaps since the server has ended"
@@ -117,7 +118,7 @@ def begins_again(program):
             "connected again; the image was saved before: it has the messages of sender 7 up to number 2, and not those up to 3",
         ),
     ):
-        with pretended([GREETED], [GREETED, STATUS, reply, '{"ok":{"sites":[]}}']) as path:
+        with pretended([GREETED, NEWS], [GREETED, STATUS, reply, NEWS, '{"ok":{"sites":[]}}', NEWS]) as path:
             told = []
             session = Session(WatchedImage(path, 7), Breaks(), told.append)
             session.turns.last = here
@@ -131,7 +132,7 @@ def nearly_full(program):
     """A checkpoint is offered where the image tells that a tenth of its history is left, whoever has used it."""
     answer, turn = '{"ok":{"answer":1}}', "turn 1 of actor 0 answers 1"
     for full, wanted in ((STATUS, [turn]), (STATUS.replace("899999", "900000"), [turn, OFFER])):
-        with pretended([GREETED, full, answer]) as path:
+        with pretended([GREETED, NEWS, full, answer, NEWS]) as path:
             told = []
             session = Session(ServedImage(path, 7), Breaks(), told.append)
             session.do(":turn 1 of actor 0")
@@ -139,4 +140,64 @@ def nearly_full(program):
             session.end()
 
 
-TRIALS = (begins_again, nearly_full, no_server_replies, too_many, once_more, perhaps_accepted)
+def news(faults, since, steps):
+    return json.dumps({"ok": {"faults": faults, "from": since, "steps": steps}})
+
+
+def asked_behind(session):
+    """The steps behind which faults were asked for."""
+    return [it["sent"]["after"] for it in map(json.loads, session.log.lines) if it["sent"]["cmd"] == "faults"]
+
+
+def faults_are_told(program):
+    """Faults are asked for behind each entry but a comment, each time from where they were told last, and those of actors that are one's own
+    come first. Behind an older image it goes on from there."""
+    one, two, *others = ({"actor": it, "fault": "overflow", "step": 12 + it, "turn": 7} for it in range(1, 65))
+    replies = [news([one, two], 12, 30), news([], 30, 5), news([one, two, *others], 9, 99), NEWS]
+    with pretended([GREETED, NEWS, *replies]) as path:
+        told = []
+        session = Session(ServedImage(path, 7), Breaks(), told.append)
+        session.known.actor(2).is_own = True
+        for text in (":names", '"Nothing."', ":names", ":names", ":names"):
+            session.do(text)
+        names, said = "nothing was named yet; name an actor as in  c := Counter actor", "actor {}: fault overflow in turn 7".format
+        more = "and 61 more, besides those that are not kept;  :faults  lists them"
+        same(told, [names, said(2), said(1), names, names, said(2), said(1), said(3), more, names])
+        same(asked_behind(session), [2**63 - 1, 12, 30, 5, 99])
+        session.end()
+
+
+def faults_are_listed(program):
+    """Where as many are listed as are kept, it is told how many there were."""
+    kept = [{"actor": 3, "fault": "overflow", "step": step, "turn": step} for step in range(9, 73)]
+    actor = '{"ok":{"actors":[{"actor":3,"class":"A"}],"count":4}}'
+    for found, more in ((kept, ["64 are kept, and 1,200 turns failed"]), (kept[1:], [])):
+        asked = ['{"ok":{"faults":1200}}'] if more else []
+        with pretended([GREETED, NEWS, news(found, 8, 99), actor, *asked, NEWS]) as path:
+            told = []
+            session = Session(ServedImage(path, 7), Breaks(), told.append)
+            session.do(":faults")
+            rows = [f"{it['step']:4}      3        A      {it['step']:4}  overflow" for it in found]
+            same(told, ["step  actor  name  class  turn  fault", *rows, *more])
+            session.end()
+
+
+def no_faults_are_told(program):
+    """An image that does not know the command is asked once, and `:why` says how the place is found."""
+    ended, actor = '{"ok":{"fault":"overflow"}}', '{"ok":{"actors":[{"actor":0,"class":"A"}],"count":1}}'
+    with pretended([GREETED, GREETED, STATUS, ended, GREETED, actor, GREETED]) as path:
+        told = []
+        session = Session(ServedImage(path, 7), Breaks(), told.append)
+        for text in (":turn 1 of actor 0", ":why", ":faults"):
+            session.do(text)
+        meaning, place = "a result has over 64 bits; let the numbers stay smaller", "to find the place, see how far the methods came"
+        unknown = "BadCommand: the program does not know this command; it and the workspace are not of the same version"
+        wanted = ["fault overflow in turn 1 of actor 0", f"overflow: {meaning}", f"{place}, as in  :stats Counter bump", unknown]
+        same((told, asked_behind(session)), (wanted, [2**63 - 1, 0]))
+        session.end()
+
+
+TRIALS = (
+    begins_again, nearly_full, faults_are_told, faults_are_listed, no_faults_are_told, no_server_replies, too_many, once_more,
+    perhaps_accepted,
+)

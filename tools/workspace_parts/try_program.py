@@ -68,7 +68,7 @@ def why_not_expected(program):
     first = "true is expected, and the answer is false"
     same([it for it in printed[printed.index("> :expect true") :] if not it.startswith("> ")][:2], [first, first])
     printed = printed[len(printed) - printed[::-1].index("> :why") :]
-    same((printed[0], printed[1].partition(":")[0]), (IS_FAULT.format("true"), "notUnderstood"))
+    same((printed[0], printed[1].partition(",")[0]), (IS_FAULT.format("true"), "a C foo: notUnderstood"))
 
 
 FAULT = "fault notUnderstood in turn 4 of actor 0"
@@ -98,7 +98,7 @@ def interrupted(program):
 
 
 def log(program):
-    """What was sent, sent again as a script, gets the same replies."""
+    """What was sent, sent again as a script, gets the same replies. Faults are asked for where something has run."""
     with tempfile.TemporaryDirectory() as folder:
         lines = [*COUNTER, "c := Counter actor", "c start. c bump", "Counter >> bad  ^(", "c foo", ":log log.jsonl"]
         piped(program, lines, cwd=folder)
@@ -107,7 +107,7 @@ def log(program):
     text = "".join(json.dumps(it["sent"]) + "\n" for it in told)
     again = subprocess.run([program, "script"], input=text.encode(), capture_output=True, timeout=PATIENCE).stdout.decode()
     same([json.loads(line) for line in again.splitlines()], [it["answered"] for it in told])
-    same(len(told), 17)
+    same((len(told), [it["sent"]["after"] for it in told if it["sent"]["cmd"] == "faults"]), (19, [0, 14]))
 
 
 def no_program(program):

@@ -222,6 +222,18 @@ def lost_at_terminal(program):
             same(terminal.end(), 0)
 
 
+def told_at_enter(program):
+    """What others' messages have failed at is told behind the next entry, and Enter alone is one."""
+    with tempfile.TemporaryDirectory() as folder, Server(program, folder, *WORKERS), Watching(folder) as terminal:
+        for line in (*COUNT, "c := Counter actor"):
+            terminal.ask(line)
+        same(typed(folder, ["c := actor 0", "c foo"]).returncode, 0)
+        for told in ("actor 0: fault notUnderstood in turn 1\n", ""):
+            terminal.type("\n")
+            same(terminal.see("> "), f"\n{told}> ")
+        same(terminal.end(), 0)
+
+
 def older_image(program):
     """A server is started again on the image that was saved last: messages from after it are lost, and that is told."""
     with tempfile.TemporaryDirectory() as folder:
@@ -240,4 +252,7 @@ def older_image(program):
                 same(terminal.end(), 0)
 
 
-TRIALS = (two_workspaces, stopped_waiting, next_number, same_sender, loaded_again, no_server, lost_server, lost_at_terminal, older_image)
+TRIALS = (
+    two_workspaces, stopped_waiting, next_number, same_sender, loaded_again, no_server, lost_server, lost_at_terminal, told_at_enter,
+    older_image,
+)

@@ -53,7 +53,8 @@ class Life:
 
 class Turns:
     """`waiting` are turns that were posted and have not ended yet; `ends` has those that ended and were not told of.
-    `selectors` has that of each turn's message. `items` counts those of the history that the commands took, or more."""
+    `selectors` has that of each turn's message. `items` counts those of the history that the commands took, or more. `has_run` says
+    whether something has run that nobody has looked at."""
 
     def __init__(self, connection, breaks, sender=SENDER):
         self.connection = connection
@@ -64,6 +65,7 @@ class Turns:
         self.waiting = []
         self.ends = {}
         self.selectors = {}
+        self.has_run = False
 
     def ask(self, command):
         """What the reply has after `ok`."""
@@ -152,16 +154,23 @@ class Turns:
             life.clear()
         return taken, steps
 
+    def may_have_run(self):
+        """Whether something has run since this was asked before."""
+        has_run, self.has_run = self.has_run, False
+        return has_run
+
     def running(self, turn):
         """What is said to be running while a turn is waited for: the actor may be in an earlier one."""
         first = next((it for it in self.waiting if turn and it.actor == turn.actor), turn)
         return "the run" if turn is None else str(turn) if first == turn else f"{first}, before turn {turn.number},"
 
     def run(self, size):
-        """One slice; which turns have ended is seen at once."""
+        """One slice; which turns have ended is seen at once. One that is refused may have run."""
+        ran = {"quanta": 1}
         try:
             ran = self.ask({"cmd": "run", "quanta": size})
         finally:
+            self.has_run |= ran["quanta"] > 0
             for actor in {turn.actor for turn in self.waiting}:
                 self.see_ends(actor)
         self.items += ITEMS_OF_QUANTUM * ran["quanta"]

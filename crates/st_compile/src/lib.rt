@@ -8,6 +8,8 @@
 //! Except when memory runs out, a tree is refused exactly if a name means nothing, an argument or a temporary has the name of an
 //! instance variable, the code is too large, or there is no room for its names. [`laws::codes_leave_one`] says of all code that
 //! paths that meet bring the same number of operands.
+//!
+//! [`offsets::place_of`] says where in its source a send of a method stands. Nothing is proved of the place.
 #![tactic(auto)]
 
 pub mod compile;
@@ -16,6 +18,7 @@ mod emit;
 pub mod laws;
 mod locals;
 pub mod names;
+pub mod offsets;
 mod refusing;
 mod resolve;
 mod scope;

@@ -233,7 +233,7 @@ stands_after base names edits actors h s c t g here stands w i =
     let next : is_outer (step edits c.actor c.after) ≡ t = ap (λ (es : List Edit). is_outer (step es c.actor c.after)) here ∙ ap (λ (x : Option Act). is_some x) g.same.act ∙ sym stands in
     stands_by edits mid w c.actor (actor_view after) t i.shows at next
 
-steps_at : (c : ClaimView) (es : List Edit) → SameSteps es c → steps_of c ≡ c.steps + (if is_outer (step es c.actor c.after) then 1 else 0)
+pub steps_at : (c : ClaimView) (es : List Edit) → SameSteps es c → steps_of c ≡ c.steps + (if is_outer (step es c.actor c.after) then 1 else 0)
 steps_at c es e = ap (λ (x : Option Act). c.steps + (if is_some x then 1 else 0)) (sym e.act)
 
 site_at_is : (c : ClaimView) (es : List Edit) → SameSteps es c → act_site c ≡ (if is_outer (step es c.actor c.after) then option_and_then (λ (q : Asked). q.site) (asked es c.after) else None)

@@ -32,7 +32,7 @@ nothing_then : (o : Option World) → asked_then (λ v. []) o ≡ []
 nothing_then None = refl
 nothing_then (Some v) = refl
 
-some_world : (v w : World) → Some v ≡ Some w → v ≡ w
+pub some_world : (v w : World) → Some v ≡ Some w → v ≡ w
 some_world v w e = cc
 
 -- one item more
@@ -135,14 +135,14 @@ few_more c base h rows ss id k short few = omega (arith, k.few id, short, few)
 -- ---- names that go on
 
 -- one item
-item_more : (c : Constants) (more : List (List ℕ)) (w v : World) (i : Item) → IsWorld c w → IsSoundItem i → next c w i ≡ Some v → next (named_more c more) w i ≡ Some v
+pub item_more : (c : Constants) (more : List (List ℕ)) (w v : World) (i : Item) → IsWorld c w → IsSoundItem i → next c w i ≡ Some v → next (named_more c more) w i ≡ Some v
 item_more c more w v i h sound e =
     let one : replay (named_more c more) w (i ∷ []) ≡ Some v = replay_more c more w v (i ∷ []) h (All-cons IsSoundItem i [] sound (All-nil IsSoundItem)) (ap (option_and_then (λ (u : World). replay c u [])) e) in
     let p = bound (λ u. replay (named_more c more) u []) (next (named_more c more) w i) v one in
     p.1 ∙ p.2
 
 -- one step
-stepped_more : (c : Constants) (more : List (List ℕ)) (a : ActorId) (w v : World) → IsWorld c w → after_step c a w ≡ Some v → after_step (named_more c more) a w ≡ Some v
+pub stepped_more : (c : Constants) (more : List (List ℕ)) (a : ActorId) (w v : World) → IsWorld c w → after_step c a w ≡ Some v → after_step (named_more c more) a w ≡ Some v
 stepped_more c more a w v h e =
     let ran : next c w (Ran a 1) ≡ Some v = ran_after c w a 1 ∙ ap (option_and_then (world_after c a zero)) e in
     let ran' : world_after (named_more c more) a 1 w ≡ Some v = sym (ran_after (named_more c more) w a 1) ∙ item_more c more w v (Ran a 1) h tt ran in

@@ -30,6 +30,7 @@ pub mod AskedSteps
 pub mod Counting
 pub mod ClaimSends
 pub mod Sends
+pub mod Failing
 pub mod CompiledEdits
 pub mod Naming
 pub mod Installing
@@ -47,6 +48,7 @@ pub mod CountingItems
 pub mod MakingRoom
 pub mod KnownBodies
 pub mod Committing
+pub mod FailingCommits
 pub mod GrowingEdits
 pub mod RanSteps
 pub mod CountingOnce

@@ -10,6 +10,7 @@ use Rattle.st_image.specs.declared.items.Item.{Item}
 use Rattle.st_image.specs.declared.settings.Settings.{Settings}
 use Rattle.st_image.specs.Changes.{change_count}
 use Rattle.st_image.specs.Earlier.{Earlier}
+use Rattle.st_image.specs.Failures.{KeptFailures}
 use Rattle.st_image.specs.Worlds.{Constants, World}
 use Rattle.st_image.specs.ActorViews.{ActorView}
 use Rattle.st_image.specs.ActResults.{FewAccepted}
@@ -24,10 +25,10 @@ sends_same c base h rows rows' same k = record {
 }
 
 -- more room changes nothing that holds of an image
-pub with_room : (base : World) (names : List (List ℕ)) (edits : List Edit) (actors : List ActorView) (h : List Item) (made : ℕ) (s : Settings) (clients : List ℕ) (rows rows' : List (List Tally)) (changes changes' : List ℕ) (counted : Counts) (earlier : Earlier)
-    → HoldsImage base names edits actors h made s clients rows changes counted earlier → ((a : ℕ) → change_count changes' a ≡ change_count changes a) → SameTallies rows rows'
-    → HoldsImage base names edits actors h made s clients rows' changes' counted earlier
-with_room base names edits actors h made s clients rows rows' changes changes' counted earlier v same tallies = record {
+pub with_room : (base : World) (names : List (List ℕ)) (edits : List Edit) (actors : List ActorView) (h : List Item) (made : ℕ) (s : Settings) (clients : List ℕ) (rows rows' : List (List Tally)) (changes changes' : List ℕ) (counted : Counts) (earlier : Earlier) (failed : KeptFailures)
+    → HoldsImage base names edits actors h made s clients rows changes counted earlier failed → ((a : ℕ) → change_count changes' a ≡ change_count changes a) → SameTallies rows rows'
+    → HoldsImage base names edits actors h made s clients rows' changes' counted earlier failed
+with_room base names edits actors h made s clients rows rows' changes changes' counted earlier failed v same tallies = record {
   image = v.image;
   numbers_of_clients = v.numbers_of_clients;
   sends = sends_same _ base h rows rows' tallies v.sends;
@@ -35,6 +36,7 @@ with_room base names edits actors h made s clients rows rows' changes changes' c
   totals = v.totals;
   compiled = v.compiled;
   before = v.before;
+  failures = v.failures;
 }
 
 -- no mailbox has accepted too many messages for their count

@@ -6,6 +6,7 @@ use Rattle.st_image.specs.declared.settings.Settings.{Settings}
 use Rattle.st_image.specs.declared.items.Item.{Item}
 use Rattle.st_turn.specs.declared.tally.Tally.{Tally}
 use Rattle.st_image.specs.Tallies.{CountsSends}
+use Rattle.st_image.specs.Failures.{failures_through}
 use Rattle.st_image.specs.Worlds.{Constants, World}
 use Rattle.st_image.specs.Images.{world_of}
 use Rattle.st_image.specs.ActorViews.{ActorView, Shows}
@@ -15,12 +16,14 @@ use Rattle.st_image.specs.ImageInvariant.{IsImage}
 use Rattle.st_image.proofs.GrowingNames.{world_more}
 use Rattle.st_image.proofs.Lasting.{names_keep}
 use Rattle.st_image.proofs.Sends.{sends_more}
+use Rattle.st_image.proofs.Failing.{failures_more}
 
 -- an image with other names, at the same world
 pub record IsRenamed (base : World) (names : List (List ℕ)) (names' : List (List ℕ)) (edits : List Edit) (actors : List ActorView) (h : List Item) (made : ℕ) (s : Settings) : Type 0 where
   pub image : IsImage base names' edits actors h made s
   pub world : world_of (constants_of names' s.capacity) base h ≡ world_of (constants_of names s.capacity) base h
   pub sends : (rows : List (List Tally)) → CountsSends (constants_of names s.capacity) base h rows → CountsSends (constants_of names' s.capacity) base h rows
+  pub failures : (taken : ℕ) → failures_through (constants_of names' s.capacity) base taken base h ≡ failures_through (constants_of names s.capacity) base taken base h
 
 pub more_kept : (base : World) (names more : List (List ℕ)) (edits : List Edit) (actors : List ActorView) (h : List Item) (made : ℕ) (s : Settings) → IsImage base names edits actors h made s → IsRenamed base names (names ++ more) edits actors h made s
 more_kept base names more edits actors h made s k =
@@ -42,10 +45,11 @@ more_kept base names more edits actors h made s k =
       };
       world = m.1;
       sends = λ rows n. sends_more base names more edits actors h made s rows k n;
+      failures = λ taken. failures_more base names more edits actors h made s taken k;
     }
 
 pub same_kept : (base : World) (names : List (List ℕ)) (edits : List Edit) (actors : List ActorView) (h : List Item) (made : ℕ) (s : Settings) → IsImage base names edits actors h made s → IsRenamed base names names edits actors h made s
-same_kept base names edits actors h made s k = record { image = k; world = refl; sends = λ rows n. n }
+same_kept base names edits actors h made s k = record { image = k; world = refl; sends = λ rows n. n; failures = λ taken. refl }
 
 by_test : (b : Bool) (base : World) (names : List (List ℕ)) (text : List ℕ) (edits : List Edit) (actors : List ActorView) (h : List Item) (made : ℕ) (s : Settings) → IsImage base names edits actors h made s → IsRenamed base names (cond b names (names ++ text ∷ [])) edits actors h made s
 by_test true base names text edits actors h made s k = same_kept base names edits actors h made s k

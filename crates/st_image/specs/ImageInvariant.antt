@@ -11,6 +11,7 @@ use Rattle.st_turn.specs.Idle.{is_idle}
 use Rattle.st_image.specs.declared.items.Item.{Item}
 use Rattle.st_image.specs.declared.settings.Settings.{Settings}
 use Rattle.st_image.specs.Earlier.{Earlier}
+use Rattle.st_image.specs.Failures.{KeptFailures, failures_kept, failures_through}
 use Rattle.st_image.specs.Worlds.{World, WorldActor}
 use Rattle.st_image.specs.Replay.{replay}
 use Rattle.st_image.specs.Images.{world_of, edits_in}
@@ -55,10 +56,10 @@ pub record FitsBase (e : Earlier) (base : World) : Type 0 where
 
 -- The history leads to what is kept. The numbers of clients are those that it leads to. The tallies count its sends. Each actor's count of
 -- changes is how often the history changed its body. The posts and the steps of the history are counted. The methods of the table are
--- compiled from their sources. What was counted before the base fits it.
+-- compiled from their sources. What was counted before the base fits it. The newest failures of the history are kept, and counted.
 pub record HoldsImage (base : World) (names : List (List ℕ)) (edits : List Edit) (actors : List ActorView)
     (history : List Item) (made : ℕ) (s : Settings) (clients : List ℕ) (tallies : List (List Tally))
-    (changes : List ℕ) (counted : Counts) (earlier : Earlier) : Type 0 where
+    (changes : List ℕ) (counted : Counts) (earlier : Earlier) (failed : KeptFailures) : Type 0 where
   pub image : IsImage base names edits actors history made s
   pub numbers_of_clients : KeepsClients clients base.clients history
   pub sends : CountsSends (constants_of names s.capacity) base history tallies
@@ -66,6 +67,7 @@ pub record HoldsImage (base : World) (names : List (List ℕ)) (edits : List Edi
   pub totals : CountsItems counted earlier history
   pub compiled : AllCompiled names edits
   pub before : FitsBase earlier base
+  pub failures : failed ≡ failures_kept (failures_through (constants_of names s.capacity) base earlier.steps base history)
 
 -- a body fits a table whose edits are lawful and sound; so its steps fit it too
 abbrev pub CanRun : List Edit → ActorId → Body → Type 0

@@ -17,6 +17,8 @@ pub mod Clients
 pub mod Scheduling
 pub mod ActorViews
 pub mod ActResults
+pub mod Failures
+pub mod Failed
 pub mod ImageInvariant
 pub mod Installs
 pub mod Tallies

@@ -149,6 +149,13 @@ impl<M: Mailbox> Actor<M> {
         !self.is_idle() || self.has_pending()
     }
 
+    /// How many of its turns have ended.
+    pub(crate) fn ended(&self) -> u64
+        ensures { result ≡ self.now.results.count }
+    {
+        self.results.count()
+    }
+
     /// How a turn ended, where the first of the results is that of a turn of this number.
     pub(crate) fn outcome(&self, first: u64, turn: u64) -> Result<Outcome, Refusal>
         ensures { result ≡ kept_outcome first self.now.results turn }

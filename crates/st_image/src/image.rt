@@ -12,6 +12,7 @@ mod checkpointing;
 mod closing;
 mod committing;
 mod defining;
+mod failing;
 mod installing;
 mod listing;
 mod parting;
@@ -27,6 +28,7 @@ use crate::changes::Changes;
 use crate::clients::Clients;
 use crate::counts::Counts;
 use crate::earlier::Earlier;
+use crate::failures::Failures;
 use crate::items::Item;
 use crate::settings::Settings;
 use crate::tallies::Tallies;
@@ -118,6 +120,8 @@ pub struct Image<M: Mailbox> {
     tallies: Tallies,
     changes: Changes,
     earlier: Earlier,
+    /// The newest turns that ended with a fault.
+    failures: Failures,
     // Each quantum writes what follows, so it lies together: a processor that holds a lock on the image waits for fewer lines of memory.
     history: Vec<Item>,
     /// The posts and the steps of the history.
@@ -136,7 +140,7 @@ impl<M: Mailbox> Model for Image<M> {
 
     ghost view = { λ i. record { base = i.base; names = i.names; history = i.history.items; capacity = i.settings.capacity; most_items = i.settings.history; standing = record { next_from = i.next_from; claims_out = trimmed i.actors.out; tallies = i.tallies; earlier = i.earlier } } };
 
-    ghost invariant = { λ i. HoldsImage i.base i.names i.token i.actors.list i.history.items i.edits_made i.settings i.clients i.tallies i.changes i.counts i.earlier };
+    ghost invariant = { λ i. HoldsImage i.base i.names i.token i.actors.list i.history.items i.edits_made i.settings i.clients i.tallies i.changes i.counts i.earlier i.failures };
 }
 
 impl<M: Mailbox> Image<M> {
@@ -167,6 +171,7 @@ impl<M: Mailbox> Image<M> {
             return Err(refusal);
         }
         let first = KernelParts::of(alloc)?;
+        let failures = Failures::none(alloc)?;
         Ok(Image {
             base: Base::new(alloc, first.table, &[]),
             names: first.names,
@@ -181,6 +186,7 @@ impl<M: Mailbox> Image<M> {
             changes: Changes::new(alloc),
             counts: Counts { posts: 0, steps: 0 },
             earlier: Earlier::counted(alloc, Counts { posts: 0, steps: 0 }),
+            failures,
         })
     }
 

@@ -6,7 +6,8 @@ use st_turn::body::Body;
 use st_turn::claim::{Claim, ClaimParts};
 use std::alloc::Global;
 
-/// What a commit has no more use for: the claim without the body to which its steps led, and the body that the actor had. The next
+/// What a commit has no more use for: the claim without the body to which its steps led, and the body that the actor had. Where the turn
+/// ended with a fault the claim is kept, and that of the failure which is kept no longer is left, if there is one. The next
 /// checkout takes the memory of the claim, and of the body if it makes a copy and that fits; if not, the copy at the end of the next
 /// quantum may take it. A checkout leaves the rest, and the token that the claim had. To let something go takes time, so who holds a
 /// lock on the image does that after it.

@@ -14,6 +14,7 @@ mod clients;
 pub mod counts;
 mod earlier;
 pub mod edit_text;
+pub mod failures;
 mod fitting;
 pub mod image;
 pub mod items;

@@ -7,6 +7,8 @@ mod compiling;
 #[cfg(test)]
 mod lookups;
 #[cfg(test)]
+mod offsets;
+#[cfg(test)]
 mod refused;
 #[cfg(test)]
 mod sites;

@@ -8,3 +8,6 @@ pub mod Found
 pub mod InstalledTexts
 pub mod OwnPlaces
 pub mod Held
+pub mod KeptLoops
+pub mod Placing
+pub mod Saying

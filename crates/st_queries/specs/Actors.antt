@@ -4,15 +4,13 @@ use Rattle.serde_json.specs.Data.{Data, null, boolean, string, object, member, n
 use Rattle.st_classes.specs.declared.edits.Edit.{Edit}
 use Rattle.st_classes.specs.declared.methods.MethodParts.{MethodParts}
 use Rattle.st_classes.specs.EditLists.{method_at}
-use Rattle.st_turn.specs.declared.body.Outcome.TheVariants.{Answer, Fault}
 use Rattle.st_image.specs.Loading.{class_text}
-use Rattle.st_wire.specs.Names.{fault_name}
-use Rattle.st_wire.specs.Replies.{only, whole}
-use Rattle.st_file.specs.ValueJson.{value_json}
+use Rattle.st_wire.specs.Replies.{whole}
 use Rattle.st_queries.specs.declared.glances.Glance.{Glance}
 use Rattle.st_queries.specs.declared.glances.Stand.{Stand}
 use Rattle.st_queries.specs.declared.glances.Stand.TheVariants.{Fresh, Started, Running, Ended}
 use Rattle.st_queries.specs.Listing.{listed}
+use Rattle.st_queries.specs.Outcomes.{outcome_told}
 use Rattle.st_queries.specs.Sights.{Sight}
 use Rattle.st_queries.specs.MethodNames.{method_named}
 
@@ -21,8 +19,7 @@ abbrev pub phase_told : List (List ℕ) → List Edit → Stand → Data
 phase_told names edits Fresh = string (codes "fresh")
 phase_told names edits Started = string (codes "start")
 phase_told names edits (Running m) = string (codes "frames")
-phase_told names edits (Ended (Answer v)) = only (codes "answer") (value_json names edits v)
-phase_told names edits (Ended (Fault f)) = only (codes "fault") (string (fault_name f))
+phase_told names edits (Ended outcome) = outcome_told names edits outcome
 
 -- an installed method by its name; null without one
 abbrev pub running_method : List (List ℕ) → List Edit → Option MethodParts → Data

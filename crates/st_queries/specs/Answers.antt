@@ -1,5 +1,5 @@
 -- What a query answers: a plain function of the image.
-use Rattle.std.specs.Prelude.{◌≡◌, ◌⊎◌, ℕ, ◌+◌, ◌==◌, List, [], ◌∷◌, length, drop, Bool, true, false, Option, Some, None, option_map, codes, slice_get, ok_or, unwrap_or, if◌then◌else◌, Result, Ok, Err}
+use Rattle.std.specs.Prelude.{◌≡◌, ℕ, ◌+◌, ◌==◌, List, [], ◌∷◌, length, drop, Bool, true, false, Option, Some, None, option_map, codes, slice_get, ok_or, if◌then◌else◌, Result, Ok, Err}
 use Rattle.std.specs.List.{list_any}
 use Rattle.serde_json.specs.Data.{Data, null, boolean, string, object, member, no_members}
 use Rattle.serde_json.specs.View.{view}
@@ -28,11 +28,14 @@ use Rattle.st_file.specs.ListJson.{texts}
 use Rattle.st_queries.specs.declared.hosts.Host.{Host}
 use Rattle.st_queries.specs.Actors.{actors_told}
 use Rattle.st_queries.specs.Edits.{edits_told}
+use Rattle.st_queries.specs.FailedTurns.{faults_told}
+use Rattle.st_queries.specs.Failing.{ending_told}
 use Rattle.st_queries.specs.Inspecting.{inspected_told}
 use Rattle.st_queries.specs.Listing.{listed}
 use Rattle.st_queries.specs.OwnMethods.{method_count, standing}
 use Rattle.st_queries.specs.Resolving.{and_then, class_in, selector_in}
 use Rattle.st_queries.specs.Sights.{Sight, sight}
+use Rattle.st_queries.specs.Sources.{source_at}
 use Rattle.st_queries.specs.Status.{status_told}
 use Rattle.st_queries.specs.MethodNames.{method_named}
 
@@ -83,10 +86,6 @@ methods_told names edits c = only (codes "methods")
     (listed (λ n. option_map (method_told names (selector n)) (own edits c (selector n))) 0 (length names))
 
 -- ---- what a send runs
-
--- the source of the method at a place; empty if nothing was installed there
-abbrev pub source_at : List Edit → ℕ → List ℕ
-source_at edits place = unwrap_or (option_map (λ m. m.source) (method_at edits (method_id place))) []
 
 -- a method, and the class that has it
 abbrev pub source_of : List Edit → ClassId × Found → Data
@@ -164,27 +163,34 @@ senders_told names edits s = only (codes "methods")
 
 -- ---- all queries
 
--- what is told of what is seen of an image; names are looked up and not interned, and a class before a selector
-abbrev pub told_of : Sight → Host → Query → Result Data Refusal
-told_of s host query.Classes = Ok (classes_told s.edits)
-told_of s host (query.Methods class) = and_then (λ c. Ok (methods_told s.names s.edits c)) (class_in s.edits class)
-told_of s host (query.Source class text) =
+-- what is told of what is seen of an image; names are looked up and not interned, and a class before a selector. The offsets are those
+-- that are told of the frames of a turn that failed
+abbrev pub told_of : Sight → Host → List (Option ℕ) → Query → Result Data Refusal
+told_of s host offsets query.Classes = Ok (classes_told s.edits)
+told_of s host offsets (query.Methods class) = and_then (λ c. Ok (methods_told s.names s.edits c)) (class_in s.edits class)
+told_of s host offsets (query.Source class text) =
     and_then (λ c. and_then (source_told s.edits c) (selector_in s.names text)) (class_in s.edits class)
-told_of s host (query.Versions class text) =
+told_of s host offsets (query.Versions class text) =
     and_then (λ c. and_then (λ t. Ok (versions_told s.edits c t)) (selector_in s.names text)) (class_in s.edits class)
-told_of s host (query.Implementors text) = and_then (λ t. Ok (implementors_told s.edits t)) (selector_in s.names text)
-told_of s host (query.Senders text) = and_then (λ t. Ok (senders_told s.names s.edits t)) (selector_in s.names text)
-told_of s host (query.Edits from) = edits_told s.names s.edits from
-told_of s host (query.Actors from most) = Ok (actors_told s from)
-told_of s host (query.Inspect a) = ok_or (option_map (inspected_told s.names s.edits) s.inspected) UnknownActor
-told_of s host query.Status = Ok (status_told s host)
+told_of s host offsets (query.Implementors text) = and_then (λ t. Ok (implementors_told s.edits t)) (selector_in s.names text)
+told_of s host offsets (query.Senders text) = and_then (λ t. Ok (senders_told s.names s.edits t)) (selector_in s.names text)
+told_of s host offsets (query.Edits from) = edits_told s.names s.edits from
+told_of s host offsets (query.Actors from most) = Ok (actors_told s from)
+told_of s host offsets (query.Inspect a) = ok_or (option_map (inspected_told s.names s.edits) s.inspected) UnknownActor
+told_of s host offsets (query.Fault a turn) = ending_told s.names s.edits offsets s.ending
+told_of s host offsets (query.Faults after) = Ok (faults_told s.failed s.counts.steps)
+told_of s host offsets query.Status = Ok (status_told s host)
 
 -- what a query answers: what is told of what is seen of the image for it
-abbrev pub told : ImageView → Host → Query → Result Data Refusal
-told i host q = told_of (sight i q) host q
+abbrev pub told : ImageView → Host → List (Option ℕ) → Query → Result Data Refusal
+told i host offsets q = told_of (sight i q) host offsets q
 
 -- the answer is that; memory can run out only where something is told
 abbrev pub IsAnswer : Result Data Refusal → Result Value Refusal → Type 0
 IsAnswer (Ok d) (Ok v) = view v ≡ d
 IsAnswer (Ok d) (Err e) = e ≡ NoMemory
 IsAnswer (Err e) r = r ≡ Err e
+
+-- the answer is that for some offsets: which these are is said nowhere
+abbrev pub IsAnswerForSome : (List (Option ℕ) → Result Data Refusal) → Result Value Refusal → Type 0
+IsAnswerForSome told r = (offsets : List (Option ℕ)) × IsAnswer (told offsets) r

@@ -5,9 +5,16 @@ pub mod MethodNames
 pub mod Glances
 pub mod Inspecting
 pub mod Hosts
+pub mod FailedTurns
+pub mod Endings
 pub mod Sights
+pub mod Outcomes
+pub mod Sources
+pub mod Sent
+pub mod Failing
 pub mod Actors
 pub mod Edits
 pub mod Status
 pub mod Answers
 pub mod QueryLaws
+pub mod Replying

@@ -1,5 +1,5 @@
 -- What is told of an image's numbers.
-use Rattle.std.specs.Prelude.{ℕ, ◌-◌, List, length, min, codes}
+use Rattle.std.specs.Prelude.{ℕ, ◌-◌, length, min, codes}
 use Rattle.serde_json.specs.Data.{Data, string, object, member, no_members}
 use Rattle.st_classes.specs.Classes.{class_count}
 use Rattle.st_wire.specs.Replies.{whole}
@@ -18,6 +18,7 @@ status_told s host = object
     (member (codes "edits") (whole (length s.edits))
     (member (codes "edits_left") (whole (edits_left s))
     (member (codes "epoch") (string (epoch host))
+    (member (codes "faults") (whole s.failed_turns)
     (member (codes "history") (whole s.items)
     (member (codes "history_most") (whole s.most_items)
     (member (codes "names") (whole (length s.names))
@@ -25,4 +26,4 @@ status_told s host = object
     (member (codes "sessions") (whole host.sessions)
     (member (codes "steps") (whole s.counts.steps)
     (member (codes "workers") (whole host.workers)
-    no_members))))))))))))
+    no_members)))))))))))))

@@ -5,15 +5,14 @@ ghost use Rattle.st_classes.specs.EditLists.{method_at};
 ghost use Rattle.st_queries.specs.Actors.{actor_told, actors_told, phase_told, running_method, running_told};
 
 use crate::glances::{Glance, Stand};
-use crate::listing::{Rows, list, only};
+use crate::listing::{Rows, list};
+use crate::outcomes::outcome;
 use crate::sights::Sight;
 use crate::texts::class_text;
-use crate::values::{method_named, value};
+use crate::values::{Table, method_named};
 use st_classes::names::Names;
 use st_classes::values::MethodId;
 use st_classes::version::Version;
-use st_turn::body::Outcome;
-use st_wire::names::fault_name;
 use st_wire::told::{Members, Told};
 use std::alloc::{AllocError, Global};
 
@@ -25,12 +24,7 @@ fn phase(alloc: Global, names: &Names, version: &Version, stand: Stand) -> Resul
         Stand::Fresh => Told::word(alloc, "fresh"),
         Stand::Started => Told::word(alloc, "start"),
         Stand::Running(_) => Told::word(alloc, "frames"),
-        Stand::Ended(Outcome::Answer(answer)) => {
-            only(alloc, "answer", value(alloc, names, version, answer)?)
-        }
-        Stand::Ended(Outcome::Fault(fault)) => {
-            only(alloc, "fault", Told::word(alloc, fault_name(fault))?)
-        }
+        Stand::Ended(ended) => outcome(alloc, Table { names, version }, ended),
     }
 }
 

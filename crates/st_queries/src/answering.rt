@@ -1,15 +1,20 @@
 //! What is answered to a query.
-ghost use Rattle.std.specs.Prelude.{◌≡◌};
-ghost use Rattle.st_queries.specs.Answers.{IsAnswer, source_told, told_of};
+ghost use Rattle.std.specs.Prelude.{◌≡◌, ℕ, List, Option, Err, OnErr};
+ghost use Rattle.st_classes.specs.declared.refusals.Refusal.TheVariants.{NoMemory};
+ghost use Rattle.st_queries.specs.Answers.{IsAnswer, IsAnswerForSome, source_told, told_of};
 ghost use Rattle.st_queries.specs.Edits.{edits_told};
 
 use crate::actors::actors;
 use crate::classes::classes;
 use crate::edits::edits;
+use crate::endings::Ending;
+use crate::failed_turns::faults;
+use crate::failing::tell_ending;
 use crate::hosts::Host;
 use crate::implementors::implementors;
 use crate::inspecting::tell_inspected;
 use crate::methods::methods;
+use crate::offsets::offsets;
 use crate::resolving::{class_of, selector_of};
 use crate::senders::senders;
 use crate::sights::Sight;
@@ -20,15 +25,29 @@ use crate::versions::versions;
 use st_classes::refusals::Refusal;
 use st_wire::queries::Query;
 use st_wire::told::Told;
-use std::alloc::Global;
+use std::alloc::{AllocError, Global};
 
-/// What is answered to a query, from what was seen of an image for it.
-///
-/// `UnknownClass` says that no class has a name, and `BadName` that a text is no selector; a class is looked up before a selector.
-/// `NoSuchMethod` says that an instance of the class does not understand the selector. A selector that was never interned is one that
-/// no class has. `BadArguments` says that there are fewer edits than are to be left out, and `UnknownActor` that no actor has a number.
-pub fn answer(alloc: Global, sight: &Sight, host: Host, query: &Query) -> Result<Told, Refusal>
-    ensures { IsAnswer (told_of sight.now host query.now) result }
+/// The offsets that are told of the frames of a turn that failed, where that is asked for.
+fn offsets_for(alloc: Global, sight: &Sight, query: &Query) -> Result<Vec<Option<u16>>, AllocError>
+    ensures { OnErr result ((host : Host) (offsets : List (Option ℕ)) → IsAnswer (told_of sight.now host offsets query.now) (Err NoMemory)) }
+{
+    match (query, &sight.ending) {
+        (Query::Fault { actor: _, turn: _ }, Some(Ending::Failed(failing))) => {
+            offsets(alloc, sight.table.shown(), &failing.body.phase)
+        }
+        _ => Ok(Vec::new(alloc)),
+    }
+}
+
+/// What is answered to a query, where these offsets are told.
+fn answer_at(
+    alloc: Global,
+    sight: &Sight,
+    host: Host,
+    offsets: &[Option<u16>],
+    query: &Query,
+) -> Result<Told, Refusal>
+    ensures { IsAnswer (told_of sight.now host offsets.now query.now) result }
 {
     let names = &sight.names;
     let version = sight.table.shown();
@@ -67,6 +86,26 @@ pub fn answer(alloc: Global, sight: &Sight, host: Host, query: &Query) -> Result
             Some(seen) => Ok(tell_inspected(alloc, Table { names, version }, seen)?),
             None => Err(Refusal::UnknownActor),
         },
+        Query::Fault { actor: _, turn: _ } => {
+            tell_ending(alloc, Table { names, version }, offsets, &sight.ending)
+        }
+        Query::Faults { after: _ } => Ok(faults(alloc, &sight.failed, sight.counts.steps)?),
         Query::Status => Ok(status(alloc, sight, host)?),
+    }
+}
+
+/// What is answered to a query, from what was seen of an image for it.
+///
+/// `UnknownClass` says that no class has a name, and `BadName` that a text is no selector; a class is looked up before a selector.
+/// `NoSuchMethod` says that an instance of the class does not understand the selector. A selector that was never interned is one that
+/// no class has. `BadArguments` says that there are fewer edits than are to be left out, and `UnknownActor` that no actor has a number.
+///
+/// Where in their sources the sends of a turn's frames stand is told as far as it is known.
+pub fn answer(alloc: Global, sight: &Sight, host: Host, query: &Query) -> Result<Told, Refusal>
+    ensures { IsAnswerForSome (λ offsets. told_of sight.now host offsets query.now) result }
+{
+    match offsets_for(alloc, sight, query) {
+        Ok(offsets) => answer_at(alloc, sight, host, offsets.as_slice(), query),
+        Err(_) => Err(Refusal::NoMemory),
     }
 }

@@ -1,7 +1,7 @@
 //! Queries: what an image answers to a question about it. A query changes nothing, and its answer is a plain function of the image.
 //!
 //! What a query needs is copied from the image first ([`sights::see`]), and it is answered from that ([`answering::answer`]), which
-//! takes longer. Each query has a file of its own. Most answers are lists, which are told row by row, by number ([`listing`]).
+//! takes longer. [`replying`] makes replies of the answers. Each query has a file of its own. Most answers are lists, which are told row by row, by number ([`listing`]).
 #![tactic(auto)]
 
 mod actors;
@@ -9,6 +9,9 @@ pub mod answering;
 mod bodies;
 mod classes;
 mod edits;
+pub mod endings;
+pub mod failed_turns;
+mod failing;
 pub mod glances;
 pub mod hosts;
 mod implementors;
@@ -17,9 +20,13 @@ pub mod laws;
 mod listing;
 mod messages;
 mod methods;
+mod offsets;
+mod outcomes;
 pub mod own_methods;
+pub mod replying;
 mod resolving;
 mod senders;
+mod sent;
 pub mod sights;
 mod sources;
 mod status;

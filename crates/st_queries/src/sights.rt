@@ -1,11 +1,14 @@
 //! What is seen of an image in one moment. It is copied under the lock, and the query is answered from it behind.
 ghost use Rattle.std.specs.Prelude.{◌≡◌, ◌<◌, IfOk, length};
 ghost use Rattle.st_image.specs.Images.{world};
-ghost use Rattle.st_queries.specs.Sights.{glances_for, inspected_for as inspected_by, sight};
+ghost use Rattle.st_queries.specs.Sights.{ending_for as ending_by, failed_for as failed_by, glances_for, inspected_for as inspected_by, sight};
 
+use crate::endings::{Ending, find_ending};
+use crate::failed_turns::{FailedSince, failed_since};
 use crate::glances::{Glance, glances};
 use crate::inspecting::{Inspected, inspect};
 use st_classes::names::Names;
+use st_classes::seq::Seq;
 use st_classes::token::Token;
 use st_image::counts::Counts;
 use st_image::image::Image;
@@ -15,14 +18,17 @@ use std::alloc::{AllocError, Global};
 use std::marker::Model;
 
 /// What a query is answered from: the names and the class table, which are shared and not copied; what is seen of those actors that are
-/// asked for; a copy of the one that is inspected; and some numbers.
+/// asked for; a copy of the one that is inspected; the turns that failed; how the turn that is asked for ended; and some numbers.
 #[derive(Drop)]
 pub struct Sight {
     pub(crate) names: Names,
     pub(crate) table: Token,
     pub(crate) glances: Vec<Glance>,
     pub(crate) inspected: Option<Inspected>,
+    pub(crate) failed: FailedSince,
+    pub(crate) ending: Option<Ending>,
     pub(crate) actors: u32,
+    pub(crate) failed_turns: u64,
     pub(crate) edits_made: u32,
     pub(crate) items: usize,
     pub(crate) most_items: u32,
@@ -35,7 +41,7 @@ impl Model for Sight {
 
     ghost Value = { SightOf };
 
-    ghost view = { λ s. record { names = s.names; edits = s.table; glances = s.glances.items; inspected = s.inspected; actors = s.actors; edits_made = s.edits_made; items = s.items; most_items = s.most_items; counts = s.counts } };
+    ghost view = { λ s. record { names = s.names; edits = s.table; glances = s.glances.items; inspected = s.inspected; failed = s.failed; ending = s.ending; actors = s.actors; failed_turns = s.failed_turns; edits_made = s.edits_made; items = s.items; most_items = s.most_items; counts = s.counts } };
 
     ghost use Rattle.std.specs.Prelude.{◌<◌, length};
 
@@ -71,8 +77,39 @@ fn inspected_for<M: Mailbox>(
     }
 }
 
-/// What is seen of an image for a query. It takes the time of a copy of what is seen of the actors that are asked for. It fails only
-/// if memory runs out.
+/// The turns that failed behind the steps that a query names.
+fn failed_for<M: Mailbox>(
+    alloc: Global,
+    image: &Image<M>,
+    query: &Query,
+) -> Result<FailedSince, AllocError>
+    ensures { IfOk result (λ seen. seen ≡ failed_by query.now image.now) }
+{
+    match query {
+        Query::Faults { after } => failed_since(alloc, image, *after),
+        _ => Ok(FailedSince {
+            from: 0,
+            turns: Seq::from_vec(Vec::new(alloc)),
+        }),
+    }
+}
+
+/// How the turn ended that a query asks for.
+fn ending_for<M: Mailbox>(
+    alloc: Global,
+    image: &Image<M>,
+    query: &Query,
+) -> Result<Option<Ending>, AllocError>
+    ensures { IfOk result (λ seen. seen ≡ ending_by query.now image.now) }
+{
+    match query {
+        Query::Fault { actor, turn } => Ok(Some(find_ending(alloc, image, *actor, *turn)?)),
+        _ => Ok(None),
+    }
+}
+
+/// What is seen of an image for a query. It takes the time of a copy of what is seen of the actors that are asked for, and for a turn that
+/// failed that of at most a quantum of steps. It fails only if memory runs out.
 pub fn see<M: Mailbox>(alloc: Global, image: &Image<M>, query: &Query) -> Result<Sight, AllocError>
     ensures { IfOk result (λ s. s ≡ sight image.now query.now) }
 {
@@ -82,7 +119,10 @@ pub fn see<M: Mailbox>(alloc: Global, image: &Image<M>, query: &Query) -> Result
         table: image.token().again()?,
         glances: asked_for(alloc, image, query)?,
         inspected: inspected_for(alloc, image, query)?,
+        failed: failed_for(alloc, image, query)?,
+        ending: ending_for(alloc, image, query)?,
         actors: image.actors(),
+        failed_turns: image.failed_turns(),
         edits_made: image.edits_made(),
         items: image.history().len(),
         most_items: image.most_items(),

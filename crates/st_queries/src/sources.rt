@@ -4,7 +4,8 @@ ghost use Rattle.serde_json.specs.Data.{string};
 ghost use Rattle.serde_json.specs.View.{view};
 ghost use Rattle.st_classes.specs.Classes.{chain, is_class};
 ghost use Rattle.st_image.specs.CompiledEdits.{AllCompiled};
-ghost use Rattle.st_queries.specs.Answers.{IsAnswer, holder_in, source_at as source_in, source_of, source_told};
+ghost use Rattle.st_queries.specs.Answers.{IsAnswer, holder_in, source_of, source_told};
+ghost use Rattle.st_queries.specs.Sources.{source_at as source_in};
 
 use crate::methods::version_of;
 use crate::own_methods::own;
@@ -19,7 +20,7 @@ use std::alloc::{AllocError, Global};
 
 /// The source of the method at a place. It is empty if nothing was installed there.
 #[tactic(auto, using(st_file::proofs::TableTexts::empty_is_text))]
-fn source_at(
+pub(crate) fn source_at(
     alloc: Global,
     names: &Names,
     version: &Version,

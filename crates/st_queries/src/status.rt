@@ -33,6 +33,7 @@ pub(crate) fn status(alloc: Global, sight: &Sight, host: Host) -> Result<Told, A
         "epoch",
         Told::word(alloc, epoch(alloc, host)?.as_str())?,
     )?;
+    members.put(alloc, "faults", Told::whole(sight.failed_turns))?;
     members.put(alloc, "history", Told::whole(sight.items as u64))?;
     members.put(alloc, "history_most", Told::whole(sight.most_items.into()))?;
     members.put(alloc, "names", Told::whole(sight.names.len().into()))?;

@@ -1,10 +1,6 @@
 -- The reply to a command, and the image that it leaves.
 use Rattle.std.specs.Prelude.{◌≡◌, ℕ, zero, suc, ◌+◌, ◌⊎◌, List, Bool, true, false, if◌then◌else◌, Result, Ok, Err, MatchOption, MatchResult}
 use Rattle.std.specs.Str.{bytes_eq}
-use Rattle.std.specs.declared.alloc.AllocError.{AllocError}
-use Rattle.serde_json.specs.Data.{Data}
-use Rattle.serde_json.specs.View.{view}
-use Rattle.serde_json.specs.declared.value.Value.{Value}
 use Rattle.st_classes.specs.declared.refusals.Refusal.{Refusal}
 use Rattle.st_classes.specs.declared.refusals.Refusal.TheVariants.{Expired, NoMemory, UnknownClass}
 use Rattle.st_classes.specs.declared.values.ActorId.{ActorId}
@@ -18,12 +14,9 @@ use Rattle.st_wire.specs.declared.commands.Command.TheVariants as command
 use Rattle.st_wire.specs.declared.replies.Reply.{Reply}
 use Rattle.st_wire.specs.declared.replies.Reply.TheVariants as reply
 use Rattle.st_wire.specs.declared.replies.SiteReport.{SiteReport}
-use Rattle.st_wire.specs.declared.queries.Query.{Query}
-use Rattle.st_wire.specs.Replies.{ok}
 use Rattle.st_queries.specs.declared.hosts.Host.{Host}
-use Rattle.st_queries.specs.Answers.{told, told_of}
 use Rattle.st_queries.specs.Hosts.{epoch}
-use Rattle.st_queries.specs.Sights.{Sight}
+use Rattle.st_queries.specs.Replying.{Looks}
 use Rattle.st_server.specs.SiteReports.{StatesNamed}
 use Rattle.st_server.specs.Runners.{RunnerView, NextAdvances, NoneReady}
 use Rattle.st_calls.specs.declared.calls.Answer.{Answer}
@@ -80,26 +73,6 @@ abbrev pub States : ImageView → List ℕ → List ℕ → Reply → Type 0
 States i class text r = MatchOption (class_named (world i).edits class)
     (r ≡ reply.Refused UnknownClass)
     (λ c. (result : Result (List SiteReport) Refusal) × (r ≡ reply_by reply.Sites result) × StatesNamed i text c result)
-
--- ---- queries
-
--- the reply says this: a value at the key `ok`, if memory does not run out; or a refusal
-abbrev pub Says : Result Data Refusal → Reply → Type 0
-Says (Ok d) r = ((v : Value) × (r ≡ reply.Told v) × (view v ≡ ok d)) ⊎ (r ≡ reply.Refused NoMemory)
-Says (Err e) r = r ≡ reply.Refused e
-
--- the reply to a query says what is told of what was seen for it
-abbrev pub TellsOf : Sight → Host → Query → Reply → Type 0
-TellsOf s host q r = Says (told_of s host q) r
-
--- the same; or there was no memory to see it
-abbrev pub TellsSeen : Result Sight AllocError → Host → Query → Reply → Type 0
-TellsSeen (Ok s) host q r = TellsOf s host q r
-TellsSeen (Err e) host q r = r ≡ reply.Refused NoMemory
-
--- the reply to a query says what is told of the image; or there was no memory to see it
-abbrev pub Looks : ImageView → Host → Query → Reply → Type 0
-Looks i host q r = Says (told i host q) r ⊎ (r ≡ reply.Refused NoMemory)
 
 -- ---- a command that needs the image alone
 

@@ -3,7 +3,7 @@ ghost use Rattle.std.specs.Prelude.{◌≡◌};
 ghost use Rattle.st_image.specs.GoingOn.{GoesOnIn};
 ghost use Rattle.st_server.specs.CallOf.{Makes, RepliesTo, answer_reply};
 ghost use Rattle.st_image.specs.Outcomes.{image_outcome};
-ghost use Rattle.st_server.specs.CommandReplies.{Asks, Looks, Tells, TellsOf, TellsSeen, Waits};
+ghost use Rattle.st_server.specs.CommandReplies.{Asks, Tells, Waits};
 
 use crate::calls_of::call_of;
 use crate::images::Image;
@@ -17,12 +17,10 @@ use st_classes::refusals::Refusal;
 use st_classes::values::ActorId;
 use st_image::counts::Counts;
 use st_mailbox::ring_box::RingBox;
-use st_queries::answering::answer;
 use st_queries::hosts::{Host, epoch};
-use st_queries::sights::{Sight, see};
+use st_queries::replying::look;
 use st_turn::body::Outcome;
 use st_wire::commands::Command;
-use st_wire::queries::Query;
 use st_wire::replies::Reply;
 use std::alloc::{AllocError, Global};
 
@@ -98,42 +96,6 @@ fn wait(alloc: Global, image: &Image, host: Host, text: &[u8], actor: ActorId, t
         return Reply::Refused(Refusal::Expired);
     }
     outcome(alloc, image, actor, turn)
-}
-
-/// The reply to a query, from what was seen for it.
-pub(crate) fn tell(alloc: Global, sight: &Sight, host: Host, query: &Query) -> Reply
-    ensures { TellsOf sight.now host query.now result }
-{
-    match answer(alloc, sight, host, query) {
-        Ok(told) => match told.ok(alloc) {
-            Ok(told) => Reply::Told(told),
-            Err(_) => Reply::Refused(Refusal::NoMemory),
-        },
-        Err(refusal) => Reply::Refused(refusal),
-    }
-}
-
-/// The same; or that there was no memory to see what it needs.
-pub(crate) fn tell_seen(
-    alloc: Global,
-    seen: Result<Sight, AllocError>,
-    host: Host,
-    query: Query,
-) -> Reply
-    ensures { TellsSeen seen host query result }
-{
-    match seen {
-        Ok(sight) => tell(alloc, &sight, host, &query),
-        Err(_) => Reply::Refused(Refusal::NoMemory),
-    }
-}
-
-/// The reply to a query.
-fn look(alloc: Global, image: &Image, host: Host, query: Query) -> Reply
-    ensures { Looks image.now host query result }
-{
-    let seen = see(alloc, image, &query);
-    tell_seen(alloc, seen, host, query)
 }
 
 /// The reply to a command that needs the image alone, and what is known of the program that holds it. A run needs a worker, and is

@@ -8,7 +8,7 @@ ghost use Rattle.st_server.specs.Keepers.{IsFault, Replaces};
 ghost use Rattle.st_server.specs.PoolReplies.{AsksFound, Attends, CopiesFound};
 ghost use Rattle.st_wire.specs.declared.commands.Command.TheVariants as commands;
 
-use crate::asking::{ask, tell_seen};
+use crate::asking::ask;
 use crate::images::Mailbox;
 use crate::keepers::{Keeper, copied, replaced, written};
 use crate::recording::{Copied, CopyingBehind, Progress, Recorder};
@@ -23,6 +23,7 @@ use st_pool::naming::Naming;
 use st_pool::office::Office;
 use st_pool::shares::CallerShare;
 use st_queries::hosts::Host;
+use st_queries::replying::tell_seen;
 use st_queries::sights::{Sight, see};
 use st_session::handlers::Handler;
 use st_session::sessions::session;

@@ -1,5 +1,6 @@
 -- The steps of a claim that survives are steps of the later table.
 use Rattle.std.proofs.Common.{refl, ◌≡◌, ◌∙◌, ◌<◌, ◌++◌, ℕ, zero, suc, ap, ap₂, sym, subst, List, Option, Some, None, false, option_and_then}
+use Rattle.std.specs.Prelude.{Bool, ◌||◌}
 use Rattle.std.specs.List.{list_any}
 use Rattle.std.specs.Option.{option_to_list}
 use Rattle.std.proofs.lemmas.List.{map-append}
@@ -18,7 +19,7 @@ use Rattle.st_turn.specs.declared.body.Body.{Body}
 use Rattle.st_turn.specs.BodyFits.{Fits, Referents}
 use Rattle.st_turn.specs.Claims.{ClaimView, IsSound, asked_from, own_asked, selectors_asked, used}
 use Rattle.st_turn.specs.Steps.{Asked, Step, asked, body_after, ended, next, outer, own_steps, step}
-use Rattle.st_turn.specs.Surviving.{ClaimsSurvive, SameSteps, edits_since, touched}
+use Rattle.st_turn.specs.Surviving.{ClaimsSurvive, SameSteps, SurvivesAt, edits_since, touched}
 use Rattle.st_turn.proofs.Keeping.{FitsStep, step_fits}
 use Rattle.st_turn.proofs.LaterTables.{Untouched, act_later, asked_later, step_later}
 
@@ -30,6 +31,12 @@ NoneTouched more qs = list_any (touched more) (selectors_asked qs) ≡ false
 
 none_parts : (more : List Edit) (xs ys : List Asked) → NoneTouched more (xs ++ ys) → NoneTouched more xs × NoneTouched more ys
 none_parts more xs ys h = or_parts (list_any (touched more) (selectors_asked xs)) (list_any (touched more) (selectors_asked ys)) (sym (ap (list_any (touched more)) (map-append (λ (q : Asked). q.key.selector) xs ys) ∙ list_any-append (touched more) (selectors_asked xs) (selectors_asked ys)) ∙ h)
+
+none_both : (more : List Edit) (xs ys : List Asked) → NoneTouched more xs → NoneTouched more ys → NoneTouched more (xs ++ ys)
+none_both more xs ys f g =
+    ap (list_any (touched more)) (map-append (λ (q : Asked). q.key.selector) xs ys)
+    ∙ list_any-append (touched more) (selectors_asked xs) (selectors_asked ys)
+    ∙ ap₂ (λ (x y : Bool). x || y) f g
 
 one_untouched : (more : List Edit) (o : Option Asked) → NoneTouched more (option_to_list o) → Untouched more o
 one_untouched more None h q e = cc
@@ -78,6 +85,17 @@ steps_alike given es more a k (suc n) b fits u =
       asks = ap₂ (λ (xs ys : List Asked). xs ++ ys) (ap (λ (o : Option Asked). option_to_list o) (asked_later given es more b fits)) (ap (λ (s : Step). asked_from (own_asked (es ++ more) a n) (body_after s)) same ∙ rest.1);
     }
 
+fewer_by : (more : List Edit) (F G : Body → List Asked) (o : Option Body) → ((c : Body) → NoneTouched more (F c) → NoneTouched more (G c)) → NoneTouched more (asked_from F o) → NoneTouched more (asked_from G o)
+fewer_by more F G None h u = refl
+fewer_by more F G (Some c) h u = h c u
+
+-- one step fewer asks for no more
+fewer_untouched : (es more : List Edit) (a : ActorId) (n : ℕ) (b : Body) → NoneTouched more (own_asked es a (suc n) b) → NoneTouched more (own_asked es a n b)
+fewer_untouched es more a zero b u = refl
+fewer_untouched es more a (suc n) b u =
+    let parts = none_parts more (option_to_list (asked es b)) (asked_from (own_asked es a (suc n)) (body_after (step es a b))) u in
+    none_both more (option_to_list (asked es b)) (asked_from (own_asked es a n) (body_after (step es a b))) parts.0 (fewer_by more (own_asked es a (suc n)) (own_asked es a n) (body_after (step es a b)) (λ c h. fewer_untouched es more a n c h) parts.1)
+
 -- the body after so many steps fits
 after_fits : (given : Referents) (es more : List Edit) (a : ActorId) → IsKnown given es more a → (n : ℕ) (b c : Body) → Fits given es b → own_steps es a n b ≡ Some c → Fits given es c
 after_fits given es more a k zero b c fits e = let same : b ≡ c = cc in subst (Fits given es) same fits
@@ -115,3 +133,18 @@ claims_survive edits c lawful sound h s =
     let rest = s.begins.0 in
     let all : edits ≡ c.edits ++ rest = s.begins.1 in
     subst (λ (es : List Edit). SameSteps es c) (sym all) (survives_with c rest (subst AreLawful all lawful) (subst AllSound all sound) h (subst (λ (es : List Edit). list_any (touched (edits_since c es)) (used c) ≡ false) all s.untouched))
+
+one_fewer_with : (c : ClaimView) (more : List Edit) (n : ℕ) → AreLawful (c.edits ++ more) → AllSound (c.edits ++ more) → IsSound c.actor c.edits c.before c.after c.steps c.sends → c.steps ≡ suc n → list_any (touched (edits_since c (c.edits ++ more))) (used c) ≡ false → own_steps (c.edits ++ more) c.actor n c.before ≡ own_steps c.edits c.actor n c.before
+one_fewer_with c more n lawful sound h steps u =
+    let given = h.begins.0 in
+    let k : IsKnown given c.edits more c.actor = record { lawful = lawful; sound = sound_before c.edits more sound; suit = h.begins.1; known = h.begins.2; actor = h.begins.3 } in
+    let all : NoneTouched more (own_asked c.edits c.actor c.steps c.before) = subst (λ (es : List Edit). list_any (touched es) (used c) ≡ false) (since_is c more) u in
+    let none : NoneTouched more (own_asked c.edits c.actor (suc n) c.before) = subst (λ (m : ℕ). NoneTouched more (own_asked c.edits c.actor m c.before)) steps all in
+    (steps_alike given c.edits more c.actor k n c.before h.begins.4 (fewer_untouched c.edits more c.actor n c.before none)).taken
+
+-- so are they without the last
+pub one_fewer_survives : (edits : List Edit) (c : ClaimView) (n : ℕ) → AreLawful edits → AllSound edits → IsSound c.actor c.edits c.before c.after c.steps c.sends → c.steps ≡ suc n → SurvivesAt edits c → own_steps edits c.actor n c.before ≡ own_steps c.edits c.actor n c.before
+one_fewer_survives edits c n lawful sound h steps s =
+    let rest = s.begins.0 in
+    let all : edits ≡ c.edits ++ rest = s.begins.1 in
+    subst (λ (es : List Edit). own_steps es c.actor n c.before ≡ own_steps c.edits c.actor n c.before) (sym all) (one_fewer_with c rest n (subst AreLawful all lawful) (subst AllSound all sound) h steps (subst (λ (es : List Edit). list_any (touched (edits_since c es)) (used c) ≡ false) all s.untouched))

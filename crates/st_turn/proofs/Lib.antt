@@ -22,6 +22,7 @@ pub mod Summing
 pub mod LastSums
 pub mod FewSends
 pub mod ClaimSteps
+pub mod LastSteps
 pub mod Busy
 pub mod WorkerSteps
 pub mod ActSites

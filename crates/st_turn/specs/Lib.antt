@@ -16,3 +16,4 @@ pub mod Surviving
 pub mod UsedSelectors
 pub mod WorkerSteps
 pub mod QuickSteps
+pub mod Reruns

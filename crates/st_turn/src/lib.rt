@@ -20,6 +20,7 @@ pub mod log;
 pub mod lookup;
 pub mod plain;
 mod quick;
+pub mod reruns;
 pub mod sends;
 pub mod stack;
 pub mod sums;

@@ -2,9 +2,10 @@
 use Rattle.std.specs.Prelude.{ℕ, ◌^◌, ◌-◌, List, [], ◌∷◌, codes, if◌then◌else◌, Option, Some, None, option_map}
 use Rattle.std.specs.Str.{bytes_eq}
 use Rattle.serde_json.specs.Data.{Data}
+use Rattle.st_classes.specs.declared.values.ActorId.{ActorId}
 use Rattle.st_wire.specs.declared.queries.Query.{Query}
-use Rattle.st_wire.specs.declared.queries.Query.TheVariants.{Classes, Methods, Source, Versions, Implementors, Senders, Edits, Actors, Inspect, Status}
-use Rattle.st_wire.specs.Fields.{actor_at, text_at, whole_at}
+use Rattle.st_wire.specs.declared.queries.Query.TheVariants.{Classes, Methods, Source, Versions, Implementors, Senders, Edits, Actors, Inspect, Fault, Faults, Status}
+use Rattle.st_wire.specs.Fields.{actor_at, number_at, text_at, whole_at}
 use Rattle.st_wire.specs.Keys.{of_keys}
 
 -- a query of a class
@@ -38,6 +39,17 @@ actors_in d = of_keys (codes "cmd" ∷ codes "from" ∷ codes "most" ∷ []) d
 abbrev pub inspect_in : Data → Option Query
 inspect_in d = of_keys (codes "actor" ∷ codes "cmd" ∷ []) d (option_map Inspect (actor_at (codes "actor") d))
 
+abbrev pub fault_from : Option ActorId → Option ℕ → Option Query
+fault_from (Some actor) (Some turn) = Some (Fault actor turn)
+fault_from _ _ = None
+
+abbrev pub fault_in : Data → Option Query
+fault_in d = of_keys (codes "actor" ∷ codes "cmd" ∷ codes "turn" ∷ []) d
+    (fault_from (actor_at (codes "actor") d) (number_at (codes "turn") d))
+
+abbrev pub faults_in : Data → Option Query
+faults_in d = of_keys (codes "after" ∷ codes "cmd" ∷ []) d (option_map Faults (number_at (codes "after") d))
+
 abbrev pub status_in : Data → Option Query
 status_in d = of_keys (codes "cmd" ∷ []) d (Some Status)
 
@@ -53,5 +65,7 @@ query_in d cmd =
     else (if bytes_eq cmd (codes "edits") then edits_in d
     else (if bytes_eq cmd (codes "actors") then actors_in d
     else (if bytes_eq cmd (codes "inspect") then inspect_in d
+    else (if bytes_eq cmd (codes "fault") then fault_in d
+    else (if bytes_eq cmd (codes "faults") then faults_in d
     else (if bytes_eq cmd (codes "status") then status_in d
-    else None)))))))))
+    else None)))))))))))

@@ -3,7 +3,7 @@ ghost use Rattle.std.specs.Prelude.{◌≡◌, Some};
 ghost use Rattle.serde_json.specs.View.{view};
 ghost use Rattle.st_classes.specs.Refusals.{Answers, first_of};
 ghost use Rattle.st_wire.specs.PartResults.{Reads};
-ghost use Rattle.st_wire.specs.Commands.{ReturnsMeanNothing, command_of, command_rules, command_in, define_in, method_in, replace_in, remove_in, reparent_in, new_actor_in, post_in, close_in, run_in, outcome_in, wait_in, stats_in, question_in, checkpoint_in, save_in};
+ghost use Rattle.st_wire.specs.Commands.{ReturnsMeanNothing, command_of, command_rules, command_in, form_in, define_in, method_in, replace_in, remove_in, reparent_in, new_actor_in, post_in, close_in, run_in, outcome_in, wait_in, stats_in, question_in, checkpoint_in, save_in};
 
 use crate::fields::{actor_at, list_at, quanta_at, sender_at, text_at, whole_at};
 use crate::keys::{has_just, just_keys};
@@ -128,18 +128,27 @@ fn read_object(alloc: Global, object: &Value) -> Result<Command, Refusal>
     ensures { Reads (command_in (view object.now)) result }
 {
     match object.get("cmd").and_then(Value::as_str) {
-        Some("define") => define(alloc, object),
-        Some("method") => method(alloc, object),
-        Some("replace") => replace(alloc, object),
-        Some("remove") => remove(alloc, object),
-        Some("reparent") => reparent(alloc, object),
-        Some("actor") => new_actor(alloc, object),
-        Some("post") => post(alloc, object),
-        Some("close") => close(object),
-        Some("run") => run(object),
-        Some("checkpoint") => checkpoint(object),
-        Some(name) => question(alloc, object, name),
+        Some(name) => form(alloc, object, name),
         None => Err(Refusal::BadCommand),
+    }
+}
+
+/// The command of the form that a name has.
+fn form(alloc: Global, object: &Value, name: &str) -> Result<Command, Refusal>
+    ensures { Reads (form_in (view object.now) name.now) result }
+{
+    match name {
+        "define" => define(alloc, object),
+        "method" => method(alloc, object),
+        "replace" => replace(alloc, object),
+        "remove" => remove(alloc, object),
+        "reparent" => reparent(alloc, object),
+        "actor" => new_actor(alloc, object),
+        "post" => post(alloc, object),
+        "close" => close(object),
+        "run" => run(object),
+        "checkpoint" => checkpoint(object),
+        _ => question(alloc, object, name),
     }
 }
 

@@ -5,7 +5,7 @@ ghost use Rattle.st_wire.specs.PartResults.{Reads};
 ghost use Rattle.st_wire.specs.Fields.{text_at as text_in};
 ghost use Rattle.st_wire.specs.Keys.{of_keys};
 ghost use Rattle.st_wire.specs.declared.queries.Query.TheVariants as forms;
-ghost use Rattle.st_wire.specs.Queries.{actors_in, edits_in, inspect_in, of_place, query_in, status_in};
+ghost use Rattle.st_wire.specs.Queries.{actors_in, edits_in, fault_in, faults_in, inspect_in, of_place, query_in, status_in};
 
 use crate::fields::{actor_at, text_at, whole_at};
 use crate::keys::just_keys;
@@ -36,6 +36,10 @@ pub enum Query {
     Actors { from: u32, most: u32 },
     /// An actor, as an image file has it.
     Inspect { actor: ActorId },
+    /// Where and by which message a turn of an actor failed; how it ended, where that is not kept.
+    Fault { actor: ActorId, turn: u64 },
+    /// The turns that failed behind a step, as far as they are kept.
+    Faults { after: u64 },
     /// How much there is of what an image has.
     Status,
 }
@@ -104,6 +108,25 @@ fn inspect(object: &Value) -> Result<Query, Refusal>
     })
 }
 
+fn fault(object: &Value) -> Result<Query, Refusal>
+    ensures { Reads (fault_in (view object.now)) result }
+{
+    just_keys(object, &["actor", "cmd", "turn"])?;
+    Ok(Query::Fault {
+        actor: actor_at(object, "actor")?,
+        turn: whole_at(object, "turn", 0, u64::MAX)?,
+    })
+}
+
+fn faults(object: &Value) -> Result<Query, Refusal>
+    ensures { Reads (faults_in (view object.now)) result }
+{
+    just_keys(object, &["after", "cmd"])?;
+    Ok(Query::Faults {
+        after: whole_at(object, "after", 0, u64::MAX)?,
+    })
+}
+
 fn status(object: &Value) -> Result<Query, Refusal>
     ensures { Reads (status_in (view object.now)) result }
 {
@@ -134,6 +157,8 @@ pub(crate) fn read_query(alloc: Global, object: &Value, name: &str) -> Result<Qu
         "edits" => edits(object),
         "actors" => actors(object),
         "inspect" => inspect(object),
+        "fault" => fault(object),
+        "faults" => faults(object),
         "status" => status(object),
         _ => Err(Refusal::BadCommand),
     }

@@ -26,6 +26,10 @@ pub(crate) enum Wanted {
     Close(u32),
     Run(u32),
     Outcome(u32, u64),
+    /// A query of a turn that failed.
+    Fault(u32, u64),
+    /// A query of the turns that failed behind so many steps.
+    Faults(u64),
     Replace(&'static str, u32, &'static str),
     Wait(u32, &'static str, u32, u64),
     Stats(&'static str, &'static str),
@@ -117,6 +121,16 @@ const COMMANDS: &[(&str, Wanted)] = &[
         r#"{"actor":65536,"cmd":"inspect"}"#,
         Wanted::Query("inspect", "", "", 65_536, 0),
     ),
+    (
+        r#"{"actor":4294967295,"cmd":"fault","turn":18446744073709551615}"#,
+        Wanted::Fault(u32::MAX, u64::MAX),
+    ),
+    (r#"{"actor":3,"cmd":"fault","turn":0}"#, Wanted::Fault(3, 0)),
+    (
+        r#"{"after":18446744073709551615,"cmd":"faults"}"#,
+        Wanted::Faults(u64::MAX),
+    ),
+    (r#"{"after":0,"cmd":"faults"}"#, Wanted::Faults(0)),
     (r#"{"cmd":"status"}"#, Wanted::Query("status", "", "", 0, 0)),
     (
         r#"{"class":"M","cmd":"replace","over":4294967295,"source":"a ^1"}"#,
@@ -229,6 +243,10 @@ fn is_wanted(command: &Command, wanted: &Wanted) -> bool {
         },
         (Command::Checkpoint, Wanted::Checkpoint) => true,
         (Command::Save, Wanted::Save) => true,
+        (Command::Query(Query::Fault { actor, turn }), Wanted::Fault(number, place)) => {
+            actor.0 == *number && turn == place
+        },
+        (Command::Query(Query::Faults { after }), Wanted::Faults(steps)) => after == steps,
         (Command::Query(query), Wanted::Query(name, class, selector, first, second)) => {
             is_query(query, name, class, selector, *first, *second)
         },
@@ -256,6 +274,7 @@ fn is_query(query: &Query, name: &str, holder: &str, text: &str, first: u32, sec
         Query::Edits { from } => name == "edits" && *from == first,
         Query::Actors { from, most } => { name == "actors" && *from == first && *most == second },
         Query::Inspect { actor } => name == "inspect" && actor.0 == first,
+        Query::Fault { .. } | Query::Faults { .. } => false,
         Query::Status => name == "status",
     }
 }

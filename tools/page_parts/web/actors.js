@@ -79,7 +79,7 @@ async function ask() {
 
 export function choose(actor, object = 0) {
   if (actor !== at.actor) at.back = [...at.back, [at.actor, at.object]].filter(([it]) => it !== null).slice(-50);
-  Object.assign(at, { actor, object });
+  Object.assign(at, { actor, object, failure: null });
   draw();
   inspector.begin();
   ask();
@@ -170,6 +170,9 @@ export function tell(event) {
       event.each > 1 && h("span", { of: "faint" }, `a cell is ${plural(event.each, "actor")}, the most urgent in sight`));
   }
   if (event.inspected && event.inspected.actor === at.actor) inspector.tell(event.inspected);
+  if (event.faults) inspector.tellFaults();
 }
+
+export const recolour = () => map.draw();
 
 export const resized = () => { map.draw(); at.cells = map.room; scrolled(); };

@@ -2,7 +2,7 @@
 
 import { change, look } from "./ask.js";
 import { button, h, put, toast } from "./dom.js";
-import { hasDraft } from "./drafts.js";
+import { drafts, hasDraft } from "./drafts.js";
 import { at, go, image, selectors, slotsOf } from "./image.js";
 import { oneStop, walkable } from "./lists.js";
 import { MethodPane } from "./method.js";
@@ -11,6 +11,7 @@ import { ClassTree } from "./tree.js";
 
 const tree = new ClassTree();
 export const pane = new MethodPane();
+pane.drafted = () => list();
 const SIDES = { own: "own", all: "all", gone: "gone" };
 
 let told = {}, gone = [];
@@ -47,7 +48,8 @@ export async function list() {
   const isIn = box.contains(document.activeElement), it = image.classes.get(at.class);
   for (const each of sides.children) each.setAttribute("aria-pressed", String(each.dataset.side === at.side));
   if (at.side === "gone") gone = (await look("gone", { class: at.class })).ok || [];
-  const rows = at.side === "gone" ? gone.map(selector => ({ selector, from: at.class })) : selectors(at.class, at.side === "all");
+  const removed = gone.map(selector => ({ selector, from: at.class }));
+  const rows = withDrafts(at.side === "gone" ? removed : selectors(at.class, at.side === "all"));
   put(box, rows.length ? rows.map(row) : h("div", { of: "nothing" },
     at.side === "gone" ? "None was removed." : it?.isKernel
     ? "The kernel's methods of this class have no source." : "No method yet: + writes one."));
@@ -56,10 +58,18 @@ export async function list() {
   if (isIn) box.querySelector("[aria-selected=true]")?.focus();
 }
 
-function row({ selector, from, isKernel }) {
+// A method of which there is a draft stays in the list, also where somebody else has removed it.
+function withDrafts(rows) {
+  const own = image.classes.get(at.class)?.methods, removed = drafts(at.class).filter(it => !own?.has(it));
+  return [...rows.filter(it => !removed.includes(it.selector)), ...removed.map(selector => ({ selector, from: at.class, isRemoved: true }))]
+    .sort((a, b) => (a.selector < b.selector ? -1 : a.selector > b.selector ? 1 : 0));
+}
+
+function row({ selector, from, isKernel, isRemoved }) {
   const isOwn = from === at.class;
   return h("div", { of: `item${isOwn && !isKernel ? "" : " kernel"}`, role: "option", "data-text": selector },
     h("span", { of: "grow code cut" }, selector),
+      isRemoved && h("span", { of: "chip fault", title: "removed by somebody else; what you typed is still here" }, "removed"),
       hasDraft(from, selector) && h("span", { of: "chip changed", title: "typed, not installed" }, "●"),
     !isOwn && h("span", { of: "count" }, from), isKernel && isOwn && h("span", { of: "count" }, "kernel"),
       h("span", { of: "at", "data-of": `${from} ${selector}` }));

@@ -4,7 +4,9 @@ import { button, colour, h, g, many, put, setText, short } from "./dom.js";
 import { line } from "./figures.js";
 import { go, image } from "./image.js";
 
-const WIDE = 600, HIGH = 150, POINTS = 300, PARTS = [0.25, 0.5, 0.75], MOST_EDITS = 6;
+const WIDE = 600, HIGH = 150, POINTS = 300, PARTS = [0.25, 0.5, 0.75], MOST_EDITS = 12;
+// Rows of chips at most, the height of one, and what is left at the right for the numbers.
+const ROWS = 3, ROW = 21, OF_SCALE = 40;
 
 // A pane with curves; each of `lists` has a name, its place among the numbers of a point, and a colour.
 export class Chart {
@@ -35,10 +37,31 @@ export class Chart {
           ...still })]; }),
         edits.map(it => g("line", { of: "edit", x1: it.x * WIDE, x2: it.x * WIDE, y1: 0, y2: HIGH, stroke: "var(--red)",
           "stroke-dasharray": "4 3", ...still }))),
-      h("div", { of: "edits" }, edits.slice(-MOST_EDITS).map(it => h("span",
-        { of: "chip cut", style: { left: `calc(${(100 * Math.min(it.x, 0.86)).toFixed(1)}% + 4px)` } }, it.text))),
+      this.chips(edits.slice(-MOST_EDITS)),
       h("div", { of: "scale", "aria-hidden": "true" },
         PARTS.map(y => h("span", { style: { top: `calc(${100 * y}% - 15px)` } }, short(most * (1 - y))))));
+    this.place();
+  }
+
+  // A chip for each edit, the newest first. Rows keep them apart; one without room is left out, and its line stays.
+  chips(edits) {
+    const chip = it => h("span", { of: "chip cut", title: it.text }, it.text);
+    const box = h("div", { of: "edits" }), made = edits.reverse().map(it => ({ x: it.x, root: chip(it) }));
+    put(box, made.map(it => it.root));
+    this.place = () => {
+      const { clientWidth: wide, clientHeight: high } = box, most = Math.max(1, Math.min(ROWS, Math.floor(high / ROW) - 1));
+      const rows = Array.from({ length: most }, () => []);
+      for (const it of made.map(each => ({ ...each, width: each.root.offsetWidth }))) {
+        const from = Math.max(4, Math.min(it.x * wide + 4, wide - it.width - OF_SCALE)), to = from + it.width + 4;
+        const row = rows.findIndex(taken => taken.every(([a, b]) => to <= a || from >= b));
+        it.root.hidden = row < 0;
+        if (row < 0) continue;
+        rows[row].push([from, to]);
+        it.root.style.setProperty("left", `${from}px`);
+        it.root.style.setProperty("bottom", `${6 + row * ROW}px`);
+      }
+    };
+    return box;
   }
 
   // The edits that were seen while these points were.
@@ -65,8 +88,14 @@ export class Boxes {
   }
 
   tell(boxes) {
+    this.boxes = boxes;
+    this.draw();
+  }
+
+  draw() {
+    if (!this.boxes) return;
     const { clientWidth: wide, clientHeight: high } = this.canvas.parentNode;
-    boxes = boxes.slice(0, Math.max(3, Math.floor(high / 15)));
+    const boxes = this.boxes.slice(0, Math.max(3, Math.floor(high / 15)));
     const rows = Math.max(1, boxes.length);
     this.names.style.gridTemplateRows = `repeat(${rows}, minmax(0, 1fr))`;
     put(this.names, boxes.map(it => button("link cut", `${it.actor} ${it.class}`, () => go("actors", { actor: it.actor, object: 0 }))));

@@ -18,3 +18,9 @@ export function keep(name, selector, it) {
 }
 
 export const hasDraft = (name, selector) => sessionStorage.getItem(key(name, selector)) !== null;
+
+// The selectors of a class of which there are drafts.
+export function drafts(name) {
+  const begin = key(name);
+  return Object.keys(sessionStorage).filter(it => it.startsWith(begin) && it !== begin).map(it => it.slice(begin.length));
+}

@@ -9,10 +9,11 @@ export class Editor {
     this.base = "";
     this.sites = [];
     this.wrong = null;
+    this.now = [];
     this.field = h("textarea", {
       spellcheck: "false", autocapitalize: "off", autocomplete: "off", "aria-label": "Source of the method", id: "source",
       placeholder: "bump: by\n    count := count + by.\n    ^count",
-      oninput: () => { this.wrong = null; this.draw(); changed(this.field.value); },
+      oninput: () => { this.wrong = null; this.now = []; this.draw(); changed(this.field.value); },
       onkeydown: event => this.pressed(event),
       onmousemove: event => this.point(event),
       onclick: event => { const it = this.under(event);
@@ -24,7 +25,7 @@ export class Editor {
 
   // Shows a text of a version that has these sites.
   show(text, base, sites) {
-    Object.assign(this, { base, sites, wrong: null });
+    Object.assign(this, { base, sites, wrong: null, now: [] });
     if (this.field.value !== text) this.field.value = text;
     this.draw();
   }
@@ -46,10 +47,21 @@ export class Editor {
     }
   }
 
+  // Shows the words of a send of a source, as far as they stand in the text still, and puts the cursor there.
+  pointAt(words, source) {
+    const [there] = moved([{ words }], source, this.text);
+    if (!there) return;
+    this.now = there.words;
+    this.draw();
+    this.field.focus({ preventScroll: true });
+    this.field.setSelectionRange(...there.words[0]);
+    this.back.querySelector(".now")?.scrollIntoView({ block: "center" });
+  }
+
   draw() {
     const isOld = this.text !== this.base;
     this.shownSites = isOld ? moved(this.sites, this.base, this.text) : this.sites;
-    const back = coloured(this.text, this.shownSites, { wrong: this.wrong, isHidden: true });
+    const back = coloured(this.text, this.shownSites, { wrong: this.wrong, now: this.now, mark: "failed", isHidden: true });
     this.back.replaceWith(back);
     this.back = back;
     this.root.classList.toggle("old", isOld);

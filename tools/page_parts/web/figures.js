@@ -1,7 +1,8 @@
 // The figures that are always in sight, and the lamp that says whether an image is there.
 
 import { $, clock, duration, g, h, many, plural, put, short } from "./dom.js";
-import { image } from "./image.js";
+import { hasPlaces } from "./faults.js";
+import { go, image } from "./image.js";
 
 const POINTS = 60;
 
@@ -32,6 +33,7 @@ function one(id, what, unit, value, picture, hint) {
 export function figures() {
   const it = image.figures;
   if (!it) return;
+  const isIn = document.activeElement?.id === "figure-faults";
   const left = it.historyMost - it.history, full = it.history / it.historyMost, isFull = left < 10;
   put($("#figures"),
     one("posts", "posts of clients", "a second", short(it.posts), spark(1, "var(--accent)"), `${many(it.allPosts)} in all`),
@@ -46,7 +48,24 @@ export function figures() {
       gauge(full, full > 0.8), `${many(it.history)} items of ${many(it.historyMost)}, ${many(left)} left; a checkpoint empties it`),
     one("edits", "edits left", it.editsFull === null || it.editsFull > 86_400 ? "" : `none in ${duration(it.editsFull)}`,
       it.editsLeft ? many(it.editsLeft) : h("span", { of: "bad" }, "none"), gauge(1 - it.editsLeft / 2048, it.editsLeft < 200),
-      `${many(it.edits)} in the image; 2,048 in a run of the program, 4,096 in an image`));
+      `${many(it.edits)} in the image; 2,048 in a run of the program, 4,096 in an image`),
+    hasPlaces() && faults());
+  if (isIn) $("#figure-faults")?.focus();
+}
+
+function listFaults() {
+  go("pictures");
+  $("#faults").scrollIntoView({ block: "nearest" });
+}
+
+// How many turns have ended with a fault; the list of the newest is one step away.
+function faults() {
+  const { count, all } = image.faults, last = all[0];
+  const said = `${plural(count, "turn")} ended with a fault since the server's start or the last checkpoint`;
+  return h("button", { of: "figure", type: "button", id: "figure-faults", onclick: listFaults,
+    title: last ? `${said}; the newest is ${last.fault} in turn ${last.turn} of actor ${last.actor}` : said },
+    h("div", { of: "what" }, "faults", h("span", { of: "faint cut" }, last ? last.fault : "")),
+    h("div", { of: count ? "value bad" : "value" }, short(count)));
 }
 
 const LAMPS = { there: "connected", lost: "no image", full: "the server is full" };

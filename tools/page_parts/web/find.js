@@ -2,7 +2,7 @@
 
 import { look } from "./ask.js";
 import { $, h, put } from "./dom.js";
-import { at, go, image } from "./image.js";
+import { at, go, image, selectors } from "./image.js";
 
 const MOST = 14;
 let rows = [], chosen = 0, asked = "";
@@ -47,8 +47,20 @@ async function search(given) {
 
 const method = (name, selector, kind) => ({ text: `${name} › ${selector}`, kind, go: () => go("browse", { class: name, selector }) });
 
+// A class and the beginning of a selector, as  Account>>w : methods of its own come before those that it inherits.
+function ofClass(name, begin) {
+  const small = name.toLowerCase(), rank = it => (it.name.toLowerCase() === small ? 0 : it.name.toLowerCase().startsWith(small) ? 1 : 2);
+  const classes = [...image.classes.values()].filter(it => rank(it) < 2).sort((a, b) => rank(a) - rank(b));
+  const found = classes.flatMap(it => selectors(it.name, true).filter(each => each.selector.toLowerCase().startsWith(begin.toLowerCase()))
+    .map(each => ({ ...each, of: it.name, isInherited: each.from !== it.name, rank: rank(it) })));
+  return found.sort((a, b) => a.rank - b.rank || a.isInherited - b.isInherited).slice(0, 2 * MOST)
+    .map(it => method(it.isInherited ? it.from : it.of, it.selector, it.isInherited ? `of ${it.of}, inherited` : "method"));
+}
+
 // What is found without asking: the best first.
 function here(text, small) {
+  const both = /^([A-Za-z][A-Za-z0-9]*)\s*(?:>>|›)\s*(\S*)$/.exec(text);
+  if (both) return ofClass(both[1], both[2]);
   const found = [], actor = text.match(/^(?:actor\s*)?(\d+)$/i);
   const add = (rank, it) => found.push({ rank, ...it });
   if (actor && Number(actor[1]) < (image.figures?.actors ?? 0)) add(0,

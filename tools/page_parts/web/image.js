@@ -2,14 +2,16 @@
 
 import { look } from "./ask.js";
 
-// The classes by their names, in the order of their numbers; the figures and the curves; the edits that were seen.
+// The classes by their names, in the order of their numbers; the figures and the curves; the edits that were seen; the newest faults.
 export const image = { classes: new Map(), heat: {}, figures: null, points: [], edits: [], version: 0, state: "lost", asOf: null,
-  epoch: null };
+  epoch: null, faults: { count: null, names: {}, all: [] } };
 
-// What is in sight. `object` is the place of an object of the actor's own, `back` where one came from.
+// What is in sight. `object` is the place of an object of the actor's own, `failure` a turn of it that failed, `place` one in a source that
+// the editor is to show, and `back` where one came from.
 export const at = {
   view: "browse", class: "Object", selector: undefined, side: "own", tab: "sites",
-  actor: null, object: 0, back: [], table: { first: 0, count: 40, sort: "", down: false, only: "all", text: "" }, cells: 2000,
+  actor: null, object: 0, failure: null, place: null, back: [],
+  table: { first: 0, count: 40, sort: "", down: false, only: "all", text: "" }, cells: 2000,
 };
 
 let window_ = null;
@@ -34,7 +36,8 @@ export async function see() {
 export function take(event) {
   Object.assign(image, { state: event.state, said: event.said, asOf: event.asOf ?? image.asOf, epoch: event.epoch });
   if (event.figures) image.figures = event.figures;
-  if (event.isAnew) image.points = [];
+  if (event.isAnew) Object.assign(image, { points: [], faults: { count: null, names: {}, all: [] } });
+  if (event.faults) image.faults = event.faults;
   if (event.points) image.points = [...image.points, ...event.points].slice(-600);
   if (event.edits?.length) image.edits = [...image.edits, ...event.edits].slice(-200);
   if (event.version !== undefined) image.version = event.version;

@@ -3,8 +3,10 @@
 import { change } from "./ask.js";
 import { confirmed } from "./dialog.js";
 import { aOrAn, button, h, many, plural, put, toast } from "./dom.js";
+import { Failure } from "./failure.js";
+import { putFaults, whereButton } from "./faults.js";
+import { frameRows, frameSource } from "./frames.js";
 import { at, go, see } from "./image.js";
-import { reading } from "./source.js";
 import { prefill } from "./work.js";
 
 const SHOWN = 8;
@@ -21,7 +23,9 @@ export class Inspector {
     this.chip = h("span", { of: "chip" });
     this.posts = button("plain changes", "Post…", () => prefill(`actor ${at.actor} `), { title: "Writes a message to it in the workspace" });
     this.closes = button("plain danger changes", "Close", () => this.close(), { title: "Closes its mailbox, for good" });
-    this.body = h("div", { of: "scroll", id: "inspected" });
+    this.failure = new Failure((named, key) => this.list(named, key));
+    this.standing = h("div");
+    this.body = h("div", { of: "scroll", id: "inspected" }, this.failure.root, this.standing);
     this.root = h("section", { of: "pane", "aria-label": "Inspector" },
       h("header", {}, this.backs, this.crumbs, this.chip, this.posts, this.closes), this.body);
     this.begin();
@@ -33,18 +37,29 @@ export class Inspector {
     this.isWhole = false;
     this.before = null;
     this.backs.disabled = !at.back.length;
+    this.failure.begin();
     if (at.actor === null) {
       this.told = null;
       for (const it of [this.posts, this.closes]) it.disabled = true;
       put(this.crumbs, h("span", { of: "sel" }, "Inspector"));
-      put(this.body, h("div", { of: "nothing" },
-        "Choose an actor in the map or in the table; its variables, its turn and its mailbox are followed here."));
+      this.tellFaults();
+    } else if (this.told?.actor !== at.actor) {
+      put(this.crumbs, h("span", { of: "sel" }, `actor ${at.actor}`));
+      put(this.standing);
     }
+  }
+
+  // Where no actor is chosen the newest faults stand.
+  tellFaults() {
+    if (at.actor !== null) return;
+    putFaults(this.standing, h("div", { of: "nothing" },
+      "Choose an actor in the map or in the table; its variables, its turn and its mailbox are followed here."),
+      h("div", { of: "group" }, "Faults, the newest first"));
   }
 
   goBack() {
     const to = at.back.pop();
-    if (to) { [at.actor, at.object] = to; this.begin(); see().then(it => it?.inspected && this.tell(it.inspected)); }
+    if (to) { [at.actor, at.object] = to; at.failure = null; this.begin(); see().then(it => it?.inspected && this.tell(it.inspected)); }
   }
 
   async close() {
@@ -61,14 +76,14 @@ export class Inspector {
     for (const it of [this.posts, this.closes]) it.disabled = Boolean(told.isGone);
     if (told.isGone) {
       put(this.crumbs, h("span", { of: "sel" }, `actor ${told.actor}`));
-      put(this.body, h("div", { of: "nothing" }, `There is no actor ${told.actor}.`));
+      put(this.standing, h("div", { of: "nothing" }, `There is no actor ${told.actor}.`));
       return;
     }
     this.head();
-    const place = this.body.scrollTop, isIn = this.body.contains(document.activeElement) ? document.activeElement.dataset.key : null;
-    put(this.body, this.variables(), this.turn(), this.mailbox(), this.ends());
+    const place = this.body.scrollTop, isIn = this.standing.contains(document.activeElement) ? document.activeElement.dataset.key : null;
+    put(this.standing, this.variables(), this.turn(), this.mailbox(), this.ends());
     this.body.scrollTop = place;
-    if (isIn) this.body.querySelector(`[data-key="${CSS.escape(isIn)}"]`)?.focus({ preventScroll: true });
+    if (isIn) this.standing.querySelector(`[data-key="${CSS.escape(isIn)}"]`)?.focus({ preventScroll: true });
   }
 
   head() {
@@ -96,6 +111,7 @@ export class Inspector {
 
   follow(actor, object) {
     at.back = [...at.back, [at.actor, at.object]].slice(-50);
+    if (actor !== at.actor) at.failure = null;
     Object.assign(at, { actor, object });
     this.begin();
     see().then(it => it?.inspected && this.tell(it.inspected));
@@ -124,21 +140,16 @@ export class Inspector {
     if (phase === "start") return h("div", { of: "sect" }, head, h("div", {}, "begins ", h("span", { of: "code" }, stands)));
     if (phase === "answer") return h("div", { of: "sect" }, head, h("div", {}, "answered ", h("span", { of: "code" }, stands)));
     if (phase === "fault") return h("div", { of: "sect" }, head,
-      h("div", {}, h("span", { of: "chip fault" }, `✕ ${stands}`), h("span", { of: "dim" }, " ended it; what it changed before stays")));
+      h("div", {}, h("span", { of: "chip fault" }, `✕ ${stands}`), h("span", { of: "dim" }, " ended it; what it changed before stays "),
+        whereButton(at.actor, turn, "where")));
     return h("div", { of: "sect" }, head, this.frames());
   }
 
   // The frames, the running one first; the one that is chosen with its source and its variables.
   frames() {
     const { frames } = this.told, seen = Math.min(this.frame ?? frames.length - 1, frames.length - 1), it = frames[seen];
-    const rows = frames.map((each, n) => h("button",
-      { of: "frame", type: "button", "aria-pressed": String(n === seen), "data-key": `frame ${n}`,
-      onclick: () => { this.frame = n === frames.length - 1 ? null : n; this.tell(this.told); } },
-      h("span", { of: "faint num" }, n), h("span", { of: "code cut" }, `${each.class} › ${each.selector}`),
-        h("span", { of: "faint" }, each.waitsFor ? `waits for ${each.waitsFor}` : "runs"))).reverse();
-    return [rows, h("div", { style: { margin: "6px -12px 0", "border-top": "1px solid var(--line)" } },
-      reading(it.source, [], { now: it.words })),
-      !it.isNow && h("div", { of: "faint" }, `version ${it.version}, which is no longer the one of its class`),
+    const choose = n => { this.frame = n === frames.length - 1 ? null : n; this.tell(this.told); };
+    return [frameRows(frames, seen, "runs", choose), frameSource(it),
       this.list([{ name: "self", value: it.receiver }, ...it.variables], "temp"),
       it.operands.length > 0 && h("div", { of: "dim" }, "operands: ",
         it.operands.map((each, n) => [n > 0 && ", ", this.value(each, `operand ${n}`)])),
@@ -166,6 +177,6 @@ export class Inspector {
         ends.map(it => h("i", { of: it.fault ? "fault" : "",
         title: `turn ${it.turn}: ${it.fault ? `fault ${it.fault}` : `answered ${it.answer}`}` }))),
       faults.slice(-4).reverse().map(it => h("div", {}, h("span", { of: "chip fault" }, `✕ ${it.fault}`),
-        h("span", { of: "dim" }, ` in turn ${it.turn}`))));
+        h("span", { of: "dim" }, ` in turn ${it.turn} `), whereButton(at.actor, it.turn, `where ${it.turn}`))));
   }
 }

@@ -31,8 +31,8 @@ function show() {
 
 // Where one was is kept for the tab.
 function remember() {
-  const { view: name, class: className, selector, actor, side, tab } = at;
-  sessionStorage.setItem(SEEN, JSON.stringify({ view: name, class: className, selector, actor, side, tab }));
+  const { view: name, class: className, selector, actor, failure, side, tab } = at;
+  sessionStorage.setItem(SEEN, JSON.stringify({ view: name, class: className, selector, actor, failure, side, tab }));
 }
 
 // What the page is about: the socket, and whether it only looks.
@@ -52,7 +52,7 @@ function told(event) {
   if (event.about) about(event.about);
   const isFirst = image.classes.size === 0, isChanged = take(event);
   lamp();
-  if (event.figures) figures();
+  if (event.figures || event.faults) figures();
   tellWork(event);
   tries = 0;
   if (isFirst && image.classes.size) {
@@ -116,7 +116,7 @@ async function ask(what) {
 
 function theme(name) {
   document.documentElement.dataset.theme = name;
-  if (image.classes.size && at.view !== "browse") show();
+  if (image.classes.size) VIEWS[at.view].recolour?.();
 }
 
 function pressed(event) {

@@ -31,7 +31,8 @@ export class ActorMap {
       : `actor ${n}: ${STATES[state(this.letters[n])][0]}`; }
 
   tell(letters, each, actor, counts) {
-    if (letters === this.letters && each === this.each && actor === this.actor && this.width === this.canvas.clientWidth) return;
+    const isAsDrawn = this.width === this.canvas.clientWidth && this.theme === document.documentElement.dataset.theme;
+    if (letters === this.letters && each === this.each && actor === this.actor && isAsDrawn) return;
     Object.assign(this, { letters, each, actor });
     this.canvas.setAttribute("aria-label",
       `${plural(image.figures?.actors ?? 0,
@@ -42,6 +43,7 @@ export class ActorMap {
   draw() {
     const { canvas, letters } = this, width = (this.width = canvas.clientWidth);
     if (!width) return;
+    this.theme = document.documentElement.dataset.theme;
     let cell = Math.max(LEAST, Math.min(MOST, Math.floor(Math.sqrt((width * HIGH) / Math.max(1, letters.length)))));
     while (cell > LEAST && Math.ceil(letters.length / Math.floor(width / cell)) * cell > HIGH) cell--;
     this.cell = cell;

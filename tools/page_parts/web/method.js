@@ -4,7 +4,7 @@ import { change, look } from "./ask.js";
 import { confirmed } from "./dialog.js";
 import { difference } from "./diff.js";
 import { button, h, put, toast } from "./dom.js";
-import { draft, keep } from "./drafts.js";
+import { draft, hasDraft, keep } from "./drafts.js";
 import { Editor } from "./editor.js";
 import { find } from "./find.js";
 import { at, image, see } from "./image.js";
@@ -13,11 +13,13 @@ import { Under } from "./under.js";
 
 const ORDER = n => `${n}${n % 100 > 10 && n % 100 < 14 ? "th" : ["th", "st", "nd", "rd"][n % 10] || "th"}`;
 
-// `told` is what the server says of the method; that of a new one has no version. `theirs` is another person's version, if one came.
+// `told` is what the server says of the method; that of a new one has no version. `theirs` is another person's version, if one came, and
+// `drafted` is called where a draft comes or goes.
 export class MethodPane {
   constructor() {
     this.told = null;
     this.theirs = null;
+    this.drafted = () => {};
     this.editor = new Editor({ changed: () => this.typed(), asked: selector => find(selector) });
     this.under = new Under(this);
     this.head = h("div", { of: "crumbs grow" });
@@ -38,21 +40,23 @@ export class MethodPane {
   // Opens what a send of the selector to an object of the class runs; without a selector a new method.
   async open(name, selector) {
     this.theirs = this.other = null;
-    this.turn = (this.turn || 0) + 1;
+    const turn = this.turn = (this.turn || 0) + 1;
     if (selector === null) {
       this.take({ class: name, selector: "", source: "", version: 0, sites: [], versions: [], isNew: true });
       return;
     }
-    const asked = await look("method", { class: name, selector });
-    if (at.class !== name || at.selector !== selector) return;
+    const own = hasDraft(name, selector), asked = await look("method", { class: name, selector, own });
+    if (turn !== this.turn || at.class !== name || at.selector !== selector) return;
+    // What was typed meanwhile belongs to the class's own method.
+    if (!own && hasDraft(name, selector)) { this.open(name, selector); return; }
     if (asked.error) { this.say(asked.said); return; }
     this.take(asked.ok);
   }
 
   take(told) {
     Object.assign(this, { told, theirs: null });
-    at.shown = told.source !== undefined && !told.isNew ? [told.class, told.selector] : null;
     const kept = draft(told.class, told.selector);
+    at.shown = (told.source !== undefined || kept) && !told.isNew ? [told.class, told.selector] : null;
     if (kept && !told.kernel) {
       if (kept.version !== (told.version || 0)) this.theirs = { version: told.version || 0, source: told.source ?? null };
       this.began = { base: kept.base, version: kept.version };
@@ -67,15 +71,37 @@ export class MethodPane {
     makeRoom(this.editor.root);
     this.under.open();
     see();
+    this.showPlace();
+  }
+
+  // Where a turn failed in this method, if one came from there.
+  showPlace() {
+    const { told } = this, place = at.place;
+    at.place = null;
+    if (!place) return;
+    const { class: name, selector, version } = place;
+    if (told.class !== name || !told.version) this.say(`${name} has no method ${selector} of its own now; it failed in version ${version}.`);
+    else {
+      if (told.version !== version) this.say(`It failed in version ${version}, and this is ${told.version}.`);
+      if (place.words.length) this.editor.pointAt(place.words, place.source);
+    }
+  }
+
+  // What was typed stays also where somebody else has removed the method.
+  get hasText() {
+    const { told } = this;
+    return Boolean(told) && (told.source !== undefined || Boolean(told.isNew) || !told.kernel && hasDraft(told.class, told.selector));
   }
 
   get isChanged() { return Boolean(this.told) && this.editor.text !== this.began.base; }
 
   typed() {
     if (!this.told) return;
-    keep(this.told.class, this.told.selector, this.isChanged ? { source: this.editor.text, ...this.began } : null);
+    const { class: name, selector } = this.told, had = hasDraft(name, selector);
+    keep(name, selector, this.isChanged ? { source: this.editor.text, ...this.began } : null);
     this.said = "";
     this.draw();
+    if (had !== this.isChanged) this.drafted();
   }
 
   say(text) {
@@ -84,7 +110,7 @@ export class MethodPane {
   }
 
   draw() {
-    const told = this.told, isShown = Boolean(told) && (told.source !== undefined || told.isNew);
+    const told = this.told, isShown = this.hasText;
     this.none.hidden = isShown;
     this.over.hidden = !isShown;
     this.under.root.hidden = !told || told.isNew;
@@ -157,6 +183,7 @@ export class MethodPane {
   async installed(name, selector, reply) {
     keep(name, selector, null);
     keep(name, reply.selector, null);
+    this.drafted();
     toast(`${name} › ${reply.selector} is version ${reply.ok.version}`);
     if (reply.unknown.length) toast(`no class has a method ${reply.unknown.join(", ")}`, "warn");
     this.theirs = null;
@@ -170,6 +197,7 @@ export class MethodPane {
     this.theirs = null;
     Object.assign(at, { class: name, selector: to });
     this.open(name, to);
+    this.drafted();
   }
 
   revert() {
@@ -177,6 +205,7 @@ export class MethodPane {
     keep(this.told.class, this.told.selector, null);
     this.theirs = null;
     this.open(this.told.class, this.told.isNew ? null : this.told.selector);
+    this.drafted();
   }
 
   async remove() {
@@ -227,7 +256,7 @@ export class MethodPane {
   async asked() {
     const { class: name, selector } = this.told, turn = this.turn;
     this.isAsking = true;
-    const reply = await look("method", { class: name, selector });
+    const reply = await look("method", { class: name, selector, own: hasDraft(name, selector) });
     this.isAsking = false;
     if (!reply.ok || turn !== this.turn || this.isInstalling) return null;
     const isOwn = reply.ok.class === name && reply.ok.version;

@@ -1,6 +1,7 @@
 // The view of pictures: who posts to whom, how much is done a second, what waits, what ends by faults, and how much room is left.
 
 import { button, duration, h, many, put } from "./dom.js";
+import { putFaults } from "./faults.js";
 import { Boxes, Chart } from "./charts.js";
 import { Graph } from "./graph.js";
 import { at, go, image } from "./image.js";
@@ -13,15 +14,17 @@ const charts = [
   new Chart("Messages that wait", [{ name: "in all mailboxes", place: 4, colour: "var(--amber)", isArea: true }]),
 ];
 const room = h("div", { of: "scroll" }), faults = h("div", { of: "scroll" });
-const named = (title, body, more) => h("section", { of: "pane", "aria-label": title },
+const named = (title, body, more) => h("section", { of: "pane", "aria-label": title, id: title.toLowerCase() },
   h("header", {}, h("h2", { of: "grow" }, title), more), body);
-const allFaults = button("link", "all of them", () => go("actors", { table: { ...at.table, only: "fault", first: 0, text: "" } }));
+const allFaults = button("link", "their actors", () => go("actors", { table: { ...at.table, only: "fault", first: 0, text: "" } }),
+  { title: "The actors whose last turn ended with a fault" });
 const left = h("div", { of: "lefts" }, graph.root, h("div", { of: "pair" }, named("Room", room), named("Faults", faults, allFaults)));
 const right = h("div", { of: "rights" }, charts.map(it => it.root), boxes.root);
 
 export function show(main) {
   put(main, left, right);
   draw();
+  drawFaults();
 }
 
 // What is left of each thing that an image can have only so many of.
@@ -40,16 +43,9 @@ function drawRoom() {
     h("td", { of: "num" }, many(n)), h("td", { of: "dim" }, said || `of ${many(most)}`))))));
 }
 
-function drawFaults(told) {
-  const names = Object.entries(told.names).sort((a, b) => b[1] - a[1]);
-  allFaults.hidden = !names.length;
-  put(faults, names.length ? [h("div", { of: "sect" },
-    names.map(([name, n]) => h("span", { of: "chip fault", style: { "margin-right": "6px" } }, `✕ ${name} ${many(n)}`))),
-    told.actors.slice(0, 30).map(it => h("button",
-      { of: "item", type: "button", style: { width: "100%" }, onclick: () => go("actors", { actor: it.actor, object: 0 }) },
-      h("span", { of: "grow cut", style: { "text-align": "left" } }, `actor ${it.actor}, ${it.class}`),
-      h("span", { of: "count" }, `${it.fault} in turn ${it.turn}`)))]
-    : h("div", { of: "nothing" }, "The last turn of no actor ended with a fault."));
+function drawFaults() {
+  allFaults.hidden = !image.faults.all.length;
+  putFaults(faults);
 }
 
 function draw() {
@@ -57,9 +53,11 @@ function draw() {
   drawRoom();
 }
 
+export const recolour = () => boxes.draw();
+
 export function tell(event) {
   draw();
   if (event.graph) graph.tell(event.graph);
   if (event.boxes) boxes.tell(event.boxes);
-  if (event.faults) drawFaults(event.faults);
+  if (event.faults || event.isAnew) drawFaults();
 }

@@ -24,8 +24,9 @@ export function told(site) {
   return `${site.super ? "super " : ""}${site.selector}: ${NAMES[site.kind]}; ${many(sends)} sends, ${how}. Ctrl+click: who implements it`;
 }
 
-// The coloured text, a row for each line. `wrong` is { place, said }, and `now` the places at which a frame stands.
-export function coloured(source, sites = [], { wrong = null, now = [], isHidden = false } = {}) {
+// The coloured text, a row for each line. `wrong` is { place, said }, and `now` the places at which a frame stands, with a `mark` of its own
+// where that failed.
+export function coloured(source, sites = [], { wrong = null, now = [], mark = "", isHidden = false } = {}) {
   const words = sites.flatMap((site, n) => site.words.map(([a, b], k) => ({ a, b, site, n, isFirst: k === 0 })));
   const end = wrong ? Math.max(wrong.place[1], wrong.place[0] + 1) : 0;
   const edges = [...new Set([...words.flatMap(it => [it.a, it.b]), ...now.flat(), ...(wrong ? [wrong.place[0], end] : [])])].sort((a,
@@ -67,7 +68,7 @@ export function coloured(source, sites = [], { wrong = null, now = [], isHidden 
         word.isFirst && h("span", { of: "tell" }, count));
     }
     if (wrong && from >= wrong.place[0] && from < end) it = h("span", { of: "wrong" }, it);
-    return now.some(([a, b]) => from >= a && from < b) ? h("span", { of: "now" }, it) : it;
+    return now.some(([a, b]) => from >= a && from < b) ? h("span", { of: `now ${mark}` }, it) : it;
   }
 }
 

@@ -1,18 +1,23 @@
 // The workspace: what is typed, with its answers and faults as they come.
 
-import { type } from "./ask.js";
+import { look, type } from "./ask.js";
 import { $, button, h, put } from "./dom.js";
-import { go, image } from "./image.js";
+import { showFault } from "./faults.js";
+import { go } from "./image.js";
 import { tokens } from "./source.js";
 
 const WORDS = { waits: "waits for the entry before", runs: "runs", broken: "broken off" };
 const KEPT = "actorimage-typed";
-let cards = new Map(), typed = [], place = 0, waits = null;
+// Words that are shown, and lines above which an answer has the whole width.
+const MOST_SHOWN = 60, LONG = 5;
+let cards = new Map(), typed = [], place = 0, waits = null, leaves = false;
 
 const field = h("textarea", { rows: "1", spellcheck: "false", autocapitalize: "off", autocomplete: "off", id: "entry",
   "aria-label": "Type Smalltalk here",
   placeholder: "c := Counter actor. c bump", onkeydown: event => pressed(event),
-    oninput: () => { grow(); sessionStorage.setItem(KEPT, field.value); } });
+    oninput: () => { grow(); offer([]); leaves = false; sessionStorage.setItem(KEPT, field.value); },
+    onblur: () => { leaves = false; } });
+const offers = h("div", { id: "offers", role: "status", "aria-label": "What it may become", hidden: true });
 const list = h("div", { id: "cards", role: "log", "aria-label": "What was typed and answered", tabindex: "0" });
 const names = h("div", { id: "names", "aria-label": "Names" });
 const stops = button("plain", "Break off", () => { field.focus(); type({ break: true }); },
@@ -30,9 +35,10 @@ function fold(isFolded) {
 
 export function workspace() {
   put($("#work"), h("header", {}, h("h2", {}, "Workspace"),
-    h("span", { of: "faint grow cut" }, "what is typed is Smalltalk, as in tools/workspace; :help lists more; Shift+Enter begins a line"),
+    h("span", { of: "faint grow cut" },
+      "what is typed is Smalltalk, as in tools/workspace; Tab completes; :help lists more; Shift+Enter begins a line"),
     stops, h("kbd", {}, "Ctrl `"), folds),
-    list, names, h("div", { id: "typed" }, h("span", { of: "faint code", "aria-hidden": "true" }, "›"), field));
+    list, names, offers, h("div", { id: "typed" }, h("span", { of: "faint code", "aria-hidden": "true" }, "›"), field));
   field.value = sessionStorage.getItem(KEPT) || "";
   grow();
 }
@@ -52,8 +58,38 @@ function grow() {
   field.style.height = `${Math.min(110, field.scrollHeight)}px`;
 }
 
+// Words that what stands before the cursor may become.
+function offer(words) {
+  offers.hidden = !words.length;
+  put(offers, words.slice(0, MOST_SHOWN).map(it => h("span", { of: "code" }, it)),
+    words.length > MOST_SHOWN && h("span", { of: "faint" }, `and ${words.length - MOST_SHOWN} more`));
+}
+
+// Puts behind the cursor what all words begin with that fit, and shows them if there are several.
+async function complete() {
+  const end = field.selectionStart, text = field.value, reply = await look("complete", { before: text.slice(0, end) });
+  if (reply.error || field.value !== text || field.selectionStart !== end) return;
+  const { word, found } = reply.ok;
+  let all = found[0] ?? word;
+  for (const it of found) while (!it.startsWith(all)) all = all.slice(0, -1);
+  if (all.length > word.length) document.execCommand("insertText", false, all.slice(word.length));
+  offer(found.length === 1 ? [] : found.length ? found : ["nothing is named so"]);
+}
+
+// Tab completes behind a text; in an empty field, and behind Escape, it goes on to what comes next.
+function takesTab(event) {
+  const isTab = event.key === "Tab" && !event.shiftKey && !event.ctrlKey && !event.altKey && !event.metaKey;
+  return isTab && !leaves && field.selectionStart === field.selectionEnd && field.value.slice(0, field.selectionStart).trim();
+}
+
 function pressed(event) {
-  if (event.key === "Enter" && !event.shiftKey) {
+  if (takesTab(event)) {
+    event.preventDefault();
+    complete();
+  } else if (event.key === "Escape") {
+    offer([]);
+    leaves = true;
+  } else if (event.key === "Enter" && !event.shiftKey) {
     event.preventDefault();
     send();
   } else if ((event.key === "ArrowUp" && !field.value.slice(0, field.selectionStart).includes("\n"))
@@ -73,6 +109,7 @@ async function send() {
   if (!text.trim()) return;
   typed = [...typed, text];
   place = typed.length;
+  offer([]);
   write("");
   const reply = await type({ text });
   if (reply.error) { refused(reply.said); write(text + field.value); }
@@ -99,10 +136,11 @@ function card(it) {
   const what = why && h("pre", { of: "why", hidden: true }, it.why.join("\n"));
   const said = h("pre", { of: `said ${it.state}` }, it.state === "runs" && h("span", { of: "spin", "aria-hidden": "true" }),
     it.state === "fault" && "✕ ", it.lines.join("\n"), state);
-  const number = /^fault \w+ in turn \d+ of actor (\d+)$/m.exec(it.lines.join("\n"))?.[1];
-  const of = number && button("link", `inspect actor ${number}`, () => go("actors", { actor: Number(number), object: 0 }));
+  const [, turn, number] = /^fault \w+ in turn (\d+) of actor (\d+)$/m.exec(it.lines.join("\n")) || [];
+  const of = number && button("link", `inspect actor ${number}`, () => showFault({ actor: Number(number), turn, epoch: it.epoch }));
   if (WORDS[it.state]) state.textContent = ` ${WORDS[it.state]}${it.state === "runs" && waits ? doing() : ""}`;
-  return h("div", { of: "card", "data-number": it.number }, h("span", { of: "faint code", "aria-hidden": "true" }, "›"),
+  return h("div", { of: `card${it.lines.length > LONG ? " long" : ""}`, "data-number": it.number },
+    h("span", { of: "faint code", "aria-hidden": "true" }, "›"),
     h("pre", {}, coloured(it.typed)),
     h("div", {}, said, why, of && [why && " · ", of], what),
       h("time", {}, it.seconds === null ? "" : took(it.seconds)));

@@ -6,6 +6,7 @@ use crate::changes::Changes;
 use crate::clients::Clients;
 use crate::counts::Counts;
 use crate::earlier::Earlier;
+use crate::failures::Failures;
 use crate::image::Image;
 use crate::settings::Settings;
 use crate::tallies::Tallies;
@@ -84,6 +85,7 @@ impl<M: Mailbox> Image<M> {
         names.known();
         version.known();
         let made = Made::of(alloc, version, parts, clients.as_slice())?;
+        let failures = Failures::none(alloc)?;
         Ok(Image {
             base: made.base,
             names,
@@ -98,6 +100,7 @@ impl<M: Mailbox> Image<M> {
             changes: Changes::new(alloc),
             counts: Counts { posts: 0, steps: 0 },
             earlier: Earlier::counted(alloc, counts),
+            failures,
         })
     }
 }

@@ -3,6 +3,7 @@ use crate::base::Base;
 use crate::changes::Changes;
 use crate::counts::Counts;
 use crate::earlier::Earlier;
+use crate::failures::Failures;
 use crate::image::Image;
 use crate::items::Item;
 use crate::tallies::Tallies;
@@ -72,6 +73,7 @@ impl<M: Mailbox> Image<M> {
         let base = self.present_base(alloc)?;
         let results = self.actors.last_results(alloc)?;
         let earlier = self.counted_so_far(alloc)?;
+        let failures = Failures::none(alloc)?;
         self.actors.begin_anew(results);
         self.base = base;
         *past = replace(&mut self.history, Vec::new(alloc));
@@ -80,6 +82,7 @@ impl<M: Mailbox> Image<M> {
         self.changes = Changes::new(alloc);
         self.counts = Counts { posts: 0, steps: 0 };
         self.earlier = earlier;
+        self.failures = failures;
         Ok(())
     }
 }

@@ -6,6 +6,7 @@ ghost use Rattle.st_image.specs.Tallies.{HasPlaces, SameTallies};
 use crate::acting::put_steps;
 use crate::changes::Changes;
 use crate::counts::MOST_COUNTED;
+use crate::failures::ended_by_fault;
 use crate::image::Image;
 use crate::items::Item;
 use crate::leavings::Leavings;
@@ -155,6 +156,8 @@ impl<M: Mailbox> Image<M> {
         ensures err { IfErr result (λ c. IsAsBefore self.old self.new) }
     {
         claim.known();
+        let taken = u64::from(steps);
+        let step = self.counted().steps + taken;
         let actor = claim.actor();
         let site = Self::site_to_commit(&claim, is_act_next);
         let version = self.token.shown();
@@ -185,12 +188,13 @@ impl<M: Mailbox> Image<M> {
             &mut leavings.body,
         ) {
             Ok(_) => {
+                let ended = ended_by_fault(&self.base, &self.actors, actor);
                 self.tallies.count(&parts.sends, site);
                 self.actors.release(actor);
                 self.changes.raise(actor);
                 self.history.push_reserved(Item::Ran { actor, steps });
-                self.counts.steps += u64::from(steps);
-                leavings.claim = Some(parts);
+                self.counts.steps += taken;
+                leavings.claim = self.failures.keep_if_failed(ended, step, parts, steps - 1);
                 Ok(())
             }
             Err(after) => Err(Claim::from_parts(parts, after)),

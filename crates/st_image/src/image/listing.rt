@@ -1,4 +1,5 @@
-//! Image::clients, counted, edits_made and most_items: the clients that have sent a message, the counts, and the room that is left.
+//! Image::clients, counted, steps_at_base, edits_made and most_items: the clients that have sent a message, the counts, and the room
+//! that is left.
 use crate::counts::Counts;
 use crate::image::Image;
 use st_mailbox::mailboxes::Mailbox;
@@ -27,6 +28,13 @@ impl<M: Mailbox> Image<M> {
             posts: earlier.posts + self.counts.posts,
             steps: earlier.steps + self.counts.steps,
         }
+    }
+
+    /// How many steps had been taken at the base: when the image was new or loaded, or had its last checkpoint.
+    pub fn steps_at_base(&self) -> u64
+        ensures { result ≡ self.now.standing.earlier.steps }
+    {
+        self.earlier.counts().steps
     }
 
     /// How many edits the run has accepted since the image was new or loaded; checkpoints do not change it.

@@ -1,5 +1,4 @@
-use Rattle.std.proofs.Common.{map, sym, ◌∙◌, ap, ◌++◌, drop}
-use Rattle.serde_json.specs.View.{view}
+use Rattle.std.proofs.Common.{map, sym}
 use Rattle.st_file.specs.BodyJson.{frame_json}
 use Rattle.st_queries.proofs.Rows.{next_told}
 use Rattle.st_queries.proofs.bodies.frames.Goals as goal

@@ -1,6 +1,5 @@
-use Rattle.std.proofs.Common.{◌≡◌, ◌≤◌, ◌+◌, ◌-◌, ◌++◌, [], ◌∷◌, ◌∙◌, ℕ, Option, Some, None, sym, ap, arith, length, option_map, slice_get, Vec, Global}
+use Rattle.std.proofs.Common.{◌≡◌, ◌+◌, ◌-◌, [], ◌∷◌, ◌∙◌, ℕ, Option, sym, ap, arith, option_map, slice_get, Vec, Global}
 use Rattle.std.proofs.lemmas.List.{length-append}
-use Rattle.std.specs.List.{filter_map, range_with_len}
 use Rattle.st_image.specs.Images.{world}
 use Rattle.st_queries.specs.declared.glances.Glance.{Glance}
 use Rattle.st_queries.specs.Glances.{glance_of}

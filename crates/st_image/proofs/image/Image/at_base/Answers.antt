@@ -21,7 +21,7 @@ invariant_of-result g c =
     let edits : List Edit = c.args.version in
     let parts : List ActorPart = c.args.parts.items in
     let clients : List (ℕ × ℕ) = c.args.clients.items in
-    rw (c.in_ok-made.ensures.base, c.in_ok-made.ensures.token, kept_is _ _ c.in_ok-made.ensures.actors, c.as_slice.ensures.value, c.new.ensures.items, c.new-2.ensures, c.new-3.ensures, c.counted.ensures) (record {
+    rw (c.in_ok-made.ensures.base, c.in_ok-made.ensures.token, kept_is _ _ c.in_ok-made.ensures.actors, c.as_slice.ensures.value, c.new.ensures.items, c.new-2.ensures, c.new-3.ensures, c.counted.ensures, c.in_ok-failures.ensures) (record {
       image = at_base_is names edits parts clients c.known.ensures c.known-2.ensures.lawful c.requires.suited c.known-2.ensures.sound c.requires.actors c.requires.senders;
       numbers_of_clients = λ s. subst (λ (ps : List (ℕ × ℕ)). client_last s ps ≡ number_of c.in_ok-made.made.clients s) c.as_slice.ensures.value (c.in_ok-made.ensures.clients s);
       sends = sends_new names (world_of_parts edits parts clients) default;
@@ -29,6 +29,7 @@ invariant_of-result g c =
       totals = record { counts = refl; few_posts = omega (arith, c.requires.counts.posts); few_steps = omega (arith, c.requires.counts.steps) };
       compiled = c.requires.compiled;
       before = fits_loaded c.args.counts (world_of_parts edits parts clients);
+      failures = refl;
     })
 
 pub returns : goal.returns

@@ -34,7 +34,7 @@ invariant_of-self g c =
     let bounds : (a : ℕ) → change_count i.earlier.changes a + changes_in i.history.items a ≤ 2 * steps + turns_open (slice_get w.actors a) = λ a. changes_in_all a cs i.base w i.history.items i.earlier.steps steps (change_count i.earlier.changes a) (c.self.invariant.before.changes a) refl c.self.invariant.image.lawful in
     let few : i.earlier.edits + weigh edits_of i.history.items ≤ length w.edits = edits_bounded cs i.base w i.history.items i.earlier.edits c.self.invariant.before.edits c.self.invariant.image.lawful in
     let fits : FitsBase e (rebase w) = fits_anew w e steps (λ a. change_count i.earlier.changes a + changes_in i.history.items a) (omega (arith, edits_were, few)) steps_were changed bounds in
-    rw (base, kept_is _ _ c.begin_anew.ensures, empty, c.new-2.ensures, c.new-3.ensures) (record {
+    rw (base, kept_is _ _ c.begin_anew.ensures, empty, c.new-2.ensures, c.new-3.ensures, c.in_ok-failures.ensures) (record {
       image = image_anew i.base i.names i.token i.actors.list i.history.items i.edits_made i.settings c.self.invariant.image order;
       numbers_of_clients = λ s. kept_last cs i.base w i.history.items i.clients s c.self.invariant.image.lawful c.self.invariant.numbers_of_clients;
       sends = sends_new i.names (rebase w) i.settings;
@@ -42,6 +42,7 @@ invariant_of-self g c =
       totals = record { counts = refl; few_posts = omega (arith, posts_were, c.self.invariant.totals.few_posts); few_steps = omega (arith, steps_were, c.self.invariant.totals.few_steps) };
       compiled = c.self.invariant.compiled;
       before = fits;
+      failures = refl;
     })
 
 pub returns-clause-ok : goal.returns-clause-ok

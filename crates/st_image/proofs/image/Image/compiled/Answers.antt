@@ -1,4 +1,4 @@
-use Rattle.std.proofs.Common.{◌≡◌, ◌++◌, List, ℕ, ap, ◌∙◌, subst, refl}
+use Rattle.std.proofs.Common.{◌≡◌, ◌++◌, List, ℕ, ap, sym, ◌∙◌, subst, refl}
 use Rattle.st_classes.specs.declared.edits.Edit.{Edit}
 use Rattle.st_classes.specs.Refusals.{first_of, Answers}
 use Rattle.st_compile.specs.NeededNames.{InternsFirst, needed_texts}
@@ -8,6 +8,7 @@ use Rattle.st_compile.proofs.Interning.{Grows, first-grows}
 use Rattle.st_image.specs.Images.{ImageView, world}
 use Rattle.st_image.proofs.CompiledEdits.{all_grown}
 use Rattle.st_image.proofs.Naming.{IsRenamed, more_kept, renamed}
+use Rattle.st_image.specs.Failures.{failures_kept}
 use Rattle.st_image.proofs.image.Image.compiled.Goals as goal
 
 pub invariant_of-self : goal.invariant_of-self
@@ -15,7 +16,7 @@ invariant_of-self g c =
     let i = c.self.inside in
     let g : Grows i.names c.compile.new.names = first-grows i.names (needed_texts c.args.tree.now.syntax) c.compile.new.names c.compile.ensures.some in
     let r : IsRenamed i.base i.names c.compile.new.names i.token i.actors.list i.history.items i.edits_made i.settings = renamed i.base i.names c.compile.new.names (i.names ++ g.0) i.token i.actors.list i.history.items i.edits_made i.settings g.1 (more_kept i.base i.names g.0 i.token i.actors.list i.history.items i.edits_made i.settings c.self.invariant.image) in
-    record { image = r.image; numbers_of_clients = c.self.invariant.numbers_of_clients; sends = r.sends i.tallies c.self.invariant.sends; counts = c.self.invariant.counts; totals = c.self.invariant.totals; compiled = all_grown i.names c.compile.new.names i.token g c.self.invariant.compiled; before = c.self.invariant.before }
+    record { image = r.image; numbers_of_clients = c.self.invariant.numbers_of_clients; sends = r.sends i.tallies c.self.invariant.sends; counts = c.self.invariant.counts; totals = c.self.invariant.totals; compiled = all_grown i.names c.compile.new.names i.token g c.self.invariant.compiled; before = c.self.invariant.before; failures = c.self.invariant.failures ∙ ap failures_kept (sym (r.failures i.earlier.steps)) }
 
 pub returns-clause-answers : goal.returns-clause-answers
 returns-clause-answers g c =

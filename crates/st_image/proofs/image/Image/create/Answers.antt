@@ -19,6 +19,7 @@ use Rattle.st_image.proofs.ClaimsTrimmed.{trimmed_push}
 use Rattle.st_image.proofs.Sends.{sends_other}
 use Rattle.st_image.proofs.CountingChanges.{counts_other}
 use Rattle.st_image.proofs.CountingItems.{items_other}
+use Rattle.st_image.proofs.Failing.{failures_other}
 use Rattle.st_image.proofs.image.Image.create.Goals as goal
 
 pub push-requires-clause-few : goal.push-requires-clause-few
@@ -35,7 +36,7 @@ invariant_of-self-2 g c =
     let items : c.push-2.new.self.items ≡ i.history.items ++ Created c.args.class ∷ [] = grind (arith, common_steps) in
     let pushed : c.push.new.self.list ≡ i.actors.list ++ new_actor_view c.args.class i.settings.capacity c.in_ok-body.body ∷ [] = kept_is _ _ c.in_ok-push.ensures.ok ∙ ap (λ (k : ActorView). i.actors.list ++ k ∷ []) c.in_ok-actor.ensures in
     let actors : c.push.new.self.list ≡ i.actors.list ++ new_actor_view c.args.class i.settings.capacity (fresh_body i.token c.args.class) ∷ [] = subst (λ (b : Body). c.push.new.self.list ≡ i.actors.list ++ new_actor_view c.args.class i.settings.capacity b ∷ []) body pushed in
-    rw items (record { image = created i.base i.names i.token i.actors.list c.push.new.self.list i.history.items i.edits_made i.settings (standing_of i.earlier i.next_from i.actors.out i.tallies) c.args.class c.self.invariant.image allowed actors; numbers_of_clients = kept_other i.clients i.base.clients i.history.items (Created c.args.class) (λ qs. refl) c.self.invariant.numbers_of_clients; sends = sends_other i.base i.names i.token i.actors.list i.history.items i.edits_made i.settings i.tallies (Created c.args.class) c.self.invariant.image c.self.invariant.sends refl; counts = counts_other i.changes i.history.items (Created c.args.class) (λ a. refl) c.self.invariant.counts; totals = items_other i.counts i.earlier i.history.items (Created c.args.class) refl refl c.self.invariant.totals; compiled = c.self.invariant.compiled; before = c.self.invariant.before })
+    rw items (record { image = created i.base i.names i.token i.actors.list c.push.new.self.list i.history.items i.edits_made i.settings (standing_of i.earlier i.next_from i.actors.out i.tallies) c.args.class c.self.invariant.image allowed actors; numbers_of_clients = kept_other i.clients i.base.clients i.history.items (Created c.args.class) (λ qs. refl) c.self.invariant.numbers_of_clients; sends = sends_other i.base i.names i.token i.actors.list i.history.items i.edits_made i.settings i.tallies (Created c.args.class) c.self.invariant.image c.self.invariant.sends refl; counts = counts_other i.changes i.history.items (Created c.args.class) (λ a. refl) c.self.invariant.counts; totals = items_other i.counts i.earlier i.history.items (Created c.args.class) refl refl c.self.invariant.totals; compiled = c.self.invariant.compiled; before = c.self.invariant.before; failures = failures_other i.base i.names i.token i.actors.list i.history.items i.edits_made i.settings i.earlier.steps i.failures (Created c.args.class) c.self.invariant.image c.self.invariant.failures refl })
 
 pub returns : goal.returns
 returns g c =

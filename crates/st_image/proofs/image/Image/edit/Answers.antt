@@ -17,6 +17,7 @@ use Rattle.st_image.proofs.ClientNumbers.{kept_other}
 use Rattle.st_image.proofs.Sends.{sends_other}
 use Rattle.st_image.proofs.CountingChanges.{counts_other}
 use Rattle.st_image.proofs.CountingItems.{items_other}
+use Rattle.st_image.proofs.Failing.{failures_other}
 use Rattle.st_image.proofs.image.Image.edit.Goals as goal
 
 pub overflow_add-self : goal.overflow_add-self
@@ -37,7 +38,7 @@ invariant_of-self-2 g c =
     let here : IsCompiledEdit i.names i.token c.args.edit = subst (λ (es : List Edit). IsCompiledEdit i.names es c.args.edit) (sym c.self.invariant.image.shows.edits_are) (subst (λ (v : ImageView). IsCompiledEdit v.names (world v).edits c.args.edit) (sym c.self.view_is) c.requires.compiled) in
     let compiled : AllCompiled i.names c.in_ok-made.made.token = subst (AllCompiled i.names) (sym (after ∙ ap (λ (es : List Edit). es ++ c.args.edit ∷ []) (sym c.self.invariant.image.shows.edits_are))) (all_with i.names i.token c.args.edit c.self.invariant.compiled here) in
     let e : IsEdited i.base i.names c.in_ok-made.made.token i.actors.list (i.history.items ++ Edited c.args.edit ∷ []) (i.edits_made + 1) i.settings = edited i.base i.names i.token c.in_ok-made.made.token i.actors.list i.history.items i.edits_made i.settings (standing_of i.earlier i.next_from i.actors.out i.tallies) c.args.edit c.self.invariant.image c.known.ensures suits allowed after in
-    rw items (record { image = e.image; numbers_of_clients = kept_other i.clients i.base.clients i.history.items (Edited c.args.edit) (λ qs. refl) c.self.invariant.numbers_of_clients; sends = sends_other i.base i.names i.token i.actors.list i.history.items i.edits_made i.settings i.tallies (Edited c.args.edit) c.self.invariant.image c.self.invariant.sends refl; counts = counts_other i.changes i.history.items (Edited c.args.edit) (λ a. refl) c.self.invariant.counts; totals = items_other i.counts i.earlier i.history.items (Edited c.args.edit) refl refl c.self.invariant.totals; compiled = compiled; before = c.self.invariant.before })
+    rw items (record { image = e.image; numbers_of_clients = kept_other i.clients i.base.clients i.history.items (Edited c.args.edit) (λ qs. refl) c.self.invariant.numbers_of_clients; sends = sends_other i.base i.names i.token i.actors.list i.history.items i.edits_made i.settings i.tallies (Edited c.args.edit) c.self.invariant.image c.self.invariant.sends refl; counts = counts_other i.changes i.history.items (Edited c.args.edit) (λ a. refl) c.self.invariant.counts; totals = items_other i.counts i.earlier i.history.items (Edited c.args.edit) refl refl c.self.invariant.totals; compiled = compiled; before = c.self.invariant.before; failures = failures_other i.base i.names i.token i.actors.list i.history.items i.edits_made i.settings i.earlier.steps i.failures (Edited c.args.edit) c.self.invariant.image c.self.invariant.failures refl })
 
 pub returns : goal.returns
 returns g c =

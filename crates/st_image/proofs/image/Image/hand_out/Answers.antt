@@ -25,6 +25,7 @@ use Rattle.st_image.proofs.ClientNumbers.{kept_other}
 use Rattle.st_image.proofs.Sends.{sends_other}
 use Rattle.st_image.proofs.CountingChanges.{counts_one, counts_same, few_changes, stamp_is}
 use Rattle.st_image.proofs.CountingItems.{items_other}
+use Rattle.st_image.proofs.Failing.{failures_other}
 use Rattle.st_image.proofs.image.Image.hand_out.Goals as goal
 use Rattle.st_image.proofs.image.Image.hand_out.Goals.{then-begins+in_ok-reserve, else-begins}
 
@@ -67,11 +68,11 @@ invariant_of-self-2 g c =
       | then-begins+in_ok-reserve w ↦ (
           let out : IsOut i.base i.names i.token (change_at view_checked_out c.args.actor.0 i.actors.list) (i.history.items ++ begun_items true c.args.actor) i.edits_made i.settings c.args.actor (view_checked_out k.0).body = outs i.base i.names i.token i.actors.list i.history.items i.edits_made i.settings beside c.args.actor k.0 true c.self.invariant.image allowed k.1 (sym phase ∙ w.if-begins.true) in
           let items : w.push.new.self.items ≡ i.history.items ++ Begun c.args.actor ∷ [] = grind (arith, common_steps) in
-          rw (w.self-inside-is, items, put) (record { image = out.image; numbers_of_clients = kept_other i.clients i.base.clients i.history.items (Begun c.args.actor) (λ qs. refl) c.self.invariant.numbers_of_clients; sends = sends_other i.base i.names i.token i.actors.list i.history.items i.edits_made i.settings i.tallies (Begun c.args.actor) c.self.invariant.image c.self.invariant.sends refl; counts = counts_one i.changes c.make_room.new.self w.raise.new.self i.history.items (Begun c.args.actor) c.args.actor.0 (λ a. refl) c.make_room.ensures.same w.raise.ensures c.self.invariant.counts; totals = items_other i.counts i.earlier i.history.items (Begun c.args.actor) refl refl c.self.invariant.totals; compiled = c.self.invariant.compiled; before = c.self.invariant.before })
+          rw (w.self-inside-is, items, put) (record { image = out.image; numbers_of_clients = kept_other i.clients i.base.clients i.history.items (Begun c.args.actor) (λ qs. refl) c.self.invariant.numbers_of_clients; sends = sends_other i.base i.names i.token i.actors.list i.history.items i.edits_made i.settings i.tallies (Begun c.args.actor) c.self.invariant.image c.self.invariant.sends refl; counts = counts_one i.changes c.make_room.new.self w.raise.new.self i.history.items (Begun c.args.actor) c.args.actor.0 (λ a. refl) c.make_room.ensures.same w.raise.ensures c.self.invariant.counts; totals = items_other i.counts i.earlier i.history.items (Begun c.args.actor) refl refl c.self.invariant.totals; compiled = c.self.invariant.compiled; before = c.self.invariant.before; failures = failures_other i.base i.names i.token i.actors.list i.history.items i.edits_made i.settings i.earlier.steps i.failures (Begun c.args.actor) c.self.invariant.image c.self.invariant.failures refl })
           )
       | else-begins w ↦ (
           let out : IsOut i.base i.names i.token (change_at view_checked_out c.args.actor.0 i.actors.list) (i.history.items ++ begun_items false c.args.actor) i.edits_made i.settings c.args.actor (view_checked_out k.0).body = outs i.base i.names i.token i.actors.list i.history.items i.edits_made i.settings beside c.args.actor k.0 false c.self.invariant.image allowed k.1 (sym phase ∙ w.if-begins.false) in
-          rw (w.self-inside-is, put) (record { image = subst (λ (x : List Item). IsImage i.base i.names i.token (change_at view_checked_out c.args.actor.0 i.actors.list) x i.edits_made i.settings) (append-nil i.history.items) out.image; numbers_of_clients = c.self.invariant.numbers_of_clients; sends = c.self.invariant.sends; counts = counts_same i.changes c.make_room.new.self i.history.items c.make_room.ensures.same c.self.invariant.counts; totals = c.self.invariant.totals; compiled = c.self.invariant.compiled; before = c.self.invariant.before })
+          rw (w.self-inside-is, put) (record { image = subst (λ (x : List Item). IsImage i.base i.names i.token (change_at view_checked_out c.args.actor.0 i.actors.list) x i.edits_made i.settings) (append-nil i.history.items) out.image; numbers_of_clients = c.self.invariant.numbers_of_clients; sends = c.self.invariant.sends; counts = counts_same i.changes c.make_room.new.self i.history.items c.make_room.ensures.same c.self.invariant.counts; totals = c.self.invariant.totals; compiled = c.self.invariant.compiled; before = c.self.invariant.before; failures = c.self.invariant.failures })
           )
     ]
 
@@ -114,25 +115,25 @@ pub invariant_of-self-in_err-make_room : goal.invariant_of-self-in_err-make_room
 invariant_of-self-in_err-make_room g c =
     let i = c.self.inside in
     let v = c.self.invariant in
-    rw c.body_to_check_out.ensures.same (record { image = v.image; numbers_of_clients = v.numbers_of_clients; sends = v.sends; counts = counts_same i.changes c.make_room.new.self i.history.items c.make_room.ensures.same v.counts; totals = v.totals; compiled = v.compiled; before = v.before })
+    rw c.body_to_check_out.ensures.same (record { image = v.image; numbers_of_clients = v.numbers_of_clients; sends = v.sends; counts = counts_same i.changes c.make_room.new.self i.history.items c.make_room.ensures.same v.counts; totals = v.totals; compiled = v.compiled; before = v.before; failures = v.failures })
 
 pub invariant_of-self-in_err-again : goal.invariant_of-self-in_err-again
 invariant_of-self-in_err-again g c =
     let i = c.self.inside in
     let v = c.self.invariant in
-    rw c.body_to_check_out.ensures.same (record { image = v.image; numbers_of_clients = v.numbers_of_clients; sends = v.sends; counts = counts_same i.changes c.make_room.new.self i.history.items c.make_room.ensures.same v.counts; totals = v.totals; compiled = v.compiled; before = v.before })
+    rw c.body_to_check_out.ensures.same (record { image = v.image; numbers_of_clients = v.numbers_of_clients; sends = v.sends; counts = counts_same i.changes c.make_room.new.self i.history.items c.make_room.ensures.same v.counts; totals = v.totals; compiled = v.compiled; before = v.before; failures = v.failures })
 
 pub invariant_of-self-in_err-claim : goal.invariant_of-self-in_err-claim
 invariant_of-self-in_err-claim g c =
     let i = c.self.inside in
     let v = c.self.invariant in
-    rw c.body_to_check_out.ensures.same (record { image = v.image; numbers_of_clients = v.numbers_of_clients; sends = v.sends; counts = counts_same i.changes c.make_room.new.self i.history.items c.make_room.ensures.same v.counts; totals = v.totals; compiled = v.compiled; before = v.before })
+    rw c.body_to_check_out.ensures.same (record { image = v.image; numbers_of_clients = v.numbers_of_clients; sends = v.sends; counts = counts_same i.changes c.make_room.new.self i.history.items c.make_room.ensures.same v.counts; totals = v.totals; compiled = v.compiled; before = v.before; failures = v.failures })
 
 pub invariant_of-self-in_err-reserve : goal.invariant_of-self-in_err-reserve
 invariant_of-self-in_err-reserve g c =
     let i = c.self.inside in
     let v = c.self.invariant in
-    rw (c.body_to_check_out.ensures.same, c.reserve.ensures.items) (record { image = v.image; numbers_of_clients = v.numbers_of_clients; sends = v.sends; counts = counts_same i.changes c.make_room.new.self i.history.items c.make_room.ensures.same v.counts; totals = v.totals; compiled = v.compiled; before = v.before })
+    rw (c.body_to_check_out.ensures.same, c.reserve.ensures.items) (record { image = v.image; numbers_of_clients = v.numbers_of_clients; sends = v.sends; counts = counts_same i.changes c.make_room.new.self i.history.items c.make_room.ensures.same v.counts; totals = v.totals; compiled = v.compiled; before = v.before; failures = v.failures })
 
 pub returns-in_err-body-clause-err : goal.returns-in_err-body-clause-err
 returns-in_err-body-clause-err g c = on_err c.from_residual.result _ (rw c.body_to_check_out.ensures.same c.self.view_is)

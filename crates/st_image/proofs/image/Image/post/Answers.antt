@@ -17,6 +17,7 @@ use Rattle.st_image.proofs.Showing.{count_is}
 use Rattle.st_image.proofs.Sends.{sends_other}
 use Rattle.st_image.proofs.CountingChanges.{counts_other}
 use Rattle.st_image.proofs.CountingItems.{items_posted}
+use Rattle.st_image.proofs.Failing.{failures_other}
 use Rattle.st_image.proofs.image.Image.post.Goals as goal
 
 pub invariant_of-self-2 : goal.invariant_of-self-2
@@ -27,7 +28,7 @@ invariant_of-self-2 g c =
     let items : c.push_reserved.new.self.items ≡ i.history.items ++ Posted c.args.actor m ∷ [] = grind (arith, common_steps) in
     let p : IsPosted i.base i.names i.token c.deliver-place.new.self.list (i.history.items ++ Posted c.args.actor m ∷ []) i.edits_made i.settings c.args.actor c.deliver-place.result = posted i.base i.names i.token i.actors.list c.deliver-place.new.self.list i.history.items i.edits_made i.settings (standing_of i.earlier i.next_from i.actors.out i.tallies) c.deliver-place.result c.args.actor m c.self.invariant.image allowed tt (kept_is _ _ c.deliver-place.ensures.message) c.deliver-place.ensures.count in
     let set : (s : ℕ) → number_of c.set.new.self s ≡ cond (s == c.args.sender) c.args.seq (number_of i.clients s) = λ s. c.set.ensures s ∙ ap (λ (j : ℕ). cond (s == c.args.sender) c.args.seq j) (c.make_room.ensures.numbers s) in
-    rw items (record { image = p.image; numbers_of_clients = kept_post i.clients c.set.new.self i.base.clients i.history.items c.args.actor m c.args.sender refl set c.self.invariant.numbers_of_clients; sends = sends_other i.base i.names i.token i.actors.list i.history.items i.edits_made i.settings i.tallies (Posted c.args.actor m) c.self.invariant.image c.self.invariant.sends refl; counts = counts_other i.changes i.history.items (Posted c.args.actor m) (λ a. refl) c.self.invariant.counts; totals = items_posted i.counts i.earlier i.history.items c.args.actor m (posts_room (seen i.base i.names i.history.items i.settings (standing_of i.earlier i.next_from i.actors.out i.tallies)) c.args.actor m allowed) c.self.invariant.totals; compiled = c.self.invariant.compiled; before = c.self.invariant.before })
+    rw items (record { image = p.image; numbers_of_clients = kept_post i.clients c.set.new.self i.base.clients i.history.items c.args.actor m c.args.sender refl set c.self.invariant.numbers_of_clients; sends = sends_other i.base i.names i.token i.actors.list i.history.items i.edits_made i.settings i.tallies (Posted c.args.actor m) c.self.invariant.image c.self.invariant.sends refl; counts = counts_other i.changes i.history.items (Posted c.args.actor m) (λ a. refl) c.self.invariant.counts; totals = items_posted i.counts i.earlier i.history.items c.args.actor m (posts_room (seen i.base i.names i.history.items i.settings (standing_of i.earlier i.next_from i.actors.out i.tallies)) c.args.actor m allowed) c.self.invariant.totals; compiled = c.self.invariant.compiled; before = c.self.invariant.before; failures = failures_other i.base i.names i.token i.actors.list i.history.items i.edits_made i.settings i.earlier.steps i.failures (Posted c.args.actor m) c.self.invariant.image c.self.invariant.failures refl })
 
 pub returns : goal.returns
 returns g c =
@@ -41,7 +42,7 @@ returns g c =
 pub invariant_of-self : goal.invariant_of-self
 invariant_of-self g c =
     let v = c.self.invariant in
-    rw c.make_room.ensures.items (record { image = v.image; numbers_of_clients = λ s. v.numbers_of_clients s ∙ sym (c.make_room.ensures.numbers s); sends = v.sends; counts = v.counts; totals = v.totals; compiled = v.compiled; before = v.before })
+    rw c.make_room.ensures.items (record { image = v.image; numbers_of_clients = λ s. v.numbers_of_clients s ∙ sym (c.make_room.ensures.numbers s); sends = v.sends; counts = v.counts; totals = v.totals; compiled = v.compiled; before = v.before; failures = v.failures })
 
 pub returns-in-Err : goal.returns-in-Err
 returns-in-Err g c = rw c.let_go.ensures (c.in-Err.ensures.answers, refl)

@@ -1,4 +1,4 @@
-use Rattle.std.proofs.Common.{length, ◌≡◌, ◌==◌, ◌+◌, cond, ℕ, ◌<◌, ◌≤◌, refl, sym, ap, subst, slice_get, ◌∙◌, ◌++◌, [], ◌∷◌, false, Some, List, Option, arith}
+use Rattle.std.proofs.Common.{length, ◌≡◌, ◌==◌, ◌+◌, ◌-◌, cond, ℕ, ◌<◌, ◌≤◌, refl, sym, ap, subst, slice_get, ◌∙◌, ◌++◌, [], ◌∷◌, false, Some, List, Option, arith}
 use Rattle.std.proofs.lemmas.Grind.{common_steps}
 use Rattle.std.proofs.lemmas.Option.{slice_get_within}
 use Rattle.st_classes.specs.declared.values.ActorId.{ActorId}
@@ -8,10 +8,14 @@ use Rattle.st_turn.specs.declared.claim.Sent.{Sent}
 use Rattle.st_turn.specs.Claims.{ClaimView}
 use Rattle.st_turn.proofs.FewSends.{few_sends}
 use Rattle.st_turn.specs.Idle.{is_idle}
-use Rattle.st_image.specs.Worlds.{World, change, change_at}
+use Rattle.st_image.specs.Worlds.{Constants, World, change, change_at}
 use Rattle.st_image.specs.Replay.{with_body}
 use Rattle.st_image.specs.Counts.{most_counted, ran_of, weigh}
-use Rattle.st_image.specs.Images.{ImageView, Standing, world_of}
+use Rattle.st_image.specs.declared.counts.Counts.{Counts}
+use Rattle.st_image.specs.Images.{ImageView, Standing, counts_of, world_of}
+use Rattle.st_image.specs.Failures.{KeptFailures, failure_in, failures_kept, failures_through, kept_after}
+use Rattle.st_image.specs.Failed.{ended_by_fault}
+use Rattle.st_image.specs.WorldInvariant.{first_turn}
 use Rattle.st_image.specs.ActorViews.{ActorView, actor_view, view_after_steps}
 use Rattle.st_image.specs.ActResults.{TakesOuter, constants_of}
 use Rattle.st_image.specs.Changes.{change_count}
@@ -32,6 +36,8 @@ use Rattle.st_image.proofs.CountingChanges.{counts_one, few_changes}
 use Rattle.st_image.proofs.MakingRoom.{few_accepted_by, with_room}
 use Rattle.st_image.proofs.Counting.{few_more}
 use Rattle.st_image.proofs.CountingItems.{items_ran}
+use Rattle.st_image.proofs.Failing.{few_failures, kept_push}
+use Rattle.st_image.proofs.FailingCommits.{AreOf, failed_taken, kept_of_parts, leads_before, parts_fit, parts_lead_somewhere}
 use Rattle.st_image.proofs.image.Image.take_steps.Goals as goal
 
 pub put_steps-requires-clause-busy : goal.put_steps-requires-clause-busy
@@ -97,7 +103,20 @@ invariant_of-self-in-Ok-put_steps g c =
     let pushed : c.push_reserved.new.self.items ≡ i.history.items ++ Ran c.actor-actor.result c.args.steps ∷ [] = grind (arith, common_steps) in
     let items : c.push_reserved.new.self.items ≡ i.history.items ++ Ran d.actor c.args.steps ∷ [] = pushed ∙ ap (λ (b : ActorId). i.history.items ++ Ran b c.args.steps ∷ []) c.actor-actor.ensures in
     let taken : HasTaken i.base i.names i.token c.put_steps.new.actors.list i.history.items i.edits_made i.settings c.count.new.self d.actor c.args.steps = has_taken i.base i.names i.token i.actors.list c.put_steps.new.actors.list i.history.items i.edits_made i.settings beside i.tallies c.count.new.self d c.args.steps c.in-Ok-put_steps.field-0 c.self.invariant.image c.self.invariant.sends c.known.ensures allowed c.requires.steps c.requires.some may takes c.in-Ok-put_steps.ensures.grown tallied in
-    rw (items, kept_is _ _ c.release.ensures, c.from.ensures) (record { image = taken.image; numbers_of_clients = kept_other i.clients i.base.clients i.history.items (Ran d.actor c.args.steps) (λ qs. refl) c.self.invariant.numbers_of_clients; sends = taken.sends; counts = counts_one i.changes c.make_room.new.changes c.raise.new.self i.history.items (Ran d.actor c.args.steps) d.actor.0 (λ a. refl) c.make_room.ensures.changes (subst (λ (b : ActorId). (a : ℕ) → change_count c.raise.new.self a ≡ change_count c.make_room.new.changes a + cond (a == b.0) 1 0) c.actor-actor.ensures c.raise.ensures) c.self.invariant.counts; totals = items_ran i.counts i.earlier i.history.items d.actor c.args.steps (subst (λ (n : ℕ). i.earlier.steps + weigh ran_of i.history.items + n ≤ most_counted) (sym c.requires.steps) (steps_room (seen i.base i.names i.history.items i.settings beside) d allowed.room)) c.self.invariant.totals; compiled = c.self.invariant.compiled; before = c.self.invariant.before })
+    let cs : Constants = constants_of i.names i.settings.capacity in
+    let before : ℕ = i.earlier.steps + weigh ran_of i.history.items in
+    let lead = leads_before d c.args.steps c.known.ensures c.requires.steps c.requires.some in
+    let counted : c.counted.result.steps ≡ before = ap (λ (k : Counts). k.steps) c.counted.ensures.counts ∙ ap (λ (v : ImageView). (counts_of v).steps) (sym c.self.view_is) in
+    let ended : c.ended_by_fault-ended.result ≡ ended_by_fault (first_turn (slice_get i.base.actors d.actor.0)) (slice_get c.put_steps.new.actors.list d.actor.0) = c.ended_by_fault-ended.ensures ∙ ap (λ (b : ActorId). ended_by_fault (first_turn (slice_get i.base.actors b.0)) (slice_get c.put_steps.new.actors.list b.0)) c.actor-actor.ensures in
+    let parts : AreOf c.deref_mut.result.now d = record { edits = ap (λ (p : ClaimParts). p.token) c.deref_mut.ensures.value ∙ c.in-Ok-into_parts.ensures.edits; actor = ap (λ (p : ClaimParts). p.actor) c.deref_mut.ensures.value ∙ c.in-Ok-into_parts.ensures.actor; before = ap (λ (p : ClaimParts). p.before) c.deref_mut.ensures.value ∙ c.in-Ok-into_parts.ensures.before } in
+    let told = kept_of_parts c.deref_mut.result.now d (c.args.steps - 1) (c.counted.result.steps + c.from-taken.result) (before + c.args.steps) i.failures c.keep_if_failed.new.self c.ended_by_fault-ended.result (ended_by_fault (first_turn (slice_get i.base.actors d.actor.0)) (slice_get c.put_steps.new.actors.list d.actor.0)) lead.0 parts c.keep_if_failed.ensures lead.1 (omega (arith, counted, c.from-taken.ensures)) ended in
+    let failure = failed_taken i.base i.names i.token i.actors.list c.put_steps.new.actors.list i.history.items i.settings d c.args.steps before c.in-Ok-put_steps.field-0 lead.0 c.self.invariant.image.world.lawful c.self.invariant.image.world.sound c.known.ensures allowed.survives c.requires.steps c.requires.some may takes lead.1 in
+    let failed : c.keep_if_failed.new.self ≡ failures_kept (failures_through cs i.base i.earlier.steps i.base (i.history.items ++ Ran d.actor c.args.steps ∷ [])) =
+    told
+    ∙ ap (kept_after i.failures) (sym failure)
+    ∙ ap (λ (k : KeptFailures). kept_after k (failure_in cs i.base before w (Ran d.actor c.args.steps))) c.self.invariant.failures
+    ∙ sym (kept_push cs i.base i.earlier.steps i.base w i.history.items (Ran d.actor c.args.steps) c.self.invariant.image.lawful) in
+    rw (items, kept_is _ _ c.release.ensures, c.from-taken.ensures) (record { image = taken.image; numbers_of_clients = kept_other i.clients i.base.clients i.history.items (Ran d.actor c.args.steps) (λ qs. refl) c.self.invariant.numbers_of_clients; sends = taken.sends; counts = counts_one i.changes c.make_room.new.changes c.raise.new.self i.history.items (Ran d.actor c.args.steps) d.actor.0 (λ a. refl) c.make_room.ensures.changes (subst (λ (b : ActorId). (a : ℕ) → change_count c.raise.new.self a ≡ change_count c.make_room.new.changes a + cond (a == b.0) 1 0) c.actor-actor.ensures c.raise.ensures) c.self.invariant.counts; totals = items_ran i.counts i.earlier i.history.items d.actor c.args.steps (subst (λ (n : ℕ). i.earlier.steps + weigh ran_of i.history.items + n ≤ most_counted) (sym c.requires.steps) (steps_room (seen i.base i.names i.history.items i.settings beside) d allowed.room)) c.self.invariant.totals; compiled = c.self.invariant.compiled; before = c.self.invariant.before; failures = failed })
 
 pub returns-in-Ok-put_steps-clause-ok : goal.returns-in-Ok-put_steps-clause-ok
 returns-in-Ok-put_steps-clause-ok g c =
@@ -134,17 +153,17 @@ returns-in-Ok-put_steps-clause-ok g c =
 pub invariant_of-self : goal.invariant_of-self
 invariant_of-self g c =
     let i = c.self.inside in
-    rw c.make_room.ensures.items (with_room i.base i.names i.token i.actors.list i.history.items i.edits_made i.settings i.clients i.tallies c.make_room.new.tallies i.changes c.make_room.new.changes i.counts i.earlier c.self.invariant c.make_room.ensures.changes c.make_room.ensures.tallies)
+    rw c.make_room.ensures.items (with_room i.base i.names i.token i.actors.list i.history.items i.edits_made i.settings i.clients i.tallies c.make_room.new.tallies i.changes c.make_room.new.changes i.counts i.earlier i.failures c.self.invariant c.make_room.ensures.changes c.make_room.ensures.tallies)
 
 pub invariant_of-self-in-Err : goal.invariant_of-self-in-Err
 invariant_of-self-in-Err g c =
     let i = c.self.inside in
-    rw c.make_room.ensures.items (with_room i.base i.names i.token i.actors.list i.history.items i.edits_made i.settings i.clients i.tallies c.make_room.new.tallies i.changes c.make_room.new.changes i.counts i.earlier c.self.invariant c.make_room.ensures.changes c.make_room.ensures.tallies)
+    rw c.make_room.ensures.items (with_room i.base i.names i.token i.actors.list i.history.items i.edits_made i.settings i.clients i.tallies c.make_room.new.tallies i.changes c.make_room.new.changes i.counts i.earlier i.failures c.self.invariant c.make_room.ensures.changes c.make_room.ensures.tallies)
 
 pub invariant_of-self-in-Err-put_steps : goal.invariant_of-self-in-Err-put_steps
 invariant_of-self-in-Err-put_steps g c =
     let i = c.self.inside in
-    rw (c.make_room.ensures.items, c.in-Err-put_steps.ensures.err) (with_room i.base i.names i.token i.actors.list i.history.items i.edits_made i.settings i.clients i.tallies c.make_room.new.tallies i.changes c.make_room.new.changes i.counts i.earlier c.self.invariant c.make_room.ensures.changes c.make_room.ensures.tallies)
+    rw (c.make_room.ensures.items, c.in-Err-put_steps.ensures.err) (with_room i.base i.names i.token i.actors.list i.history.items i.edits_made i.settings i.clients i.tallies c.make_room.new.tallies i.changes c.make_room.new.changes i.counts i.earlier i.failures c.self.invariant c.make_room.ensures.changes c.make_room.ensures.tallies)
 
 pub returns-in_default-clause-err : goal.returns-in_default-clause-err
 returns-in_default-clause-err g c = record {
@@ -178,6 +197,23 @@ pub put_steps-requires-clause-few : goal.put_steps-requires-clause-few
 put_steps-requires-clause-few g c =
     let i = c.self.inside in
     few_accepted_by i.actors.list (length i.history.items) (omega (arith, c.self.invariant.image.few_items, c.self.invariant.image.numbers.few_items)) c.self.invariant.image.few_accepted
+
+pub keep_if_failed-requires-clause-few : goal.keep_if_failed-requires-clause-few
+keep_if_failed-requires-clause-few g c =
+    let i = c.self.inside in
+    omega (arith, ap (λ (k : KeptFailures). k.count) c.self.invariant.failures, few_failures (constants_of i.names i.settings.capacity) i.base i.earlier.steps i.base i.history.items, c.self.invariant.image.few_items, c.self.invariant.image.numbers.few_items)
+
+pub keep_if_failed-requires-clause-fits : goal.keep_if_failed-requires-clause-fits
+keep_if_failed-requires-clause-fits g c =
+    let d : ClaimView = c.args.claim in
+    let parts : AreOf c.deref_mut.result.now d = record { edits = ap (λ (p : ClaimParts). p.token) c.deref_mut.ensures.value ∙ c.in-Ok-into_parts.ensures.edits; actor = ap (λ (p : ClaimParts). p.actor) c.deref_mut.ensures.value ∙ c.in-Ok-into_parts.ensures.actor; before = ap (λ (p : ClaimParts). p.before) c.deref_mut.ensures.value ∙ c.in-Ok-into_parts.ensures.before } in
+    parts_fit c.deref_mut.result.now d parts c.known.ensures.begins
+
+pub keep_if_failed-requires-clause-leads : goal.keep_if_failed-requires-clause-leads
+keep_if_failed-requires-clause-leads g c =
+    let d : ClaimView = c.args.claim in
+    let parts : AreOf c.deref_mut.result.now d = record { edits = ap (λ (p : ClaimParts). p.token) c.deref_mut.ensures.value ∙ c.in-Ok-into_parts.ensures.edits; actor = ap (λ (p : ClaimParts). p.actor) c.deref_mut.ensures.value ∙ c.in-Ok-into_parts.ensures.actor; before = ap (λ (p : ClaimParts). p.before) c.deref_mut.ensures.value ∙ c.in-Ok-into_parts.ensures.before } in
+    parts_lead_somewhere c.deref_mut.result.now d (c.args.steps - 1) parts (leads_before d c.args.steps c.known.ensures c.requires.steps c.requires.some)
 
 pub raise-requires-clause-room : goal.raise-requires-clause-room
 raise-requires-clause-room g c = c.in-Ok.ensures.place

@@ -1,0 +1,95 @@
+"""Trials in a real browser of turns that fail: they are seen as they come, and lead to their places."""
+
+from .try_common import post, same, until
+from .try_faults import prices
+from .try_in_browser import is_legible, shown, typed_over
+
+MARKED = "return [...document.querySelectorAll('#failure .now')].map(it => it.textContent).join('')"
+ANEW = "addEventListener('pagehide', () => sessionStorage.removeItem('actorimage-seen'))"
+AT = "const it = document.querySelector('#source'); return it.value.slice(it.selectionStart, it.selectionEnd)"
+
+
+def legible(browser, where):
+    """Whether all can be read, light and dark."""
+    for is_dark in (True, False):
+        browser.look_at(1280, 900, is_dark)
+        browser.wait("return document.documentElement.dataset.theme === arguments[0]", "dark" if is_dark else "light")
+        is_legible(browser, f"{where}, dark {is_dark}")
+
+
+def faults_lead_to_their_places(program):
+    """A fault of an actor that is in its next turn comes into the head and the list; from its row one comes to the frames, and from a
+    frame into the editor, at the send that failed."""
+    with shown(program) as (server, image, opened, browser):
+        price, dear = prices(image)
+        browser.wait("return document.querySelector('#figure-faults .value')?.innerText === '0'")
+        sender = image.sender(1)
+        sender.post(price, "quote:", 50)
+        sender.post(price, "spin")
+        browser.wait("return document.querySelector('#figure-faults .value')?.innerText === '1'")
+        browser.click("#figure-faults")
+        browser.wait_text(".item.fault", "badArgument")
+        legible(browser, "faults")
+        browser.click(".item.fault")
+        browser.wait(MARKED + " === '*'")
+        browser.wait_text("#failure", "50 * nil")
+        browser.wait_text("#inspected", "spin")
+        same(browser.texts("#failure .frame .code"), ["Price › of:", "Price › quote:"])
+        legible(browser, "where it failed")
+        # It stays while the actor goes on, and the frame that waited is one step away.
+        browser.run("document.querySelectorAll('#failure .frame')[1].click()")
+        browser.wait(MARKED + " === 'of:'")
+        ticks = opened.page.watched.ticks
+        until(lambda: opened.page.watched.ticks > ticks + 3)
+        same(browser.run(MARKED), "of:")
+        browser.run("document.querySelectorAll('#failure .frame')[0].click()")
+        browser.click("#edit-frame")
+        browser.wait(AT + " === '*'")
+        same([browser.text(".crumbs .sel"), browser.text("#main .source .failed .site > span")], ["of:", "*"])
+        legible(browser, "the place in the editor")
+        # What is typed before the place moves it, and a version of somebody else is said.
+        typed_over(browser, "| cost |", "| cost more |")
+        browser.click("#figure-faults")
+        browser.click(".item.fault")
+        browser.wait(MARKED + " === '*'")
+        browser.click("#edit-frame")
+        browser.wait(AT + " === '*'")
+        browser.run("[...document.querySelectorAll('header button')].find(it => it.innerText === 'Revert').click()")
+        browser.wait("return !document.querySelector('#source').value.includes('more')")
+        version = image.install("Price", "of: n ^n")
+        browser.wait("return document.querySelector('#source').value === 'of: n ^n'")
+        browser.click("#figure-faults")
+        browser.click(".item.fault")
+        browser.wait_text("#failure", "no longer the one of its class")
+        browser.click("#edit-frame")
+        browser.wait_text(".banner", f"and this is {version}")
+        # Behind a checkpoint there is none.
+        image.checkpoint()
+        browser.wait("return document.querySelector('#figure-faults .value')?.innerText === '0'")
+
+
+def faults_of_the_workspace_are_found(program):
+    """A message that is typed and fails leads to the place too; so does what the inspector lists; and an empty inspector lists the newest."""
+    with shown(program) as (server, image, opened, browser):
+        price, _ = prices(image)
+        browser.write("#entry", "p := actor 0. p deep: 2\n")
+        browser.wait_text(".card button", "inspect actor 0")
+        browser.run("[...document.querySelectorAll('.card button')].find(it => it.innerText === 'inspect actor 0').click()")
+        browser.wait(MARKED + " === 'foo:bar:'")
+        same(len(browser.texts("#failure .frame")), 3)
+        browser.click("#failure h3 button")
+        browser.wait("return !document.querySelector('#failure .frame')")
+        post(image, 1, (price, "zork"))
+        browser.wait_text("#inspected", "in turn 2 where")
+        browser.run("document.querySelector(\"[data-key='where 2']\").click()")
+        browser.wait_text("#failure", "a Price zork")
+        # A tab that is opened anew has chosen no actor.
+        browser.run(ANEW)
+        browser.open("about:blank")
+        browser.open(opened.address.partition("#")[0])
+        browser.wait("return document.querySelector('#lamp').className === 'lamp there'")
+        browser.click("#tab-actors")
+        browser.wait_text("#inspected .item.fault", "actor 0, Price")
+
+
+TRIALS = faults_lead_to_their_places, faults_of_the_workspace_are_found

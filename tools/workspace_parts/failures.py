@@ -1,0 +1,104 @@
+"""How turns came to end with faults: what the image keeps of them, and what `:faults` and `:why` show of that."""
+
+import re
+
+import actorimage
+
+from . import advice, fault_places, looks, shown
+from .running import actor_of
+from .turns import Turn
+from .values import table
+from .wrong import Refused, Wrong
+
+# A turn as it is written behind a command: an actor, with a number behind it as of `:inspect`, or before it as of `:turn`.
+ACTOR = r"actor\s+[0-9]{1,9}|[a-z][A-Za-z0-9]*"
+ASKED = re.compile(rf"(?:(?P<before>[0-9]{{1,19}})\s+of\s+)?(?P<actor>{ACTOR})(?:\s+(?P<behind>[0-9]{{1,19}}))?")
+# So many faults are kept of an image (docs/LIMITS.md).
+KEPT = 64
+NONE = "no turn has ended with a fault"
+GONE = "what failed is not kept any more: of the newest 64 faults since the last checkpoint it is"
+SINCE = " since step {:,}, when the image had a checkpoint or was loaded"
+
+
+def kept(session, after=0):
+    """The faults that the image keeps of those behind a step, oldest first, with what it says of them. Refused by one that keeps none."""
+    return session.turns.ask({"cmd": "faults", "after": after})
+
+
+def faults(session, rest):
+    """Lists those that are kept."""
+    told = kept(session)
+    found = told["faults"]
+    if not found:
+        session.say(NONE + (SINCE.format(told["from"]) if told["from"] else " yet"))
+        return
+    rows = [["step", "actor", "name", "class", "turn", "fault"]]
+    for it in found:
+        number = it["actor"]
+        name = session.known.actor(number).class_name or looks.actor(session, number)
+        rows.append([it["step"], number, session.known.name_of(number) or "", name, it["turn"], it["fault"]])
+    session.tell(table(rows))
+    if len(found) == KEPT:
+        session.say(f"{KEPT} are kept, and {session.turns.ask({'cmd': 'status'})['faults']:,} turns failed")
+
+
+def why(session, rest):
+    """Tells of a turn of an actor, or of the actor's last one that is kept."""
+    asked = ASKED.fullmatch(rest)
+    actor = actor_of(session, asked["actor"])
+    number = asked["before"] or asked["behind"]
+    turn = Turn(actor, int(number)) if number else last_of(session, actor, asked["actor"])
+    told = session.turns.ask({"cmd": "fault", "actor": turn.actor, "turn": turn.number})
+    if "fault" in told:
+        session.say(f"fault {told['fault']} in {turn}")
+        session.tell(lines_of(session, turn, told))
+    else:
+        session.tell_end(turn, told)
+
+
+def asks(session, rest):
+    """Whether a text that is no name of a refusal or fault names an actor, or a turn of one."""
+    asked = ASKED.fullmatch(rest)
+    return bool(asked) and (bool(asked["before"] or asked["behind"]) or " " in asked["actor"] or asked["actor"] in session.known.names)
+
+
+def last_of(session, actor, written):
+    """The last turn of an actor of those that are kept. Refused if there is no such actor."""
+    turns = [it["turn"] for it in kept(session)["faults"] if it["actor"] == actor]
+    if not turns:
+        looks.actor(session, actor)
+        raise Wrong(f"no fault of actor {actor} is kept;  :turn of {written}  tells how its last turn ended")
+    return Turn(actor, turns[-1])
+
+
+def lines(session, told):
+    """The lines for a fault that was told of before. Behind a checkpoint its turn may be another one, which has another step."""
+    try:
+        found = session.turns.ask({"cmd": "fault", "actor": told.turn.actor, "turn": told.turn.number})
+    except Refused:
+        found = {}
+    is_same = found.get("fault") == told.fault and told.step in (None, found.get("step"))
+    return lines_of(session, told.turn, found if is_same else {"fault": told.fault})
+
+
+def lines_of(session, turn, told):
+    """What failed and what that means, and the frames with their sources. Where they are not kept, how the place is found."""
+    fault = told["fault"]
+    if "frames" not in told:
+        gone = [] if session.news.after is None else [GONE]
+        return [f"{fault}: {advice.FAULTS[fault]}", *gone, *fault_places.lines(session, turn, fault)]
+    failure = actorimage.failure(told)
+    looks.classes(session)
+
+    def name(number):
+        return session.known.name_of(number) or f"actor {number}"
+
+    said = f"{failure.message(name)}: {fault}, {advice.FAULTS[fault]}"
+    return [said, *failure.lines(session.known.slots, name), *(missing(session, failure) if fault == "notUnderstood" else [])]
+
+
+def missing(session, failure):
+    """What was not understood by which class; where that was the message of the turn, also what the class understands."""
+    name, selector = failure.send.class_name, failure.send.selector
+    lines = [shown.missing(session, name, selector)]
+    return lines if failure.frames else [*lines, f"{name} understands:  {' '.join(looks.understood(session, name))}"]

@@ -209,13 +209,15 @@ def journal_on_a_full_disk(program):
             for _ in range(300):
                 done(end, lines, ACTOR)
             said = server.stderr.readline()
-            same("what is said", said.startswith(b"actorimage: the image is not saved: " + path.encode()), True)
+            journal = os.path.realpath(path).encode() + b".journal"
+            same("what is said", said, b"actorimage: the journal is not written: " + journal + b": No space left on device\n")
             os.remove(os.path.join(small, "filler"))
             done(end, lines, *[ACTOR] * 10)
             ends = time.monotonic() + PATIENCE
             while len(recovered(path)[0].actors) < 310:
                 same("the journal is written", time.monotonic() < ends, True)
                 time.sleep(0.02)
+            same("what is said then", server.stderr.readline(), b"actorimage: the journal is written again: " + journal + b"\n")
             server.send_signal(signal.SIGKILL)
             server.wait()
         same("actors", len(recovered(path)[0].actors), 310)

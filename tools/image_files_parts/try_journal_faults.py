@@ -76,7 +76,9 @@ def refused_save_on_a_full_disk(program):
             until(lambda: len(recovered(path)[0].actors) == MANY + 5, "the journal is written")
             server.send_signal(signal.SIGKILL)
             out, err = server.communicate()
-        same("it is said", 1 <= err.count(b"actorimage: the image is not saved: ") <= 2, True)
+        journal = os.path.realpath(path).encode() + b".journal"
+        said = [b"not written: " + journal + b": No space left on device", b"written again: " + journal]
+        same("what is said", err.splitlines(), [b"actorimage: the journal is " + line for line in said])
         same("actors", len(recovered(path)[0].actors), MANY + 5)
     return "1 disk"
 

@@ -75,13 +75,15 @@ def of_a_pause(program, disk):
         disk.refuse()
         for _ in range(50):
             done(end, lines, ACTOR)
-        same("it is said", server.stderr.readline().startswith(b"actorimage: the image is not saved: "), True)
+        journal = os.path.realpath(path).encode() + b".journal"
+        same("it is said", server.stderr.readline(), b"actorimage: the journal is not written: " + journal + b": Input/output error\n")
         disk.be_well()
         done(end, lines, ACTOR)
         until(lambda: actors(path) == 51, "all is told")
+        same("it is said once more", server.stderr.readline(), b"actorimage: the journal is written again: " + journal + b"\n")
         server.send_signal(signal.SIGKILL)
         _, err = server.communicate()
-    same("it is not said again", err, b"")
+    same("no more is said", err, b"")
     same("actors", actors(path), 51)
 
 

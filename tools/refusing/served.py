@@ -130,7 +130,8 @@ def what_is_wrong(process, posts, is_whole, why):
     if process.returncode == 0:
         # A post may be accepted whose reply finds no memory.
         fits = json.loads(out)["ok"]["posts"] in ([posts] if is_whole else [posts, posts + 1])
-        said = said.replace("actorimage: the image is not saved: NoMemory\n", "")
+        for news in ("image is not saved", "journal is not written"):
+            said = said.replace(f"actorimage: the {news}: NoMemory\n", "")
         told = said == ("" if is_whole else "session: NoMemory\n") or is_whole and said == "session: NoMemory\n"
         return None if fits and (told or not is_whole) else f"it told {out!r} and {said!r} for {posts} posts"
     fine = process.returncode in (1, 2) and "emory" in said

@@ -3,43 +3,19 @@
 //! A save writes the journal that goes on from the new image under another name, which ends in `.journal.new`, before it replaces the
 //! image. So each of both images has its journal, whichever a crash leaves.
 use crate::failures::Failure;
-use crate::new_files::{HELD_BY_ANOTHER, sync_folder};
+use crate::journal_files::{
+    Fault, Lines, changed_by_another, is_there, open, open_again, open_to_read, open_whole,
+    read_whole, unread, write_whole,
+};
+use crate::new_files::sync_folder;
 use st_classes::refusals::{ImagePlace, Refusal};
 use st_image::settings::Settings;
-use st_journal::files::{FileCalls, FileDevice};
 use st_journal::headers::header;
 use st_log::device::DeviceError;
-use st_log::lines::{is_batch, whole_len};
-use st_log::recovered::Recovered;
-use std::alloc::{AllocError, Global};
-use std::fs::{self, File, Files, TryLockError};
-use std::io::{ErrorKind, Read, Seek, SeekFrom, Write};
-use std::os::unix::fs::{FileExt, OpenOptionsExt};
-
-/// A journal is for its owner alone: it has all that was posted.
-const OWNER_ALONE: u32 = 0o600;
-
-/// A file of the system.
-#[derive(Drop)]
-pub struct SystemFile {
-    file: File,
-}
-
-impl FileCalls for SystemFile {
-    fn write(&mut self, at: usize, bytes: &[u8]) -> bool {
-        self.file.write_all_at(bytes, at as u64).is_ok()
-    }
-
-    fn cut(&mut self, len: usize) -> bool {
-        self.file.set_len(len as u64).is_ok()
-    }
-
-    fn sync(&mut self) -> bool {
-        self.file.sync_data().is_ok()
-    }
-}
-
-type Lines = Recovered<FileDevice<SystemFile>>;
+use st_log::lines::is_batch;
+use std::alloc::Global;
+use std::fs::{self, File, Files};
+use std::io::{Seek, SeekFrom};
 
 /// A path as a text of its own, with an ending.
 fn path_with(alloc: Global, place: &str, ending: &str) -> Result<String, Refusal> {
@@ -52,14 +28,6 @@ fn path_with(alloc: Global, place: &str, ending: &str) -> Result<String, Refusal
 /// The path of the journal of the image at a path.
 pub fn journal_of(alloc: Global, place: &str) -> Result<String, Refusal> {
     path_with(alloc, place, ".journal")
-}
-
-/// Whether a file is at a path, or something that cannot be looked at.
-pub fn is_there<R: Files>(rt: &R, path: &str) -> bool {
-    match fs::symlink_metadata(rt, path) {
-        Ok(_) => true,
-        Err(error) => error.kind() != ErrorKind::NotFound,
-    }
 }
 
 /// Refuses an image whose journal is there, for one who would not go on with it.
@@ -76,170 +44,15 @@ pub fn refuse_journal<R: Files>(rt: &R, alloc: Global, place: &str) -> Result<()
     Ok(())
 }
 
-/// The refusal of a journal's file, for what the system says.
-fn unread(alloc: Global, path: &str, error: &std::io::Error) -> Failure {
-    Failure::at(alloc, Refusal::ReadFault, path, error)
-}
-
-/// The refusal of a journal that cannot be written.
-fn unwritten(alloc: Global, path: &str, error: DeviceError) -> Failure {
-    match error {
-        DeviceError::NoMemory => Failure::from(Refusal::NoMemory),
-        DeviceError::Failed => {
-            Failure::of(alloc, Refusal::WriteFault, path, "cannot be written")
-        }
-    }
-}
-
-/// Opens a journal to read it alone.
-pub fn open_to_read<R: Files<File = File>>(
-    rt: &R,
-    alloc: Global,
-    path: &str,
-) -> Result<File, Failure> {
-    match File::open(rt, path) {
-        Ok(file) => Ok(file),
-        Err(error) => Err(unread(alloc, path, &error)),
-    }
-}
-
-/// All that an open file has.
-pub fn read_whole(alloc: Global, mut file: &File, path: &str) -> Result<Vec<u8>, Failure> {
-    let mut bytes = Vec::new(alloc);
-    match file.read_to_end(&mut bytes) {
-        Ok(_) => Ok(bytes),
-        Err(error) if error.kind() == ErrorKind::OutOfMemory => {
-            Err(Failure::from(Refusal::NoMemory))
-        }
-        Err(error) => Err(unread(alloc, path, &error)),
-    }
-}
-
-/// Opens and locks the journal at a path, which is made if it is not there.
-fn locked<R: Files<File = File>>(rt: &R, alloc: Global, path: &str) -> Result<File, Failure> {
-    let mut options = File::options();
-    let options = options
-        .read(true)
-        .write(true)
-        .create(true)
-        .mode(OWNER_ALONE);
-    let file = match options.open(rt, path) {
-        Ok(file) => file,
-        Err(error) => return Err(Failure::at(alloc, Refusal::WriteFault, path, &error)),
-    };
-    match file.try_lock() {
-        Err(TryLockError::WouldBlock) => {
-            Err(Failure::of(alloc, Refusal::WriteFault, path, HELD_BY_ANOTHER))
-        }
-        _ => Ok(file),
-    }
-}
-
-/// Whether a crash may have left this behind the whole lines of a journal: nothing, or an empty line, and whatever was written behind that;
-/// or bytes that no write has reached.
-fn may_be_left(rest: &[u8]) -> bool {
-    rest.first() == Some(&b'\n') || rest.iter().all(|byte| *byte == 0)
-}
-
-/// Refuses a journal with something behind its whole lines that no crash leaves: it was damaged there, or is no journal.
-fn refuse_damage(alloc: Global, path: &str, bytes: &[u8]) -> Result<(), Failure> {
-    let end = whole_len(bytes);
-    if may_be_left(bytes.get(end..).unwrap_or(&[])) {
-        return Ok(());
-    }
-    let lines = bytes.get(..end).unwrap_or(&[]);
-    let before = lines.iter().filter(|byte| **byte == b'\n').count();
-    let line = before.saturating_add(1);
-    Err(Failure {
-        refusal: Refusal::BadImage {
-            place: ImagePlace::Shape,
-        },
-        words: format!(in alloc; "{path}: line {line}: is damaged").ok(),
-    })
-}
-
-/// Recovers the journal in an open file. The answer has its lines.
-fn recovered(alloc: Global, path: &str, file: File) -> Result<(Lines, Vec<u8>), Failure> {
-    let bytes = read_whole(alloc, &file, path)?;
-    refuse_damage(alloc, path, &bytes)?;
-    let device = FileDevice::new(alloc, SystemFile { file }, bytes);
-    match Recovered::open(alloc, device) {
-        Ok(found) => Ok(found),
-        Err(error) => Err(unwritten(alloc, path, error)),
-    }
-}
-
-/// Opens, locks and recovers the journal at a path, which is made if it is not there. The answer has its lines.
-fn open<R: Files<File = File>>(
-    rt: &R,
-    alloc: Global,
-    path: &str,
-) -> Result<(Lines, Vec<u8>), Failure> {
-    let file = locked(rt, alloc, path)?;
-    recovered(alloc, path, file)
-}
-
-/// The same, if the journal begins with a header. One that a save was writing may not be whole, and does not count then.
-fn open_whole<R: Files<File = File>>(
-    rt: &R,
-    alloc: Global,
-    path: &str,
-    header: &[u8],
-) -> Result<Option<(Lines, Vec<u8>)>, Failure> {
-    match open(rt, alloc, path) {
-        Ok((lines, text)) if text.starts_with(header) => Ok(Some((lines, text))),
-        Ok((lines, text)) => {
-            drop((lines, text));
-            Ok(None)
-        }
-        Err(failure) => match failure.refusal {
-            Refusal::BadImage { .. } => Ok(None),
-            _ => Err(failure),
-        },
-    }
-}
-
-/// Opens the journal at a path again, of which so many bytes are known to be on the disk, and cuts off what is behind them.
-fn open_again<R: Files<File = File>>(
-    rt: &R,
-    alloc: Global,
-    path: &str,
-    end: usize,
-) -> Result<(Lines, Vec<u8>), Failure> {
-    let file = locked(rt, alloc, path)?;
-    let end = end as u64;
-    let has_all = match file.metadata() {
-        Ok(found) => end <= found.len(),
-        Err(_) => false,
-    };
-    if !has_all {
-        return Err(changed_by_another(alloc, path));
-    }
-    match file.set_len(end) {
-        Ok(()) => recovered(alloc, path, file),
-        Err(error) => Err(Failure::at(alloc, Refusal::WriteFault, path, &error)),
-    }
-}
-
-/// The refusal of a journal that another process has changed.
-fn changed_by_another(alloc: Global, path: &str) -> Failure {
-    Failure::of(
-        alloc,
-        Refusal::WriteFault,
-        path,
-        "was changed by another process",
-    )
-}
-
 /// The journal of an image.
 #[derive(Drop)]
 pub struct Journal {
-    /// The path of the image's file.
-    place: String,
     /// The path of the journal.
     path: String,
     /// The journal, where its last change did not fail.
     lines: Option<Lines>,
+    /// Why its last change failed.
+    fault: Fault,
     /// How many bytes its lines have.
     end: usize,
     /// Whether another image was moved into the file's place, and it is not known to be on the disk there, with its journal in this one's
@@ -283,6 +96,22 @@ pub fn journal_of_another_image(alloc: Global, path: &str) -> Failure {
     )
 }
 
+/// Moves the journal at a path into the place of another. That is on the disk then.
+fn move_over<R: Files<File = File>>(
+    rt: &R,
+    alloc: Global,
+    new: &str,
+    path: &str,
+) -> Result<(), Failure> {
+    if let Err(error) = fs::rename(rt, new, path) {
+        return Err(Failure::at(alloc, Refusal::WriteFault, path, &error));
+    }
+    match sync_folder(rt, alloc, path) {
+        Some(failure) => Err(failure),
+        None => Ok(()),
+    }
+}
+
 impl Journal {
     /// The journal of the image at a path, whose text has a digest: the one that is there, or a new one.
     ///
@@ -297,52 +126,24 @@ impl Journal {
         let path = journal_of(alloc, place)?;
         let header = header_of(alloc, digest)?;
         let new = path_with(alloc, path.as_str(), ".new")?;
-        let found = open(rt, alloc, path.as_str())?;
+        let fault = Fault::new(alloc)?;
+        let found = open(rt, alloc, path.as_str(), &fault)?;
         if !found.1.starts_with(&header) && is_there(rt, new.as_str()) {
-            if let Some(other) = open_whole(rt, alloc, new.as_str(), &header)? {
+            if let Some(other) = open_whole(rt, alloc, new.as_str(), &header, &fault)? {
                 drop(found);
-                return Journal::moved(rt, alloc, place, path, new, other, header.len());
+                move_over(rt, alloc, new.as_str(), path.as_str())?;
+                return Journal::of(rt, alloc, path, fault, other, header);
             }
         }
-        Journal::of(rt, alloc, place, path, found, header)
-    }
-
-    /// The journal that takes the place of an earlier one.
-    fn moved<R: Files<File = File>>(
-        rt: &R,
-        alloc: Global,
-        place: &str,
-        path: String,
-        new: String,
-        (lines, text): (Lines, Vec<u8>),
-        from: usize,
-    ) -> Result<Found, Failure> {
-        if let Err(error) = fs::rename(rt, new.as_str(), path.as_str()) {
-            return Err(Failure::at(alloc, Refusal::WriteFault, path.as_str(), &error));
-        }
-        if let Some(failure) = sync_folder(rt, alloc, path.as_str()) {
-            return Err(failure);
-        }
-        let end = lines.end();
-        Ok(Found {
-            journal: Journal {
-                place: owned(alloc, place)?,
-                path,
-                lines: Some(lines),
-                end,
-                is_unsure: false,
-            },
-            lines: text,
-            from,
-        })
+        Journal::of(rt, alloc, path, fault, found, header)
     }
 
     /// A journal that was opened. Where it has no lines of its own, it begins with the header.
     fn of<R: Files<File = File>>(
         rt: &R,
         alloc: Global,
-        place: &str,
         path: String,
+        fault: Fault,
         (lines, text): (Lines, Vec<u8>),
         header: Vec<u8>,
     ) -> Result<Found, Failure> {
@@ -350,9 +151,9 @@ impl Journal {
         let from = header.len();
         let goes_on = text.starts_with(&header);
         let mut journal = Journal {
-            place: owned(alloc, place)?,
             path,
             lines: Some(lines),
+            fault,
             end,
             is_unsure: false,
         };
@@ -378,7 +179,7 @@ impl Journal {
     ) -> Result<(), Failure> {
         header.extend_from_slice(b"\n")?;
         if let Err(error) = self.add(&header) {
-            return Err(unwritten(alloc, self.path.as_str(), error));
+            return Err(self.fault.of(alloc, self.path.as_str(), error));
         }
         match sync_folder(rt, alloc, self.path.as_str()) {
             Some(failure) => Err(failure),
@@ -413,7 +214,7 @@ impl Journal {
 
     /// Opens the journal again behind a change that failed: what was not acknowledged is cut off.
     fn reopen<R: Files<File = File>>(&mut self, rt: &R, alloc: Global) -> Result<(), Failure> {
-        let (lines, text) = open_again(rt, alloc, self.path.as_str(), self.end)?;
+        let (lines, text) = open_again(rt, alloc, self.path.as_str(), self.end, &self.fault)?;
         if text.len() != self.end {
             return Err(changed_by_another(alloc, self.path.as_str()));
         }
@@ -434,7 +235,7 @@ impl Journal {
         }
         match self.add(batch) {
             Ok(()) => Ok(()),
-            Err(error) => Err(unwritten(alloc, self.path.as_str(), error)),
+            Err(error) => Err(self.fault.of(alloc, self.path.as_str(), error)),
         }
     }
 
@@ -510,14 +311,9 @@ impl Journal {
         // If it was moved before, only the wait for that failed.
         let new = path_with(alloc, path, ".new")?;
         if is_there(rt, new.as_str()) {
-            if let Err(error) = fs::rename(rt, new.as_str(), path) {
-                return Err(Failure::at(alloc, Refusal::WriteFault, path, &error));
-            }
-            if let Some(failure) = sync_folder(rt, alloc, path) {
-                return Err(failure);
-            }
+            move_over(rt, alloc, new.as_str(), path)?;
         }
-        let (lines, text) = open(rt, alloc, path)?;
+        let (lines, text) = open(rt, alloc, path, &self.fault)?;
         drop(text);
         self.end = lines.end();
         self.lines = Some(lines);
@@ -528,39 +324,5 @@ impl Journal {
     /// Removes the journal.
     pub fn remove<R: Files>(self, rt: &R) {
         let _ = fs::remove_file(rt, self.path.as_str());
-    }
-}
-
-/// Writes a text to the file at a path, which is made or emptied, and waits until it is on the disk.
-fn write_whole<R: Files<File = File>>(
-    rt: &R,
-    alloc: Global,
-    path: &str,
-    text: &[u8],
-) -> Result<(), Failure> {
-    let mut options = File::options();
-    let options = options
-        .write(true)
-        .create(true)
-        .truncate(true)
-        .mode(OWNER_ALONE);
-    let written = match options.open(rt, path) {
-        Ok(mut file) => match file.write_all(text) {
-            Ok(()) => file.sync_all(),
-            Err(error) => Err(error),
-        },
-        Err(error) => Err(error),
-    };
-    match written {
-        Ok(()) => Ok(()),
-        Err(error) => Err(Failure::at(alloc, Refusal::WriteFault, path, &error)),
-    }
-}
-
-/// A path as a text of its own.
-fn owned(alloc: Global, path: &str) -> Result<String, Refusal> {
-    match String::from_str(alloc, path) {
-        Ok(path) => Ok(path),
-        Err(_) => Err(Refusal::NoMemory),
     }
 }

@@ -1,16 +1,16 @@
 //! The file in which a run keeps its image.
-ghost use Rattle.std.specs.Prelude.{IfErr, IfOk, Ok};
+ghost use Rattle.std.specs.Prelude.{IfOk, Ok};
 ghost use Rattle.st_server.specs.Keepers.{IsFault, Keeps};
 
 use crate::failures::Failure;
 use crate::journals::Journal;
 use crate::new_files::{NewFile, hold, hold_beside};
-use crate::noting::{Appender, Noted};
+use crate::noting::Noted;
 use crate::stamps::Stamp;
 use st_classes::refusals::Refusal;
 use st_file::moments::Moment;
 use st_server::images::Image;
-use st_server::keepers::{JournalSettings, Keeper};
+use st_server::keepers::{JournalSettings, JournalWriter, Keeper};
 use st_wire::names::refusal_name;
 use std::alloc::Global;
 use std::fs::{File, Files};
@@ -174,11 +174,11 @@ pub struct FileKeeper<'a> {
     settings: Option<JournalSettings>,
     /// What a script has led to, if its journal tells that.
     noted: Mutex<Option<Noted>>,
-    /// Why the image could not be saved last, or its journal not be written, if that was not said yet.
-    why: Mutex<Option<String>>,
-    /// Whether somebody says why an image could not be saved.
+    /// What is to be said of the last save or of the journal, if that was not said yet.
+    news: Mutex<Option<String>>,
+    /// Whether somebody says that.
     is_telling: AtomicBool,
-    /// Whether the journal could not be written last: that is said once.
+    /// Whether the journal could not be written last: that is said once, and once that it is written again.
     is_unwritten: AtomicBool,
 }
 
@@ -192,13 +192,19 @@ fn refused(refusal: Refusal) -> Refusal
     }
 }
 
-/// Why an image is not saved, in words.
-fn words_of(alloc: Global, failure: Failure) -> Option<String> {
-    match failure.words {
-        Some(words) => Some(words),
-        None => String::from_str(alloc, refusal_name(failure.refusal)).ok(),
-    }
+/// What has failed, and why, in words.
+fn words_of(alloc: Global, what: &str, failure: &Failure) -> Option<String> {
+    let why = match &failure.words {
+        Some(words) => words.as_str(),
+        None => refusal_name(failure.refusal),
+    };
+    format!(in alloc; "{what}: {why}").ok()
 }
+
+/// How it begins what is said of a save and of a journal.
+const NOT_SAVED: &str = "the image is not saved";
+
+const NOT_WRITTEN: &str = "the journal is not written";
 
 impl<'a> FileKeeper<'a> {
     /// One that keeps the image at a path, if one is given. `new` is the new file beside it, if it is held, `seen` what was seen of the
@@ -224,7 +230,7 @@ impl<'a> FileKeeper<'a> {
             journal: Mutex::new(None),
             settings: None,
             noted: Mutex::new(None),
-            why: Mutex::new(None),
+            news: Mutex::new(None),
             is_telling: AtomicBool::new(false),
             is_unwritten: AtomicBool::new(false),
         }
@@ -328,7 +334,7 @@ impl<'a> FileKeeper<'a> {
             journal: _,
             settings: _,
             noted,
-            why,
+            news,
             is_telling,
             is_unwritten,
         } = self;
@@ -339,7 +345,7 @@ impl<'a> FileKeeper<'a> {
             journal: Mutex::new(Some(journal)),
             settings: Some(settings),
             noted,
-            why,
+            news,
             is_telling,
             is_unwritten,
         }
@@ -358,7 +364,7 @@ impl<'a> FileKeeper<'a> {
             return Err(Refusal::WriteFault);
         };
         match &mut *noted {
-            Some(noted) => noted.write(alloc, &Appender { keeper: self }),
+            Some(noted) => noted.write(alloc, self),
             None => Ok(()),
         }
     }
@@ -372,10 +378,24 @@ impl<'a> FileKeeper<'a> {
         }
     }
 
-    /// Appends a batch to the journal, as [`Keeper::append`] does.
-    pub fn append_batch(&self, alloc: Global, batch: &[u8]) -> Result<(), Refusal>
-        ensures { IfErr result IsFault }
+    /// Keeps what is to be said for who asks next.
+    fn note_news(&self, words: Option<String>) {
+        if let Some(mut news) = self.news.try_lock() {
+            *news = words;
+        }
+    }
+
+    /// What a failure is to sessions. What has failed and why is kept for who asks next.
+    fn refusal_of(&self, alloc: Global, what: &str, failure: Failure) -> Refusal
+        ensures { IsFault result }
     {
+        self.note_news(words_of(alloc, what, &failure));
+        refused(failure.refusal)
+    }
+}
+
+impl<'a> JournalWriter for FileKeeper<'a> {
+    fn append(&self, alloc: Global, batch: &[u8]) -> Result<(), Refusal> {
         let Some(mut journal) = self.journal.try_lock() else {
             return Err(Refusal::WriteFault);
         };
@@ -384,25 +404,17 @@ impl<'a> FileKeeper<'a> {
         };
         match journal.append(self.rt, alloc, batch) {
             Ok(()) => {
-                self.is_unwritten.store(false, Ordering::SeqCst);
+                if self.is_unwritten.swap(false, Ordering::SeqCst) {
+                    let path = journal.path();
+                    self.note_news(format!(in alloc; "the journal is written again: {path}").ok());
+                }
                 Ok(())
             }
             Err(failure) if self.is_unwritten.swap(true, Ordering::SeqCst) => {
                 Err(refused(failure.refusal))
             }
-            Err(failure) => Err(self.refusal_of(alloc, failure)),
+            Err(failure) => Err(self.refusal_of(alloc, NOT_WRITTEN, failure)),
         }
-    }
-
-    /// What a failure is to sessions. Why it came is kept for who asks next.
-    fn refusal_of(&self, alloc: Global, failure: Failure) -> Refusal
-        ensures { IsFault result }
-    {
-        let refusal = refused(failure.refusal);
-        if let Some(mut why) = self.why.try_lock() {
-            *why = words_of(alloc, failure);
-        }
-        refusal
     }
 }
 
@@ -416,7 +428,7 @@ impl<'a> Keeper for FileKeeper<'a> {
         }
         match self.write_at(alloc, path, moment) {
             Ok(bytes) => Ok(bytes),
-            Err(failure) => Err(self.refusal_of(alloc, failure)),
+            Err(failure) => Err(self.refusal_of(alloc, NOT_SAVED, failure)),
         }
     }
 
@@ -426,16 +438,12 @@ impl<'a> Keeper for FileKeeper<'a> {
         };
         match self.replace_at(alloc, path, from, false) {
             Ok(()) => Ok(()),
-            Err(failure) => Err(self.refusal_of(alloc, failure)),
+            Err(failure) => Err(self.refusal_of(alloc, NOT_SAVED, failure)),
         }
     }
 
     fn journal(&self) -> Option<JournalSettings> {
         self.settings
-    }
-
-    fn append(&self, alloc: Global, batch: &[u8]) -> Result<(), Refusal> {
-        self.append_batch(alloc, batch)
     }
 
     fn end(&self) -> u64 {
@@ -451,7 +459,7 @@ impl<'a> Keeper for FileKeeper<'a> {
     fn note(&self, alloc: Global, image: &Image) {
         if let Some(mut noted) = self.noted.try_lock() {
             if let Some(noted) = &mut *noted {
-                noted.note(alloc, &Appender { keeper: self }, image);
+                noted.note(alloc, self, image);
             }
         }
     }
@@ -466,15 +474,15 @@ impl<'a> Keeper for FileKeeper<'a> {
 
     /// Writes to standard error. Where nobody reads that, it waits, and others do not write meanwhile.
     fn tell(&self) {
-        let why = match self.why.try_lock() {
-            Some(mut why) => why.take(),
+        let news = match self.news.try_lock() {
+            Some(mut news) => news.take(),
             None => None,
         };
-        let Some(words) = why else {
+        let Some(words) = news else {
             return;
         };
         if !self.is_telling.swap(true, Ordering::SeqCst) {
-            let _ = eprintln!(self.rt; "actorimage: the image is not saved: {words}");
+            let _ = eprintln!(self.rt; "actorimage: {words}");
             self.is_telling.store(false, Ordering::SeqCst);
         }
     }

@@ -1,9 +1,8 @@
 //! The image with which a run begins that has hold of its file, and what keeps it.
 use crate::failures::Failure;
 use crate::image_files::{Opened, digest_of_file, load_file, path_of};
-use crate::journals::{
-    Found, Journal, is_there, journal_of, journal_of_another_image, refuse_journal,
-};
+use crate::journal_files::is_there;
+use crate::journals::{Found, Journal, journal_of, journal_of_another_image, refuse_journal};
 use crate::keeping::FileKeeper;
 use crate::new_files::NewFile;
 use crate::options::Keeping;

@@ -7,6 +7,7 @@ mod digests;
 mod doors;
 mod failures;
 mod image_files;
+mod journal_files;
 mod journals;
 mod keeping;
 mod loading;

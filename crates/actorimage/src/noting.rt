@@ -1,9 +1,8 @@
 //! What a script has led to, until it is in its journal.
 use crate::keeping::FileKeeper;
 use st_classes::refusals::Refusal;
-use st_file::moments::Moment;
 use st_server::images::Image;
-use st_server::keepers::{JournalSettings, Keeper};
+use st_server::keepers::JournalWriter;
 use st_server::telling::Telling;
 use std::alloc::Global;
 use std::io::{self, ErrorKind, Write};
@@ -26,8 +25,8 @@ impl Noted {
     }
 
     /// Tells what there is of an image and is not told.
-    pub fn note<S: Keeper>(&mut self, alloc: Global, keeper: &S, image: &Image) {
-        if self.telling.tell_image(alloc, keeper, image).is_err() {
+    pub fn note<W: JournalWriter>(&mut self, alloc: Global, journal: &W, image: &Image) {
+        if self.telling.tell_image(alloc, journal, image).is_err() {
             self.has_failed = true;
         }
     }
@@ -40,46 +39,12 @@ impl Noted {
     }
 
     /// Has what is told written. Once something could not be told, this fails.
-    pub fn write<S: Keeper>(&mut self, alloc: Global, keeper: &S) -> Result<(), Refusal> {
+    pub fn write<W: JournalWriter>(&mut self, alloc: Global, journal: &W) -> Result<(), Refusal> {
         if self.has_failed {
             return Err(Refusal::WriteFault);
         }
-        self.telling.write(alloc, keeper)
+        self.telling.write(alloc, journal)
     }
-}
-
-/// Who appends to the journal of a keeper, and keeps no image.
-#[derive(Clone, Copy)]
-pub struct Appender<'b, 'a> {
-    pub keeper: &'b FileKeeper<'a>,
-}
-
-impl<'b, 'a> Keeper for Appender<'b, 'a> {
-    fn write(&self, _alloc: Global, _moment: &Moment) -> Result<u64, Refusal> {
-        Err(Refusal::BadArguments)
-    }
-
-    fn replace(&self, _alloc: Global, _from: u64) -> Result<(), Refusal> {
-        Err(Refusal::WriteFault)
-    }
-
-    fn journal(&self) -> Option<JournalSettings> {
-        None
-    }
-
-    fn append(&self, alloc: Global, batch: &[u8]) -> Result<(), Refusal> {
-        self.keeper.append_batch(alloc, batch)
-    }
-
-    fn end(&self) -> u64 {
-        0
-    }
-
-    fn note(&self, _alloc: Global, _image: &Image) {}
-
-    fn note_checkpoint(&self, _alloc: Global, _image: &Image) {}
-
-    fn tell(&self) {}
 }
 
 /// The output of a script. Before it passes replies on, what they tell is in the journal and on the disk.

@@ -1,9 +1,8 @@
 //! Images that were: an image's file, and the beginning of what its journal tells. Both stay as they are.
 use crate::failures::Failure;
 use crate::image_files::{Opened, Place, digest_of_file, open_file};
-use crate::journals::{
-    header_of, is_there, journal_of, journal_of_another_image, open_to_read, read_whole,
-};
+use crate::journal_files::{is_there, open_to_read, read_whole};
+use crate::journals::{header_of, journal_of, journal_of_another_image};
 use crate::keeping::FileKeeper;
 use crate::loading::{loaded, refused_line};
 use crate::new_files::place_of;

@@ -17,6 +17,7 @@ use st_mailbox::mailboxes::Mailbox;
 use std::alloc::Global;
 use std::hint::spin_loop;
 use std::sync::{Condvar, CondvarTimeouts, Mutex, MutexGuard, Wait};
+use std::thread::yield_now;
 use std::time::{Clock, Duration};
 
 /// How often a thread looks for the lock at short intervals. A hold takes about a microsecond.
@@ -30,6 +31,10 @@ const LONG_LOOKS: usize = 250;
 const PAUSES: usize = 4;
 
 const LONG_PAUSES: usize = 16;
+
+/// How often a caller looks whether a turn has ended before it sleeps for that. Between two looks other threads may run. Most turns end
+/// sooner than a thread that sleeps would be woken.
+const LOOKS_FOR_END: u32 = 32;
 
 /// Lets some time pass.
 #[inline]
@@ -114,17 +119,38 @@ impl<K: Naming, M: Mailbox> Shared<K, M> {
         self.office.lock(rt)
     }
 
-    /// Takes the lock once a condition holds, or this long has passed. The thread sleeps for it, and holds no lock meanwhile.
+    /// Takes the lock if a condition holds at one of some looks.
+    fn look_for<R: Wait, C: Condition<K, M>>(
+        &self,
+        rt: &R,
+        condition: &C,
+    ) -> Option<MutexGuard<'_, Office<K, M>>> {
+        for _ in 0..LOOKS_FOR_END {
+            let office = self.enter(rt);
+            if condition.holds(&office) {
+                return Some(office);
+            }
+            drop(office);
+            yield_now();
+        }
+        None
+    }
+
+    /// Takes the lock once a condition holds, or this long has passed. It is looked some times before the thread sleeps for it; no lock is
+    /// held meanwhile.
     pub(crate) fn enter_when<R: Wait + Clock, C: Condition<K, M>>(
         &self,
         rt: &R,
         condition: &C,
         most: Duration,
     ) -> MutexGuard<'_, Office<K, M>> {
-        let mut before = self.enter(rt);
-        if most.is_zero() || condition.holds(&before) {
-            return before;
+        if most.is_zero() {
+            return self.enter(rt);
         }
+        if let Some(office) = self.look_for(rt, condition) {
+            return office;
+        }
+        let mut before = self.enter(rt);
         before.waiting.begin_watch();
         let (mut behind, _) = self
             .ended

@@ -11,7 +11,9 @@ ghost use Rattle.st_wire.specs.declared.commands.Command.TheVariants as commands
 use crate::asking::ask;
 use crate::images::Mailbox;
 use crate::keepers::{Keeper, copied, replaced, written};
-use crate::recording::{Copied, CopyingBehind, Progress, Recorder};
+use crate::progress::Progress;
+use crate::readings::{Copied, CopyingBehind};
+use crate::recording::Recorder;
 use crate::starts::Place;
 use crate::turns::Turns;
 use crate::waits::TurnEnd;

@@ -18,8 +18,21 @@ pub struct JournalSettings {
     pub save_after: u32,
 }
 
+/// Who appends to a journal, if there is one. One thread at a time does.
+pub trait JournalWriter {
+    ghost use Rattle.std.specs.Prelude.{IfErr};
+    ghost use Rattle.st_server.specs.Keepers.{IsFault};
+
+    /// Appends a batch to the journal: whole lines, and an empty line. At `Ok` it is on the disk.
+    ///
+    /// Refusals: `NoMemory`, `WriteFault`. After these a crash may leave it or not, and the next batch takes its place: so it begins with
+    /// the same lines.
+    fn append(&self, alloc: Global, batch: &[u8]) -> Result<(), Refusal>
+        ensures { IfErr result IsFault };
+}
+
 /// Who keeps the images that are saved, and perhaps a journal of what happens between two saves. One thread at a time calls one method.
-pub trait Keeper {
+pub trait Keeper: JournalWriter {
     ghost use Rattle.std.specs.Prelude.{IfErr};
     ghost use Rattle.st_server.specs.Keepers.{Keeps, IsFault};
 
@@ -41,13 +54,6 @@ pub trait Keeper {
     /// How the journal is kept, if there is one.
     fn journal(&self) -> Option<JournalSettings>;
 
-    /// Appends a batch to the journal: whole lines, and an empty line. At `Ok` it is on the disk.
-    ///
-    /// Refusals: `NoMemory`, `WriteFault`. After these a crash may leave it or not, and the next batch takes its place: so it begins with
-    /// the same lines.
-    fn append(&self, alloc: Global, batch: &[u8]) -> Result<(), Refusal>
-        ensures { IfErr result IsFault };
-
     /// How many bytes the lines of the journal have; 0 if there is none.
     fn end(&self) -> u64;
 
@@ -65,6 +71,12 @@ pub trait Keeper {
 /// Nobody: there is no place for images.
 pub struct Nobody;
 
+impl JournalWriter for Nobody {
+    fn append(&self, _alloc: Global, _batch: &[u8]) -> Result<(), Refusal> {
+        Err(Refusal::WriteFault)
+    }
+}
+
 impl Keeper for Nobody {
     fn write(&self, _alloc: Global, _moment: &Moment) -> Result<u64, Refusal> {
         Err(Refusal::BadArguments)
@@ -76,10 +88,6 @@ impl Keeper for Nobody {
 
     fn journal(&self) -> Option<JournalSettings> {
         None
-    }
-
-    fn append(&self, _alloc: Global, _batch: &[u8]) -> Result<(), Refusal> {
-        Err(Refusal::WriteFault)
     }
 
     fn end(&self) -> u64 {

@@ -2,27 +2,21 @@
 //!
 //! What has happened is read in short holds of the image's lock, and told and written outside of it: so nobody waits for the disk but
 //! sessions whose replies are to be true after a crash. One thread at a time goes on with the journal.
-ghost use Rattle.std.specs.Prelude.{◌≡◌, IfErr, IfOk};
-ghost use Rattle.st_file.specs.Moments.{moment_of};
 ghost use Rattle.st_server.specs.Keepers.{IsFault, StaysOrFails};
 
 use crate::images::Mailbox;
-use crate::keepers::{JournalSettings, Keeper, copied};
-use crate::telling::{MOST_TOLD, Telling};
+use crate::keepers::{JournalSettings, Keeper};
+use crate::progress::Progress;
+use crate::readings::{Behind, Copied, CopyingBehind, Read};
 use crate::turns::Turns;
-use st_classes::names::Names;
 use st_classes::refusals::Refusal;
-use st_classes::token::Token;
 use st_file::moments::Moment;
-use st_image::items::Item;
-use st_journal::copying::copied_items;
-use st_pool::holds::Reading;
 use st_pool::naming::Naming;
-use st_pool::office::Office;
 use st_pool::shared::Shared;
 use std::alloc::{AllocError, Global};
 use std::sync::atomic::{AtomicU64, Ordering};
 use std::sync::{Condvar, CondvarTimeouts, Mutex, MutexGuard, Wait};
+use std::thread::{sleep, yield_now};
 use std::time::{Clock, Duration};
 
 /// How many items are copied in a hold at most, so that it is short.
@@ -47,156 +41,15 @@ const PAUSE_BEHIND_REPLIES: u32 = 1000;
 /// The pause between two looks whether the image is to be saved, in milliseconds.
 const SAVING_PAUSE: u32 = 100;
 
-/// How many bytes and how many steps a unit of [`JournalSettings::save_after`] stands for.
-const BYTES: u64 = 1_000_000;
+/// How often a session whose replies wait looks whether a round that serves it has ended, or whether it can make one itself. Between the
+/// first looks other threads may run, and between the others the session sleeps for a moment: to be woken by the one before it, as those
+/// are that wait for a lock, takes longer than many disks.
+const LOOKS: u32 = 192;
 
-const STEPS: u64 = 31_250_000;
+const LOOKS_AWAKE: u32 = 128;
 
-/// What was read in a hold: items, and the names and the class table by which they can be told.
-#[derive(Drop)]
-pub(crate) struct Read {
-    names: Names,
-    table: Token,
-    items: Vec<Item>,
-    /// Whether these are all items of a history that a checkpoint has emptied.
-    is_past: bool,
-    /// Whether more has happened.
-    is_left: bool,
-    /// How many steps the image had counted.
-    steps: u64,
-}
-
-/// Reads what has happened behind so many items of the history, and so many items at most. If a checkpoint has emptied a history that was
-/// not taken, that is taken, unless an earlier one is not told yet: then nothing is read.
-#[derive(Drop)]
-pub(crate) struct Behind {
-    items: usize,
-    most: usize,
-    takes_past: bool,
-}
-
-impl Behind {
-    /// The items of the history that are read.
-    fn items_in<K: Naming>(
-        &self,
-        alloc: Global,
-        office: &Office<K, Mailbox>,
-    ) -> Result<(Vec<Item>, bool), AllocError> {
-        if !self.takes_past {
-            return Ok((Vec::new(alloc), true));
-        }
-        let history = office.image().history();
-        let all = history.len();
-        let from = self.items.min(all);
-        let count = self.most.min(all - from);
-        let items = copied_items(alloc, &history[from..from + count])?;
-        Ok((items, from + count < all))
-    }
-
-    /// What has happened, in a hold of the lock.
-    fn read_in<K: Naming>(
-        &self,
-        alloc: Global,
-        office: &mut Office<K, Mailbox>,
-    ) -> Result<Read, AllocError>
-        ensures { office.new ≡ office.old }
-    {
-        let names = office.image().names().again()?;
-        let table = office.image().token().again()?;
-        let steps = office.image().counted().steps;
-        if self.takes_past {
-            if let Some(items) = office.take_past() {
-                return Ok(Read {
-                    names,
-                    table,
-                    items,
-                    is_past: true,
-                    is_left: true,
-                    steps,
-                });
-            }
-        }
-        let (items, is_left) = self.items_in(alloc, office)?;
-        Ok(Read {
-            names,
-            table,
-            items,
-            is_past: false,
-            is_left,
-            steps,
-        })
-    }
-}
-
-impl<K: Naming> Reading<K, Mailbox> for Behind {
-    type Out = Result<Read, AllocError>;
-
-    fn read(self, alloc: Global, office: &mut Office<K, Mailbox>) -> Result<Read, AllocError> {
-        self.read_in(alloc, office)
-    }
-}
-
-/// Copies an image to save it, and reads what has happened that its journal does not tell. If more has happened, nothing is copied.
-#[derive(Drop)]
-pub(crate) struct CopyingBehind {
-    pub(crate) behind: Behind,
-}
-
-/// Whether all was read that had happened.
-fn is_all(read: &Result<Read, AllocError>) -> bool {
-    match read {
-        Ok(read) => !read.is_left,
-        Err(_) => false,
-    }
-}
-
-/// What was copied, and what was read.
-pub(crate) type Copied = (Result<Moment, Refusal>, Result<Read, AllocError>);
-
-impl CopyingBehind {
-    /// Both, in a hold of the lock.
-    pub(crate) fn copy_in<K: Naming>(
-        &self,
-        alloc: Global,
-        office: &mut Office<K, Mailbox>,
-    ) -> Copied
-        ensures same { office.new ≡ office.old }
-        ensures moment { IfOk result.0 (λ m. m ≡ moment_of office.old.image) }
-        ensures fault { IfErr result.0 IsFault }
-    {
-        let read = self.behind.read_in(alloc, office);
-        if is_all(&read) {
-            (copied(alloc, office.image()), read)
-        } else {
-            (Err(Refusal::NoMemory), read)
-        }
-    }
-}
-
-impl<K: Naming> Reading<K, Mailbox> for CopyingBehind {
-    type Out = Copied;
-
-    fn read(self, alloc: Global, office: &mut Office<K, Mailbox>) -> Copied {
-        self.copy_in(alloc, office)
-    }
-}
-
-/// How far a journal is.
-#[derive(Drop)]
-pub(crate) struct Progress {
-    /// What is told, of the history that was read or else of the present one.
-    telling: Telling,
-    /// What was read of a history that a checkpoint has emptied, until all of it is told.
-    past: Option<Read>,
-    /// The number of the last round that has ended.
-    round: u64,
-    /// How many steps the image had counted by then.
-    steps: u64,
-    /// The image is saved when the journal has so many bytes,
-    most_bytes: u64,
-    /// or when the image has counted so many steps.
-    most_steps: u64,
-}
+/// For how long it sleeps between two looks, in microseconds.
+const MOMENT: u64 = 200;
 
 /// Why an image is not copied or saved: there was no memory, or the journal could not be written, whatever was in the way.
 fn as_fault(refusal: Refusal) -> Refusal
@@ -208,61 +61,6 @@ fn as_fault(refusal: Refusal) -> Refusal
     }
 }
 
-impl Progress {
-    /// Nothing is told but so many names and items, of an image that has counted so many steps.
-    fn new(alloc: Global, names: u32, items: usize, steps: u64) -> Progress {
-        Progress {
-            telling: Telling::new(alloc, names, items),
-            past: None,
-            round: 0,
-            steps,
-            most_bytes: u64::MAX,
-            most_steps: u64::MAX,
-        }
-    }
-
-    /// Whether the image is to be saved.
-    fn is_due(&self, end: u64) -> bool {
-        end >= self.most_bytes || self.steps >= self.most_steps
-    }
-
-    /// The image is saved next when that much more has happened.
-    fn wait_for_more(&mut self, end: u64, settings: JournalSettings) {
-        let units = u64::from(settings.save_after);
-        self.most_bytes = end.saturating_add(units.saturating_mul(BYTES));
-        self.most_steps = self.steps.saturating_add(units.saturating_mul(STEPS));
-    }
-
-    /// What is to be read next, so many items at most.
-    fn behind(&self, most: usize) -> Behind {
-        Behind {
-            items: self.telling.items(),
-            most,
-            takes_past: self.past.is_none(),
-        }
-    }
-
-    /// Tells what was read of the present history. After an error nothing is told.
-    fn tell_present(&mut self, alloc: Global, read: &Read) -> Result<(), Refusal> {
-        self.telling
-            .tell(alloc, &read.names, read.table.shown(), &read.items)
-    }
-
-    /// Tells some of a history that a checkpoint has emptied, and the checkpoint behind the last of it. The answer is whether all is told.
-    fn tell_past(&mut self, alloc: Global, read: &Read) -> Result<bool, Refusal> {
-        let from = self.telling.items().min(read.items.len());
-        let count = MOST_TOLD.min(read.items.len() - from);
-        let (names, table) = (&read.names, read.table.shown());
-        if count > 0 {
-            let items = &read.items[from..from + count];
-            self.telling.tell(alloc, names, table, items)?;
-            return Ok(false);
-        }
-        self.telling.tell_checkpoint(alloc, names, table)?;
-        Ok(true)
-    }
-}
-
 /// Goes on with the journal of a served image, if there is one.
 #[derive(Drop)]
 pub struct Recorder<'a, K: Naming, S: Keeper> {
@@ -270,6 +68,8 @@ pub struct Recorder<'a, K: Naming, S: Keeper> {
     keeper: &'a S,
     /// How many rounds have begun.
     rounds: AtomicU64,
+    /// The number of the last round that has ended, and has written all that had happened when it began.
+    ended: AtomicU64,
     progress: Mutex<Progress>,
     is_ended: Mutex<bool>,
     ending: Condvar,
@@ -289,6 +89,7 @@ impl<'a, K: Naming, S: Keeper> Recorder<'a, K, S> {
             shared,
             keeper,
             rounds: AtomicU64::new(0),
+            ended: AtomicU64::new(0),
             progress: Mutex::new(Progress::new(alloc, names, items, steps)),
             is_ended: Mutex::new(false),
             ending: Condvar::new(),
@@ -367,7 +168,7 @@ impl<'a, K: Naming, S: Keeper> Recorder<'a, K, S> {
         let number = self.rounds.fetch_add(1, Ordering::SeqCst).wrapping_add(1);
         self.tell_all(rt, alloc, progress)?;
         progress.telling.write(alloc, self.keeper)?;
-        progress.round = number;
+        self.ended.store(number, Ordering::SeqCst);
         Ok(())
     }
 
@@ -382,18 +183,48 @@ impl<'a, K: Naming, S: Keeper> Recorder<'a, K, S> {
         self.tell_all(rt, alloc, progress)
     }
 
-    /// Waits until all that has happened until now is on the disk, if replies wait for that. Sessions that wait together share a round.
-    pub(crate) fn reach<R: Wait>(&self, rt: &R, alloc: Global) -> Result<(), Refusal> {
+    /// Whether a round has ended that began when so many rounds had begun before it, or more.
+    fn has_ended_since(&self, begun: u64) -> bool {
+        self.ended.load(Ordering::SeqCst) > begun
+    }
+
+    /// A round, unless one has ended that began when so many rounds had begun before it, or more.
+    fn round_unless_ended<R: Wait>(
+        &self,
+        rt: &R,
+        alloc: Global,
+        begun: u64,
+        progress: &mut Progress,
+    ) -> Result<(), Refusal> {
+        if self.has_ended_since(begun) {
+            return Ok(());
+        }
+        self.round(rt, alloc, progress)
+    }
+
+    /// Waits until all that has happened until now is on the disk, if replies wait for that. Sessions that wait together share a round,
+    /// which one of them makes.
+    pub(crate) fn reach<R: Wait + Clock>(&self, rt: &R, alloc: Global) -> Result<(), Refusal> {
         match self.keeper.journal() {
             Some(settings) if settings.pause == 0 => {}
             _ => return Ok(()),
         }
         let begun = self.rounds.load(Ordering::SeqCst);
-        let mut progress = self.progress.lock(rt);
-        if progress.round > begun {
-            return Ok(());
+        for look in 0..LOOKS {
+            if self.has_ended_since(begun) {
+                return Ok(());
+            }
+            if let Some(mut progress) = self.progress.try_lock() {
+                return self.round_unless_ended(rt, alloc, begun, &mut progress);
+            }
+            if look < LOOKS_AWAKE {
+                yield_now();
+            } else {
+                sleep(rt, Duration::from_micros(MOMENT));
+            }
         }
-        self.round(rt, alloc, &mut progress)
+        let mut progress = self.progress.lock(rt);
+        self.round_unless_ended(rt, alloc, begun, &mut progress)
     }
 
     /// What is to be read in the hold in which an image is copied.

@@ -1,6 +1,6 @@
 //! What is told in a journal, until it is there.
 use crate::images::Image;
-use crate::keepers::Keeper;
+use crate::keepers::JournalWriter;
 use st_classes::names::Names;
 use st_classes::refusals::Refusal;
 use st_classes::version::Version;
@@ -93,12 +93,12 @@ impl Telling {
 
     /// Has what is told written, if anything is: its lines, and an empty line. After an error it is written the next time, with what is told
     /// by then.
-    pub fn write<S: Keeper>(&mut self, alloc: Global, keeper: &S) -> Result<(), Refusal> {
+    pub fn write<W: JournalWriter>(&mut self, alloc: Global, journal: &W) -> Result<(), Refusal> {
         if self.text.is_empty() {
             return Ok(());
         }
         self.text.extend_from_slice(b"\n")?;
-        match keeper.append(alloc, self.text.as_slice()) {
+        match journal.append(alloc, self.text.as_slice()) {
             Ok(()) => {
                 self.text.clear();
                 Ok(())
@@ -111,17 +111,17 @@ impl Telling {
     }
 
     /// Tells all of an image that is not told, and has it written where it is much. After an error some of it is.
-    pub fn tell_image<S: Keeper>(
+    pub fn tell_image<W: JournalWriter>(
         &mut self,
         alloc: Global,
-        keeper: &S,
+        journal: &W,
         image: &Image,
     ) -> Result<(), Refusal> {
         let (names, table) = (image.names(), image.version());
         let behind = image.history().get(self.items..).unwrap_or(&[]);
         for items in behind.chunks(MOST_TOLD) {
             if self.is_much() {
-                self.write(alloc, keeper)?;
+                self.write(alloc, journal)?;
             }
             self.tell(alloc, names, table, items)?;
         }

@@ -48,6 +48,22 @@ def drafts_stay(program):
                 until(lambda: other.source("Till", "sold").source == "sold  ^sold + 41")
 
 
+def a_new_method_has_a_row(program):
+    """A new method that is typed and not installed stands among the methods, and what was typed is there again; installed it has its name."""
+    with shown(program) as (server, _, _, browser):
+        choose(browser, "Till", "sold")
+        browser.click("#new-method")
+        browser.write("#source", "half ^1")
+        choose(browser, "Till", "sold")
+        same(browser.texts("[role=option][data-text='']"), ["new method\n●"])
+        browser.click("[role=option][data-text='']")
+        browser.wait("return document.querySelector('#source').value === 'half ^1'")
+        same(browser.run("return document.querySelector('[role=option][aria-selected=true]').dataset.text"), "")
+        browser.press("s", "ctrl")
+        browser.wait("return document.querySelector('[role=option][aria-selected=true]')?.dataset.text === 'half'")
+        same(browser.texts("[role=option][data-text='']"), [])
+
+
 def a_hidden_window_rests(program):
     """A window that nobody sees asks nothing; seen again it goes on. One without the token is told what it needs."""
     with shown(program) as (server, image, opened, browser):
@@ -210,5 +226,5 @@ def the_end_of_the_page_is_told(program):
 
 
 TRIALS = (
-    drafts_stay, a_hidden_window_rests, a_file_leads_to_the_page, texts_are_texts, the_browser_keeps_others_out, only_looks_in_the_browser, the_end_of_the_page_is_told,
+    drafts_stay, a_new_method_has_a_row, a_hidden_window_rests, a_file_leads_to_the_page, texts_are_texts, the_browser_keeps_others_out, only_looks_in_the_browser, the_end_of_the_page_is_told,
 )

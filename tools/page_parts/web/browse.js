@@ -27,7 +27,7 @@ const middle = h("section", { of: "pane methods", "aria-label": "Methods" },
   h("header", {}, h("h2", { of: "grow" }, "Methods"), sides,
     button("plain changes", "+", () => fresh(), { title: "Writes a new method", "aria-label": "New method", id: "new-method" })),
   definition, scroll, actorsOf);
-walkable(box, it => choose(it.dataset.text));
+walkable(box, it => (it.dataset.text ? choose(it.dataset.text) : fresh()));
 
 function choose(selector) {
   if (selector === at.selector && pane.told?.selector === selector) return;
@@ -50,6 +50,7 @@ export async function list() {
   if (at.side === "gone") gone = (await look("gone", { class: at.class })).ok || [];
   const removed = gone.map(selector => ({ selector, from: at.class }));
   const rows = withDrafts(at.side === "gone" ? removed : selectors(at.class, at.side === "all"));
+  if (hasDraft(at.class, "")) rows.unshift({ selector: "", from: at.class });
   put(box, rows.length ? rows.map(row) : h("div", { of: "nothing" },
     at.side === "gone" ? "None was removed." : it?.isKernel
     ? "The kernel's methods of this class have no source." : "No method yet: + writes one."));
@@ -68,7 +69,7 @@ function withDrafts(rows) {
 function row({ selector, from, isKernel, isRemoved }) {
   const isOwn = from === at.class;
   return h("div", { of: `item${isOwn && !isKernel ? "" : " kernel"}`, role: "option", "data-text": selector },
-    h("span", { of: "grow code cut" }, selector),
+    h("span", { of: "grow code cut" }, selector || h("i", {}, "new method")),
       isRemoved && h("span", { of: "chip fault", title: "removed by somebody else; what you typed is still here" }, "removed"),
       hasDraft(from, selector) && h("span", { of: "chip changed", title: "typed, not installed" }, "●"),
     !isOwn && h("span", { of: "count" }, from), isKernel && isOwn && h("span", { of: "count" }, "kernel"),
@@ -97,7 +98,7 @@ async function newActor() {
 }
 
 function mark() {
-  for (const it of box.querySelectorAll("[role=option]")) it.setAttribute("aria-selected", String(it.dataset.text === at.selector));
+  for (const it of box.querySelectorAll("[role=option]")) it.setAttribute("aria-selected", String(it.dataset.text === (at.selector ?? "")));
   oneStop(box);
   box.querySelector("[aria-selected=true]")?.scrollIntoView({ block: "nearest" });
   drawShapes();
@@ -128,7 +129,7 @@ export function show(main) {
 // What an event tells, with whether classes have changed.
 export function tell(event, isChanged) {
   if (isChanged) { tree.draw(); list(); }
-  else if (box.querySelector("[aria-selected=true]")?.dataset.text !== at.selector) mark();
+  else if (box.querySelector("[aria-selected=true]")?.dataset.text !== (at.selector ?? "")) mark();
   if (event.heat) tree.warm();
   if (event.shapes) { told = event.shapes; drawShapes(); }
   pane.tell(event);

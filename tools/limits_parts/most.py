@@ -29,6 +29,8 @@ MESSAGES = 1024
 # Clients have the numbers below.
 CLIENTS = 65_536
 OUTCOMES = 64
+# Turns that failed, of an image.
+FAULTS = 64
 HISTORY = 1_000_000
 # Posts and steps that an image counts.
 COUNTED = 2**63 - 1

@@ -20,7 +20,7 @@ import tempfile
 import threading
 import time
 
-from inspect_parts.written import compact
+from inspect_trials.written import compact
 from second_opinion.inspecting import inspected
 from trial_parts.patience import PATIENCE
 

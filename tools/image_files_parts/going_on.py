@@ -3,8 +3,8 @@
 import json
 
 from inspect_parts.json_text import read_json
-from inspect_parts.try_common import read
-from inspect_parts.written import compact
+from inspect_trials.try_common import read
+from inspect_trials.written import compact
 
 from .loaded import Loaded
 from .program import same, settings

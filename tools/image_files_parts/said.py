@@ -1,10 +1,10 @@
-"""What is to be said of the bytes of a file, and what is to be written of it: by the reader of tools/inspect."""
+"""What is to be said of the bytes of a file, and what is to be written of it: by the reader of bin/inspect."""
 
 from inspect_parts.json_text import read_json
 from inspect_parts.reading import read_image
 from inspect_parts.refused import BadImage
-from inspect_parts.try_common import read
-from inspect_parts.written import compact
+from inspect_trials.try_common import read
+from inspect_trials.written import compact
 
 from .program import Ended, refusal, same
 

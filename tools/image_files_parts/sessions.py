@@ -2,8 +2,8 @@
 
 import json
 
-from inspect_parts.try_common import read
-from inspect_parts.written import Written, compact
+from inspect_trials.try_common import read
+from inspect_trials.written import Written, compact
 from second_opinion.failing import Failures
 
 from .program import same, settings

@@ -3,8 +3,8 @@
 import functools
 import json
 
-from inspect_parts.try_common import good_files, read
-from inspect_parts.written import compact
+from inspect_trials.try_common import good_files, read
+from inspect_trials.written import compact
 
 from .loaded import Loaded
 from .program import same, settings

@@ -2,8 +2,8 @@
 
 import json
 
-from inspect_parts.try_limits import EMPTY, actor, actors, classes, define, edits, install
-from inspect_parts.written import compact
+from inspect_trials.try_limits import EMPTY, actor, actors, classes, define, edits, install
+from inspect_trials.written import compact
 
 from .going_on import go_on
 from .program import same

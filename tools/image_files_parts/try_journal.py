@@ -10,8 +10,8 @@ import subprocess
 import time
 
 from crashes_parts.journals import recovered
-from inspect_parts.try_common import read
-from inspect_parts.written import compact
+from inspect_trials.try_common import read
+from inspect_trials.written import compact
 from trial_parts.patience import PATIENCE
 
 from .disks import NO_DISK, small_disk

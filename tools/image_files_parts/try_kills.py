@@ -8,8 +8,8 @@ import random
 import threading
 import time
 
-from inspect_parts.try_common import read
-from inspect_parts.written import Written, compact
+from inspect_trials.try_common import read
+from inspect_trials.written import Written, compact
 from trial_parts.patience import PATIENCE
 
 from .program import same

@@ -2,10 +2,10 @@
 
 import json
 
-from inspect_parts.try_common import good_files, read
-from inspect_parts.try_limits import LIMITS, install, instructions, with_edits
-from inspect_parts.try_texts import KEYS_TWICE, VALUES, WHOLE
-from inspect_parts.written import compact
+from inspect_trials.try_common import good_files, read
+from inspect_trials.try_limits import LIMITS, install, instructions, with_edits
+from inspect_trials.try_texts import KEYS_TWICE, VALUES, WHOLE
+from inspect_trials.written import compact
 
 from .said import only_check, try_file
 

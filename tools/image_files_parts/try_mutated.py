@@ -7,10 +7,10 @@ import os
 import random
 import tempfile
 
-from inspect_parts.try_common import good_files, read
-from inspect_parts.try_generated import files
-from inspect_parts.try_limits import LIMITS
-from inspect_parts.written import compact
+from inspect_trials.try_common import good_files, read
+from inspect_trials.try_generated import files
+from inspect_trials.try_limits import LIMITS
+from inspect_trials.written import compact
 
 from .going_on import go_on
 from .mutating import mutated

@@ -5,8 +5,8 @@ import os
 
 from crashes_parts.journals import lines_beside, whole_lines
 from crashes_parts.redoing import Redone
-from inspect_parts.try_common import EXAMPLES, good_files, read
-from inspect_parts.written import compact
+from inspect_trials.try_common import EXAMPLES, good_files, read
+from inspect_trials.written import compact
 
 from .program import Ended, named, same
 from .saving import going_on

@@ -3,8 +3,8 @@
 import os
 
 from crashes_parts.journals import recovered
-from inspect_parts.try_common import EXAMPLES, read
-from inspect_parts.written import compact
+from inspect_trials.try_common import EXAMPLES, read
+from inspect_trials.written import compact
 
 from .program import Ended, named, refusal, same
 from .saving import end_of, going_on

@@ -7,8 +7,8 @@ import socket
 import subprocess
 import time
 
-from inspect_parts.try_common import FILES, bad_files, good_files, read
-from inspect_parts.written import compact
+from inspect_trials.try_common import FILES, bad_files, good_files, read
+from inspect_trials.written import compact
 from trial_parts.patience import PATIENCE
 
 from .loaded import Loaded

@@ -8,12 +8,12 @@ import time
 
 from trial_parts.patience import PATIENCE
 from trial_parts.turns import turns
-from workspace_parts.person import Person
-from workspace_parts.serving import Server
+from workspace_trials.person import Person
+from workspace_trials.serving import Server
 
 SOCKET = "image.socket"
 SERVE = "./actorimage serve "
-WORKSPACE, CLIENT, PROGRAM = f"$ tools/workspace --socket {SOCKET}", f"$ nc -U {SOCKET}", "$ python3 "
+WORKSPACE, CLIENT, PROGRAM = f"$ bin/workspace --socket {SOCKET}", f"$ nc -U {SOCKET}", "$ python3 "
 PAUSE = 0.01
 PENDING = '{"error":"Pending"}'
 

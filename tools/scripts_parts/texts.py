@@ -9,7 +9,7 @@ import re
 
 from .script import Script
 
-FOLDER = os.path.join(os.path.dirname(os.path.dirname(os.path.dirname(os.path.abspath(__file__)))), "tests", "scripts")
+FOLDER = os.path.join(os.path.dirname(os.path.dirname(os.path.dirname(os.path.realpath(__file__)))), "tests", "scripts")
 FIRST = re.compile(r"quantum (\d+), capacity (\d+): (.+)")
 TYPED = "> "
 

@@ -3,8 +3,9 @@
 import json
 import random
 
+from smalltalk.language import KERNEL_SELECTORS, arguments_of
+
 from .image import Image, TooManySteps
-from .language import KERNEL_SELECTORS, arguments_of
 from .looks import Looks
 from .machine import Message
 from .names import names_in

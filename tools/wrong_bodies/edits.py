@@ -3,7 +3,7 @@
 import os
 import re
 
-TOP = os.path.dirname(os.path.dirname(os.path.dirname(os.path.abspath(__file__))))
+TOP = os.path.dirname(os.path.dirname(os.path.dirname(os.path.realpath(__file__))))
 TRIED, OTHERS = "must-fail", "wrong-bodies"
 
 

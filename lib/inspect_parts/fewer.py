@@ -48,7 +48,7 @@ def written(fewer, count, name, new):
     after = read_image(text.encode())
     assert world(after) == world(image), "the classes would be others"
     rights = os.stat(name).st_mode & 0o777
-    with os.fdopen(os.open(new, os.O_WRONLY | os.O_CREAT | os.O_EXCL, rights), "w", encoding="ascii") as file:
+    with os.fdopen(os.open(new, os.O_WRONLY | os.O_CREAT | os.O_EXCL, rights), "w", encoding="utf-8") as file:
         file.write(text)
         file.flush()
         os.fsync(file.fileno())

@@ -4,6 +4,8 @@ import json
 import os
 import sys
 
+from common.compact import compact
+
 from .held import new_file
 from .reading import read_image
 from .refused import BadImage
@@ -17,7 +19,7 @@ def changed(program, name, change):
             data = file.read()
         image, read = read_image(data), json.loads(data)
         said = change(image, read)
-        text = json.dumps(read, separators=(",", ":"), sort_keys=True)
+        text = compact(read)
         read_image(text.encode())
         write(name, text)
         return said
@@ -30,4 +32,4 @@ def changed(program, name, change):
 def write(name, text):
     """Writes beside the file and moves that into its place."""
     with new_file(os.path.realpath(name)) as file:
-        file.write(text.encode("ascii") + b"\n")
+        file.write(text.encode() + b"\n")

@@ -1,10 +1,10 @@
 """How the image does in numbers: what is done a second, what waits, and how long there is room."""
 
 import os
-import socket
-import struct
 import time
 from collections import deque
+
+from common.sockets import connected, process_of
 
 # Points of the curves, one a tick, and those by which it is told how long there is room.
 POINTS, OF_ROOM = 600, 60
@@ -21,11 +21,8 @@ class Processors:
         """Finds the process that listens. This connection asks nothing and is gone at once."""
         self.files, self.before = None, None
         try:
-            with socket.socket(socket.AF_UNIX) as stream:
-                stream.settimeout(1)
-                stream.connect(self.path)
-                peer = stream.getsockopt(socket.SOL_SOCKET, socket.SO_PEERCRED, struct.calcsize("3i"))
-            self.files = f"/proc/{struct.unpack('3i', peer)[0]}/stat"
+            with connected(self.path, 1) as stream:
+                self.files = f"/proc/{process_of(stream)}/stat"
         except (OSError, AttributeError):
             pass
 

@@ -1,8 +1,9 @@
 """Changes of classes and methods, each told with what is wrong and where, and none over an edit of another person."""
 
 import actorimage
+from common.compact import in_given_order
 from workspace_parts import advice, served_advice
-from workspace_parts.connection import LONGEST_LINE, as_line
+from workspace_parts.connection import LONGEST_LINE
 from workspace_parts.known import near
 from workspace_parts.sources import Fault
 from workspace_parts.tokens import pattern
@@ -14,7 +15,7 @@ TOO_LONG = "this is too long for one line to the server, 8,192 bytes with its es
 
 def told(kept, line, command):
     """The reply to a change, or what is said where it is refused."""
-    if len(as_line(command).encode(errors="replace")) > LONGEST_LINE:
+    if len(in_given_order(command).encode(errors="replace")) > LONGEST_LINE:
         return {"error": "TooLong", "said": TOO_LONG}
     try:
         return {"ok": line.ask(command)}

@@ -71,7 +71,7 @@ class Request(BaseHTTPRequestHandler):
         answer = {"/look": self.server.page.look, "/do": self.server.page.do, "/type": self.server.page.type}.get(self.path)
         if answer is None:
             return self.reply(404, "text/plain", b"there is nothing to ask here\n")
-        self.reply(200, "application/json", compact(answer(asked)))
+        self.reply(200, "application/json", for_a_browser(answer(asked)))
 
     def body(self):
         try:
@@ -110,14 +110,15 @@ class Request(BaseHTTPRequestHandler):
         self.end_headers()
         try:
             for event in events:
-                self.wfile.write(b"data: " + compact(event) + b"\n\n")
+                self.wfile.write(b"data: " + for_a_browser(event) + b"\n\n")
         except OSError:
             pass
         finally:
             events.close()
 
 
-def compact(value):
+def for_a_browser(value):
+    """ASCII alone: a text that was typed may have half of a surrogate pair, for which UTF-8 has nothing."""
     return json.dumps(value, separators=(",", ":")).encode()
 
 

@@ -5,6 +5,8 @@ import os
 import signal
 import subprocess
 
+from common.compact import in_given_order
+
 from .wrong import Died, Ended
 
 # A longer line would end the session (docs/LIMITS.md).
@@ -87,7 +89,7 @@ class Connection:
 
     def send(self, command):
         """Whether a command is short enough to be sent."""
-        line = as_line(command).encode(errors="replace")
+        line = in_given_order(command).encode(errors="replace")
         if len(line) > LONGEST_LINE:
             return False
         self.process.stdin.write(line + b"\n")
@@ -121,7 +123,3 @@ class Connection:
         except subprocess.TimeoutExpired:
             os.killpg(self.process.pid, signal.SIGKILL)
             self.process.wait()
-
-
-def as_line(value):
-    return json.dumps(value, ensure_ascii=False, separators=(",", ":"))

@@ -1,6 +1,6 @@
 """What was sent, and what was answered."""
 
-from .connection import as_line
+from common.compact import in_given_order
 
 
 class Log:
@@ -12,5 +12,5 @@ class Log:
 
     def ask(self, command):
         reply = self.connection.ask(command)
-        self.lines.append(as_line({"sent": command, "answered": reply}))
+        self.lines.append(in_given_order({"sent": command, "answered": reply}))
         return reply

@@ -1,15 +1,14 @@
 """The image's file of a server, as the words tell with which the server was started."""
 
 import os
-import socket
-import struct
+
+from common.sockets import process_of
 
 
 def file_of(connected):
     """The file with which the server at the other end was started; None if it has none, or that cannot be seen."""
     try:
-        peer = connected.getsockopt(socket.SOL_SOCKET, socket.SO_PEERCRED, struct.calcsize("3i"))
-        process = f"/proc/{struct.unpack('3i', peer)[0]}"
+        process = f"/proc/{process_of(connected)}"
         with open(f"{process}/cmdline", encoding="utf-8", errors="replace") as file:
             name = named(file.read().split("\0"))
         return name and from_here(os.readlink(f"{process}/cwd"), name)

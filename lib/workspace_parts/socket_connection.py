@@ -2,18 +2,18 @@
 
 import json
 import os
-import socket
 import stat
 
-from .connection import LONGEST_LINE, as_line
+from common.compact import in_given_order
+from common.sockets import connected, operator
+
+from .connection import LONGEST_LINE
 from .served_file import file_of
 from .wrong import Died, Ended
 
 # A server takes no such command, since its workers run the actors. So this reply tells that a server is there.
 GREETING = {"cmd": "run"}
 ITS_REPLY = {"error": "BadCommand"}
-# A name for this end that begins so says that it is the operator's, for whom a server keeps one place more. It is no file.
-OPERATOR = b"\0actorimage.operator."
 # So long a server may take to greet: what listens may be something else, or accept no more sessions.
 SECONDS_TO_GREET = 30
 
@@ -23,11 +23,9 @@ class SocketConnection:
 
     def __init__(self, path, file=None):
         self.path, self.file = path, file
-        self.socket = socket.socket(socket.AF_UNIX)
-        self.socket.bind(OPERATOR + os.urandom(8).hex().encode())
+        self.socket = self.connect()
         self.replies = self.socket.makefile("rb")
         try:
-            self.connect()
             self.greet()
             self.file = file_of(self.socket)
         except BaseException:
@@ -36,7 +34,7 @@ class SocketConnection:
 
     def connect(self):
         try:
-            self.socket.connect(self.path)
+            return connected(self.path, name=operator())
         except (FileNotFoundError, ConnectionRefusedError):
             raise Ended(nothing_listens(self.path, self.file)) from None
         except OSError as error:
@@ -88,7 +86,7 @@ class SocketConnection:
 
 
 def encoded(command):
-    return as_line(command).encode(errors="replace")
+    return in_given_order(command).encode(errors="replace")
 
 
 def fits(command):

@@ -22,7 +22,7 @@ import time
 import traceback
 from itertools import repeat
 
-from inspect_parts.main import deeply
+from inspect_parts.deep import deeply
 
 from . import try_cuts, try_fewer, try_files, try_folders, try_full, try_going_on, try_held, try_limits, try_mutated, try_paths
 from . import try_commands, try_kills, try_picked, try_random, try_refused, try_saves, try_scripts, try_served, try_unsaved, try_watched

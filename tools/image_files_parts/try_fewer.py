@@ -5,6 +5,7 @@ import os
 import subprocess
 import sys
 
+from common.compact import compact
 from common.repository import path_of_tool
 from inspect_trials.try_common import good_files, read
 from trial_parts.patience import PATIENCE
@@ -120,7 +121,7 @@ def lines_of_symbols():
     for start in range(0, 8200, 400):
         args = [{"sym": f"u{number}"} for number in range(start, start + 400)]
         post = {"actor": 0, "args": args, "cmd": "post", "selector": "isNil", "sender": 1, "seq": 9}
-        yield json.dumps(post, separators=(",", ":")).encode()
+        yield compact(post).encode()
 
 
 def unused_names_go(program):

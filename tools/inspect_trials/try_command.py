@@ -12,7 +12,7 @@ from trial_parts.patience import PATIENCE
 from .checked import check_page
 from .try_common import INSPECT, good_files, read, run, same
 from .try_limits import define, install
-from .written import compact
+from .written import file_text
 
 MANY = 10_000
 FEWER = 500
@@ -88,9 +88,9 @@ def spent():
 
 def large():
     """The page of 10,000 actors is there in time; that of fewer is looked at."""
-    fewer = read_image(compact(many_actors(FEWER)).encode())
+    fewer = read_image(file_text(many_actors(FEWER)).encode())
     check_page(page(fewer, "fewer"), fewer)
-    data = compact(many_actors(MANY)).encode()
+    data = file_text(many_actors(MANY)).encode()
     with tempfile.NamedTemporaryFile(suffix=".json") as file:
         file.write(data)
         file.flush()

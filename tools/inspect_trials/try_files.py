@@ -12,7 +12,7 @@ from inspect_parts.reading import read_image
 from .changing import changes_in
 from .checked import check_page, has
 from .try_common import FILES, bad_files, good_files, read, refusal, run, same
-from .written import Written, compact, written
+from .written import Written, file_text, written
 
 
 def good():
@@ -53,7 +53,7 @@ def scripts():
     names = [name[: -len(".jsonl")] for name in sorted(os.listdir(FILES)) if name.endswith(".jsonl")]
     for name in names:
         commands = [json.loads(line) for line in read(os.path.join(FILES, name + ".jsonl")).splitlines()]
-        same((name, compact(written(commands)).encode()), (name, read(paths[name])))
+        same((name, file_text(written(commands)).encode()), (name, read(paths[name])))
     return len(names)
 
 
@@ -75,7 +75,7 @@ def document():
     blocks = [block for block in re.findall(r"^```\n(\{.*?)^```$", text, re.DOTALL | re.MULTILINE) if '"format"' in block]
     # A journal is lines of JSON, of which the first has a format too.
     files = [json.loads(block) for block in blocks if not block.startswith('{"journal"')]
-    same(compact(files[0]).encode(), read(good_files()["job"]))
+    same(file_text(files[0]).encode(), read(good_files()["job"]))
     for file in files:
         same(refusal(file), "good")
     has("```\n" + " ".join(KERNEL) + "\n```", text)

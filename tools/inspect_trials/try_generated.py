@@ -13,7 +13,7 @@ from second_opinion.sources import Sources
 
 from .checked import check_page
 from .try_common import good_files, read
-from .written import Written, compact
+from .written import Written, file_text
 
 SEED = 20240613
 SCRIPTS = 8
@@ -42,7 +42,7 @@ def generated():
     phases = collections.Counter()
     count = 0
     for file in files(random.Random(SEED)):
-        image = read_image(compact(file).encode())
+        image = read_image(file_text(file).encode())
         check_page(page(image, "generated"), image)
         phases.update(it if it == "fresh" else next(iter(it)) for it in (actor["body"]["phase"] for actor in file["actors"]))
         count += 1
@@ -84,7 +84,7 @@ def change(rng, file):
 
 def text_of(rng, file):
     """Seldom a text that is cut."""
-    text = compact(file).encode()
+    text = file_text(file).encode()
     return text[: rng.randrange(len(text))] if rng.random() < 0.02 else text
 
 
@@ -92,7 +92,7 @@ def at_random():
     """A changed file is refused by one of the places, or its page is right. Nothing else comes of it."""
     rng = random.Random(SEED)
     texts = [read(path) for path in good_files().values()]
-    texts += [compact(file).encode() for file in files(rng, 2)]
+    texts += [file_text(file).encode() for file in files(rng, 2)]
     ends = collections.Counter()
     for _ in range(CHANGES):
         file = json.loads(rng.choice(texts))

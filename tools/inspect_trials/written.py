@@ -1,7 +1,6 @@
 """Image files that the second implementation writes: what the trials show."""
 
-import json
-
+from common.compact import compact
 from inspect_parts.edits import names_of
 from inspect_parts.names import KERNEL
 from second_opinion.image import Image
@@ -9,9 +8,9 @@ from second_opinion.inspecting import part
 from smalltalk.language import is_selector
 
 
-def compact(file):
+def file_text(file):
     """The text of a file, as the program writes it."""
-    return json.dumps(file, separators=(",", ":"), sort_keys=True, ensure_ascii=False) + "\n"
+    return compact(file) + "\n"
 
 
 class Written(Image):
@@ -47,7 +46,7 @@ class Written(Image):
                 return
 
     def save(self, command):
-        return {"ok": {"bytes": len(compact(self.file()).encode())}}
+        return {"ok": {"bytes": len(file_text(self.file()).encode())}}
 
     def file(self):
         return {

@@ -2,10 +2,10 @@
 
 import contextlib
 import os
-import socket
 import subprocess
 import time
 
+from common.sockets import connected
 from trial_parts.patience import PATIENCE
 from trial_parts.turns import turns
 from workspace_trials.person import Person
@@ -56,9 +56,7 @@ class Client:
     """What a client sends is a line, and each has one reply."""
 
     def __init__(self, folder):
-        self.socket = socket.socket(socket.AF_UNIX)
-        self.socket.settimeout(PATIENCE)
-        self.socket.connect(os.path.join(folder, SOCKET))
+        self.socket = connected(os.path.join(folder, SOCKET), PATIENCE)
         self.replies = self.socket.makefile("r", encoding="utf-8")
 
     def answer(self, text):

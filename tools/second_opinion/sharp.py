@@ -19,7 +19,7 @@ from .wrong_running import WRONG_RUNNING
 
 HERE = os.path.dirname(os.path.realpath(__file__))
 TOOLS = os.path.dirname(HERE)
-SMALLTALK = os.path.join(os.path.dirname(TOOLS), "lib", "smalltalk")
+LIB = os.path.join(os.path.dirname(TOOLS), "lib")
 # What the copy's status says. It may also trip over itself, which tells the rules apart too.
 TRIALS = {0: "NOT told apart", 1: "told apart"}
 TRIPPED = "trips over itself"
@@ -29,13 +29,14 @@ def furnish(room):
     """Makes a folder like the repository, with what the second reader reads beside itself."""
     for name in ("lib", "tools"):
         os.mkdir(os.path.join(room, name))
+    os.symlink(os.path.join(LIB, "common"), os.path.join(room, "lib", "common"))
     os.symlink(os.path.join(TOOLS, "trial_parts"), os.path.join(room, "tools", "trial_parts"))
     os.symlink(os.path.join(os.path.dirname(TOOLS), "tests"), os.path.join(room, "tests"))
 
 
 def put_copy(room):
     """The folders of a new copy of the second reader: of what reads and compiles, and of what runs."""
-    folders = {os.path.join(room, "lib", "smalltalk"): SMALLTALK, os.path.join(room, "tools", "second_opinion"): HERE}
+    folders = {os.path.join(room, "lib", "smalltalk"): os.path.join(LIB, "smalltalk"), os.path.join(room, "tools", "second_opinion"): HERE}
     for copy, folder in folders.items():
         shutil.rmtree(copy, ignore_errors=True)
         shutil.copytree(folder, copy, ignore=shutil.ignore_patterns("__pycache__"))

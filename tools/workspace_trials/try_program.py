@@ -3,6 +3,7 @@
 import json
 import os
 import re
+import shutil
 import signal
 import subprocess
 import sys
@@ -12,7 +13,6 @@ from common.repository import TOP
 from trial_parts.patience import PATIENCE
 
 from .try_common import COUNTER, SPIN, WORKSPACE, piped, same, shell_program
-
 
 STOPPED = "was stopped after ([0-9,]+) quanta, to save half of the history; an edit of a method that it sends ends it"
 
@@ -94,6 +94,28 @@ def helped(program):
                 same((word, name in ended.stdout, ended.stderr, ended.returncode), (word, True, "", 0))
 
 
+def copied_alone(program):
+    """What is for users works without the rest of the repository; trials are not there."""
+    with tempfile.TemporaryDirectory() as folder:
+        for name in ("bin", "lib", "clients"):
+            shutil.copytree(os.path.join(TOP, name), os.path.join(folder, name))
+
+        def run(name, *words, given=""):
+            path = os.path.join(folder, "bin", name)
+            ended = subprocess.run([path, *words], input=given, capture_output=True, text=True, timeout=PATIENCE, cwd=folder)
+            return ended.stdout, ended.stderr, ended.returncode
+
+        for name in os.listdir(os.path.join(folder, "bin")):
+            same((name, run(name, "--help")[1:]), (name, ("", 0)))
+        typed, *ended = run("workspace", "--program", program, given="\n".join([*COUNTER, "c := Counter actor", "c start. c bump"]))
+        same((typed.splitlines()[-1], ended), ("1", ["", 0]))
+        page, *ended = run("inspect", os.path.join(TOP, "examples", "job.image.json"))
+        same((page.startswith("<!DOCTYPE html>"), ended), (True, ["", 0]))
+        for name, *words in (("inspect", "--try"), ("top", "--try", program), ("page", "--try", program)):
+            wanted = f"bin/{name}: its trials are in the repository alone, in tools/{name}_trials\n"
+            same(run(name, *words), ("", wanted, 1))
+
+
 def interrupted(program):
     """A run that is broken off ends a workspace that reads no terminal."""
     with subprocess.Popen(
@@ -170,4 +192,4 @@ def too_long(program):
     same(found.endswith("actor 0\n"), True)
 
 
-TRIALS = (endless, files, expected, why_not_expected, helped, interrupted, log, no_program, no_file, lost_program, too_long)
+TRIALS = (endless, files, expected, why_not_expected, helped, copied_alone, interrupted, log, no_program, no_file, lost_program, too_long)

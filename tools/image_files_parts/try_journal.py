@@ -73,7 +73,8 @@ def begun_and_ended(program):
     there. The journal is its owner's alone. With 0 milliseconds all that was replied to is there behind a kill."""
     path = program.at("file")
     first, journal = killed(program, path, CLASS, ACTOR, {"cmd": "checkpoint"}, ACTOR)
-    same("the image", first, file_text({"actors": [], "edits": [], "format": 2, "names": [], "posts": 0, "senders": [], "steps": 0}).encode())
+    empty = {"actors": [], "edits": [], "format": 2, "names": [], "posts": 0, "senders": [], "steps": 0}
+    same("the image", first, file_text(empty).encode())
     told = [{"edit": {"define": {"name": CLASS["name"], "slots": CLASS["slots"], "super": CLASS["super"]}}}, {"actor": CLASS["name"]}]
     told += [{"checkpoint": {}}, {"actor": CLASS["name"]}]
     same("the journal", journal, header(first) + b"".join(compact(it).encode() + b"\n" for it in told) + b"\n")

@@ -426,8 +426,8 @@ class Stale(Refused, stands="The class has another version of the method, `versi
 MOST_OF = {
     "classes": "The image has 1,024 classes with the kernel's 8, and keeps them: use those that are there.",
     "slots": "A class has at most 64 instance variables, with those that it inherits.",
-    "edits": "2,048 since the program began, so start it anew on its file; or 4,096 in the image, so use tools/fewer-edits on the file.",
-    "names": "The image has 8,192 selectors and symbols: use those that are there, or tools/fewer-names on its file.",
+    "edits": "2,048 since the program began, so start it anew on its file; or 4,096 in the image, so use bin/fewer-edits on the file.",
+    "names": "The image has 8,192 selectors and symbols: use those that are there, or bin/fewer-names on its file.",
     "actors": "The image has 65,536 actors, and keeps them: use those that are there.",
     "sessions": "The server has 64 sessions, and this one has not begun: end another one, or try again later.",
 }  # What `TooMany` means, by its `what`.

@@ -11,7 +11,7 @@ import tempfile
 import time
 
 TOP = os.path.dirname(os.path.dirname(os.path.dirname(os.path.realpath(__file__))))
-sys.path.insert(0, f"{TOP}/tools")
+sys.path[:0] = [f"{TOP}/tools", f"{TOP}/lib"]
 
 from trial_parts.patience import PATIENCE, until  # noqa: E402
 from trial_parts.times import later  # noqa: E402
@@ -55,7 +55,8 @@ class Room:
         shutil.copy(f"{TOP}/actorimage", self.top)
         for name in ("crates.txt", "HANDLES"):
             shutil.copy(f"{TOP}/{name}", self.top)
-        os.symlink(f"{TOP}/tools", f"{self.top}/tools")
+        for name in ("lib", "tools"):
+            os.symlink(f"{TOP}/{name}", f"{self.top}/{name}")
         for name in crates():
             os.makedirs(f"{self.top}/crates/{name}/src")
         self.source = f"{self.top}/crates/actorimage/src/main.rt"

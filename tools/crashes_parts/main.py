@@ -20,7 +20,7 @@ import tempfile
 import threading
 import time
 
-from inspect_parts.written import compact
+from inspect_trials.written import file_text
 from second_opinion.inspecting import inspected
 from trial_parts.patience import PATIENCE
 
@@ -72,7 +72,7 @@ class Round:
             # What it does meanwhile is no part of the comparison: it has no work but what was begun.
             if self.rng.random() < 0.3 and not image.ready:
                 client.done({"cmd": "save"})
-                assert read(self.file) == compact(image.file()).encode(), "the file that is saved differs"
+                assert read(self.file) == file_text(image.file()).encode(), "the file that is saved differs"
             status = client.done({"cmd": "status"})
             assert status["posts"] == image.posts and status["steps"] >= image.steps, (status, image.posts, image.steps)
             if image.ready:

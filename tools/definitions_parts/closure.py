@@ -10,7 +10,7 @@ import functools
 import os
 import re
 
-TOP = os.path.dirname(os.path.dirname(os.path.dirname(os.path.abspath(__file__))))
+TOP = os.path.dirname(os.path.dirname(os.path.dirname(os.path.realpath(__file__))))
 WORD = re.compile(r"[A-Za-z_][\w']*")
 HEAD = re.compile(r"^(?:abbrev\s+)?(?:pub\s+)?(?:(?P<kind>data|record)\s+)?(?P<name>[A-Za-z_][\w']*)\b")
 

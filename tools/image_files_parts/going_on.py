@@ -2,9 +2,10 @@
 
 import json
 
+from common.compact import compact
 from inspect_parts.json_text import read_json
-from inspect_parts.try_common import read
-from inspect_parts.written import compact
+from inspect_trials.try_common import read
+from inspect_trials.written import file_text
 
 from .loaded import Loaded
 from .program import same, settings
@@ -27,6 +28,6 @@ def go_on(program, about, data):
     image, path = Loaded(file, QUANTUM, CAPACITY), program.put("going on", data)
     lines = [json.dumps(command).encode() for command in commands(file)]
     replies = program.replies(f"{about}: going on", path, lines, settings(QUANTUM, CAPACITY))
-    wanted = [compact(image.reply(command)).encode().rstrip() for command in commands(file)]
+    wanted = [compact(image.reply(command)).encode() for command in commands(file)]
     same(f"{about}: replies", replies, wanted)
-    same(f"{about}: what is saved of what went on", read(path), compact(image.file()).encode())
+    same(f"{about}: what is saved of what went on", read(path), file_text(image.file()).encode())

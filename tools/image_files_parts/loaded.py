@@ -1,9 +1,9 @@
 """Image files that the second implementation goes on from."""
 
-from inspect_parts.written import Written
+from inspect_trials.written import Written
 from second_opinion.failing import Failures
 from second_opinion.machine import Frame, Message
-from second_opinion.values import Value
+from smalltalk.values import Value
 
 
 class Loaded(Written):

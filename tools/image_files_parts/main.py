@@ -3,12 +3,12 @@
     tools/image-files [--kills N] PROGRAM [TRIAL..]
     tools/image-files --mutate N [--seed N] PROGRAM
 
-PROGRAM is `crates/actorimage/out/actorimage`. What it is to say of a file, and what it is to write, is what tools/inspect_parts
+PROGRAM is `crates/actorimage/out/actorimage`. What it is to say of a file, and what it is to write, is what lib/inspect_parts
 and the second implementation say and write. A line for each kind of trial tells how many there were; at the first difference
 the status is 1. Where trials are named, those alone are run. --kills says how often a server is killed while it saves.
 
 --mutate changes good files in N ways, each at one place, and tries no more than that. A changed file is refused by the place
-that tools/inspect says, or it is taken, and what is written of it then is right. It prints every kind of difference once, and
+that bin/inspect says, or it is taken, and what is written of it then is right. It prints every kind of difference once, and
 keeps the files that show them.
 """
 
@@ -22,7 +22,7 @@ import time
 import traceback
 from itertools import repeat
 
-from inspect_parts.main import deeply
+from inspect_parts.deep import deeply
 
 from . import try_cuts, try_fewer, try_files, try_folders, try_full, try_going_on, try_held, try_limits, try_mutated, try_paths
 from . import try_commands, try_kills, try_picked, try_random, try_refused, try_saves, try_scripts, try_served, try_unsaved, try_watched

@@ -3,7 +3,7 @@
 import copy
 import json
 
-from inspect_parts.try_generated import STRAY, places_in
+from inspect_trials.try_generated import STRAY, places_in
 
 # A text that stands in for one that is no value of Python's, until the whole file is a text.
 RAW = "\x00raw"

@@ -1,10 +1,10 @@
-"""What is to be said of the bytes of a file, and what is to be written of it: by the reader of tools/inspect."""
+"""What is to be said of the bytes of a file, and what is to be written of it: by the reader of bin/inspect."""
 
 from inspect_parts.json_text import read_json
 from inspect_parts.reading import read_image
 from inspect_parts.refused import BadImage
-from inspect_parts.try_common import read
-from inspect_parts.written import compact
+from inspect_trials.try_common import read
+from inspect_trials.written import file_text
 
 from .program import Ended, refusal, same
 
@@ -27,7 +27,7 @@ class Said:
             counts = len(image.actors), len(image.classes.all), len(image.edits)
             self.place, self.check = None, Ended(0, b'{"ok":{"actors":%d,"classes":%d,"edits":%d}}\n' % counts, b"")
             parts = {"format": 2, "names": image.names.given + image.names.brought, "posts": image.posts, "steps": image.steps}
-            self.text = compact({**read_json(data), **parts}).encode()
+            self.text = file_text({**read_json(data), **parts}).encode()
 
 
 def try_file(program, about, data, said=None):

@@ -6,7 +6,7 @@ import json
 import os
 import subprocess
 
-from inspect_parts.try_common import read
+from inspect_trials.try_common import read
 from trial_parts.patience import PATIENCE
 
 from .program import Ended, same

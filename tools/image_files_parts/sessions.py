@@ -2,8 +2,9 @@
 
 import json
 
-from inspect_parts.try_common import read
-from inspect_parts.written import Written, compact
+from common.compact import compact
+from inspect_trials.try_common import read
+from inspect_trials.written import Written, file_text
 from second_opinion.failing import Failures
 
 from .program import same, settings
@@ -41,7 +42,7 @@ class Kept(Written):
 
     def compare(self, about, path):
         """The file is that of the image."""
-        same(f"{about}: what is saved", read(path), compact(self.file()).encode())
+        same(f"{about}: what is saved", read(path), file_text(self.file()).encode())
 
 
 class Counted:
@@ -149,7 +150,7 @@ class Cut:
             reply = {"ok": {**reply["ok"], "turn": reply["ok"]["turn"] - self.image.earlier(command["actor"])}}
         if command["cmd"] == "stats" and "ok" in reply:
             reply = {"ok": {"sites": [{**site, **UNCOUNTED} for site in reply["ok"]["sites"]]}}
-        return compact(reply).encode().rstrip(b"\n")
+        return compact(reply).encode()
 
     def numbered(self, row):
         """What is told of a turn that failed, with the number of the session."""

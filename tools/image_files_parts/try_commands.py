@@ -3,8 +3,8 @@
 import functools
 import json
 
-from inspect_parts.try_common import good_files, read
-from inspect_parts.written import compact
+from inspect_trials.try_common import good_files, read
+from inspect_trials.written import file_text
 
 from .loaded import Loaded
 from .program import same, settings
@@ -84,7 +84,7 @@ def each_command(program):
 
         ended = serve(program, path, talk)
         same(f"{command}: the server", (ended.status, ended.err), (0, b""))
-        same(f"{command}: what it leaves", read(path), compact(image.file()).encode())
+        same(f"{command}: what it leaves", read(path), file_text(image.file()).encode())
     return f"{len(COMMANDS)} servers"
 
 
@@ -125,7 +125,7 @@ def edits_left(program):
         commands = [STATUS, {**ONE_EDIT, "cmd": "method"}, STATUS, CHECKPOINT, STATUS] if count < EDITS[-1] else [STATUS]
         about, image = f"{count} edits", Loaded(file)
         lines = [json.dumps(command).encode() for command in commands]
-        told = map(json.loads, program.replies(about, program.put("file", compact(file).encode()), lines, settings(256, 64)))
+        told = map(json.loads, program.replies(about, program.put("file", file_text(file).encode()), lines, settings(256, 64)))
         epochs = []
         for command, reply in zip(commands, told, strict=True):
             wanted = image.reply(command)

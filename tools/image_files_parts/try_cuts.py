@@ -1,6 +1,6 @@
 """Trials on files that are cut off."""
 
-from inspect_parts.try_common import good_files, read
+from inspect_trials.try_common import good_files, read
 
 from .program import same
 from .said import only_check, try_file

@@ -1,11 +1,13 @@
-"""Trials on tools/fewer-edits and tools/fewer-names: what they leave out, and that all else goes on."""
+"""Trials on bin/fewer-edits and bin/fewer-names: what they leave out, and that all else goes on."""
 
 import json
 import os
 import subprocess
 import sys
 
-from inspect_parts.try_common import TOP, good_files, read
+from common.compact import compact
+from common.repository import path_of_tool
+from inspect_trials.try_common import good_files, read
 from trial_parts.patience import PATIENCE
 
 from .program import Ended, same
@@ -73,7 +75,7 @@ TOLD = [
 
 
 def tool(name, *words):
-    done = subprocess.run([sys.executable, os.path.join(TOP, "tools", name), *words], capture_output=True, timeout=PATIENCE)
+    done = subprocess.run([sys.executable, path_of_tool(name), *words], capture_output=True, timeout=PATIENCE)
     return Ended(done.returncode, done.stdout, done.stderr)
 
 
@@ -119,7 +121,7 @@ def lines_of_symbols():
     for start in range(0, 8200, 400):
         args = [{"sym": f"u{number}"} for number in range(start, start + 400)]
         post = {"actor": 0, "args": args, "cmd": "post", "selector": "isNil", "sender": 1, "seq": 9}
-        yield json.dumps(post, separators=(",", ":")).encode()
+        yield compact(post).encode()
 
 
 def unused_names_go(program):

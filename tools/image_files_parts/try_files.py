@@ -3,8 +3,8 @@
 import json
 import os
 
-from inspect_parts.changing import changes_in
-from inspect_parts.try_common import FILES, bad_files, good_files, read
+from inspect_trials.changing import changes_in
+from inspect_trials.try_common import FILES, bad_files, good_files, read
 
 from .going_on import go_on
 from .program import Ended, same

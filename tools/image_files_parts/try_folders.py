@@ -3,7 +3,7 @@
 import os
 import shutil
 
-from inspect_parts.try_common import good_files, read
+from inspect_trials.try_common import good_files, read
 
 from .program import Ended, Program, named, same
 from .try_paths import DEFINE, NOBODY, leads_to

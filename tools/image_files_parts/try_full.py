@@ -2,8 +2,8 @@
 
 import json
 
-from inspect_parts.try_limits import EMPTY, actor, actors, classes, define, edits, install
-from inspect_parts.written import compact
+from inspect_trials.try_limits import EMPTY, actor, actors, classes, define, edits, install
+from inspect_trials.written import file_text
 
 from .going_on import go_on
 from .program import same
@@ -53,7 +53,7 @@ def full(program):
     """What there is no room for is refused, and the file that is saved then is good."""
     tried = 0
     for about, file, lines, wanted in sessions():
-        path = program.put("file", compact(file).encode())
+        path = program.put("file", file_text(file).encode())
         found = program.replies(about, path, lines)
         for number, (reply, its) in enumerate(zip(wanted, found)):
             same(f"{about}: reply {number + 1}", its, reply)
@@ -71,7 +71,7 @@ def last_numbers(program):
         body = {"objects": [{"class": "Poster", "slots": []}], "phase": "fresh"}
         poster = actor(**{"class": "Poster"}, body=body, last=last, pending=pending)
         changes = [define("Poster"), *(install(source, "Poster") for source in sources)]
-        go_on(program, f"last {last}", compact({**EMPTY, "actors": [poster], "edits": changes, "senders": [[1, 1]]}).encode())
+        go_on(program, f"last {last}", file_text({**EMPTY, "actors": [poster], "edits": changes, "senders": [[1, 1]]}).encode())
     return "3 files"
 
 

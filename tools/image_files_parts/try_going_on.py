@@ -2,7 +2,7 @@
 
 import json
 
-from inspect_parts.try_common import good_files, read
+from inspect_trials.try_common import good_files, read
 
 from .program import same
 

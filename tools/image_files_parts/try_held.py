@@ -10,7 +10,8 @@ import subprocess
 import sys
 import time
 
-from inspect_parts.try_common import read
+from common.repository import path_of_tool
+from inspect_trials.try_common import read
 from trial_parts.patience import PATIENCE
 
 from .program import Ended, named, refusal, same
@@ -19,7 +20,6 @@ from .try_served import ask, begun, connected, not_begun, serve
 FIRST, SECOND = (b'{"cmd":"define","name":"%s","slots":[],"super":"Object"}' % name for name in (b"First", b"Second"))
 ENDED = Ended(0, b'{"ok":{"posts":0,"steps":0}}\n', b"")
 HELD, NO_FILE = "is held by another process", "is there already, and is no file"
-TOOLS = os.path.dirname(os.path.dirname(os.path.realpath(__file__)))
 # So many bytes a file may have where a save is to be broken off, and how many servers begin at once.
 FEW, TOGETHER = 20, 4
 
@@ -126,11 +126,11 @@ def script_beside(program):
 def change_beside(program):
     """A tool that changes image files leaves one that a server has as it is, and the server saves."""
     path, one, two = texts(program)
-    words = [sys.executable, os.path.join(TOOLS, "add-variable"), path, "First", "x"]
+    words = [sys.executable, path_of_tool("add-variable"), path, "First", "x"]
 
     def run_tool():
         ended = subprocess.run(words, capture_output=True, timeout=PATIENCE)
-        wanted = (1, b"", f"tools/add-variable: {path}: a server or another program has it\n".encode())
+        wanted = (1, b"", f"bin/add-variable: {path}: a server or another program has it\n".encode())
         same("a tool", (ended.returncode, ended.stdout, ended.stderr), wanted)
 
     beside_server(program, path, one, two, run_tool)

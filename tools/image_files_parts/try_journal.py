@@ -9,9 +9,10 @@ import stat
 import subprocess
 import time
 
+from common.compact import compact
 from crashes_parts.journals import recovered
-from inspect_parts.try_common import read
-from inspect_parts.written import compact
+from inspect_trials.try_common import read
+from inspect_trials.written import file_text
 from trial_parts.patience import PATIENCE
 
 from .disks import NO_DISK, small_disk
@@ -72,10 +73,11 @@ def begun_and_ended(program):
     there. The journal is its owner's alone. With 0 milliseconds all that was replied to is there behind a kill."""
     path = program.at("file")
     first, journal = killed(program, path, CLASS, ACTOR, {"cmd": "checkpoint"}, ACTOR)
-    same("the image", first, compact({"actors": [], "edits": [], "format": 2, "names": [], "posts": 0, "senders": [], "steps": 0}).encode())
+    empty = {"actors": [], "edits": [], "format": 2, "names": [], "posts": 0, "senders": [], "steps": 0}
+    same("the image", first, file_text(empty).encode())
     told = [{"edit": {"define": {"name": CLASS["name"], "slots": CLASS["slots"], "super": CLASS["super"]}}}, {"actor": CLASS["name"]}]
     told += [{"checkpoint": {}}, {"actor": CLASS["name"]}]
-    same("the journal", journal, header(first) + b"".join(json.dumps(it, separators=(",", ":")).encode() + b"\n" for it in told) + b"\n")
+    same("the journal", journal, header(first) + b"".join(compact(it).encode() + b"\n" for it in told) + b"\n")
     same("its rights", stat.S_IMODE(os.stat(path + ".journal").st_mode), 0o600)
     image, _ = recovered(path)
     with journaled(program, path) as (server, end, lines):
@@ -85,7 +87,7 @@ def begun_and_ended(program):
         lines.read()
         out, err = server.communicate(timeout=PATIENCE)
         same("the end", (server.returncode, err), (0, b""))
-    same("the image behind the end", read(path), compact(image.file()).encode())
+    same("the image behind the end", read(path), file_text(image.file()).encode())
     same("files in the folder", os.listdir(program.folder), ["file"])
     return "2 servers"
 
@@ -137,7 +139,7 @@ def save_is_broken_off(program):
     path = program.at("file")
     image, journal = killed(program, path, CLASS, ACTOR)
     again, _ = recovered(path)
-    new = compact(again.file()).encode()
+    new = file_text(again.file()).encode()
     behind = header(new) + b'{"actor":"%s"}\n\n' % CLASS["name"].encode()
     for there, old, other, actors in (
         (image, journal, None, 1),

@@ -4,7 +4,7 @@ import os
 import signal
 
 from crashes_parts.journals import recovered
-from inspect_parts.try_common import read
+from inspect_trials.try_common import read
 from trial_parts.patience import until
 
 from .disks import NO_DISK, small_disk

@@ -8,8 +8,8 @@ import random
 import threading
 import time
 
-from inspect_parts.try_common import read
-from inspect_parts.written import Written, compact
+from inspect_trials.try_common import read
+from inspect_trials.written import Written, file_text
 from trial_parts.patience import PATIENCE
 
 from .program import same
@@ -51,7 +51,7 @@ def text_with(count):
     image.reply(CLASS)
     for _ in range(count):
         image.reply(ACTOR)
-    return compact(image.file()).encode()
+    return file_text(image.file()).encode()
 
 
 def killed_while_saving(program):

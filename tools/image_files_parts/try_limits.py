@@ -2,10 +2,10 @@
 
 import json
 
-from inspect_parts.try_common import good_files, read
-from inspect_parts.try_limits import LIMITS, install, instructions, with_edits
-from inspect_parts.try_texts import KEYS_TWICE, VALUES, WHOLE
-from inspect_parts.written import compact
+from inspect_trials.try_common import good_files, read
+from inspect_trials.try_limits import LIMITS, install, instructions, with_edits
+from inspect_trials.try_texts import KEYS_TWICE, VALUES, WHOLE
+from inspect_trials.written import file_text
 
 from .said import only_check, try_file
 
@@ -21,9 +21,9 @@ def place_of(wanted):
 def limits(program):
     """A file with as many of a thing as there may be is good and is saved; one with more is refused."""
     for make, most, wanted in LIMITS:
-        try_file(program, f"{most} {make.__name__}", compact(make(most)).encode())
+        try_file(program, f"{most} {make.__name__}", file_text(make(most)).encode())
         more = most + (2 if make is instructions else 1)
-        only_check(program, f"{more} {make.__name__}", compact(make(more)).encode(), place_of(wanted))
+        only_check(program, f"{more} {make.__name__}", file_text(make(more)).encode(), place_of(wanted))
     return f"{2 * len(LIMITS)} files"
 
 

@@ -7,10 +7,10 @@ import os
 import random
 import tempfile
 
-from inspect_parts.try_common import good_files, read
-from inspect_parts.try_generated import files
-from inspect_parts.try_limits import LIMITS
-from inspect_parts.written import compact
+from inspect_trials.try_common import good_files, read
+from inspect_trials.try_generated import files
+from inspect_trials.try_limits import LIMITS
+from inspect_trials.written import file_text
 
 from .going_on import go_on
 from .mutating import mutated
@@ -29,8 +29,8 @@ ALIKE = 90
 def texts(rng):
     """The bytes of good files: of the trials, of random scripts, and at limits."""
     found = [read(path) for path in good_files().values()] * 5
-    found += [compact(file).encode() for file in files(rng, SCRIPTS)]
-    found += [compact(make(most)).encode() for make, most, _ in LIMITS]
+    found += [file_text(file).encode() for file in files(rng, SCRIPTS)]
+    found += [file_text(make(most)).encode() for make, most, _ in LIMITS]
     return [text for text in found if len(text) <= LONGEST]
 
 

@@ -3,7 +3,7 @@
 import os
 import stat
 
-from inspect_parts.try_common import good_files, read
+from inspect_trials.try_common import good_files, read
 
 from .program import Ended, refusal, same
 

@@ -5,8 +5,8 @@ import os
 
 from crashes_parts.journals import lines_beside, whole_lines
 from crashes_parts.redoing import Redone
-from inspect_parts.try_common import EXAMPLES, good_files, read
-from inspect_parts.written import compact
+from inspect_trials.try_common import EXAMPLES, good_files, read
+from inspect_trials.written import file_text
 
 from .program import Ended, named, same
 from .saving import going_on
@@ -38,7 +38,7 @@ def replays(about, program, path, words, lines, image):
     """A replay tells how many lines it did, and leaves the image."""
     out = program.at("out")
     same(about, program.run("replay", path, *words, "--image", out), told(lines, image.steps))
-    same(f"{about}: the image", read(out), compact(image.file()).encode())
+    same(f"{about}: the image", read(out), file_text(image.file()).encode())
     os.remove(out)
 
 

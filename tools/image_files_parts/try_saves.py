@@ -3,8 +3,8 @@
 import json
 import os
 
-from inspect_parts.try_common import EXAMPLES, good_files, read
-from inspect_parts.written import compact
+from inspect_trials.try_common import EXAMPLES, good_files, read
+from inspect_trials.written import file_text
 
 from .loaded import Loaded
 from .program import Ended, named, same
@@ -77,7 +77,7 @@ def behind_each_command(program):
     for command in ({"cmd": "run"}, *COMMANDS):
         image.reply(command)
         image.reply({"cmd": "run"})
-        wanted.append(compact(image.file()).encode())
+        wanted.append(file_text(image.file()).encode())
 
     def talk(asked):
         settle(asked)

@@ -3,8 +3,8 @@
 import os
 
 from crashes_parts.journals import recovered
-from inspect_parts.try_common import EXAMPLES, read
-from inspect_parts.written import compact
+from inspect_trials.try_common import EXAMPLES, read
+from inspect_trials.written import file_text
 
 from .program import Ended, named, refusal, same
 from .saving import end_of, going_on
@@ -21,7 +21,7 @@ FEW = 4
 
 def kept(about, path, text):
     """The image of a file and its journal is that of a text."""
-    same(about, compact(recovered(path)[0].file()).encode(), text)
+    same(about, file_text(recovered(path)[0].file()).encode(), text)
 
 
 def ends(program, about, path, *lines):

@@ -5,7 +5,8 @@ import os
 import re
 from itertools import chain, repeat
 
-from inspect_parts.try_common import EXAMPLES, FILES, TOP, read
+from common.repository import TOP
+from inspect_trials.try_common import EXAMPLES, FILES, read
 from scripts_parts import texts
 
 from .program import same, settings

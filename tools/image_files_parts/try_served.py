@@ -7,8 +7,9 @@ import socket
 import subprocess
 import time
 
-from inspect_parts.try_common import FILES, bad_files, good_files, read
-from inspect_parts.written import compact
+from common import sockets
+from inspect_trials.try_common import FILES, bad_files, good_files, read
+from inspect_trials.written import file_text
 from trial_parts.patience import PATIENCE
 
 from .loaded import Loaded
@@ -56,13 +57,9 @@ def connected(server, path):
     """A socket's end, once the server listens."""
     ends = time.monotonic() + PATIENCE
     while True:
-        end = socket.socket(socket.AF_UNIX)
-        end.settimeout(PATIENCE)
         try:
-            end.connect(path)
-            return end
+            return sockets.connected(path, PATIENCE)
         except OSError:
-            end.close()
             if server.poll() is not None or time.monotonic() > ends:
                 raise
             time.sleep(0.01)
@@ -98,7 +95,7 @@ def served(program):
     same("server", ended, Ended(0, b'{"ok":{"posts":1,"steps":14}}\n', b"session: BadCommand\n"))
     model.reply(POST)
     model.reply({"cmd": "run"})
-    same("what is saved", read(path), compact(model.file()).encode())
+    same("what is saved", read(path), file_text(model.file()).encode())
     same("files in the folder", os.listdir(program.folder), ["file"])
     return f"{len(SESSIONS)} sessions"
 

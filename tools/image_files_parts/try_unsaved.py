@@ -6,7 +6,7 @@ import json
 import os
 import shutil
 
-from inspect_parts.try_common import read
+from inspect_trials.try_common import read
 from trial_parts.times import later
 
 from .disks import NO_DISK, small_disk

@@ -7,7 +7,7 @@ import shutil
 import stat
 import subprocess
 
-from inspect_parts.try_common import read
+from inspect_trials.try_common import read
 from trial_parts.patience import PATIENCE
 from trial_parts.times import later
 

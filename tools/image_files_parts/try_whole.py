@@ -4,7 +4,7 @@ import os
 import select
 import subprocess
 
-from inspect_parts.try_common import bad_files, good_files, read
+from inspect_trials.try_common import bad_files, good_files, read
 from trial_parts.patience import PATIENCE
 
 from .program import Different, same

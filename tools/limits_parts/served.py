@@ -3,9 +3,9 @@
 import os
 import subprocess
 
+from common.compact import compact
 from scripts_parts.commands import actor, answer, define, made, method, outcome, remove
 from scripts_parts.running import SECONDS, Ended, Wrong, compare
-from scripts_parts.script import compact
 from trial_parts.client import Client, await_socket
 
 from . import most

@@ -2,18 +2,18 @@
 
 import contextlib
 import os
-import socket
 import subprocess
 import time
 
+from common.sockets import connected
 from trial_parts.patience import PATIENCE
 from trial_parts.turns import turns
-from workspace_parts.person import Person
-from workspace_parts.serving import Server
+from workspace_trials.person import Person
+from workspace_trials.serving import Server
 
 SOCKET = "image.socket"
 SERVE = "./actorimage serve "
-WORKSPACE, CLIENT, PROGRAM = f"$ tools/workspace --socket {SOCKET}", f"$ nc -U {SOCKET}", "$ python3 "
+WORKSPACE, CLIENT, PROGRAM = f"$ bin/workspace --socket {SOCKET}", f"$ nc -U {SOCKET}", "$ python3 "
 PAUSE = 0.01
 PENDING = '{"error":"Pending"}'
 
@@ -56,9 +56,7 @@ class Client:
     """What a client sends is a line, and each has one reply."""
 
     def __init__(self, folder):
-        self.socket = socket.socket(socket.AF_UNIX)
-        self.socket.settimeout(PATIENCE)
-        self.socket.connect(os.path.join(folder, SOCKET))
+        self.socket = connected(os.path.join(folder, SOCKET), PATIENCE)
         self.replies = self.socket.makefile("r", encoding="utf-8")
 
     def answer(self, text):

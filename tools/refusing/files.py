@@ -6,7 +6,7 @@ import shutil
 import subprocess
 import tempfile
 
-from inspect_parts.try_common import good_files, read
+from inspect_trials.try_common import good_files, read
 from trial_parts.patience import PATIENCE
 
 from .scripts import NO_MEMORY, run

@@ -5,6 +5,7 @@ import os
 import re
 import subprocess
 
+from common.compact import in_given_order
 from trial_parts.patience import PATIENCE
 
 from .shim import Failing
@@ -44,7 +45,7 @@ def told(reply):
     ok = json.loads(reply).get("ok") if reply.startswith("{") and reply.endswith("}") else None
     if not isinstance(ok, dict) or "sites" not in ok:
         return reply
-    if json.dumps({"ok": ok}, separators=(",", ":")) != reply or any(list(it) != KEYS for it in ok["sites"]):
+    if in_given_order({"ok": ok}) != reply or any(list(it) != KEYS for it in ok["sites"]):
         return reply
     return json.dumps({"ok": {"sent": [[it["selector"], it["super"], it["sends"]] for it in ok["sites"]]}})
 

@@ -3,11 +3,11 @@
 import contextlib
 import json
 import os
-import socket
 import subprocess
 import tempfile
 import time
 
+from common.sockets import connected
 from trial_parts.client import PENDING, await_socket
 from trial_parts.patience import PATIENCE
 
@@ -64,13 +64,10 @@ class Ended(Exception):
 
 class Client:
     def __init__(self, path):
-        self.socket = socket.socket(socket.AF_UNIX)
-        self.socket.settimeout(PATIENCE)
         try:
-            self.socket.connect(path)
+            self.socket = connected(path, PATIENCE)
         except OSError:
             # It has ended already.
-            self.socket.close()
             raise Ended from None
         self.lines = self.socket.makefile("rb")
 

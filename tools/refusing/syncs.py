@@ -8,7 +8,7 @@ import tempfile
 from image_files_parts.program import Different, Ended, Program, named, same
 from image_files_parts.saving import asks, end_of, going_on, in_a_session, is_not_saved, said, saves
 from image_files_parts.try_held import ENDED, FIRST, SECOND, alone, text_of, texts
-from inspect_parts.try_common import read
+from inspect_trials.try_common import read
 
 from .shim import made_in
 

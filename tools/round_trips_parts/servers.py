@@ -1,12 +1,14 @@
 """Servers over a Unix socket, and how many requests a second one answers."""
 
+import contextlib
 import json
 import os
-import socket
 import subprocess
 import sys
 import tempfile
 import time
+
+from common.sockets import connected
 
 PARTS = os.path.dirname(os.path.realpath(__file__))
 MOST_CLIENTS = 64
@@ -33,9 +35,8 @@ class Server:
     def wait(self):
         until = time.monotonic() + PATIENCE
         while time.monotonic() < until:
-            with socket.socket(socket.AF_UNIX) as tried:
-                if os.path.exists(self.path) and tried.connect_ex(self.path) == 0:
-                    return
+            with contextlib.suppress(OSError), connected(self.path):
+                return
             time.sleep(0.05)
         sys.exit(f"tools/round_trips_parts: {self.name} does not start")
 
@@ -52,10 +53,7 @@ class Session:
     """A session over a socket: lines out, lines in."""
 
     def __init__(self, path, name=b""):
-        self.socket = socket.socket(socket.AF_UNIX)
-        if name:
-            self.socket.bind(name)
-        self.socket.connect(path)
+        self.socket = connected(path, name=name)
         self.lines = self.socket.makefile("rb")
 
     def __enter__(self):

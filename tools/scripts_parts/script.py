@@ -1,13 +1,8 @@
 """A script: lines, the replies to them, and what an image file of it has behind some of its lines."""
 
-import json
+from common.compact import compact
 
 QUANTUM, CAPACITY = 256, 64
-
-
-def compact(value):
-    """The text that the program would write."""
-    return json.dumps(value, separators=(",", ":"), sort_keys=True)
 
 
 class Script:

@@ -3,11 +3,11 @@
 import os
 import subprocess
 
+from common.compact import compact
 from trial_parts.client import Client, await_socket
 
 from .commands import outcome
 from .running import SECONDS, Wrong
-from .script import compact
 
 PAUSE = 0.2
 

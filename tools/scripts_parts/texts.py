@@ -7,9 +7,11 @@ lines, each after `> ` and with its reply below it. A part whose lines begin wit
 import os
 import re
 
+from common.repository import TOP
+
 from .script import Script
 
-FOLDER = os.path.join(os.path.dirname(os.path.dirname(os.path.dirname(os.path.abspath(__file__)))), "tests", "scripts")
+FOLDER = os.path.join(TOP, "tests", "scripts")
 FIRST = re.compile(r"quantum (\d+), capacity (\d+): (.+)")
 TYPED = "> "
 

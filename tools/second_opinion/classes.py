@@ -2,9 +2,10 @@
 
 from dataclasses import dataclass, field
 
-from .checks import read_method
-from .compiler import compile_method
-from .language import KERNEL_CLASSES, KERNEL_SELECTORS, is_selector
+from smalltalk.checks import read_method
+from smalltalk.compiler import compile_method
+from smalltalk.language import KERNEL_CLASSES, KERNEL_SELECTORS, is_selector
+
 from .names import Names, names_in
 
 LONGEST_CHAIN = 64

@@ -4,9 +4,11 @@ import json
 import re
 from collections import Counter
 
+from common.compact import compact
+
 from .image import Image, TooManySteps
 from .program import program_replies
-from .scripts import SETUP, compact
+from .scripts import SETUP
 
 # The ways in which sends are found. The second reader knows of none.
 WAYS = ("site", "global", "walk")

@@ -3,7 +3,7 @@
 from collections import deque
 from typing import NamedTuple
 
-from .compiler import place_of
+from smalltalk.compiler import place_of
 
 KEPT = 64
 

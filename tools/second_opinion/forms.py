@@ -1,6 +1,6 @@
 """Sources that put the eight inlined messages and the kernel's methods to all kinds of receivers and arguments."""
 
-from .language import CONDITIONALS, LARGEST, LOOPS, SMALLEST
+from smalltalk.language import CONDITIONALS, LARGEST, LOOPS, SMALLEST
 
 BLOCK_RECEIVERS = (
     "[true]|[false]|[1. true]|([true])|true|false|super|(super foo)|super foo|3 < 4|(3 < 4)|nil|self|[true] foo|[]|[^3]|"

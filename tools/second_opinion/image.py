@@ -2,13 +2,14 @@
 
 from collections import Counter
 
+from smalltalk.language import BadSource, LARGEST_NUMBER, LONGEST_WAIT, MOST_ACTORS, MOST_COUNTED, MOST_RESULTS, arguments_of, is_selector
+from smalltalk.values import NIL, Value, boolean
+
 from .classes import Classes, Refused
 from .failing import Failures
 from .inspecting import inspected
-from .language import BadSource, LARGEST_NUMBER, LONGEST_WAIT, MOST_ACTORS, MOST_COUNTED, MOST_RESULTS, arguments_of, is_selector
 from .looking import LOOKS, actors, look, status
 from .machine import Actor, Message
-from .values import NIL, Value, boolean
 
 QUANTA = 1000
 # What the second reader calls an epoch, behind so many checkpoints. What the program calls it is not known before `status` tells it.

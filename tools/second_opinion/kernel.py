@@ -1,7 +1,7 @@
 """What the methods of the kernel answer."""
 
-from .language import KERNEL_CLASSES, LARGEST, SMALLEST, arguments_of
-from .values import FALSE, NIL, Value, boolean
+from smalltalk.language import KERNEL_CLASSES, LARGEST, SMALLEST, arguments_of
+from smalltalk.values import FALSE, NIL, Value, boolean
 
 
 class Fault(Exception):

@@ -1,9 +1,10 @@
 """What the commands that look answer. They change nothing. Seven ask the class table alone; the others ask for actors, and for the whole
 image. What `inspect` answers is in inspecting.py."""
 
+from smalltalk.language import EDITS_AT_ONCE, EDITS_OF_A_RUN, EDITS_OF_A_TABLE, KERNEL_SELECTORS, LARGEST_NUMBER, MOST_ITEMS, is_selector
+from smalltalk.values import Value
+
 from .classes import Refused
-from .language import EDITS_AT_ONCE, EDITS_OF_A_RUN, EDITS_OF_A_TABLE, KERNEL_SELECTORS, LARGEST_NUMBER, MOST_ITEMS, is_selector
-from .values import Value
 
 
 def number_of(table, command):

@@ -1,6 +1,7 @@
 """Questions at random of the commands that look: about classes, selectors, edits and actors that are there, and about some that are not."""
 
-from .language import EDITS_AT_ONCE, KERNEL_CLASSES, KERNEL_SELECTORS, LARGEST_NUMBER
+from smalltalk.language import EDITS_AT_ONCE, KERNEL_CLASSES, KERNEL_SELECTORS, LARGEST_NUMBER
+
 from .words import KEYWORDS, UNARY, long_word
 
 # Mostly the commands that name a class and a selector.

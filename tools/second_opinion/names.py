@@ -1,6 +1,6 @@
 """The table of names: selectors and symbols, each with its number."""
 
-from .language import KERNEL_SELECTORS
+from smalltalk.language import KERNEL_SELECTORS
 
 
 class Names:

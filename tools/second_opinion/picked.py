@@ -20,9 +20,10 @@ rules, and the second reader is held to them before it is compared with anything
 import json
 from dataclasses import dataclass
 
+from smalltalk.language import LONGEST_WORD
+
 from . import picked_actors, picked_edits, picked_epochs, picked_failing, picked_inspecting, picked_looking, picked_lookup
 from . import picked_mailboxes, picked_moves, picked_objects
-from .language import LONGEST_WORD
 
 
 @dataclass

@@ -12,11 +12,11 @@ import subprocess
 import tempfile
 from typing import NamedTuple
 
+from smalltalk.compiler import JUMPS, place_of
+from smalltalk.language import BadSource
 from trial_parts.patience import PATIENCE
 
 from .classes import Classes, Refused
-from .compiler import JUMPS, place_of
-from .language import BadSource
 from .sources import Sources
 from .words import ACTING, CALLING, GOOD
 
@@ -35,7 +35,7 @@ TWO_ARMS = [
 STUCK = "stuck ^nil missing"
 # Methods of an image; frames that wait in a turn, where 127 may; turns that end before they are asked for, since the newest 64 are kept.
 OF_AN_IMAGE, WAITING, AT_ONCE = 200, 20, 64
-TOOLS = os.path.dirname(os.path.dirname(os.path.abspath(__file__)))
+TOOLS = os.path.dirname(os.path.dirname(os.path.realpath(__file__)))
 KNOWN = os.path.join(os.path.dirname(TOOLS), "tests", "sources", "none.txt")
 
 

@@ -1,6 +1,6 @@
 """Installs at random that are to replace a certain version."""
 
-from .language import LARGEST_NUMBER
+from smalltalk.language import LARGEST_NUMBER
 
 OF_KERNEL = [
     ("Object", "== x ^x"),

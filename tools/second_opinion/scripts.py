@@ -3,8 +3,10 @@
 import json
 import random
 
+from common.compact import compact
+from smalltalk.language import KERNEL_SELECTORS, arguments_of
+
 from .image import Image, TooManySteps
-from .language import KERNEL_SELECTORS, arguments_of
 from .looks import Looks
 from .machine import Message
 from .names import names_in
@@ -47,10 +49,6 @@ CLASSES_TO_EDIT = "A A A A B B B C C D E Object Object SmallInteger Symbol True 
 CLASSES_TO_MOVE = "B B B C C C D E A Object True Nowhere".split()
 CLASSES_ABOVE = "A A D D B B E E C Object Symbol Nowhere".split()
 OTHER_CLASSES = "Object Object SmallInteger SmallInteger True False Symbol UndefinedObject ActorRef Class".split()
-
-
-def compact(reply):
-    return json.dumps(reply, separators=(",", ":"), sort_keys=True, ensure_ascii=False)
 
 
 class Script:

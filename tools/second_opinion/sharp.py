@@ -19,6 +19,7 @@ from .wrong_running import WRONG_RUNNING
 
 HERE = os.path.dirname(os.path.realpath(__file__))
 TOOLS = os.path.dirname(HERE)
+LIB = os.path.join(os.path.dirname(TOOLS), "lib")
 # What the copy's status says. It may also trip over itself, which tells the rules apart too.
 TRIALS = {0: "NOT told apart", 1: "told apart"}
 TRIPPED = "trips over itself"
@@ -26,21 +27,24 @@ TRIPPED = "trips over itself"
 
 def furnish(room):
     """Makes a folder like the repository, with what the second reader reads beside itself."""
-    os.mkdir(os.path.join(room, "tools"))
+    for name in ("lib", "tools"):
+        os.mkdir(os.path.join(room, name))
+    os.symlink(os.path.join(LIB, "common"), os.path.join(room, "lib", "common"))
     os.symlink(os.path.join(TOOLS, "trial_parts"), os.path.join(room, "tools", "trial_parts"))
     os.symlink(os.path.join(os.path.dirname(TOOLS), "tests"), os.path.join(room, "tests"))
 
 
 def put_copy(room):
-    """The folder of a new copy of the second reader."""
-    folder = os.path.join(room, "tools", "second_opinion")
-    shutil.rmtree(folder, ignore_errors=True)
-    shutil.copytree(HERE, folder, ignore=shutil.ignore_patterns("__pycache__"))
-    return folder
+    """The folders of a new copy of the second reader: of what reads and compiles, and of what runs."""
+    folders = {os.path.join(room, "lib", "smalltalk"): os.path.join(LIB, "smalltalk"), os.path.join(room, "tools", "second_opinion"): HERE}
+    for copy, folder in folders.items():
+        shutil.rmtree(copy, ignore_errors=True)
+        shutil.copytree(folder, copy, ignore=shutil.ignore_patterns("__pycache__"))
+    return list(folders)
 
 
-def put_wrong_rule(rule, folder):
-    path = os.path.join(folder, rule.file + ".py")
+def put_wrong_rule(rule, folders):
+    [path] = filter(os.path.exists, (os.path.join(folder, rule.file + ".py") for folder in folders))
     with open(path) as file:
         text = file.read()
     if text.count(rule.right) != 1:
@@ -50,7 +54,7 @@ def put_wrong_rule(rule, folder):
 
 
 def status_of_copy(program, room):
-    start = "import sys; sys.dont_write_bytecode = True; from second_opinion.main import main; main()"
+    start = "import sys; sys.dont_write_bytecode = True; sys.path.append('../lib'); from second_opinion.main import main; main()"
     words = [sys.executable, "-c", start, program, "--briefly"]
     where = os.path.join(room, "tools")
     return subprocess.run(words, cwd=where, stdout=subprocess.DEVNULL, stderr=subprocess.DEVNULL).returncode

@@ -1,6 +1,6 @@
 """Questions at random of an image's status, and waits for turns with the epochs that it told."""
 
-from .language import LARGEST_NUMBER
+from smalltalk.language import LARGEST_NUMBER
 
 # Texts that no program has for an epoch.
 NO_EPOCHS = ["", "0", "epoch", "-", "Now", "\u00e9"]

@@ -6,6 +6,7 @@ import os
 import re
 import subprocess
 
+from common.compact import compact
 from trial_parts.patience import PATIENCE
 
 # The classes with their superclasses and their own instance variables.
@@ -39,10 +40,6 @@ def selector_of(source):
     """The selector of a method, whose pattern has one space between two words."""
     keywords = re.match(r"(?:\w+: \w+ )+", source)
     return "".join(re.findall(r"\w+:", keywords[0])) if keywords else source.split()[0]
-
-
-def compact(reply):
-    return json.dumps(reply, separators=(",", ":"), sort_keys=True)
 
 
 class Script:

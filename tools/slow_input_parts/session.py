@@ -1,8 +1,8 @@
 """A session whose lines are timed."""
 
-import json
 import subprocess
 
+from common.compact import in_given_order
 from trial_parts.patience import PATIENCE
 
 
@@ -36,7 +36,7 @@ class Session:
 
 def line_of(**keys):
     """The line of a command."""
-    return json.dumps(keys, separators=(",", ":")).encode()
+    return in_given_order(keys).encode()
 
 
 def define(name, slots=(), above="Object"):
@@ -44,7 +44,7 @@ def define(name, slots=(), above="Object"):
 
 
 def method(name, source):
-    return json.dumps({"class": name, "cmd": "method", "source": source}, separators=(",", ":"), ensure_ascii=False).encode()
+    return line_of(**{"class": name}, cmd="method", source=source)
 
 
 def actor(name):

@@ -1,4 +1,4 @@
-"""Trials of how a server is ended: by tools/stop, where others have all the places, and by tools/supervise; and of the units that do it."""
+"""Trials of how a server is ended: by bin/stop, where others have all the places, and by bin/supervise; and of the units that do it."""
 
 import contextlib
 import os
@@ -11,12 +11,12 @@ import subprocess
 import tempfile
 import time
 
+from common.repository import TOP, path_of_tool
 from sockets_parts import stopping
 from trial_parts.client import await_socket
 from trial_parts.patience import PATIENCE
 
-TOP = os.path.dirname(os.path.dirname(os.path.dirname(os.path.realpath(__file__))))
-SUPERVISE = f"{TOP}/tools/supervise"
+SUPERVISE = path_of_tool("supervise")
 PLACES = 64
 UNITS = ("actorimage.service", "actorimage-save.timer", "actorimage-save.service")
 
@@ -33,7 +33,7 @@ def checked(program, file):
 
 
 def stopped_where_all_places_are_taken(program, Server, _post):
-    """tools/stop waits for a place where others have all, and for their ends, as it says."""
+    """bin/stop waits for a place where others have all, and for their ends, as it says."""
     with tempfile.TemporaryDirectory() as folder, contextlib.ExitStack() as others:
         file = os.path.join(folder, "image")
         with without_a_number(Server, program, "--image", file) as server:
@@ -47,7 +47,7 @@ def stopped_where_all_places_are_taken(program, Server, _post):
             for client in clients:
                 client.leave()
             ended = stop.ended()
-            assert ended == (f"tools/stop: the server has ended, and {file} is written\n", 0), ended
+            assert ended == (f"bin/stop: the server has ended, and {file} is written\n", 0), ended
         assert checked(program, file) == '{"ok":{"actors":0,"classes":9,"edits":1}}\n'
 
 
@@ -61,7 +61,7 @@ def parent_of(process):
 
 
 class Supervised:
-    """A server that tools/supervise has started, whose readiness is heard."""
+    """A server that bin/supervise has started, whose readiness is heard."""
 
     def __init__(self, folder, seconds, *words):
         self.path = os.path.join(folder, "socket")
@@ -103,7 +103,7 @@ class Supervised:
 
 
 def supervised(program, Server, _post):
-    """A signal to tools/supervise ends the server, with its image written, and the status is 0, also where the server has no number of
+    """A signal to bin/supervise ends the server, with its image written, and the status is 0, also where the server has no number of
     sessions. Ctrl-C does not reach the server."""
     for sign, options in ((signal.SIGTERM, []), (signal.SIGINT, ["--sessions", "40"])):
         with tempfile.TemporaryDirectory() as folder:
@@ -115,7 +115,7 @@ def supervised(program, Server, _post):
                 os.killpg(them.process.pid, sign)
                 assert them.hears() == "STOPPING=1"
                 out, err, status = them.ended()
-                assert stopping.told(err) == f"tools/stop: the server has ended, and {file} is written\n", err
+                assert stopping.told(err) == f"bin/stop: the server has ended, and {file} is written\n", err
                 assert (out, status) == ('{"ok":{"posts":0,"steps":0}}\n', 0), (out, err, status)
             assert checked(program, file) == '{"ok":{"actors":0,"classes":9,"edits":1}}\n'
 
@@ -130,7 +130,7 @@ def supervised_in_vain(program, Server, _post):
             out, err, status = them.ended()
             said = "the server has not ended after 1.5 seconds: it is killed, and what was done since its image was saved last is NOT saved"
             assert (out, status) == ("", 1) and not os.path.exists(file), (out, status)
-            assert err.splitlines()[-1] == f"tools/supervise: {said}", err
+            assert err.splitlines()[-1] == f"bin/supervise: {said}", err
     with tempfile.TemporaryDirectory() as folder:
         with Supervised(folder, PATIENCE, program, "serve", "--workers", "1", "--sessions", "1") as them:
             them.client(Server).leave()
@@ -143,7 +143,7 @@ def supervised_in_vain(program, Server, _post):
         none = subprocess.run([SUPERVISE, program, "script"], capture_output=True, text=True, timeout=PATIENCE)
         assert none.returncode == 2 and "start a server" in none.stderr, none
         gone = subprocess.run([SUPERVISE, "./gone", "serve", "--socket", "s"], capture_output=True, text=True, timeout=PATIENCE, cwd=folder)
-        assert (gone.stderr, gone.returncode) == ("tools/supervise: ./gone: No such file or directory\n", 1), gone
+        assert (gone.stderr, gone.returncode) == ("bin/supervise: ./gone: No such file or directory\n", 1), gone
 
 
 def units(program):

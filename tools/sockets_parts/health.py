@@ -1,15 +1,15 @@
-"""Trials of tools/status, by which it is seen whether a server answers, and how its image does."""
+"""Trials of bin/status, by which it is seen whether a server answers, and how its image does."""
 
 import contextlib
-import os
 import re
 import subprocess
 import time
 
+from common.repository import path_of_tool
 from trial_parts.patience import PATIENCE
 
-STATUS = os.path.join(os.path.dirname(os.path.dirname(os.path.realpath(__file__))), "status")
-LATE = "tools/status: timed out\n"
+STATUS = path_of_tool("status")
+LATE = "bin/status: timed out\n"
 METRIC = re.compile(r"# HELP (\w+) .+\n# TYPE \1 (gauge|counter)\n\1 ([0-9]+)")
 
 
@@ -43,7 +43,7 @@ def numbers_are_told(program, Server, post):
         assert {name for name, kind, _ in found if kind == "counter"} == {"actorimage_posts_total", "actorimage_steps_total"}
         path = server.path
     none = asked(path)
-    said = f"tools/status: no server listens at {path} (No such file or directory)\n"
+    said = f"bin/status: no server listens at {path} (No such file or directory)\n"
     assert (none.stdout, none.stderr, none.returncode) == ("", said, 1), none
 
 

@@ -1,4 +1,4 @@
-"""Trials of saves of a served image: several at once beside posts, those that wait for others, and tools/save."""
+"""Trials of saves of a served image: several at once beside posts, those that wait for others, and bin/save."""
 
 import contextlib
 import fcntl
@@ -13,13 +13,13 @@ import termios
 import threading
 import time
 
+from common.repository import path_of_tool
 from sockets_parts import stopping
 from sockets_parts.resources import sleeps, unread
 from sockets_parts.together import run_together
 from trial_parts.patience import PATIENCE, until
 
-TOOLS = os.path.dirname(os.path.dirname(os.path.realpath(__file__)))
-SAVE = os.path.join(TOOLS, "save")
+SAVE = path_of_tool("save")
 # How many sessions save and how many post, 64 together, and how often each of them does.
 SAVERS, POSTERS, SAVES, POSTS = 16, 48, 4, 40
 # A save is long that takes so many seconds; then what comes in the midst of it can be told from what comes behind it.
@@ -177,7 +177,7 @@ def saves_take_turns(program, Server, post):
 
 
 def saved_by_the_tool(program, Server, _post):
-    """tools/save prints the bytes, also while 64 sessions are open, and says why nothing was saved."""
+    """bin/save prints the bytes, also while 64 sessions are open, and says why nothing was saved."""
     with served(program, Server, 1000) as (server, file), contextlib.ExitStack() as others:
         client = others.enter_context(server.client())
         client.make("M", [])
@@ -188,16 +188,16 @@ def saved_by_the_tool(program, Server, _post):
         assert [it["define"]["name"] for it in image_in(file)["edits"]] == ["M"]
         os.utime(file, (0, 0))
         refused = asked(server.path)
-        assert (refused.stdout, refused.returncode) == ("", 1) and refused.stderr.startswith("tools/save: WriteFault: "), refused
+        assert (refused.stdout, refused.returncode) == ("", 1) and refused.stderr.startswith("bin/save: WriteFault: "), refused
         said = f"actorimage: the image is not saved: {file} was changed by another process, and is NOT replaced\n"
         assert server.process.stderr.readline() == said
     with Server(program, 1, 1) as server:
         none = asked(server.path)
-        said = "tools/save: BadArguments: the server was started without --image, so it has no file to save in\n"
+        said = "bin/save: BadArguments: the server was started without --image, so it has no file to save in\n"
         assert (none.stdout, none.stderr, none.returncode) == ("", said, 1), none
         path = server.path
     none = asked(path)
-    assert (none.stderr, none.returncode) == (f"tools/save: no server listens at {path} (No such file or directory)\n", 1), none
+    assert (none.stderr, none.returncode) == (f"bin/save: no server listens at {path} (No such file or directory)\n", 1), none
     with tempfile.TemporaryDirectory() as folder, socket.socket(socket.AF_UNIX) as listener:
         listener.bind(os.path.join(folder, "socket"))
         listener.listen()
@@ -238,7 +238,7 @@ def refused_saves_that_nobody_reads(program, Server, _post):
 
 
 def stopped_behind_a_save(program, Server, _post):
-    """Whether the end has saved the image is told by tools/stop also where sessions save while it waits for them."""
+    """Whether the end has saved the image is told by bin/stop also where sessions save while it waits for them."""
     for is_in_the_way in (False, True):
         with served(program, Server, 1000) as (server, file), server.client() as client:
             client.make("M", [])
@@ -255,7 +255,7 @@ def stopped_behind_a_save(program, Server, _post):
             client.leave()
             told = f"and its image is NOT saved: {file} is as it was before" if is_in_the_way else f"and {file} is written"
             ended = stop.ended()
-            assert ended == (f"tools/stop: the server has ended, {told}\n", int(is_in_the_way)), ended
+            assert ended == (f"bin/stop: the server has ended, {told}\n", int(is_in_the_way)), ended
             assert (os.path.getsize(file) == saved) is is_in_the_way
 
 

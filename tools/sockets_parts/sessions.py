@@ -8,10 +8,10 @@ import subprocess
 import tempfile
 import time
 
+from common.repository import path_of_tool
 from sockets_parts.resources import is_refused, threads
 from trial_parts.patience import PATIENCE, until
 
-TOOLS = os.path.dirname(os.path.dirname(os.path.realpath(__file__)))
 CLOSE = b'{"actor":0,"cmd":"close"}'
 NO_ACTOR = b'{"error":"UnknownActor"}\n'
 TOO_MANY = b'{"error":"TooMany","what":"sessions"}\n'
@@ -92,7 +92,7 @@ def a_long_line_ends_its_session(program, Server, _post):
 
 
 def one_place_is_kept_for_the_operator(program, Server, _post):
-    """While 64 sessions are open one of the operator's is let in, and no second one. So are a workspace, tools/top and tools/status. Its
+    """While 64 sessions are open one of the operator's is let in, and no second one. So are a workspace, bin/top and bin/status. Its
     end has a name that begins so."""
     names = (f"\0actorimage.operator.{number}.{os.getpid()}".encode() for number in range(2))
     with Server(program, 1000, 2) as server, contextlib.ExitStack() as all_of_them:
@@ -109,7 +109,7 @@ def one_place_is_kept_for_the_operator(program, Server, _post):
             (["top", "--once", server.path, "Object.isNil"], ""),
             (["status", server.path], ""),
         ):
-            run = subprocess.run([os.path.join(TOOLS, words[0]), *words[1:]], input=given, capture_output=True, text=True, timeout=PATIENCE)
+            run = subprocess.run([path_of_tool(words[0]), *words[1:]], input=given, capture_output=True, text=True, timeout=PATIENCE)
             assert run.returncode == 0, run
             until(lambda: len(threads(server)) == 67, f"the session of {words[0]} goes on")
 

@@ -1,15 +1,16 @@
-"""tools/stop: its end, and what it says. On a busy machine that says also that it waits, where else there would be nothing to say."""
+"""bin/stop: its end, and what it says. On a busy machine that says also that it waits, where else there would be nothing to say."""
 
 import os
 import re
 import shutil
 import subprocess
 
+from common.repository import path_of_tool
 from trial_parts.patience import PATIENCE
 
-STOP = os.path.join(os.path.dirname(os.path.dirname(os.path.realpath(__file__))), "stop")
-REPLY, OTHERS = "tools/stop: waits for a reply of the server\n", "tools/stop: waits for the sessions of others to end\n"
-ONE_OF_OTHERS = re.compile(r"tools/stop: process [0-9]+ has one: ")
+STOP = path_of_tool("stop")
+REPLY, OTHERS = "bin/stop: waits for a reply of the server\n", "bin/stop: waits for the sessions of others to end\n"
+ONE_OF_OTHERS = re.compile(r"bin/stop: process [0-9]+ has one: ")
 
 
 def told(said):
@@ -37,7 +38,7 @@ class Waiting:
         """It says who has sessions, which is this process alone, if `ss` is there."""
         if shutil.which("ss"):
             line = self.process.stderr.readline()
-            assert line.startswith(f"tools/stop: process {os.getpid()} has one: "), line
+            assert line.startswith(f"bin/stop: process {os.getpid()} has one: "), line
 
     def goes_on(self):
         return self.process.poll() is None

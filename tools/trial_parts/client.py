@@ -1,22 +1,13 @@
 """A client of a server: lines out over its socket, and replies in."""
 
 import json
-import os
-import socket
-import stat
 import time
+
+from common.sockets import connected, listens
 
 from .patience import PATIENCE, PAUSE
 
 PENDING = {"error": "Pending"}
-
-
-def listens(path):
-    """Whether a server listens there: it gives the socket's file its rights last, and takes it away where it ends."""
-    try:
-        return stat.S_IMODE(os.stat(path).st_mode) == 0o600
-    except FileNotFoundError:
-        return False
 
 
 def await_socket(process, path, seconds=PATIENCE):
@@ -34,9 +25,7 @@ class Client:
 
     def __init__(self, path, seconds=PATIENCE):
         self.seconds = seconds
-        self.socket = socket.socket(socket.AF_UNIX)
-        self.socket.settimeout(seconds)
-        self.socket.connect(path)
+        self.socket = connected(path, seconds)
         self.lines = self.socket.makefile("rb")
 
     def __enter__(self):

@@ -5,7 +5,7 @@ The classes stand in ten chains of 50. The actor is of the last class of the fir
 stand in that chain's first class, again and again: a send that is not answered by its call site walks through 50 classes. So a
 quantum of 1,024 steps sends some 200 messages at 60 call sites."""
 
-import json
+from common.compact import compact
 
 CHAINS, LONG, SENT, METHODS = 10, 50, 60, 500
 
@@ -38,4 +38,4 @@ def script(times, runs, edits):
             words.append({"cmd": "run", "quanta": 1})
         if edits:
             words.append({"class": name_of(1, 0), "cmd": "method", "source": f"unrelated ^{number}"})
-    return "".join(json.dumps(word, separators=(",", ":"), sort_keys=True) + "\n" for word in words)
+    return "".join(compact(word) + "\n" for word in words)

@@ -3,7 +3,8 @@
 import os
 import re
 
-TOP = os.path.dirname(os.path.dirname(os.path.dirname(os.path.abspath(__file__))))
+from common.repository import TOP
+
 TRIED, OTHERS = "must-fail", "wrong-bodies"
 
 

@@ -3,7 +3,8 @@
 import os
 import re
 
-from wrong_bodies.edits import OTHERS, TOP, by_of, crates_of, edits_of, function_of, read, title_of, write
+from common.repository import TOP
+from wrong_bodies.edits import OTHERS, by_of, crates_of, edits_of, function_of, read, title_of, write
 
 HEAD = """# Wrong bodies of {}
 

@@ -2,27 +2,20 @@
 
 import os
 import shutil
-import socket
-import stat
-import struct
 import subprocess
 import tempfile
 import time
+
+from common.sockets import connected, listens, process_of
 
 # The seconds after which a build is given up.
 LONGEST = 3600
 
 
-def listens(path):
-    """Whether a server listens there: it gives the socket's file its rights last."""
-    return os.path.exists(path) and stat.S_IMODE(os.stat(path).st_mode) == 0o600
-
-
 def server_at(path):
     """The words with which the process was begun that listens at a socket."""
-    with socket.socket(socket.AF_UNIX) as client:
-        client.connect(path)
-        process = struct.unpack("3i", client.getsockopt(socket.SOL_SOCKET, socket.SO_PEERCRED, 12))[0]
+    with connected(path) as client:
+        process = process_of(client)
     with open(f"/proc/{process}/cmdline", encoding="utf-8") as file:
         return file.read().split("\0")[:-1]
 

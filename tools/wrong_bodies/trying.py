@@ -6,7 +6,8 @@ import shutil
 import subprocess
 import tempfile
 
-from wrong_bodies.edits import TOP, apply, by_of, crates_of, test_of, trial_of
+from common.repository import TOP
+from wrong_bodies.edits import apply, by_of, crates_of, test_of, trial_of
 from wrong_bodies.program import build
 
 # What a check says where a stored proof no longer fits the code: that shows nothing about the clauses.

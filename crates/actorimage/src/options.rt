@@ -173,7 +173,7 @@ fn serve_command<'a>(alloc: Global) -> Result<Command<'a>, AllocError> {
     let sessions =
         "Ends after so many sessions, 1 to 1000000: waits for their ends, saves, and tells what they did together";
     let image =
-        "Keeps the image in a file: begins with it where it is there, and saves to it at each save and at the end, which --sessions or tools/stop brings";
+        "Keeps the image in a file: begins with it where it is there, and saves to it at each save and at the end, which --sessions or bin/stop brings";
     let journal =
         "Keeps a journal beside the image's file, from which what has happened is done again after a crash";
     let sync =

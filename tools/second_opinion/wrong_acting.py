@@ -415,12 +415,12 @@ ACTORS = [
         "image",
         (
             "        if actor.at_outer_step():\n"
-            "            actor.step()\n"
             "            steps += 1\n"
+            "            self.take_step(actor, self.steps + steps)\n"
         ),
         (
             "        if actor.at_outer_step():\n"
-            "            actor.step()\n"
+            "            self.take_step(actor, self.steps + steps + 1)\n"
         ),
     ),
     WrongRule(
@@ -428,12 +428,12 @@ ACTORS = [
         "image",
         (
             "        if actor.at_outer_step():\n"
-            "            actor.step()\n"
             "            steps += 1\n"
+            "            self.take_step(actor, self.steps + steps)\n"
         ),
         (
             "        if actor.at_outer_step():\n"
-            "            actor.step()\n"
+            "            self.take_step(actor, self.steps + steps + 1)\n"
             "            steps += actor.in_turn()\n"
         ),
     ),

@@ -146,10 +146,9 @@ TURNS = [
     WrongRule(
         "a quantum goes on with the next message",
         "image",
-        "            actor.step()\n            steps += 1\n        if actor.at_outer_step():\n",
+        "            self.take_step(actor, self.steps + steps)\n        if actor.at_outer_step():\n",
         (
-            "            actor.step()\n"
-            "            steps += 1\n"
+            "            self.take_step(actor, self.steps + steps)\n"
             "            if not actor.in_turn() and actor.pending:\n"
             "                actor.begin()\n"
             "        if actor.at_outer_step():\n"

@@ -47,7 +47,7 @@ def why(session, rest):
         explain(session, rest)
     elif session.why:
         session.tell(session.why())
-    else:
+    elif not failures.why_newest(session):
         raise Wrong("nothing was refused yet, and no turn ended with a fault")
 
 
@@ -106,7 +106,7 @@ COMMANDS = {
         Described(":save FILE", "writes the image to a file now; alone, to that of --image", saving.save),
         Described(":sources FILE", "writes all classes and methods to a file, for :load", files.sources),
         Described(":log FILE", "writes what was sent so far, and answered, as JSON; alone, shows it for the line before", files.log),
-        Described(":why c 12", "shows how a turn came to a fault; as  :why c  the actor's last fault, and alone the last that was told", why),
+        Described(":why c 12", "shows how a turn failed; as  :why c  the actor's last, and alone the last that was told, or the newest", why),
         Described(":help :step", "helps with a command; alone, with all", help_on),
         Described(":restart", "starts anew, with nothing defined; with --image, as it was saved last", saving.restart),
         Described(":quit", "ends the workspace; with --image, the image is kept", quit_session),

@@ -2,7 +2,7 @@
 
 from dataclasses import dataclass
 
-from . import advice, browsing, failures, files, inspecting, running, saving
+from . import advice, browsing, edits, failures, files, inspecting, running, saving
 from .known import near
 from .wrong import Wrong
 
@@ -96,6 +96,7 @@ COMMANDS = {
         Described(":revert Counter bump 3", "writes a method again as it was in a version", browsing.revert),
         Described(":implementors bump", "lists the classes that have a method of their own", browsing.implementors),
         Described(":senders bump", "lists the methods that send a message, but not those that post it", browsing.senders),
+        Described(":edits 20", "lists the newest edits; what a removed method was, :versions Counter bump shows", edits.edits),
         Described(":actors 7", "lists the actors from a number on, with what they run; alone, from the first", browsing.actors),
         Described(":inspect c", "shows an actor: variables, mailbox, turn; as  :inspect c 1  an object of its own", inspecting.inspect),
         Described(":faults", "lists the turns that ended with a fault, as far as they are kept", failures.faults),

@@ -95,7 +95,7 @@ COMMANDS = {
         Described(":versions Counter bump", "lists what was installed and removed for a method of a class", browsing.versions),
         Described(":revert Counter bump 3", "writes a method again as it was in a version", browsing.revert),
         Described(":implementors bump", "lists the classes that have a method of their own", browsing.implementors),
-        Described(":senders bump", "lists the methods that send a message, but not those that post it", browsing.senders),
+        Described(":senders bump", "lists the methods that send a message, and those that have its symbol, to post it", browsing.senders),
         Described(":edits 20", "lists the newest edits; what a removed method was, :versions Counter bump shows", edits.edits),
         Described(":actors 7", "lists the actors from a number on, with what they run; alone, from the first", browsing.actors),
         Described(":inspect c", "shows an actor: variables, mailbox, turn; as  :inspect c 1  an object of its own", inspecting.inspect),

@@ -22,7 +22,7 @@ def edits(session, rest):
     if not found:
         session.say(NONE)
         return
-    session.tell(table([["version", "of", "edit"], *(row(version, it) for version, it in enumerate(found, first + 1))]))
+    session.tell(table([["version", "class", "selector", "edit"], *(row(version, it) for version, it in enumerate(found, first + 1))]))
     removed = [it["remove"] for it in found if "remove" in it]
     if removed:
         session.say(f":versions {removed[-1]['class']} {removed[-1]['selector']}  shows what the removed method was")
@@ -31,12 +31,12 @@ def edits(session, rest):
 
 
 def row(version, edit):
-    """The version that an edit gave, what it is of, and what it did."""
+    """The version that an edit gave, its class, of a method the selector, and what it did."""
     ((kind, it),) = edit.items()
     if kind == "define":
-        return [version, it["name"], f"class defined under {it['super']}"]
+        return [version, it["name"], "", f"class defined under {it['super']}"]
     if kind == "reparent":
-        return [version, it["class"], f"class put under {it['super']}"]
+        return [version, it["class"], "", f"class put under {it['super']}"]
     if kind == "remove":
-        return [version, f"{it['class']} >> {it['selector']}", "method removed"]
-    return [version, f"{it['class']} >> {pattern(it['source'])[0]}", "method installed"]
+        return [version, it["class"], it["selector"], "method removed"]
+    return [version, it["class"], pattern(it["source"])[0], "method installed"]

@@ -70,6 +70,7 @@ def why_newest(session):
 
 
 def tell_of(session, turn):
+    """Tells how a turn ended; of one that failed also what failed, and where."""
     told = session.turns.ask({"cmd": "fault", "actor": turn.actor, "turn": turn.number})
     if "fault" in told:
         session.say(f"fault {told['fault']} in {turn}")

@@ -4,7 +4,7 @@ import re
 
 from smalltalk.language import KERNEL_SELECTORS
 
-from . import looks, shown
+from . import looks, shown, symbols
 from .values import count, show, table
 from .wrong import Wrong
 
@@ -59,7 +59,14 @@ def implementors(session, rest):
 def senders(session, rest):
     selector = selector_of(rest)
     found = looks.senders(session, selector)
+    having = symbols.methods(session, selector)
+    if not found and not having:
+        session.say(f"no method sends {selector}, and none has the symbol #{selector}")
+        return
     session.tell([f"{it['class']} >> {it['selector']}" for it in found] or [f"no method sends {selector}"])
+    if having:
+        session.say(f"methods that have the symbol #{selector}, as to post it:")
+    session.tell([f"{name} >> {own}" for name, own in having])
 
 
 def selector_of(rest):

@@ -2,7 +2,7 @@
 
 from dataclasses import dataclass
 
-from . import advice, browsing, failures, files, inspecting, running, saving
+from . import advice, browsing, edits, failures, files, inspecting, running, saving
 from .known import near
 from .wrong import Wrong
 
@@ -47,7 +47,7 @@ def why(session, rest):
         explain(session, rest)
     elif session.why:
         session.tell(session.why())
-    else:
+    elif not failures.why_newest(session):
         raise Wrong("nothing was refused yet, and no turn ended with a fault")
 
 
@@ -95,7 +95,8 @@ COMMANDS = {
         Described(":versions Counter bump", "lists what was installed and removed for a method of a class", browsing.versions),
         Described(":revert Counter bump 3", "writes a method again as it was in a version", browsing.revert),
         Described(":implementors bump", "lists the classes that have a method of their own", browsing.implementors),
-        Described(":senders bump", "lists the methods that send a message, but not those that post it", browsing.senders),
+        Described(":senders bump", "lists the methods that send a message, and those that have its symbol, to post it", browsing.senders),
+        Described(":edits 20", "lists the newest edits; what a removed method was, :versions Counter bump shows", edits.edits),
         Described(":actors 7", "lists the actors from a number on, with what they run; alone, from the first", browsing.actors),
         Described(":inspect c", "shows an actor: variables, mailbox, turn; as  :inspect c 1  an object of its own", inspecting.inspect),
         Described(":faults", "lists the turns that ended with a fault, as far as they are kept", failures.faults),
@@ -106,7 +107,7 @@ COMMANDS = {
         Described(":save FILE", "writes the image to a file now; alone, to that of --image", saving.save),
         Described(":sources FILE", "writes all classes and methods to a file, for :load", files.sources),
         Described(":log FILE", "writes what was sent so far, and answered, as JSON; alone, shows it for the line before", files.log),
-        Described(":why c 12", "shows how a turn came to a fault; as  :why c  the actor's last fault, and alone the last that was told", why),
+        Described(":why c 12", "shows how a turn failed; as  :why c  the actor's last, and alone the last that was told, or the newest", why),
         Described(":help :step", "helps with a command; alone, with all", help_on),
         Described(":restart", "starts anew, with nothing defined; with --image, as it was saved last", saving.restart),
         Described(":quit", "ends the workspace; with --image, the image is kept", quit_session),

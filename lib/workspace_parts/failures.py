@@ -7,7 +7,7 @@ import actorimage
 from . import advice, fault_places, looks, shown
 from .running import actor_of
 from .turns import Turn
-from .values import table
+from .values import count, table
 from .wrong import Refused, Wrong
 
 # A turn as it is written behind a command: an actor, with a number behind it as of `:inspect`, or before it as of `:turn`.
@@ -17,6 +17,8 @@ ASKED = re.compile(rf"(?:(?P<before>[0-9]{{1,19}})\s+of\s+)?(?P<actor>{ACTOR})(?
 KEPT = 64
 NONE = "no turn has ended with a fault"
 GONE = "what failed is not kept any more: of the newest 64 faults since the last checkpoint it is"
+LOST = "{} failed before step {:,}, that of the first one that is kept"
+BY_JOURNAL = "; where there is a journal,  ./actorimage replay  leads back there (docs/OPERATING.md, A journal)"
 SINCE = " since step {:,}, when the image had a checkpoint or was loaded"
 
 
@@ -39,7 +41,14 @@ def faults(session, rest):
         rows.append([it["step"], number, session.known.name_of(number) or "", name, it["turn"], it["fault"]])
     session.tell(table(rows))
     if len(found) == KEPT:
-        session.say(f"{KEPT} are kept, and {session.turns.ask({'cmd': 'status'})['faults']:,} turns failed")
+        tell_lost(session, found[0]["step"])
+
+
+def tell_lost(session, first):
+    """Tells how many turns failed before the first one that is kept, if any did, and of a server what may lead back to them."""
+    lost = session.turns.ask({"cmd": "status"})["faults"] - KEPT
+    if lost > 0:
+        session.say(LOST.format(count(lost, "turn"), first) + (BY_JOURNAL if session.image.is_served else ""))
 
 
 def why(session, rest):
@@ -47,7 +56,21 @@ def why(session, rest):
     asked = ASKED.fullmatch(rest)
     actor = actor_of(session, asked["actor"])
     number = asked["before"] or asked["behind"]
-    turn = Turn(actor, int(number)) if number else last_of(session, actor, asked["actor"])
+    tell_of(session, Turn(actor, int(number)) if number else last_of(session, actor, asked["actor"]))
+
+
+def why_newest(session):
+    """Tells of the newest turn that failed, where nothing was told of before. Returns whether there is one."""
+    found = [] if session.news.after is None else kept(session)["faults"]
+    since = [it for it in found if it["step"] > session.news.begun]
+    newest = [it for it in since if session.known.is_own(it["actor"])] or found
+    if newest:
+        tell_of(session, Turn(newest[-1]["actor"], newest[-1]["turn"]))
+    return bool(newest)
+
+
+def tell_of(session, turn):
+    """Tells how a turn ended; of one that failed also what failed, and where."""
     told = session.turns.ask({"cmd": "fault", "actor": turn.actor, "turn": turn.number})
     if "fault" in told:
         session.say(f"fault {told['fault']} in {turn}")

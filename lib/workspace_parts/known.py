@@ -101,6 +101,10 @@ class Known:
     def actor(self, number):
         return self.actors.setdefault(number, KnownActor())
 
+    def is_own(self, number):
+        """Whether this session has made the actor, or has posted to it."""
+        return number in self.actors and self.actors[number].is_own
+
     def see(self, value):
         """Takes note of an actor that a value is."""
         if isinstance(value, dict) and "ref" in value:

@@ -85,6 +85,16 @@ def senders(session, selector):
     return session.turns.ask({"cmd": "senders", "selector": selector})["methods"]
 
 
+def edits(session, first=0):
+    """The edits behind the first ones, oldest first."""
+    found = []
+    while True:
+        told = session.turns.ask({"cmd": "edits", "from": first + len(found)})
+        found += told["edits"]
+        if first + len(found) >= told["version"]:
+            return found
+
+
 def sent(session, name, selector):
     """The selectors that a method sends, in the order of its code; none if it is gone."""
     try:

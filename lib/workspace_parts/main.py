@@ -115,6 +115,7 @@ def work(session, names):
     if is_terminal:
         session.say(WELCOME)
     saving.begin(session)
+    session.news.tell_kept()
     are_whole = [load(session, name) for name in names]
     if names:
         session.tell_news()

@@ -6,6 +6,7 @@ from typing import Optional
 
 from . import failures
 from .turns import Turn
+from .values import count
 from .wrong import Lost, Refused
 
 # So many are told before a prompt, and an image counts no step behind this one (docs/LIMITS.md).
@@ -23,19 +24,27 @@ class Told:
 
 class News:
     """`after` is how many steps the image had taken when it was asked last; None where it tells of no faults. `told` are those that the
-    entry has told of itself."""
+    entry has told of itself. `begun` is how many steps there were when the session began, and `kept` how many faults of before are kept
+    that nobody has spoken of."""
 
     def __init__(self, session):
         self.session = session
-        self.told, self.after = [], None
+        self.told, self.after, self.begun, self.kept = [], None, 0, 0
 
     def begin(self):
-        """Nothing is told of what was before. An image of one's own has just begun."""
-        self.told, self.after = [], 0
+        """Of what was before it is told only how much there is. An image of one's own has just begun."""
+        self.told, self.after, self.begun, self.kept = [], 0, 0, 0
         if self.session.image.is_served:
-            self.after = LAST_STEP
+            self.after = self.begun = LAST_STEP
             with contextlib.suppress(Lost):
-                self.ask(self.after)
+                self.kept = len(self.ask(0)[0])
+                self.begun = self.after or 0
+
+    def tell_kept(self):
+        """Tells, once, how many faults of before are kept."""
+        kept, self.kept = self.kept, 0
+        if kept:
+            self.session.say(f"the image keeps {count(kept, 'fault')} from before;  :faults  lists {'it' if kept == 1 else 'them'}")
 
     def ask(self, after):
         """The faults behind a step, and whether some of them are kept no more."""
@@ -50,6 +59,7 @@ class News:
 
     def tell(self):
         """Tells what the entry has not told. That is asked for where something has run."""
+        self.tell_kept()
         entry, self.told = self.told, []
         if self.after is None or not self.session.turns.may_have_run():
             return
@@ -62,8 +72,7 @@ class News:
 
     def tell_first(self, found, are_lost):
         """Those of actors that this session has made or posted to come first."""
-        actors = self.session.known.actors
-        found.sort(key=lambda it: not (it["actor"] in actors and actors[it["actor"]].is_own))
+        found.sort(key=lambda it: not self.session.known.is_own(it["actor"]))
         for it in found[:MOST_TOLD]:
             self.session.tell_fault_of_others(Told(Turn(it["actor"], it["turn"]), it["fault"], it["step"]))
         more = len(found) - MOST_TOLD

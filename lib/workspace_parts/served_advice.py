@@ -32,9 +32,9 @@ IN_GENERAL = {
 HELP = """\
 This image is served to many, and the server's workers run the actors: a message that is typed waits until its turn has ended.
 :post does not wait; its turn is told of with a later answer, and :turn asks for it. Ctrl-C stops the waiting, and the turn goes on.
-A session asks the image for its classes and methods, whoever wrote them (:classes, :methods, :versions, :senders, :implementors), how
-a turn of any actor ended (:turn 3 of actor 0), what the actors run (:actors), what one of them holds and which messages wait for it
-(:inspect actor 0), and how often a method's sends were done (:stats).
+A session asks the image for its classes and methods, whoever wrote them (:classes, :methods, :versions, :senders, :implementors), for
+what anybody edited (:edits), how a turn of any actor ended (:turn 3 of actor 0), what the actors run (:actors), what one of them holds
+and which messages wait for it (:inspect actor 0), and how often a method's sends were done (:stats).
 :names, :sources and Tab have what this session typed, and what it was told of classes and methods; :methods alone tells of all.
 It cannot see who else is connected, what others named, or what a turn answers that it does not ask for. Turns that failed since the last
 prompt are told of before the next one, whoever posted their messages (:faults, :why actor 0), and Enter alone asks for them. Edits of

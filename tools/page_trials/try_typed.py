@@ -17,7 +17,7 @@ def entries_are_done(program):
             ("c := Counter actor", ["actor 0"]),
             ("c bump. c bump", ["2"]),
             ("c bumpp", ["fault notUnderstood in turn 3 of actor 0"]),
-            (":senders bump", ["no method sends bump"]),
+            (":senders bump", ["no method sends bump, and none has the symbol #bump"]),
             ("Counter >> bad  ^(3 +", ["  ^(3 +", "       ^ BadToken: the method ends where an operand is expected"]),
         ]:
             same((text, opened.type(text)["lines"]), (text, lines))

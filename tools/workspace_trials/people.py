@@ -43,8 +43,8 @@ def is_meeting(path):
 def meeting(path):
     """The transcript of a file. What a person types stands behind the name, as in `one> c bump`, and what it must give stands below.
     Where that is `(goes on)`, it has a turn that goes on, and is not done before others have typed more; below `(one)` stands what it gives
-    then. After an empty line, what comes before the next of these says nothing, but for the options of the server, as in
-    `serve --workers 2`."""
+    then. What a workspace says when it begins stands below the first that is typed into it. After an empty line, what comes before the
+    next of these says nothing, but for the options of the server, as in `serve --workers 2`."""
     found, last, is_over = Meeting(path, []), None, True
     with open(path, encoding="utf-8") as file:
         lines = file.read().splitlines()

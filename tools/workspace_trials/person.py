@@ -14,13 +14,14 @@ DONE, NEXT = '"entry {} is done"', '"next"'
 
 
 class Person:
-    """`lines` are those that the workspace has printed and nobody has read; `found` are those of the entry that goes on."""
+    """`lines` are those that the workspace has printed and nobody has read; `found` are those of the entry that goes on, and
+    `echoed` those that were typed for it."""
 
     def __init__(self, folder, *options):
         pipes = {"stdin": subprocess.PIPE, "stdout": subprocess.PIPE, "stderr": subprocess.STDOUT}
         self.process = subprocess.Popen([sys.executable, WORKSPACE, *options], cwd=folder, text=True, **pipes)
         self.lines, self.found = queue.Queue(), []
-        self.entries = self.echoed = 0
+        self.entries, self.echoed = 0, []
         threading.Thread(target=self.read, daemon=True).start()
 
     def read(self):
@@ -30,7 +31,7 @@ class Person:
 
     def type(self, text):
         self.entries += 1
-        self.found, self.echoed = [], text.count("\n") + 1
+        self.found, self.echoed = [], text.split("\n")
         try:
             self.process.stdin.write(f"{text}\n\n{DONE.format(self.entries)}\n{NEXT}\n")
             self.process.stdin.flush()
@@ -38,7 +39,8 @@ class Person:
             pass
 
     def gives(self, seconds=PATIENCE):
-        """What the last entry gives, or None if it is not done after so many seconds. The workspace prints first what was typed."""
+        """What the last entry gives, or None if it is not done after so many seconds. The workspace prints before that what was typed, and
+        before the first entry what it begins with, which is counted as given by that."""
         done = "> " + DONE.format(self.entries)
         while True:
             try:
@@ -46,7 +48,8 @@ class Person:
             except queue.Empty:
                 return None
             if line == done or line is None:
-                return self.found[self.echoed :]
+                begins = self.found.index("> " + self.echoed[0].rstrip()) if self.echoed else 0
+                return self.found[:begins] + self.found[begins + len(self.echoed) :]
             if line != "> " + NEXT:
                 self.found.append(line)
 

@@ -129,6 +129,22 @@ def begins_again(program):
             session.end()
 
 
+def kept_are_told(program):
+    """How many faults a served image keeps is told once: to who connects, and behind the first entry on a new connection."""
+    failed = [{"actor": it, "fault": "overflow", "step": 12 + it, "turn": 7} for it in (1, 2)]
+    last, sites = '{"error":"Old","last":0}', '{"ok":{"sites":[]}}'
+    again = [GREETED, STATUS, last, news(failed[:1], 0, 30), sites, news([], 30, 30), sites, news([], 30, 30)]
+    with pretended([GREETED, news(failed, 0, 30)], again) as path:
+        told = []
+        session = Session(WatchedImage(path, 7), Breaks(), told.append)
+        session.news.tell_kept()
+        for _ in range(2):
+            session.do(":stats A b")
+        said, nothing = "the image keeps {} from before;  :faults  lists {}".format, "A >> b sends nothing"
+        same(told, [said("2 faults", "them"), BROKE.format(path), AGAIN, nothing, said("1 fault", "it"), nothing])
+        session.end()
+
+
 def nearly_full(program):
     """A checkpoint is offered where the image tells that a tenth of its history is left, whoever has used it."""
     answer, turn = '{"ok":{"answer":1}}', "turn 1 of actor 0 answers 1"
@@ -164,16 +180,18 @@ def faults_are_told(program):
         names, said = "nothing was named yet; name an actor as in  c := Counter actor", "actor {}: fault overflow in turn 7".format
         more = "and 61 more, besides those that are not kept;  :faults  lists them"
         same(told, [names, said(2), said(1), names, names, said(2), said(1), said(3), more, names])
-        same(asked_behind(session), [2**63 - 1, 12, 30, 5, 99])
+        same(asked_behind(session), [0, 12, 30, 5, 99])
         session.end()
 
 
 def faults_are_listed(program):
-    """Where as many are listed as are kept, it is told how many there were."""
+    """Where as many are listed as are kept, it is told how many failed before the first of them, if any did."""
     kept = [{"actor": 3, "fault": "overflow", "step": step, "turn": step} for step in range(9, 73)]
     actor = '{"ok":{"actors":[{"actor":3,"class":"A"}],"count":4}}'
-    for found, more in ((kept, ["64 are kept, and 1,200 turns failed"]), (kept[1:], [])):
-        asked = ['{"ok":{"faults":1200}}'] if more else []
+    behind = "; where there is a journal,  ./actorimage replay  leads back there (docs/OPERATING.md, A journal)"
+    said = [f"{it} failed before step 9, that of the first one that is kept{behind}" for it in ("1 turn", "1,136 turns")]
+    for found, counted, more in ((kept, 1200, said[1:]), (kept, 65, said[:1]), (kept, 64, []), (kept[1:], 0, [])):
+        asked = [json.dumps({"ok": {"faults": counted}})] if counted else []
         with pretended([GREETED, NEWS, news(found, 8, 99), actor, *asked, NEWS]) as path:
             told = []
             session = Session(ServedImage(path, 7), Breaks(), told.append)
@@ -194,11 +212,11 @@ def no_faults_are_told(program):
         meaning, place = "a result has over 64 bits; let the numbers stay smaller", "to find the place, see how far the methods came"
         unknown = "BadCommand: the program does not know this command; it and the workspace are not of the same version"
         wanted = ["fault overflow in turn 1 of actor 0", f"overflow: {meaning}", f"{place}, as in  :stats Counter bump", unknown]
-        same((told, asked_behind(session)), (wanted, [2**63 - 1, 0]))
+        same((told, asked_behind(session)), (wanted, [0, 0]))
         session.end()
 
 
 TRIALS = (
-    begins_again, nearly_full, faults_are_told, faults_are_listed, no_faults_are_told, no_server_replies, too_many, once_more,
+    begins_again, kept_are_told, nearly_full, faults_are_told, faults_are_listed, no_faults_are_told, no_server_replies, too_many, once_more,
     perhaps_accepted,
 )

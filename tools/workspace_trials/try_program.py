@@ -116,6 +116,14 @@ def copied_alone(program):
             same(run(name, *words), ("", wanted, 1))
 
 
+def lost_faults(program):
+    """Of an image of one's own, which has no journal, it is told how many faults are lost."""
+    fails = "D >> fail: n  | i |  i := 0. [i < n] whileTrue: [i := i + 1. thisActor post: #fail]"
+    for count, wanted in ((4, "zeroDivide"), (6, "2 turns failed before step 108, that of the first one that is kept")):
+        lines = ["D : Object", "D >> fail  ^1 // 0", fails, "d := D actor", f"d fail: {count}", "d fail: 60. d isNil", ":faults"]
+        same(piped(program, lines).stdout.decode().splitlines()[-1][-len(wanted) :], wanted)
+
+
 def interrupted(program):
     """A run that is broken off ends a workspace that reads no terminal."""
     with subprocess.Popen(
@@ -192,4 +200,4 @@ def too_long(program):
     same(found.endswith("actor 0\n"), True)
 
 
-TRIALS = (endless, files, expected, why_not_expected, helped, copied_alone, interrupted, log, no_program, no_file, lost_program, too_long)
+TRIALS = (endless, files, expected, why_not_expected, helped, copied_alone, lost_faults, interrupted, log, no_program, no_file, lost_program, too_long)

@@ -1,0 +1,42 @@
+"""The edits of the image in their order, whoever made them: what `:edits` lists."""
+
+import re
+
+from . import looks
+from .tokens import pattern
+from .values import count, table
+from .wrong import Wrong
+
+# So many are listed where no number is given.
+LISTED = 20
+NONE = "nothing was edited yet; define a class as in  Counter : Object | count |"
+
+
+def edits(session, rest):
+    """Lists the newest, the last one below."""
+    if not re.fullmatch("|[1-9][0-9]{0,3}", rest):
+        raise Wrong("write how many of the newest edits are to be listed after it, or nothing")
+    there = session.turns.ask({"cmd": "status"})["edits"]
+    first = max(0, there - int(rest or LISTED))
+    found = looks.edits(session, first)
+    if not found:
+        session.say(NONE)
+        return
+    session.tell(table([["version", "class", "selector", "edit"], *(row(version, it) for version, it in enumerate(found, first + 1))]))
+    removed = [it["remove"] for it in found if "remove" in it]
+    if removed:
+        session.say(f":versions {removed[-1]['class']} {removed[-1]['selector']}  shows what the removed method was")
+    if first:
+        session.say(f"the image has {count(first + len(found), 'edit')}; :edits {first + len(found)}  lists all")
+
+
+def row(version, edit):
+    """The version that an edit gave, its class, of a method the selector, and what it did."""
+    ((kind, it),) = edit.items()
+    if kind == "define":
+        return [version, it["name"], "", f"class defined under {it['super']}"]
+    if kind == "reparent":
+        return [version, it["class"], "", f"class put under {it['super']}"]
+    if kind == "remove":
+        return [version, it["class"], it["selector"], "method removed"]
+    return [version, it["class"], pattern(it["source"])[0], "method installed"]

@@ -33,7 +33,7 @@ use crate::options::{
 };
 use crate::replaying::{replayed, save_at};
 use crate::runs::{begin_with, saved_at};
-use crate::socket_files::{SocketFile, bind};
+use crate::socket_files::{SocketFile, bind, refuse_taken};
 use boxcar::Vec as Faults;
 use clap::Error;
 use st_classes::refusals::Refusal;
@@ -424,6 +424,7 @@ fn serve_with<
     options: ServeOptions<'_>,
     faults: &Faults<Refusal>,
 ) -> Result<(), Failure> {
+    refuse_taken(rt, rt.alloc(), options.socket)?;
     let (keeper, loaded) = begin_held(rt, program, options.keeping)?;
     let ended = serve_loaded(rt, options, loaded, faults, &keeper);
     end_serving(rt, &keeper, faults, ended)

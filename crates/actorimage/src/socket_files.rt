@@ -43,6 +43,14 @@ fn not_bound(alloc: Global, path: &str, error: &io::Error) -> Failure {
     Failure::at(alloc, Refusal::ReadFault, path, error)
 }
 
+/// Refuses a path at which something is there already, so that nothing that takes its time is done first.
+pub fn refuse_taken<R: Files>(rt: &R, alloc: Global, path: &str) -> Result<(), Failure> {
+    match fs::symlink_metadata(rt, path) {
+        Ok(_) => Err(Failure::of(alloc, Refusal::ReadFault, path, "is there already")),
+        Err(_) => Ok(()),
+    }
+}
+
 /// Makes a socket, and its file for the owner alone. Between the two calls for that, the process's umask decides who can connect.
 /// If the permissions cannot be set, neither the socket nor the file remains.
 pub fn bind<'a, R: Net + Files>(

@@ -4,7 +4,7 @@ import re
 
 import actorimage
 
-from . import advice, fault_places, looks, shown
+from . import advice, fault_places, looks, shown, written
 from .running import actor_of
 from .turns import Turn
 from .values import count, table
@@ -117,7 +117,8 @@ def lines_of(session, turn, told):
         return session.known.name_of(number) or f"actor {number}"
 
     said = f"{failure.message(name)}: {fault}, {advice.FAULTS[fault]}"
-    return [said, *failure.lines(session.known.slots, name), *(missing(session, failure) if fault == "notUnderstood" else [])]
+    frames = failure.lines(session.known.slots, name, written.Written(session).notes)
+    return [said, *frames, *(missing(session, failure) if fault == "notUnderstood" else [])]
 
 
 def missing(session, failure):

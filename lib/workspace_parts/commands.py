@@ -99,7 +99,7 @@ COMMANDS = {
         Described(":edits 20", "lists the newest edits; what a removed method was, :versions Counter bump shows", edits.edits),
         Described(":actors 7", "lists the actors from a number on, with what they run; alone, from the first", browsing.actors),
         Described(":inspect c", "shows an actor: variables, mailbox, turn; as  :inspect c 1  an object of its own", inspecting.inspect),
-        Described(":faults", "lists the turns that ended with a fault, as far as they are kept", failures.faults),
+        Described(":faults 9", "lists the newest turns that failed; as  :faults c  those of an actor; alone, each kind once", failures.faults),
         Described(":names", "lists what was named", browsing.names),
         Described(":stats Counter bump", "shows how the caches answered the sends of a method", browsing.stats),
         Described(":expect 5", "is refused where the messages before have another answer, so that a file can check", running.expect),

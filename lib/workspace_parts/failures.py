@@ -4,7 +4,7 @@ import re
 
 import actorimage
 
-from . import advice, fault_places, kinds, looks, shown, written
+from . import advice, fault_places, kinds, looks, of_nil, shown, written
 from .running import actor_of
 from .turns import Turn
 from .values import count, table
@@ -147,9 +147,12 @@ def lines_of(session, turn, told):
     def name(number):
         return session.known.name_of(number) or f"actor {number}"
 
-    said = f"{failure.message(name)}: {fault}, {advice.FAULTS[fault]}"
     frames = failure.lines(session.known.slots, name, written.Written(session).notes)
-    return [said, *frames, *(missing(session, failure) if fault == "notUnderstood" else [])]
+    means, behind = advice.FAULTS[fault], []
+    if fault == "notUnderstood":
+        is_nil = failure.frames and failure.send.receiver is None and not failure.send.is_super
+        means, behind = of_nil.said(session, failure) if is_nil else (means, missing(session, failure))
+    return [f"{failure.message(name)}: {fault}, {means}", *frames, *behind]
 
 
 def missing(session, failure):

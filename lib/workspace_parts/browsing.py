@@ -4,7 +4,7 @@ import re
 
 from smalltalk.language import KERNEL_SELECTORS
 
-from . import differing, looks, shown, symbols
+from . import differing, edits, looks, shown, symbols
 from .values import count, show, table
 from .wrong import Wrong
 
@@ -26,6 +26,9 @@ def methods(session, rest):
 
 
 def versions(session, rest):
+    if re.fullmatch("[A-Z][A-Za-z0-9]*", rest):
+        edits.of_class(session, rest)
+        return
     name, selector = method_of(session, rest)
     found = looks.versions(session, name, selector)
     session.tell(differing.versions(name, selector, found))

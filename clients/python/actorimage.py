@@ -302,15 +302,18 @@ class Failure:
         return f"{receiver} {words.message(self.send.selector, self.send.args)}"
 
     def lines(
-        self, slots: Callable[[str], Sequence[str]] = lambda name: (), actor: Callable[[int], str] = "actor {}".format
+        self,
+        slots: Callable[[str], Sequence[str]] = lambda name: (),
+        actor: Callable[[int], str] = "actor {}".format,
+        notes: Callable[[Activation], Sequence[str]] = lambda frame: (),
     ) -> list[str]:
         """The frames, from the first to the running one, each with the line of its source where the send stands and a mark below that.
         Of many the first and the last are shown. `slots` names the instance variables of a class, inherited ones first; where it names
-        none, their values stand alone."""
+        none, their values stand alone. `notes` has lines to stand between a frame that is shown and its source."""
         words, between, found = _Words(self, actor), len(self.frames) - FIRST_FRAMES - LAST_FRAMES, []
         for place, it in enumerate(self.frames):
             if not FIRST_FRAMES <= place < FIRST_FRAMES + between:
-                found += [words.frame(it, slots(it.class_name)), *(f"  {line}" for line in _marked(it.source, it.offset))]
+                found += [words.frame(it, slots(it.class_name)), *notes(it), *(f"  {line}" for line in _marked(it.source, it.offset))]
             elif place == FIRST_FRAMES:
                 found.append(f".. {between} more ..")
         return found

@@ -4,7 +4,7 @@ import re
 
 from smalltalk.language import KERNEL_SELECTORS
 
-from . import looks, shown, symbols
+from . import differing, edits, looks, shown, symbols
 from .values import count, show, table
 from .wrong import Wrong
 
@@ -26,10 +26,12 @@ def methods(session, rest):
 
 
 def versions(session, rest):
+    if re.fullmatch("[A-Z][A-Za-z0-9]*", rest):
+        edits.of_class(session, rest)
+        return
     name, selector = method_of(session, rest)
     found = looks.versions(session, name, selector)
-    for it in found:
-        session.tell(shown.version(name, it))
+    session.tell(differing.versions(name, selector, found))
     if not found:
         session.say(f"no method {selector} was written in {name}; :implementors {selector}  lists the classes that have one")
     last = found[-1] if found else {"removed": True}

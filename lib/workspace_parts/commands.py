@@ -92,14 +92,20 @@ COMMANDS = {
         Described(":remove Counter bump", "removes a method", browsing.remove),
         Described(":classes", "lists the classes that were defined", browsing.classes),
         Described(":methods Counter", "lists the methods of a class; alone, all methods; as  :methods Counter bump  one", browsing.methods),
-        Described(":versions Counter bump", "lists what was installed and removed for a method of a class", browsing.versions),
+        Described(
+            ":versions Counter bump", "shows what a method was, and what differs; as  :versions Counter  the class's edits", browsing.versions
+        ),
         Described(":revert Counter bump 3", "writes a method again as it was in a version", browsing.revert),
         Described(":implementors bump", "lists the classes that have a method of their own", browsing.implementors),
         Described(":senders bump", "lists the methods that send a message, and those that have its symbol, to post it", browsing.senders),
         Described(":edits 20", "lists the newest edits; what a removed method was, :versions Counter bump shows", edits.edits),
         Described(":actors 7", "lists the actors from a number on, with what they run; alone, from the first", browsing.actors),
-        Described(":inspect c", "shows an actor: variables, mailbox, turn; as  :inspect c 1  an object of its own", inspecting.inspect),
-        Described(":faults", "lists the turns that ended with a fault, as far as they are kept", failures.faults),
+        Described(
+            ":inspect c",
+            "shows an actor: variables, mailbox, turn; as  :inspect c 1  an object of its own, and  all  all",
+            inspecting.inspect,
+        ),
+        Described(":faults 9", "lists the newest turns that failed; as  :faults c  those of an actor; alone, each kind once", failures.faults),
         Described(":names", "lists what was named", browsing.names),
         Described(":stats Counter bump", "shows how the caches answered the sends of a method", browsing.stats),
         Described(":expect 5", "is refused where the messages before have another answer, so that a file can check", running.expect),

@@ -22,12 +22,34 @@ def edits(session, rest):
     if not found:
         session.say(NONE)
         return
-    session.tell(table([["version", "class", "selector", "edit"], *(row(version, it) for version, it in enumerate(found, first + 1))]))
-    removed = [it["remove"] for it in found if "remove" in it]
-    if removed:
-        session.say(f":versions {removed[-1]['class']} {removed[-1]['selector']}  shows what the removed method was")
+    tell(session, list(enumerate(found, first + 1)))
     if first:
         session.say(f"the image has {count(first + len(found), 'edit')}; :edits {first + len(found)}  lists all")
+
+
+def of_class(session, name):
+    """Lists the newest of a class. All edits are asked for."""
+    found = [(version, it) for version, it in enumerate(looks.edits(session), 1) if class_of(it) == name]
+    if not found:
+        looks.methods(session, name)
+        session.say(f"{name} has no edits")
+        return
+    tell(session, found[-LISTED:])
+    if len(found) > LISTED:
+        session.say(f"{name} has {count(len(found), 'edit')}, of which these are the newest")
+
+
+def tell(session, found):
+    """Edits with their versions, and how to see what the last removed method was."""
+    session.tell(table([["version", "class", "selector", "edit"], *(row(version, it) for version, it in found)]))
+    removed = [it["remove"] for _, it in found if "remove" in it]
+    if removed:
+        session.say(f":versions {removed[-1]['class']} {removed[-1]['selector']}  shows what the removed method was")
+
+
+def class_of(edit):
+    (it,) = edit.values()
+    return it.get("class", it.get("name"))
 
 
 def row(version, edit):

@@ -4,7 +4,7 @@ import re
 
 import actorimage
 
-from . import advice, fault_places, looks, shown
+from . import advice, fault_places, kinds, looks, of_nil, shown, written
 from .running import actor_of
 from .turns import Turn
 from .values import count, table
@@ -15,8 +15,11 @@ ACTOR = r"actor\s+[0-9]{1,9}|[a-z][A-Za-z0-9]*"
 ASKED = re.compile(rf"(?:(?P<before>[0-9]{{1,19}})\s+of\s+)?(?P<actor>{ACTOR})(?:\s+(?P<behind>[0-9]{{1,19}}))?")
 # So many faults are kept of an image (docs/LIMITS.md).
 KEPT = 64
+# How many of the newest are to be listed, behind `:faults`.
+NEWEST = re.compile("[1-9][0-9]{0,3}")
 NONE = "no turn has ended with a fault"
-GONE = "what failed is not kept any more: of the newest 64 faults since the last checkpoint it is"
+NONE_OF = "no fault of actor {} is kept;  :turn of {}  tells how its last turn ended"
+GONE = "what failed is not kept any more: of the newest 64 faults of the image since the last checkpoint it is"
 LOST = "{} failed before step {:,}, that of the first one that is kept"
 BY_JOURNAL = "; where there is a journal,  ./actorimage replay  leads back there (docs/OPERATING.md, A journal)"
 SINCE = " since step {:,}, when the image had a checkpoint or was loaded"
@@ -28,20 +31,48 @@ def kept(session, after=0):
 
 
 def faults(session, rest):
-    """Lists those that are kept."""
+    """Lists the kinds of those that are kept, or one by one the newest or those of an actor."""
+    number = NEWEST.fullmatch(rest)
+    actor = None if number or not rest else actor_of(session, rest)
     told = kept(session)
     found = told["faults"]
     if not found:
         session.say(NONE + (SINCE.format(told["from"]) if told["from"] else " yet"))
-        return
-    rows = [["step", "actor", "name", "class", "turn", "fault"]]
+    elif actor is not None:
+        list_of_actor(session, [it for it in found if it["actor"] == actor], actor, rest)
+    else:
+        list_of_all(session, found, int(rest) if number else None)
+
+
+def list_of_actor(session, found, actor, written):
+    if found:
+        session.tell(table(rows(session, found)))
+    else:
+        looks.actor(session, actor)
+        session.say(NONE_OF.format(actor, written))
+
+
+def list_of_all(session, found, newest):
+    """So many of the newest one by one, or the kinds of all."""
+    if newest:
+        session.tell(table(rows(session, found[-newest:])))
+    else:
+        kinds_of = kinds.rows(session, found)
+        session.tell(table(kinds_of))
+        if len(kinds_of) <= len(found):
+            session.say(f":faults {len(found)}  lists them one by one")
+    if len(found) == KEPT and (newest or KEPT) >= KEPT:
+        tell_lost(session, found[0]["step"])
+
+
+def rows(session, found):
+    """Faults one by one."""
+    listed = [["step", "actor", "name", "class", "turn", "fault"]]
     for it in found:
         number = it["actor"]
         name = session.known.actor(number).class_name or looks.actor(session, number)
-        rows.append([it["step"], number, session.known.name_of(number) or "", name, it["turn"], it["fault"]])
-    session.tell(table(rows))
-    if len(found) == KEPT:
-        tell_lost(session, found[0]["step"])
+        listed.append([it["step"], number, session.known.name_of(number) or "", name, it["turn"], it["fault"]])
+    return listed
 
 
 def tell_lost(session, first):
@@ -90,7 +121,7 @@ def last_of(session, actor, written):
     turns = [it["turn"] for it in kept(session)["faults"] if it["actor"] == actor]
     if not turns:
         looks.actor(session, actor)
-        raise Wrong(f"no fault of actor {actor} is kept;  :turn of {written}  tells how its last turn ended")
+        raise Wrong(NONE_OF.format(actor, written))
     return Turn(actor, turns[-1])
 
 
@@ -116,8 +147,12 @@ def lines_of(session, turn, told):
     def name(number):
         return session.known.name_of(number) or f"actor {number}"
 
-    said = f"{failure.message(name)}: {fault}, {advice.FAULTS[fault]}"
-    return [said, *failure.lines(session.known.slots, name), *(missing(session, failure) if fault == "notUnderstood" else [])]
+    frames = failure.lines(session.known.slots, name, written.Written(session).notes)
+    means, behind = advice.FAULTS[fault], []
+    if fault == "notUnderstood":
+        is_nil = failure.frames and failure.send.receiver is None and not failure.send.is_super
+        means, behind = of_nil.said(session, failure) if is_nil else (means, missing(session, failure))
+    return [f"{failure.message(name)}: {fault}, {means}", *frames, *behind]
 
 
 def missing(session, failure):

@@ -8,18 +8,21 @@ from .running import actor_of
 from .values import a_or_an, count, show
 from .wrong import Wrong
 
-# So many messages and frames are shown.
-MOST = 10
-ASKED = re.compile(r"(actor\s+[0-9]{1,9}|\S+)(?:\s+([0-9]{1,9}))?")
+# So many messages and frames are shown, and so many objects, with so many of the variables of each.
+MOST, MOST_OBJECTS, MOST_SLOTS = 10, 64, 10
+ASKED = re.compile(r"(actor\s+[0-9]{1,9}|\S+)(?:\s+([0-9]{1,9}|all))?")
 
 
 def inspect(session, rest):
     match = ASKED.fullmatch(rest)
     if not match:
-        raise Wrong("write the name of an actor after it, or its number as in  actor 3; and behind it that of one of its objects")
+        raise Wrong("write the name of an actor after it, or its number as in  actor 3; and behind it that of one of its objects, or all")
     name, place = match.groups()
     shown = Inspected(session, actor_of(session, name))
-    session.tell(list(shown.object(int(place)) if place else shown.actor(name)))
+    if place == "all":
+        session.tell(list(shown.all()))
+    else:
+        session.tell(list(shown.object(int(place)) if place else shown.actor(name)))
 
 
 class Inspected:
@@ -37,7 +40,8 @@ class Inspected:
         yield from self.mailbox()
         yield from self.turn()
         if len(self.objects) > 1:
-            yield f"{count(len(self.objects) - 1, 'further object')}; :inspect {name} 1  shows object 1"
+            all_of_them = f",  :inspect {name} all  all" if len(self.objects) > 2 else ""
+            yield f"{count(len(self.objects) - 1, 'further object')}; :inspect {name} 1  shows object 1{all_of_them}"
 
     def object(self, place):
         """The lines for an object of the actor's own."""
@@ -45,6 +49,20 @@ class Inspected:
             raise Wrong(f"actor {self.number} has {count(len(self.objects), 'object')}, numbered from 0")
         yield f"object {place} of actor {self.number}, {a_or_an(self.objects[place]['class'])}"
         yield from self.slots(place)
+
+    def all(self):
+        """A line for each of the first objects. What they hold is told by its number alone, since it stands there too."""
+        looks.classes(self.session)
+        yield f"actor {self.number}, {count(len(self.objects), 'object')}"
+        for place, one in enumerate(self.objects[:MOST_OBJECTS]):
+            named = list(zip(self.session.known.slots(one["class"]), one["slots"]))
+            held = ", ".join([f"{name} {self.briefly(value)}" for name, value in named[:MOST_SLOTS]] + [".."] * (len(named) > MOST_SLOTS))
+            yield f"object {place}, {a_or_an(one['class'])}" + (f": {held}" if held else "")
+        yield from more(self.objects, MOST_OBJECTS)
+
+    def briefly(self, value):
+        """An object without its class."""
+        return f"object {value['local']}" if isinstance(value, dict) and "local" in value else self.value(value)
 
     def slots(self, place):
         """The instance variables, inherited ones first."""
@@ -98,6 +116,6 @@ class Inspected:
         return " >> ".join(looks.installed(self.session, frame["method"])) + where
 
 
-def more(found):
-    if len(found) > MOST:
-        yield f"  and {len(found) - MOST:,} more"
+def more(found, most=MOST):
+    if len(found) > most:
+        yield f"  and {len(found) - most:,} more"

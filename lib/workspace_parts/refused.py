@@ -31,6 +31,14 @@ def unknown_class(command, reply, known, image):
     return advice.refusal({**command, "class": name, "super": name}, reply, image.advice) + near(name, [*known.classes, *known.names])
 
 
+def expired(_session, command, reply):
+    """Of a failure that is asked for. Such ones are kept of the image, and not of each actor as the ends of turns are."""
+    if command["cmd"] != "fault":
+        return None
+    ended = f"how turn {command['turn']} of actor {command['actor']} ended is no longer kept, or its number is 0"
+    return f"{reply['error']}: {ended}; of the whole image the newest 64 turns that failed are kept,  :faults 64  lists them"
+
+
 def no_such_method(session, command, reply):
     """Where a class above has the method, or the kernel, names that."""
     name, selector = command["class"], command["selector"]
@@ -89,6 +97,7 @@ OWN = {
     "BadArguments": bad_arguments,
     "BadName": bad_name,
     "ClassExists": class_exists,
+    "Expired": expired,
     "NoSuchMethod": no_such_method,
     "Pending": pending,
     "Stale": stale,

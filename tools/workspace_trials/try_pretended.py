@@ -195,7 +195,7 @@ def faults_are_listed(program):
         with pretended([GREETED, NEWS, news(found, 8, 99), actor, *asked, NEWS]) as path:
             told = []
             session = Session(ServedImage(path, 7), Breaks(), told.append)
-            session.do(":faults")
+            session.do(":faults 64")
             rows = [f"{it['step']:4}      3        A      {it['step']:4}  overflow" for it in found]
             same(told, ["step  actor  name  class  turn  fault", *rows, *more])
             session.end()

@@ -119,7 +119,7 @@ def copied_alone(program):
 def lost_faults(program):
     """Of an image of one's own, which has no journal, it is told how many faults are lost."""
     fails = "D >> fail: n  | i |  i := 0. [i < n] whileTrue: [i := i + 1. thisActor post: #fail]"
-    for count, wanted in ((4, "zeroDivide"), (6, "2 turns failed before step 108, that of the first one that is kept")):
+    for count, wanted in ((4, ":faults 64  lists them one by one"), (6, "2 turns failed before step 108, that of the first one that is kept")):
         lines = ["D : Object", "D >> fail  ^1 // 0", fails, "d := D actor", f"d fail: {count}", "d fail: 60. d isNil", ":faults"]
         same(piped(program, lines).stdout.decode().splitlines()[-1][-len(wanted) :], wanted)
 

@@ -63,8 +63,8 @@ def killed(program, path, *commands, options=("--sync", "0")):
     return read(path), read(path + ".journal")
 
 
-def not_journaled(program, about, path, name, why, **more):
-    ended = program.run(*words(program, path), "--journal", **more)
+def not_journaled(program, about, path, name, why, socket="socket", **more):
+    ended = program.run(*words(program, path, name=socket), "--journal", **more)
     same(f"{about}: a server with a journal", ended, refusal(name, why))
 
 
@@ -190,10 +190,11 @@ def one_server(program):
     path = program.at("file")
     with journaled(program, path, sessions=2) as (server, end, lines):
         done(end, lines, CLASS)
-        not_journaled(program, "a second server", path, "WriteFault", f"{path}.new {HELD}")
+        not_journaled(program, "a server at the same socket", path, "ReadFault", f"{program.at('socket')} is there already")
+        not_journaled(program, "a second server", path, "WriteFault", f"{path}.new {HELD}", "other")
         os.remove(path + ".new")
-        not_journaled(program, "a third server", path, "WriteFault", f"{path} {HELD}")
-    return "2 servers"
+        not_journaled(program, "a third server", path, "WriteFault", f"{path} {HELD}", "other")
+    return "3 servers"
 
 
 def journal_on_a_full_disk(program):

@@ -219,21 +219,36 @@ export class MethodPane {
     if (reply.error) { this.say(reply.said); return; }
     keep(name, selector, null);
     toast(`${name} › ${selector} is removed: version ${reply.ok.version}`, "",
-      button("link", "Undo", () => this.bringBack(name, selector, this.told.versions.findLast(it => it.source !== null), 0)));
+      button("link", "Undo", () => this.undo(name, selector, reply.removed)));
     await this.open(name, selector);
   }
 
-  // Installs what was there in a version, over the one that is there now.
-  async bringBack(name, selector, version, over = this.told.version || 0) {
+  // Installs what a removal took, whatever is in sight by now, and over nothing that somebody has written since.
+  async undo(name, selector, removed) {
+    const reply = await this.installAgain(name, selector, removed, 0, false);
+    if (reply.theirs) toast(`${name} › ${selector} is version ${reply.theirs.version} now, of somebody else; nothing is written over`, "bad");
+    else if (reply.error) toast(reply.said, "bad");
+  }
+
+  // Installs what was there in a version, over the one that is in sight.
+  async bringBack(name, selector, version) {
+    const told = this.told, reply = await this.installAgain(name, selector, version, told.version || 0, true);
+    if (this.told !== told) return;
+    if (reply.theirs) { this.theirs = reply.theirs; this.draw(); }
+    else if (reply.error) this.say(reply.said);
+  }
+
+  // With `isForgotten` what was typed in its place is given up.
+  async installAgain(name, selector, version, over, isForgotten) {
     this.isInstalling = true;
     const reply = await change("install", { class: name, source: version.source, seen: { selector, version: over } });
+    if (reply.ok) {
+      if (isForgotten) keep(name, selector, null);
+      toast(`${name} › ${selector}: version ${version.version} is back, as version ${reply.ok.version}`);
+      if (at.class === name && at.selector === selector) await this.open(name, selector);
+    }
     this.isInstalling = false;
-    if (reply.theirs) { this.theirs = reply.theirs; this.draw(); return; }
-    if (reply.error) { this.say(reply.said); return; }
-    toast(`${name} › ${selector}: version ${version.version} is back, as version ${reply.ok.version}`);
-    keep(name, selector, null);
-    Object.assign(at, { class: name, selector });
-    await this.open(name, selector);
+    return reply;
   }
 
   // What a tick tells. Another version than the one in sight is somebody else's.

@@ -31,8 +31,8 @@ function show() {
 
 // Where one was is kept for the tab.
 function remember() {
-  const { view: name, class: className, selector, actor, failure, side, tab } = at;
-  sessionStorage.setItem(SEEN, JSON.stringify({ view: name, class: className, selector, actor, failure, side, tab }));
+  const { view: name, class: className, selector, from, actor, failure, side, tab } = at;
+  sessionStorage.setItem(SEEN, JSON.stringify({ view: name, class: className, selector, from, actor, failure, side, tab }));
 }
 
 // What the page is about: the socket, and whether it only looks.

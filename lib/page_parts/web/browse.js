@@ -54,7 +54,7 @@ export async function list() {
   if (hasDraft(at.class, "")) rows.unshift({ selector: "", from: at.class });
   put(box, rows.length ? rows.map(row) : h("div", { of: "nothing" },
     at.side === "gone" ? "None was removed." : it?.isKernel
-    ? "The kernel's methods of this class have no source." : "No method yet: + writes one."));
+    ? "The kernel's methods of this class have no source." : image.isFile ? "It has none of its own." : "No method yet: + writes one."));
   drawDefinition();
   mark();
   if (isIn) box.querySelector("[aria-selected=true]")?.focus();

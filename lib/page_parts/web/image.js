@@ -2,12 +2,13 @@
 
 import { look } from "./ask.js";
 
-// The classes by their names, in the order of their numbers; the figures and the curves; the edits that were seen; the newest faults.
+// Whether it is a file; the classes by their names, in the order of their numbers; the figures and the curves; the edits that were seen; the
+// newest faults.
 export const image = { classes: new Map(), heat: {}, figures: null, points: [], edits: [], version: 0, state: "lost", asOf: null,
-  epoch: null, faults: { count: null, names: {}, all: [] } };
+  epoch: null, isFile: false, faults: { count: null, names: {}, all: [] } };
 
-// What is in sight. `from` is the class whose own the method is, where that is not the class in sight; `object` is the place of an object of the actor's own, `failure` a turn of it that failed, `place` one in a source that
-// the editor is to show, and `back` where one came from.
+// What is in sight. `from` is the class whose own the method is, where that is not the class in sight; `object` is the place of an object of
+// the actor's own, `failure` a turn of it that failed, `place` one in a source that the editor is to show, and `back` where one came from.
 export const at = {
   view: "browse", class: "Object", selector: undefined, from: undefined, side: "own", tab: "sites",
   actor: null, object: 0, failure: null, place: null, back: [],

@@ -100,7 +100,8 @@ export class MethodPane {
   // What was typed stays also where somebody else has removed the method.
   get hasText() {
     const { told } = this;
-    return Boolean(told) && (told.source !== undefined || Boolean(told.isNew) || !told.kernel && hasDraft(told.class, told.selector));
+    if (!told || told.isNew) return Boolean(told) && !image.isFile;
+    return told.source !== undefined || !told.kernel && hasDraft(told.class, told.selector);
   }
 
   get isChanged() { return Boolean(this.told) && this.editor.text !== this.began.base; }
@@ -125,12 +126,14 @@ export class MethodPane {
     this.over.hidden = !isShown;
     this.under.root.hidden = !told || told.isNew;
     put(this.head, told && [h("span", { of: "C" }, told.class), h("span", { of: "faint" }, "›"),
-      h("span", { of: "sel cut" }, told.selector || "new method"), h("span", { of: "faint cut" }, this.which())]);
+      h("span", { of: "sel cut" }, told.selector || (image.isFile ? "" : "new method")), h("span", { of: "faint cut" }, this.which())]);
     if (told && !isShown) {
       put(this.none, this.whyNone());
     }
     this.chip.hidden = !this.isChanged;
-    this.buttons.install.disabled = !this.isChanged;
+    this.editor.field.readOnly = image.isFile;
+    this.buttons.install.hidden = this.buttons.revert.hidden = image.isFile;
+    this.buttons.install.disabled = !this.isChanged || image.isFile;
     this.buttons.install.className = this.isChanged ? "main" : "plain";
     this.buttons.revert.disabled = !this.isChanged && !this.theirs;
     this.buttons.remove.disabled = !told || !told.version;
@@ -140,9 +143,11 @@ export class MethodPane {
   // What is said where there is no source.
   whyNone() {
     const { class: name, selector, kernel, gone } = this.told;
+    if (!selector) return `${name} has no method of its own.`;
     if (kernel) return `${name} has ${selector} from the kernel, which has no source.`;
     const from = holder(name, selector), runs = from ? ` A send of it runs that of ${from}.` : "";
-    if (gone) return `${name} has no method ${selector} now.${runs} Its versions stand below: one can be brought back.`;
+    const way = image.isFile ? "." : ": one can be brought back.";
+    if (gone) return `${name} has no method ${selector} now.${runs} Its versions stand below${way}`;
     return `${name} has no method ${selector} of its own.${runs}`;
   }
 
@@ -181,6 +186,7 @@ export class MethodPane {
   }
 
   async install(seen = null) {
+    if (image.isFile) { this.say("This is an image file, read alone: nothing is installed in it."); return; }
     if (!this.told || (!this.isChanged && !seen)) return;
     const { class: name, selector } = this.told, text = this.editor.text;
     const given = seen || { selector, version: this.began.version };

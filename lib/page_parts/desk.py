@@ -11,6 +11,7 @@ LONGEST_SESSION, PATIENCE = 60, 30
 LOOKS = ("classes", "methods", "source", "versions", "implementors", "senders", "edits", "actors", "inspect", "status", "outcome", "wait",
     "stats", "fault", "faults")
 ONLY_LOOKS = "this page was started with --look, and changes nothing"
+OF_FILE = "this is an image file, read alone: nothing of it runs, and nothing is changed"
 
 
 class Lost(Exception):
@@ -24,8 +25,8 @@ class Lost(Exception):
 class OnlyLooks(Exception):
     """A change was asked for, and this page makes none."""
 
-    def __str__(self):
-        return ONLY_LOOKS
+    def __init__(self, sentence=ONLY_LOOKS):
+        super().__init__(sentence)
 
 
 class Line:

@@ -1,6 +1,8 @@
 """A turn that ended with a fault, as a page shows it: the message that failed, and the frames of that moment, each with the send in its
 source that failed or was waited for."""
 
+import contextlib
+
 import actorimage
 from smalltalk.checks import read_method
 from smalltalk.language import BadSource
@@ -13,6 +15,9 @@ from .places import send_at
 ANEW = "turns are numbered anew since then, by a checkpoint or another start, and this one is not told of any more"
 NO_FAULTS = "this server keeps no places of faults"
 NOT_KEPT = "where it was is not known any more: an image keeps the newest 64 faults"
+INSTEAD = "Where turn {:,} failed is not kept any more: an image keeps the newest 64 faults. This is turn {:,}, the newest of actor {} that is."
+# How often the newest one is asked for, where more come meanwhile than an image keeps.
+TRIES = 8
 
 
 class Failure:
@@ -88,8 +93,8 @@ def variables(source):
 
 
 def failure(watched, asked):
-    """What is told of a turn that failed. `step` is the one at which it did, if that was told: it never comes back, as numbers of turns
-    do."""
+    """What is told of a turn that failed; where that is not kept any more, of the newest one of its actor that is, with a word about it.
+    `step` is the one at which it did, if that was told: it never comes back, as numbers of turns do."""
     actor, turn = int(asked["actor"]), int(asked["turn"])
     if asked.get("epoch") not in (None, watched.epoch):
         return {"error": "Expired", "said": ANEW}
@@ -97,6 +102,33 @@ def failure(watched, asked):
         told = watched.line.ask({"cmd": "fault", "actor": actor, "turn": turn})
     except actorimage.BadCommand:
         return {"error": "BadCommand", "said": NO_FAULTS}
-    if "fault" not in told or asked.get("step") is not None and "step" in told and exact(told["step"]) != asked["step"]:
+    except actorimage.Expired:
+        told = None
+    if told is not None and is_another(told, asked.get("step")):
         return {"error": "Expired", "said": ANEW}
+    if told is None or "frames" not in told:
+        newest, of_newest = newest_kept(watched.line, actor)
+        if newest is not None:
+            found = Failure(of_newest, actor, newest, watched.kept, watched.rows).page()
+            return {"ok": {**found, "instead": INSTEAD.format(turn, newest, actor)}}
+        if told is None:
+            return {"error": "Expired", "said": NOT_KEPT}
     return {"ok": Failure(told, actor, turn, watched.kept, watched.rows).page()}
+
+
+def is_another(told, step):
+    """Whether what is told is of no fault, or of one at another step."""
+    return "fault" not in told or step is not None and "step" in told and exact(told["step"]) != step
+
+
+def newest_kept(line, actor):
+    """The newest turn of an actor of which the image keeps how it failed, and what it tells of that; None twice where it keeps none."""
+    for _ in range(TRIES):
+        turns = [it["turn"] for it in line.ask({"cmd": "faults", "after": 0})["faults"] if it["actor"] == actor]
+        if not turns:
+            break
+        with contextlib.suppress(actorimage.Expired):
+            told = line.ask({"cmd": "fault", "actor": actor, "turn": turns[-1]})
+            if "frames" in told:
+                return turns[-1], told
+    return None, None

@@ -8,15 +8,19 @@ from inspect_parts.reading import read_image
 from inspect_parts.refused import BadImage
 from smalltalk.language import EDITS_AT_ONCE, EDITS_OF_A_RUN, EDITS_OF_A_TABLE, MOST_ITEMS
 
-from .desk import OnlyLooks
+from .desk import OF_FILE, OnlyLooks
+from .journal_beside import journal_beside
 
 SENDS = ("Send", "SuperSend")
 
 
-def read(path):
-    """The image of a file; BadImage is raised where it is none."""
+def bytes_of(path):
     with open(path, "rb") as file:
-        data = file.read()
+        return file.read()
+
+
+def read(data):
+    """The image of a file's bytes; BadImage is raised where they are none."""
 
     def work():
         try:
@@ -40,13 +44,14 @@ def no_faults(_):
 
 
 class FileLine:
-    """What a session is to the page. `begun` stays: a file is read once."""
+    """What a session is to the page. `begun` stays: a file is read once. `journal` is what is said of one beside it."""
 
     looks_only, begun = True, 0
 
     def __init__(self, path):
-        self.path, self.file, self.lock = path, read(path), threading.RLock()
-        self.image = self.file
+        data = bytes_of(path)
+        self.path, self.file, self.lock = path, read(data), threading.RLock()
+        self.image, self.journal = self.file, journal_beside(path, data)
 
     def be_there(self):
         """The file was read."""
@@ -66,7 +71,7 @@ class FileLine:
         answers = {"status": self.status, "edits": self.edits, "actors": self.actors, "inspect": self.inspect, "stats": self.stats,
             "senders": self.senders, "wait": self.wait, "fault": no_faults, "faults": no_faults}
         if command["cmd"] not in answers:
-            raise OnlyLooks
+            raise OnlyLooks(OF_FILE)
         return answers[command["cmd"]](command)
 
     # ---- as docs/PROTOCOL.md has them, behind a load of the file

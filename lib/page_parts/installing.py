@@ -67,7 +67,8 @@ def unknown(kept, source):
 
 
 def remove(kept, line, name, selector, seen):
-    """Removes a method, if it is the version that was seen. Another person's edit between the two would be told by the versions."""
+    """Removes a method, if it is the version that was seen. Another person's edit between the two would be told by the versions. What was
+    removed is told with its text, so that just that can be installed again."""
     kept.catch_up()
     found = kept.source(name, selector)
     if found and found[1] != seen:
@@ -75,6 +76,9 @@ def remove(kept, line, name, selector, seen):
             "theirs": {"source": found[0], "version": found[1]}}
     reply = told(kept, line, {"cmd": "remove", "class": name, "selector": selector})
     kept.catch_up()
+    if "ok" in reply:
+        before = [it for it in kept.history.get((name, selector), []) if it[0] < reply["ok"]["version"]]
+        reply["removed"] = {"version": before[-1][0], "source": before[-1][1]}
     return reply
 
 

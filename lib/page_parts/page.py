@@ -4,7 +4,7 @@ import actorimage
 
 from . import installing, methods
 from .completing import AllKnown, complete
-from .desk import ONLY_LOOKS, Desk, Lost, OnlyLooks
+from .desk import OF_FILE, ONLY_LOOKS, Desk, Lost, OnlyLooks
 from .failure import failure
 from .image_file import FileLine
 from .typed import NOT_HERE, Typed
@@ -15,10 +15,12 @@ class Page:
     """All windows of one image. An answer has `error` and `said` where there is none."""
 
     def __init__(self, path, looks_only=False, of_file=False):
-        self.desk = Desk(path, looks_only, FileLine(path) if of_file else None)
+        file = FileLine(path) if of_file else None
+        self.desk, self.only_looks = Desk(path, looks_only, file), OF_FILE if of_file else ONLY_LOOKS
         self.watched = Watch(self.desk, lambda told: Typed(self.desk.typed, told))
         self.typed, self.kept, self.stats = self.watched.typed, self.watched.kept, self.watched.stats
         self.about = {"socket": path, "looksOnly": self.desk.looks_only, "isFile": of_file, "sender": self.typed.sender}
+        self.about["beside"] = file.journal if file else ""
 
     def watch(self, asked):
         return self.watched.stream(asked, self.about)
@@ -28,7 +30,7 @@ class Page:
 
     def do(self, asked):
         if self.desk.looks_only:
-            return {"error": "OnlyLooks", "said": ONLY_LOOKS}
+            return {"error": "OnlyLooks", "said": self.only_looks}
         return self.answer(CHANGES, asked)
 
     def type(self, asked):

@@ -1,7 +1,9 @@
 """Trials in a real browser of turns that fail: they are seen as they come, and lead to their places."""
 
+from page_parts import watch
+
 from .try_common import post, same, until
-from .try_faults import prices
+from .try_faults import NEWEST, prices
 from .try_in_browser import is_legible, shown, typed_over
 
 MARKED = "return [...document.querySelectorAll('#failure .now')].map(it => it.textContent).join('')"
@@ -92,4 +94,34 @@ def faults_of_the_workspace_are_found(program):
         browser.wait_text("#inspected .item.fault", "actor 0, Price")
 
 
-TRIALS = faults_lead_to_their_places, faults_of_the_workspace_are_found
+def the_newest_kept_is_shown_instead(program):
+    """A row whose fault the image keeps no more leads to the newest one of its actor that it keeps, and that is said; where it keeps none
+    of the actor, that is said."""
+    tick = watch.TICK
+    with shown(program) as (server, image, opened, browser):
+        price, dear = prices(image)
+        post(image, 1, (dear, "rate:", 1), (price, "of:", 50))
+        browser.wait("return document.querySelector('#figure-faults .value')?.innerText === '2'")
+        browser.click("#figure-faults")
+        browser.wait_text(".item.fault", "actor 1, Dear")
+        try:
+            # Until the next tick the list is that of now.
+            ticks, watch.TICK = opened.page.watched.ticks, 8
+            until(lambda: opened.page.watched.ticks > ticks + 1)
+            for number in (3, 4):
+                post(image, number, *[(price, "quote:", 5)] * (NEWEST // 2 + 3))
+            browser.click("[data-key='fault 0 1']")
+            browser.wait_text("#instead", f"Where turn 1 failed is not kept any more: an image keeps the newest {NEWEST} faults. This is turn {NEWEST + 7}, the newest of actor 0")
+            same(browser.texts("#failure .frame .code"), ["Price › of:", "Price › quote:"])
+            browser.wait_text("#failure h3", f"Turn {NEWEST + 7}")
+            browser.click("#tab-pictures")
+            browser.click("[data-key='fault 1 1']")
+            browser.wait_text("#failure", "is not known any more")
+            same(browser.texts("#instead"), [])
+        finally:
+            watch.TICK = tick
+        browser.wait("return document.querySelector('#figure-faults .value')?.innerText === arguments[0]", str(NEWEST + 8))
+        legible(browser, "another in place of it")
+
+
+TRIALS = faults_lead_to_their_places, faults_of_the_workspace_are_found, the_newest_kept_is_shown_instead

@@ -1,11 +1,14 @@
 """Trials of a page on an image file, which is read alone."""
 
+import hashlib
 import os
 import subprocess
 import sys
+import tempfile
 
 import actorimage
 from page_parts.image_file import FileLine
+from page_parts.journal_beside import journal_beside
 from page_parts.page import Page
 
 from .try_common import PAGE, PATIENCE, Opened, image_of, post, same, true, until
@@ -57,6 +60,30 @@ def a_file_is_shown(program):
             same(file.read() == before, True)
 
 
+def a_journal_beside_is_told(program):
+    """Of a journal beside a file it is said where it has what the file has not, as docs/FORMAT.md says which one that is."""
+    with tempfile.TemporaryDirectory() as folder:
+        path, data = os.path.join(folder, "image"), b"{}"
+
+        def said(old=None, new=None):
+            for name, text in ((".journal", old), (".journal.new", new)):
+                if text is not None:
+                    with open(path + name, "wb") as file:
+                        file.write(text)
+                elif os.path.exists(path + name):
+                    os.remove(path + name)
+            return journal_beside(path, data)
+
+        digests = hashlib.sha256(data).hexdigest(), "0" * 64
+        mine, other = (b'{"journal":{"capacity":64,"format":1,"image":"%s"}}\n' % it.encode() for it in digests)
+        more = b'{"name":"a"}\n\n'
+        same([said(), said(b""), said(b"\0\0"), said(mine + b"\n"), said(mine + b"\0" * 9), said(other + more, mine + b"\n")], [""] * 6)
+        for parts, name in (((mine + more,), "image.journal,"), ((other + more, mine + more), "image.journal.new,")):
+            told = said(*parts)
+            true(told.startswith("What happened since") and f" {name} " in told, told)
+        true("another image" in said(other + more) and "another image" in said(b"{nothing\n"), "another's journal is not told")
+
+
 def other_files_are_refused(program):
     """A file that is no image, one that is not there, and a folder: said in a line."""
     with image_of(program, shop=False) as (server, _):
@@ -69,4 +96,4 @@ def other_files_are_refused(program):
             true(told.stderr.startswith("bin/page: ") and part in told.stderr and told.stderr.count("\n") == 1, told.stderr)
 
 
-TRIALS = a_file_is_shown, other_files_are_refused
+TRIALS = a_file_is_shown, a_journal_beside_is_told, other_files_are_refused

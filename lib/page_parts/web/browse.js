@@ -27,13 +27,14 @@ const middle = h("section", { of: "pane methods", "aria-label": "Methods" },
   h("header", {}, h("h2", { of: "grow" }, "Methods"), sides,
     button("plain changes", "+", () => fresh(), { title: "Writes a new method", "aria-label": "New method", id: "new-method" })),
   definition, scroll, actorsOf);
-walkable(box, it => (it.dataset.text ? choose(it.dataset.text) : fresh()));
+walkable(box, it => (it.dataset.text ? choose(it.dataset.text, it.dataset.from) : fresh()));
 
-function choose(selector) {
-  if (selector === at.selector && pane.told?.selector === selector) return;
-  at.selector = selector;
+// Opens the method that a row is of: that of the class itself, also if it is gone, or the one that it has from another class.
+function choose(selector, from) {
+  if (selector === at.selector && from === at.from && pane.shows(from, selector)) return;
+  Object.assign(at, { selector, from });
   mark();
-  pane.open(at.class, selector);
+  pane.open(at.class, selector, from);
 }
 
 // A new method of the class in sight.
@@ -53,7 +54,7 @@ export async function list() {
   if (hasDraft(at.class, "")) rows.unshift({ selector: "", from: at.class });
   put(box, rows.length ? rows.map(row) : h("div", { of: "nothing" },
     at.side === "gone" ? "None was removed." : it?.isKernel
-    ? "The kernel's methods of this class have no source." : "No method yet: + writes one."));
+    ? "The kernel's methods of this class have no source." : image.isFile ? "It has none of its own." : "No method yet: + writes one."));
   drawDefinition();
   mark();
   if (isIn) box.querySelector("[aria-selected=true]")?.focus();
@@ -68,7 +69,7 @@ function withDrafts(rows) {
 
 function row({ selector, from, isKernel, isRemoved }) {
   const isOwn = from === at.class;
-  return h("div", { of: `item${isOwn && !isKernel ? "" : " kernel"}`, role: "option", "data-text": selector },
+  return h("div", { of: `item${isOwn && !isKernel ? "" : " kernel"}`, role: "option", "data-text": selector, "data-from": from },
     h("span", { of: "grow code cut" }, selector || h("i", {}, "new method")),
       isRemoved && h("span", { of: "chip fault", title: "removed by somebody else; what you typed is still here" }, "removed"),
       hasDraft(from, selector) && h("span", { of: "chip changed", title: "typed, not installed" }, "●"),
@@ -97,8 +98,10 @@ async function newActor() {
     button("link", "inspect it", () => go("actors", { actor: reply.ok.actor, object: 0 })));
 }
 
+const isInSight = it => Boolean(it) && it.dataset.text === (at.selector ?? "") && it.dataset.from === (at.from ?? at.class);
+
 function mark() {
-  for (const it of box.querySelectorAll("[role=option]")) it.setAttribute("aria-selected", String(it.dataset.text === (at.selector ?? "")));
+  for (const it of box.querySelectorAll("[role=option]")) it.setAttribute("aria-selected", String(isInSight(it)));
   oneStop(box);
   box.querySelector("[aria-selected=true]")?.scrollIntoView({ block: "nearest" });
   drawShapes();
@@ -118,10 +121,11 @@ export function show(main) {
   // What has the focus keeps it while one goes from class to class.
   if (tree.root.parentNode !== main) { put(main, tree.root, middle, pane.root); tree.draw(); }
   tree.select();
+  if (at.selector === undefined) at.from = undefined;
   if (at.selector === undefined) at.selector = selectors(at.class, false).find(it => !it.isKernel)?.selector ?? selectors(at.class,
     false)[0]?.selector ?? null;
   list();
-  if (at.selector !== null) pane.open(at.class, at.selector);
+  if (at.selector !== null) pane.open(at.class, at.selector, at.from);
   else if (pane.told === null || pane.told.class !== at.class || !pane.told.isNew) pane.open(at.class, null);
   else pane.draw();
 }
@@ -129,7 +133,7 @@ export function show(main) {
 // What an event tells, with whether classes have changed.
 export function tell(event, isChanged) {
   if (isChanged) { tree.draw(); list(); }
-  else if (box.querySelector("[aria-selected=true]")?.dataset.text !== (at.selector ?? "")) mark();
+  else if (!isInSight(box.querySelector("[aria-selected=true]"))) mark();
   if (event.heat) tree.warm();
   if (event.shapes) { told = event.shapes; drawShapes(); }
   pane.tell(event);

@@ -39,11 +39,12 @@ export class Failure {
   }
 
   draw() {
-    const { turn, fault, step, failed, means, why, frames } = this.told;
+    const { turn, fault, step, failed, means, why, instead, frames } = this.told;
     put(this.root, h("div", { of: "sect" },
       h("h3", {}, h("span", { of: "grow" }, `Turn ${many(turn)}${fault ? " ended with a fault" : ""}`,
         step && h("span", { of: "faint" }, ` at step ${many(step)}`)),
         button("", "✕", () => this.close(), { "aria-label": "Close where it failed", title: "Close" })),
+      instead && h("div", { of: "banner", id: "instead" }, instead),
       fault && h("div", { of: "code failed-at" }, h("span", { of: "chip fault" }, `✕ ${fault}`), failed && h("span", {}, failed)),
       means && h("div", { of: "dim" }, means), why && h("div", {}, why),
       frames.length ? this.frames() : failed && h("div", { of: "faint" }, "the first message of the turn; no method had begun")));

@@ -73,8 +73,9 @@ const LAMPS = { there: "connected", lost: "no image", full: "the server is full"
 export function lamp() {
   const it = $("#lamp");
   it.className = `lamp ${image.state}`;
-  it.setAttribute("aria-label", LAMPS[image.state] || image.state);
-  it.title = image.said || LAMPS[image.state];
+  const name = image.isFile && image.state === "there" ? "an image file, which was read" : LAMPS[image.state] || image.state;
+  it.setAttribute("aria-label", name);
+  it.title = image.said || name;
   document.body.classList.toggle("lost", image.state !== "there");
   const said = image.state === "there" ? "" : `${image.asOf ? `as of ${clock(image.asOf)}: ` : ""}${image.said}; tried again each second`;
   if ($("#as-of").textContent !== said) $("#as-of").textContent = said;

@@ -2,14 +2,15 @@
 
 import { look } from "./ask.js";
 
-// The classes by their names, in the order of their numbers; the figures and the curves; the edits that were seen; the newest faults.
+// Whether it is a file; the classes by their names, in the order of their numbers; the figures and the curves; the edits that were seen; the
+// newest faults.
 export const image = { classes: new Map(), heat: {}, figures: null, points: [], edits: [], version: 0, state: "lost", asOf: null,
-  epoch: null, faults: { count: null, names: {}, all: [] } };
+  epoch: null, isFile: false, faults: { count: null, names: {}, all: [] } };
 
-// What is in sight. `object` is the place of an object of the actor's own, `failure` a turn of it that failed, `place` one in a source that
-// the editor is to show, and `back` where one came from.
+// What is in sight. `from` is the class whose own the method is, where that is not the class in sight; `object` is the place of an object of
+// the actor's own, `failure` a turn of it that failed, `place` one in a source that the editor is to show, and `back` where one came from.
 export const at = {
-  view: "browse", class: "Object", selector: undefined, side: "own", tab: "sites",
+  view: "browse", class: "Object", selector: undefined, from: undefined, side: "own", tab: "sites",
   actor: null, object: 0, failure: null, place: null, back: [],
   table: { first: 0, count: 40, sort: "", down: false, only: "all", text: "" }, cells: 2000,
 };
@@ -57,6 +58,10 @@ export const chain = name => {
   return found;
 };
 
+// The version of a class's own method, and 0 where it has none; and the class whose method a send to an object of a class runs.
+export const versionOf = (name, selector) => image.classes.get(name)?.methods.get(selector) || 0;
+export const holder = (name, selector) => chain(name).find(it => it.methods.has(selector) || it.kernel.includes(selector))?.name ?? null;
+
 export const slotsOf = name => chain(name).reverse().flatMap(it => it.slots.map(slot => ({ slot, from: it.name })));
 export const below = name => [...image.classes.values()].filter(it => it.above === name);
 
@@ -78,7 +83,7 @@ export const showsView = (name, how) => { shown[name] = how; };
 
 // Goes to a view, with what is to be in sight there.
 export function go(name, what = {}) {
-  Object.assign(at, what);
+  Object.assign(at, "selector" in what ? { from: undefined, ...what } : what);
   at.view = name;
   shown.all();
 }

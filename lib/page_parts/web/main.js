@@ -2,7 +2,7 @@
 
 import { change, hasToken, watch } from "./ask.js";
 import { confirmed } from "./dialog.js";
-import { $, button, h, many, put, toast } from "./dom.js";
+import { $, button, h, many, put, setText, toast } from "./dom.js";
 import * as actors from "./actors.js";
 import * as browse from "./browse.js";
 import { figures, lamp } from "./figures.js";
@@ -31,11 +31,11 @@ function show() {
 
 // Where one was is kept for the tab.
 function remember() {
-  const { view: name, class: className, selector, actor, failure, side, tab } = at;
-  sessionStorage.setItem(SEEN, JSON.stringify({ view: name, class: className, selector, actor, failure, side, tab }));
+  const { view: name, class: className, selector, from, actor, failure, side, tab } = at;
+  sessionStorage.setItem(SEEN, JSON.stringify({ view: name, class: className, selector, from, actor, failure, side, tab }));
 }
 
-// What the page is about: the socket, and whether it only looks.
+// What the page is about: the socket or the file, and whether it only looks.
 function about(it) {
   const name = it.socket.split("/").pop();
   $("#name").textContent = name;
@@ -43,7 +43,10 @@ function about(it) {
   document.title = `${name} · actorimage`;
   document.body.classList.toggle("looks-only", it.looksOnly);
   for (const id of ["#checkpoint", "#save"]) $(id).hidden = it.looksOnly;
-  $("#work").hidden = it.isFile;
+  $("#work").hidden = image.isFile = it.isFile;
+  $("#is-file").hidden = !it.isFile;
+  $("#beside").hidden = !it.beside;
+  setText($("#beside"), it.beside);
   image.sender = it.sender;
 }
 

@@ -7,7 +7,7 @@ import { button, h, put, toast } from "./dom.js";
 import { draft, hasDraft, keep } from "./drafts.js";
 import { Editor } from "./editor.js";
 import { find } from "./find.js";
-import { at, image, see } from "./image.js";
+import { at, holder, image, see, versionOf } from "./image.js";
 import { makeRoom } from "./source.js";
 import { Under } from "./under.js";
 
@@ -37,24 +37,34 @@ export class MethodPane {
     this.draw();
   }
 
-  // Opens what a send of the selector to an object of the class runs; without a selector a new method.
-  async open(name, selector) {
+  // Opens a method of the class in sight, or the one that it has from the class `from`: of each just its own, also if that is gone. Without
+  // a selector a new method is opened.
+  async open(name, selector, from = name) {
     this.theirs = this.other = null;
+    at.from = from;
     const turn = this.turn = (this.turn || 0) + 1;
     if (selector === null) {
+      this.isOpening = false;
       this.take({ class: name, selector: "", source: "", version: 0, sites: [], versions: [], isNew: true });
       return;
     }
-    const own = hasDraft(name, selector), asked = await look("method", { class: name, selector, own });
-    if (turn !== this.turn || at.class !== name || at.selector !== selector) return;
-    // What was typed meanwhile belongs to the class's own method.
-    if (!own && hasDraft(name, selector)) { this.open(name, selector); return; }
+    this.isOpening = true;
+    const asked = await look("method", { class: from, selector, own: true });
+    if (turn !== this.turn) return;
+    this.isOpening = false;
+    if (at.class !== name || at.selector !== selector) return;
     if (asked.error) { this.say(asked.said); return; }
     this.take(asked.ok);
   }
 
+  // Opens what is in sight anew.
+  openAgain() { return this.open(at.class, this.told.isNew ? null : at.selector, this.told.class); }
+
+  // Whether a method of a class is the one in sight.
+  shows(name, selector) { return this.told?.class === name && this.told.selector === selector; }
+
   take(told) {
-    Object.assign(this, { told, theirs: null });
+    Object.assign(this, { told, theirs: null, hasOwn: null });
     const kept = draft(told.class, told.selector);
     at.shown = (told.source !== undefined || kept) && !told.isNew ? [told.class, told.selector] : null;
     if (kept && !told.kernel) {
@@ -90,7 +100,8 @@ export class MethodPane {
   // What was typed stays also where somebody else has removed the method.
   get hasText() {
     const { told } = this;
-    return Boolean(told) && (told.source !== undefined || Boolean(told.isNew) || !told.kernel && hasDraft(told.class, told.selector));
+    if (!told || told.isNew) return Boolean(told) && !image.isFile;
+    return told.source !== undefined || !told.kernel && hasDraft(told.class, told.selector);
   }
 
   get isChanged() { return Boolean(this.told) && this.editor.text !== this.began.base; }
@@ -115,12 +126,14 @@ export class MethodPane {
     this.over.hidden = !isShown;
     this.under.root.hidden = !told || told.isNew;
     put(this.head, told && [h("span", { of: "C" }, told.class), h("span", { of: "faint" }, "›"),
-      h("span", { of: "sel cut" }, told.selector || "new method"), h("span", { of: "faint cut" }, this.which())]);
+      h("span", { of: "sel cut" }, told.selector || (image.isFile ? "" : "new method")), h("span", { of: "faint cut" }, this.which())]);
     if (told && !isShown) {
       put(this.none, this.whyNone());
     }
     this.chip.hidden = !this.isChanged;
-    this.buttons.install.disabled = !this.isChanged;
+    this.editor.field.readOnly = image.isFile;
+    this.buttons.install.hidden = this.buttons.revert.hidden = image.isFile;
+    this.buttons.install.disabled = !this.isChanged || image.isFile;
     this.buttons.install.className = this.isChanged ? "main" : "plain";
     this.buttons.revert.disabled = !this.isChanged && !this.theirs;
     this.buttons.remove.disabled = !told || !told.version;
@@ -130,9 +143,12 @@ export class MethodPane {
   // What is said where there is no source.
   whyNone() {
     const { class: name, selector, kernel, gone } = this.told;
+    if (!selector) return `${name} has no method of its own.`;
     if (kernel) return `${name} has ${selector} from the kernel, which has no source.`;
-    if (gone) return `${name} has no method ${selector} now. Its versions stand below: one can be brought back.`;
-    return `No class from ${name} up has a method ${selector}.`;
+    const from = holder(name, selector), runs = from ? ` A send of it runs that of ${from}.` : "";
+    const way = image.isFile ? "." : ": one can be brought back.";
+    if (gone) return `${name} has no method ${selector} now.${runs} Its versions stand below${way}`;
+    return `${name} has no method ${selector} of its own.${runs}`;
   }
 
   which() {
@@ -143,6 +159,13 @@ export class MethodPane {
   }
 
   drawBanner() {
+    if (!this.theirs && this.hasOwn) {
+      const { class: name, selector } = this.told;
+      put(this.banner, h("div", { of: "banner", id: "own-now" }, h("span", { of: "grow" },
+        `${at.class} runs ${selector} of ${this.hasOwn} now. What you typed is for ${name}, and stays there.`),
+      button("plain", `Show that of ${this.hasOwn}`, () => this.open(at.class, selector, this.hasOwn), { id: "show-own" })));
+      return;
+    }
     if (!this.theirs) {
       put(this.banner, this.said && h("div", { of: "banner bad" }, h("span", { of: "grow" }, this.said)));
       return;
@@ -163,14 +186,21 @@ export class MethodPane {
   }
 
   async install(seen = null) {
+    if (image.isFile) { this.say("This is an image file, read alone: nothing is installed in it."); return; }
     if (!this.told || (!this.isChanged && !seen)) return;
     const { class: name, selector } = this.told, text = this.editor.text;
     const given = seen || { selector, version: this.began.version };
     this.isInstalling = true;
     const reply = await change("install", { class: name, source: text, seen: given });
     this.isInstalling = false;
-    if (this.told.class !== name || this.told.selector !== selector) return;
-    if (reply.ok) { this.installed(name, selector, reply); return; }
+    if (!this.shows(name, selector)) {
+      if (reply.ok && draft(name, selector)?.source === text) keep(name, selector, null);
+      toast(reply.ok ? `${name} › ${reply.selector} is version ${reply.ok.version}` : `${name} › ${selector}: ${reply.said}`,
+        reply.ok ? "" : "bad");
+      this.drafted();
+      return;
+    }
+    if (reply.ok) { await this.installed(name, selector, reply); return; }
     if (reply.error === "Stale") {
       Object.assign(this, { theirs: reply.theirs, other: reply.selector, areBoth: true, said: "" });
       this.draw();
@@ -187,16 +217,16 @@ export class MethodPane {
     toast(`${name} › ${reply.selector} is version ${reply.ok.version}`);
     if (reply.unknown.length) toast(`no class has a method ${reply.unknown.join(", ")}`, "warn");
     this.theirs = null;
-    Object.assign(at, { class: name, selector: reply.selector });
-    await this.open(name, reply.selector);
+    at.selector = reply.selector;
+    await this.open(at.class, reply.selector, name);
   }
 
   takeTheirs() {
     const { class: name, selector } = this.told, to = this.other || selector;
     keep(name, selector, null);
     this.theirs = null;
-    Object.assign(at, { class: name, selector: to });
-    this.open(name, to);
+    at.selector = to;
+    this.open(at.class, to, name);
     this.drafted();
   }
 
@@ -204,7 +234,7 @@ export class MethodPane {
     if (!this.told) return;
     keep(this.told.class, this.told.selector, null);
     this.theirs = null;
-    this.open(this.told.class, this.told.isNew ? null : this.told.selector);
+    this.openAgain();
     this.drafted();
   }
 
@@ -215,52 +245,77 @@ export class MethodPane {
     this.isInstalling = true;
     const reply = await change("remove", { class: name, selector, seen: version });
     this.isInstalling = false;
+    if (!reply.ok && !this.shows(name, selector)) { toast(`${name} › ${selector}: ${reply.said}`, "bad"); return; }
     if (reply.theirs) { this.theirs = reply.theirs; this.draw(); return; }
     if (reply.error) { this.say(reply.said); return; }
     keep(name, selector, null);
     toast(`${name} › ${selector} is removed: version ${reply.ok.version}`, "",
-      button("link", "Undo", () => this.bringBack(name, selector, this.told.versions.findLast(it => it.source !== null), 0)));
-    await this.open(name, selector);
+      button("link", "Undo", () => this.undo(name, selector, reply.removed)));
+    if (this.shows(name, selector)) await this.openAgain();
   }
 
-  // Installs what was there in a version, over the one that is there now.
-  async bringBack(name, selector, version, over = this.told.version || 0) {
+  // Installs what a removal took, whatever is in sight by now, and over nothing that somebody has written since.
+  async undo(name, selector, removed) {
+    const reply = await this.installAgain(name, selector, removed, 0, false);
+    if (reply.theirs) toast(`${name} › ${selector} is version ${reply.theirs.version} now, of somebody else; nothing is written over`, "bad");
+    else if (reply.error) toast(reply.said, "bad");
+  }
+
+  // Installs what was there in a version, over the one that is in sight.
+  async bringBack(name, selector, version) {
+    const told = this.told, reply = await this.installAgain(name, selector, version, told.version || 0, true);
+    if (this.told !== told) return;
+    if (reply.theirs) { this.theirs = reply.theirs; this.draw(); }
+    else if (reply.error) this.say(reply.said);
+  }
+
+  // With `isForgotten` what was typed in its place is given up.
+  async installAgain(name, selector, version, over, isForgotten) {
     this.isInstalling = true;
     const reply = await change("install", { class: name, source: version.source, seen: { selector, version: over } });
+    if (reply.ok) {
+      if (isForgotten) keep(name, selector, null);
+      toast(`${name} › ${selector}: version ${version.version} is back, as version ${reply.ok.version}`);
+      if (this.shows(name, selector) && at.selector === selector) await this.openAgain();
+    }
     this.isInstalling = false;
-    if (reply.theirs) { this.theirs = reply.theirs; this.draw(); return; }
-    if (reply.error) { this.say(reply.said); return; }
-    toast(`${name} › ${selector}: version ${version.version} is back, as version ${reply.ok.version}`);
-    keep(name, selector, null);
-    Object.assign(at, { class: name, selector });
-    await this.open(name, selector);
+    return reply;
   }
 
   // What a tick tells. Another version than the one in sight is somebody else's.
   tell(event) {
     const told = this.told, sites = event.sites;
-    if (!told || !sites || told.isNew || sites.class !== told.class || sites.selector !== told.selector) return;
-    if (this.isInstalling || this.isAsking) return;
-    if (sites.version === told.version) {
+    if (!told || told.isNew || at.selector !== told.selector || this.isInstalling || this.isAsking || this.isOpening) return;
+    const { class: name, selector } = told, version = versionOf(name, selector), from = name !== at.class && holder(at.class, selector);
+    if (sites && this.shows(sites.class, sites.selector) && sites.version === told.version) {
       this.under.tell(sites);
       told.sites = sites.sites;
       if (this.began.version === told.version) this.editor.tell(sites.sites);
-    } else if (!this.isChanged) {
-      this.refresh();
-    } else if (!this.theirs || this.theirs.version !== sites.version) {
-      this.meanwhile();
     }
+    if (from && from !== name) this.another(from);
+    else if (version === (told.version || 0)) this.hasOwn = null;
+    else if (!this.isChanged) this.refresh();
+    else if (!this.theirs || this.theirs.version !== version) this.meanwhile();
+  }
+
+  // A send to an object of the class in sight runs a method of another class now. What was typed stays where it was typed for.
+  another(from) {
+    const { class: name, selector } = this.told;
+    if (from === this.hasOwn && this.isChanged) return;
+    this.hasOwn = from;
+    if (this.isChanged) { this.draw(); return; }
+    toast(`${at.class} runs ${selector} of ${from} now, no longer that of ${name}`, "warn");
+    this.open(at.class, selector, from);
   }
 
   // Asks what is there now, as long as nothing else is opened or installed meanwhile: an event may be of before.
   async asked() {
-    const { class: name, selector } = this.told, turn = this.turn;
+    const told = this.told, turn = this.turn;
     this.isAsking = true;
-    const reply = await look("method", { class: name, selector, own: hasDraft(name, selector) });
+    const reply = await look("method", { class: told.class, selector: told.selector, own: true });
     this.isAsking = false;
-    if (!reply.ok || turn !== this.turn || this.isInstalling) return null;
-    const isOwn = reply.ok.class === name && reply.ok.version;
-    return { told: reply.ok, version: isOwn ? reply.ok.version : 0, source: isOwn ? reply.ok.source : null };
+    if (!reply.ok || turn !== this.turn || told !== this.told || this.isInstalling) return null;
+    return { told: reply.ok, version: reply.ok.version || 0, source: reply.ok.source ?? null };
   }
 
   // Nothing was typed: what is there now is shown.

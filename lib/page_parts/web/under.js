@@ -37,6 +37,8 @@ export class Under {
     this.before = null;
     this.rates = [];
     this.counts = { sites: told.sites?.length ?? "", versions: told.versions.length };
+    // Of a method that is gone nothing else is left.
+    if (told.gone && !this.pane.hasText) at.tab = "versions";
     this.show();
     if (!told.selector) return;
     const isHere = () => this.pane.told === told;

@@ -35,10 +35,11 @@ class KnownActor:
 
 class Known:
     """`versions` has those of the methods that were shown or written last, by the class and the selector; 0 where the class was seen to
-    have none of its own. `installed` has the class and the selector of installs, by their places among the edits."""
+    have none of its own. `shown` has their sources, None where there is none. Versions from before a new connection are no longer there.
+    `installed` has the class and the selector of installs, by their places among the edits."""
 
     def __init__(self):
-        self.versions, self.installed = {}, {}
+        self.versions, self.shown, self.installed = {}, {}, {}
         self.classes = {name: KnownClass(name, "Object", []) for name in KERNEL}
         self.classes["Object"].parent = None
         self.actors = {}
@@ -67,12 +68,19 @@ class Known:
         """The source of a method of a class's own; empty if none is known."""
         return self.classes[name].methods.get(selector, "") if name in self.classes else ""
 
+    def see_version(self, name, selector, version, source):
+        """Takes note of a method that was shown or written, or that there is none."""
+        self.versions[name, selector], self.shown[name, selector] = version, source
+
     def note_shown(self, name, selector, found):
         """Takes note of what a class was shown to run, if it is its own."""
-        is_own = found and found["class"] == name
-        self.versions[name, selector] = found.get("version", 0) if is_own else 0
+        self.see_version(name, selector, 0, None)
         if found and "version" in found:
-            self.versions[found["class"], selector] = found["version"]
+            self.see_version(found["class"], selector, found["version"], found["source"])
+
+    def begin_again(self):
+        """In a new image the numbers of actors, of versions and of edits mean others, and what was shown is found by its source."""
+        self.actors, self.versions, self.installed = {}, {}, {}
 
     def user_classes(self):
         """Those that were defined, each after the class above it, which may have been defined later."""

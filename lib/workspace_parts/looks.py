@@ -45,7 +45,8 @@ def source(session, name, selector):
     if found and "source" in found:
         session.known.install(found["class"], selector, found["source"])
         # Tab brings it.
-        session.known.versions.setdefault((found["class"], selector), found["version"])
+        if (found["class"], selector) not in session.known.shown:
+            session.known.see_version(found["class"], selector, found["version"], found["source"])
     return found
 
 

@@ -1,6 +1,6 @@
 """A session: each entry is done, and what it gives is said."""
 
-from . import commands, failures, looks, shown
+from . import commands, failures, looks, shown, unseen
 from .entries import Command, Definition, Method, form
 from .known import Known
 from .learning import learn
@@ -60,8 +60,8 @@ class Session:
         self.start()
 
     def begin_again(self):
-        """Says with what it goes on behind a new connection. In a new image the numbers of actors, of versions and of edits mean others."""
-        self.known.actors, self.known.versions, self.known.installed = {}, {}, {}
+        """Says with what it goes on behind a new connection, where the image may be another one."""
+        self.known.begin_again()
         said = self.turns.begin_again()
         self.news.begin()
         return said
@@ -229,9 +229,7 @@ class Session:
     def write(self, name, selector, source):
         """Writes a method, and answers its version. Where one was shown or written before, it takes the place of that one alone. What was
         typed when the program died is known too, so that it is kept."""
-        command = {"cmd": "method", "class": name, "source": source}
-        if (name, selector) in self.known.versions:
-            command.update(cmd="replace", over=self.known.versions[name, selector])
+        command = unseen.replacing(self, {"cmd": "method", "class": name, "source": source}, selector)
         try:
             version = self.turns.ask(command)["version"]
         except Refused as refused:
@@ -242,7 +240,7 @@ class Session:
             self.known.install(name, selector, source)
             raise
         self.known.install(name, selector, source)
-        self.known.versions[name, selector] = version
+        self.known.see_version(name, selector, version, source)
         if self.loading:
             self.loading[0].written.append((name, selector))
         else:
@@ -270,7 +268,7 @@ class Session:
         if self.image.is_served:
             self.look_before(command)
         self.turns.ask(command)
-        self.known.versions[class_name, selector] = 0
+        self.known.see_version(class_name, selector, 0, None)
         if class_name in self.known.classes:
             self.known.classes[class_name].methods.pop(selector, None)
         if looks.senders(self, selector) and not looks.implementors(self, selector):

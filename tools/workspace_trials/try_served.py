@@ -252,7 +252,36 @@ def older_image(program):
                 same(terminal.end(), 0)
 
 
+def told_by_source(program):
+    """Behind a new connection versions mean others, so what was shown is found by its source: an edit that somebody has made under the
+    same number is not written over unseen, and what is as it was shown, or is not there at all, is written at once."""
+    mill = ["Mill : Object", "Mill >> speed  ^1", "Mill >> load  ^2"]
+    with tempfile.TemporaryDirectory() as folder:
+        kept = (*WORKERS, "--image", "image")
+        with Server(program, folder, *kept, "--sessions", "1") as server:
+            same(typed(folder, mill).returncode, 0)
+            same(server.process.wait(PATIENCE), 0)
+        with Server(program, folder, *kept) as server, Watching(folder) as terminal:
+            terminal.type(":methods Mill load\n")
+            terminal.see("Mill >> load  ^2\n> ")
+            terminal.ask("Mill >> stop  ^0")
+            terminal.ask("Mill >> speed  ^9")
+            server.end()
+            with Server(program, folder, *kept):
+                typed(folder, ["Mill >> dry  ^3", "Mill >> speed  ^2000"])
+                terminal.type("Mill >> speed  ^10\n")
+                terminal.see(BROKE)
+                terminal.see("\nStale: somebody has changed this method since it was shown or written here, and nothing is written; ")
+                terminal.see("\nversion 5: Mill >> speed  ^2000\n> ")
+                same(typed(folder, ["m := Mill actor", "m speed"]).stdout.decode().splitlines()[-1], "2000")
+                same(terminal.ask("Mill >> load  ^4"), "")
+                same(terminal.ask("Mill >> stop  ^5"), "")
+                same(terminal.ask("Mill >> speed  ^10"), "")
+                same(typed(folder, ["m := actor 0", "m speed"]).stdout.decode().splitlines()[-1], "10")
+                same(terminal.end(), 0)
+
+
 TRIALS = (
     two_workspaces, stopped_waiting, next_number, same_sender, loaded_again, no_server, lost_server, lost_at_terminal, told_at_enter,
-    older_image,
+    older_image, told_by_source,
 )

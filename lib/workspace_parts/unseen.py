@@ -1,0 +1,29 @@
+"""No edit is written over unseen: what somebody has changed since it was shown or written here stays, and is shown."""
+
+from . import shown
+from .wrong import Refused
+
+
+def replacing(session, command, selector):
+    """The command by which a method is written. Where one was shown or written here before, it takes the place of that one alone."""
+    place = command["class"], selector
+    if place not in session.known.shown:
+        return command
+    session.image.be_connected(session)
+    if place not in session.known.versions:
+        check(session, command, selector)
+    return {**command, "cmd": "replace", "over": session.known.versions[place]}
+
+
+def check(session, command, selector):
+    """Refused where the class has another source now than was shown or written here. Where it has none, nothing can be lost."""
+    place = command["class"], selector
+    before, now = session.known.shown[place], shown.now(session, *place)
+    if session.known.shown[place] not in (None, before):
+        raise stale(command, now)
+
+
+def stale(command, now):
+    refused = Refused(command, {"error": "Stale"})
+    refused.more = now
+    return refused

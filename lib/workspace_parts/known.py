@@ -36,10 +36,11 @@ class KnownActor:
 class Known:
     """`versions` has those of the methods that were shown or written last, by the class and the selector; 0 where the class was seen to
     have none of its own. `shown` has their sources, None where there is none. Versions from before a new connection are no longer there.
-    `installed` has the class and the selector of installs, by their places among the edits."""
+    `above` has the class under which each class was shown or put last, and `installed` the class and the selector of installs, by their
+    places among the edits."""
 
     def __init__(self):
-        self.versions, self.shown, self.installed = {}, {}, {}
+        self.versions, self.shown, self.above, self.installed = {}, {}, {}, {}
         self.classes = {name: KnownClass(name, "Object", []) for name in KERNEL}
         self.classes["Object"].parent = None
         self.actors = {}

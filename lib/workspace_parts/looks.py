@@ -16,9 +16,9 @@ def classes(session):
 
 
 def class_there(session, name):
-    """A class that there is. It is not noted: a file puts only those under another one that this session knows."""
+    """A class as it is there, if it is. It is not noted: a file puts only those under another one that this session knows."""
     rows = session.turns.ask({"cmd": "classes"})["classes"]
-    return next(KnownClass(it["name"], it["super"], it["slots"]) for it in rows if it["name"] == name)
+    return next((KnownClass(it["name"], it["super"], it["slots"]) for it in rows if it["name"] == name), None)
 
 
 def user_classes(session):

@@ -180,12 +180,14 @@ class Session:
             self.known.define(found.name, found.parent, found.slots)
             raise
         self.known.define(found.name, found.parent, found.slots)
+        self.known.above[found.name] = found.parent
         if not self.loading:
             self.say(f"class {found.name}, version {version}")
 
     def tell_there(self, found):
         """Tells how a class stands that the image has otherwise than the file that is being loaded."""
         there = looks.class_there(self, found.name)
+        self.known.above[found.name] = there.parent
         if (there.parent, there.slots) != (found.parent, found.slots):
             self.tell_where()
             self.say(f"{there.written()}  is there already, and stays as it is")
@@ -204,8 +206,11 @@ class Session:
 
     def move(self, found):
         command = {"cmd": "reparent", "class": found.name, "super": found.parent}
+        if self.image.is_served:
+            unseen.check_class(self, command)
         version = self.turns.ask(command)["version"]
         self.known.move(found.name, found.parent)
+        self.known.above[found.name] = found.parent
         if not self.loading:
             self.say(f"class {found.name} under {found.parent}, version {version}")
 
@@ -265,25 +270,14 @@ class Session:
     def remove(self, class_name, selector):
         """Removes a method, and tells if methods send it that no class has any more."""
         command = {"cmd": "remove", "class": class_name, "selector": selector}
-        if self.image.is_served:
-            self.look_before(command)
+        if self.image.is_served and (class_name, selector) in self.known.shown:
+            unseen.check(self, command, selector)
         self.turns.ask(command)
         self.known.see_version(class_name, selector, 0, None)
         if class_name in self.known.classes:
             self.known.classes[class_name].methods.pop(selector, None)
         if looks.senders(self, selector) and not looks.implementors(self, selector):
             self.say(f"no class has a method {selector} any more; :senders {selector}  lists those that send it")
-
-    def look_before(self, command):
-        """Refused where somebody has changed a method that was shown or written here, so that it is not removed unseen."""
-        place = command["class"], command["selector"]
-        seen = self.known.versions.get(place)
-        now = shown.now(self, *place) if seen else []
-        version = self.known.versions.get(place)
-        if version and version != seen:
-            refused = Refused(command, {"error": "Stale", "version": version})
-            refused.more = now
-            raise refused
 
     def make_actor(self, class_name):
         number = self.turns.ask({"cmd": "actor", "class": class_name})["actor"]

@@ -1,6 +1,6 @@
 """No edit is written over unseen: what somebody has changed since it was shown or written here stays, and is shown."""
 
-from . import shown
+from . import looks, shown
 from .wrong import Refused
 
 
@@ -21,6 +21,15 @@ def check(session, command, selector):
     before, now = session.known.shown[place], shown.now(session, *place)
     if session.known.shown[place] not in (None, before):
         raise stale(command, now)
+
+
+def check_class(session, command):
+    """Refused where somebody has put a class under another one than it was shown under, or was put here."""
+    name, above = command["class"], session.known.above
+    there = looks.class_there(session, name)
+    if there and name in above and there.parent not in (above[name], command["super"]):
+        above[name] = there.parent
+        raise stale(command, [there.written()])
 
 
 def stale(command, now):

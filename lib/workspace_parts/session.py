@@ -60,11 +60,11 @@ class Session:
         self.start()
 
     def begin_again(self):
-        """Says with what it goes on behind a new connection, where the image may be another one."""
+        """The lines on that with which it goes on behind a new connection, where the image may be another one."""
         self.known.begin_again()
         said = self.turns.begin_again()
         self.news.begin()
-        return said
+        return [said, *unseen.lost(self)]
 
     def close(self):
         """Ends the session, and says whether what was to be kept is kept: in its file, or beside it."""
@@ -245,7 +245,7 @@ class Session:
             self.known.install(name, selector, source)
             raise
         self.known.install(name, selector, source)
-        self.known.see_version(name, selector, version, source)
+        self.known.note_written(name, selector, version, source)
         if self.loading:
             self.loading[0].written.append((name, selector))
         else:
@@ -273,7 +273,7 @@ class Session:
         if self.image.is_served and (class_name, selector) in self.known.shown:
             unseen.check(self, command, selector)
         self.turns.ask(command)
-        self.known.see_version(class_name, selector, 0, None)
+        self.known.note_removed(class_name, selector)
         if class_name in self.known.classes:
             self.known.classes[class_name].methods.pop(selector, None)
         if looks.senders(self, selector) and not looks.implementors(self, selector):

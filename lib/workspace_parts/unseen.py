@@ -32,6 +32,27 @@ def check_class(session, command):
         raise stale(command, [there.written()])
 
 
+def lost(session):
+    """A line on the methods that were written here last and that the image never had, which are looked for no more then."""
+    written = session.known.written
+    gone = [place for place in written if not has(session, *place, *written[place])]
+    for place in gone:
+        del written[place]
+    names = ", ".join(f"{name} >> {selector}" for name, selector in gone)
+    return [f"the image does not have {names} as you wrote {'it' if len(gone) == 1 else 'them'}"] if gone else []
+
+
+def has(session, name, selector, version, source):
+    """Whether the image has the method as it was written, or had it under that number before others changed it."""
+    try:
+        rows = looks.versions(session, name, selector)
+    except Refused as refused:
+        if refused.reply["error"] != "UnknownClass":
+            raise
+        return False
+    return any(it.get("source") == source and (it["version"] == version or it is rows[-1]) for it in rows)
+
+
 def stale(command, now):
     refused = Refused(command, {"error": "Stale"})
     refused.more = now

@@ -83,7 +83,7 @@ def once_more(program):
     answer = '{"ok":{"answer":1}}'
     with pretended([GREETED], [GREETED, answer], [GREETED, answer]) as path:
         told = []
-        connection = Reconnecting(path, told.append, lambda: "again")
+        connection = Reconnecting(path, told.append, lambda: ["again"])
         same(connection.ask(OUTCOME), json.loads(answer))
         same(told, [BROKE.format(path), "again"])
         same(sentence(Lost, connection.ask, OUTCOME), f"{BROKE.format(path)}; the next entry connects again")
@@ -97,7 +97,7 @@ def perhaps_accepted(program):
     """A message whose reply was lost is not posted twice on the same server, also if others post under the number."""
     for last in (3, 5):
         with pretended([GREETED], [GREETED, f'{{"error":"Old","last":{last}}}']) as path:
-            connection = Reconnecting(path, lambda line: None, lambda: "")
+            connection = Reconnecting(path, lambda line: None, lambda: [])
             said = sentence(Lost, connection.ask, POST)
             wanted = "the number 3 of sender 7 was used before: perhaps this message was accepted when the connection broke"
             same(said, f"{wanted}; type it again if it was not")

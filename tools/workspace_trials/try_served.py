@@ -21,6 +21,7 @@ from .try_common import COUNTER, SPIN, WORKSPACE, piped, same
 WORKERS = ("--workers", "2")
 COUNT = ["Counter : Object | count |", "Counter >> bump  count isNil ifTrue: [count := 0]. count := count + 1. ^count"]
 BROKE = "the connection to socket broke, perhaps since the server has ended"
+LOST = "the image does not have Counter >> {} as you wrote {}"
 NOTHING = "nothing listens at socket; start a server with  ./actorimage serve --socket socket --workers 4"
 
 
@@ -203,7 +204,8 @@ def lost_at_terminal(program):
         same(terminal.ask("c bump"), f"{BROKE}\n{NOTHING}; the next entry tries again\n")
         same(terminal.ask("c bump"), f"{NOTHING}; the next entry tries again\n")
         with Server(program, folder, *WORKERS) as server:
-            same(terminal.ask("c bump"), AGAIN + "\nUnknownActor: there is no actor 0; :actors lists those there are\n")
+            terminal.type("c bump\n")
+            terminal.see(f"\n{AGAIN}\n{LOST.format('bump', 'it')}\nUnknownActor: there is no actor 0; :actors lists those there are\n> ")
             same(terminal.ask(COUNT[0]), "class Counter, version 1\n")
             server.end()
         with Server(program, folder, *WORKERS) as server:
@@ -218,7 +220,8 @@ def lost_at_terminal(program):
             terminal.see(f"{BROKE}; the next entry connects again\n")
             same(terminal.see("> "), "not sent: c bump\n> ")
         with Server(program, folder, *WORKERS):
-            same(terminal.ask(COUNT[0]), f"{NEW.format(7)}\nclass Counter, version 1\n")
+            terminal.type(COUNT[0] + "\n")
+            terminal.see(f"{NEW.format(7)}\n{LOST.format('bump, Counter >> spin', 'them')}\nclass Counter, version 1\n> ")
             same(terminal.end(), 0)
 
 
@@ -252,6 +255,28 @@ def older_image(program):
                 same(terminal.end(), 0)
 
 
+def kept_is_not_lost(program):
+    """An edit that the image has, or that somebody has changed since, is not told of as lost behind a new connection."""
+    with tempfile.TemporaryDirectory() as folder:
+        kept = (*WORKERS, "--image", "image")
+        with Server(program, folder, *kept) as server, Watching(folder) as terminal:
+            for line in COUNT:
+                terminal.ask(line)
+            terminal.ask("Counter >> stop  ^0")
+            terminal.ask(":remove Counter stop")
+            terminal.ask("Counter >> stop  ^1")
+            terminal.ask("Counter >> other  ^1")
+            typed(folder, ["Counter >> other  ^2", ":save"])
+            terminal.ask("Counter >> more  ^3")
+            terminal.ask(":remove Counter stop")
+            server.end()
+            with Server(program, folder, *kept):
+                terminal.type(COUNT[0] + "\n")
+                terminal.see(f"{BROKE}\n{AGAIN}\n{LOST.format('more', 'it')}\nClassExists: ")
+                terminal.see("\n> ")
+                same(terminal.end(), 0)
+
+
 def told_by_source(program):
     """Behind a new connection versions mean others, so what was shown is found by its source: an edit that somebody has made under the
     same number is not written over unseen, and what is as it was shown, or is not there at all, is written at once."""
@@ -270,7 +295,8 @@ def told_by_source(program):
             with Server(program, folder, *kept):
                 typed(folder, ["Mill >> dry  ^3", "Mill >> speed  ^2000"])
                 terminal.type("Mill >> speed  ^10\n")
-                terminal.see(BROKE)
+                lost = "the image does not have Mill >> stop, Mill >> speed as you wrote them"
+                terminal.see(f"{BROKE}\n{AGAIN}\n{lost}")
                 terminal.see("\nStale: somebody has changed this method since it was shown or written here, and nothing is written; ")
                 terminal.see("\nversion 5: Mill >> speed  ^2000\n> ")
                 same(typed(folder, ["m := Mill actor", "m speed"]).stdout.decode().splitlines()[-1], "2000")
@@ -283,5 +309,5 @@ def told_by_source(program):
 
 TRIALS = (
     two_workspaces, stopped_waiting, next_number, same_sender, loaded_again, no_server, lost_server, lost_at_terminal, told_at_enter,
-    older_image, told_by_source,
+    older_image, kept_is_not_lost, told_by_source,
 )

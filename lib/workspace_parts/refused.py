@@ -96,7 +96,7 @@ NOT_MOVED = (
     "somebody has put this class under another one since it was shown or defined here, and it stays there; type it again to put it where "
     "you want it"
 )
-NO_FILE = "the server was started without --image FILE, so nothing is saved;  :sources FILE  writes the classes and methods of this session"
+NO_FILE = "the server was started without --image FILE, so nothing is saved;  :sources FILE  writes the classes and methods"
 ABOUT_CLASSES = ("BadSource", "ClassExists", "UnknownClass")
 # What says more than its sentence in advice.py.
 OWN = {

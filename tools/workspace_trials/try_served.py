@@ -277,6 +277,33 @@ def kept_is_not_lost(program):
                 same(terminal.end(), 0)
 
 
+def sources_of_session(program):
+    """Where nothing listens, `:sources` writes what this session knows; of a new image also what that never had, and of one that it
+    knows better what is there now."""
+    with tempfile.TemporaryDirectory() as folder, Server(program, folder, *WORKERS) as server, Watching(folder) as terminal:
+        terminal.ask("Counter : Object | count |")
+        terminal.ask("Counter >> start  count := 0")
+        terminal.ask("Counter >> stop  ^nil")
+        server.end()
+        same(terminal.ask(":sources 1.st"), f"{BROKE}\n{NOTHING}; the next entry tries again\n1.st: 1 class, 2 methods that this session knows\n")
+        with Server(program, folder, *WORKERS):
+            typed(folder, ["Other : Object", "Counter : Object | count |", "Counter >> stop  ^2", "Counter removeSelector: #stop"])
+            terminal.type(":sources 2.st\n")
+            terminal.see(f"\n{AGAIN}\n{LOST.format('start, Counter >> stop', 'them')}\n2.st: 2 classes, 1 method, with those of this ")
+            same(terminal.see("> "), "session that the image never had\n> ")
+            typed(folder, ["Counter >> start  count := 9"])
+            same(terminal.ask(":sources 3.st"), "3.st: 2 classes, 1 method\n")
+            same(terminal.end(), 0)
+        start, stop = "Counter >> start  count := 0", "Counter >> stop  ^nil"
+        for name, lines in (
+            ("1.st", ["Counter : Object | count |", start, stop]),
+            ("2.st", ["Other : Object", "Counter : Object | count |", start]),
+            ("3.st", ["Other : Object", "Counter : Object | count |", "Counter >> start  count := 9"]),
+        ):
+            with open(os.path.join(folder, name), encoding="utf-8") as file:
+                same(file.read().splitlines(), lines)
+
+
 def told_by_source(program):
     """Behind a new connection versions mean others, so what was shown is found by its source: an edit that somebody has made under the
     same number is not written over unseen, and what is as it was shown, or is not there at all, is written at once."""
@@ -309,5 +336,5 @@ def told_by_source(program):
 
 TRIALS = (
     two_workspaces, stopped_waiting, next_number, same_sender, loaded_again, no_server, lost_server, lost_at_terminal, told_at_enter,
-    older_image, kept_is_not_lost, told_by_source,
+    older_image, kept_is_not_lost, sources_of_session, told_by_source,
 )

@@ -17,6 +17,7 @@ from .wrong import Died, Faulted, Lost, Refused, Stopped, Wrong
 # The kind of an entry that has nothing but comments.
 NOTHING = type(None).__name__
 OFFER = "a tenth of the history is left;  :checkpoint  empties it, and all goes on"
+FULL = "nothing of the history is left;  :checkpoint  empties it, and all goes on"
 
 
 class Session:
@@ -118,10 +119,10 @@ class Session:
         return "refused"
 
     def offer(self):
-        """Offers a checkpoint, once, where a tenth of the history is left."""
+        """Offers a checkpoint, once, where a tenth of the history is left, or nothing."""
         was, self.is_offered = self.is_offered, self.turns.is_nearly_full()
         if self.is_offered and not was:
-            self.say(OFFER)
+            self.say(FULL if self.turns.is_full() else OFFER)
 
     def tell_where(self):
         """While a file is loaded, its name and line come before what is wrong."""
@@ -338,3 +339,5 @@ class Session:
             self.is_lost, lines = True, [lost.sentence]
         self.explain(lambda: lines)
         self.tell(lines)
+        # What is said of a full history offers a checkpoint itself.
+        self.is_offered |= refused.reply["error"] == "HistoryFull"

@@ -285,7 +285,8 @@ def sources_of_session(program):
         terminal.ask("Counter >> start  count := 0")
         terminal.ask("Counter >> stop  ^nil")
         server.end()
-        same(terminal.ask(":sources 1.st"), f"{BROKE}\n{NOTHING}; the next entry tries again\n1.st: 1 class, 2 methods that this session knows\n")
+        said = f"{BROKE}\n{NOTHING}; the next entry tries again\n1.st: 1 class, 2 methods that this session knows\n"
+        same(terminal.ask(":sources 1.st"), said)
         with Server(program, folder, *WORKERS):
             typed(folder, ["Other : Object", "Counter : Object | count |", "Counter >> stop  ^2", "Counter removeSelector: #stop"])
             terminal.type(":sources 2.st\n")

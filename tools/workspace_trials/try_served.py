@@ -305,6 +305,29 @@ def sources_of_session(program):
                 same(file.read().splitlines(), lines)
 
 
+def removed_behind_connection(program):
+    """The first entry on a new connection removes no method and moves no class that somebody has changed under the same number."""
+    with tempfile.TemporaryDirectory() as folder:
+        kept = (*WORKERS, "--image", "image")
+        with Server(program, folder, *kept):
+            typed(folder, ["Rack : Object", "Crate : Object", "Mill : Object", ":save"])
+        for lines, entry, said in (
+            (["Mill >> speed  ^2"], "Mill removeSelector: #speed", "version 4: Mill >> speed  ^2"),
+            (["Mill : Crate"], "Mill : Rack", "Mill : Crate"),
+        ):
+            with Server(program, folder, *kept) as server, Watching(folder) as terminal:
+                terminal.ask(":classes")
+                terminal.ask("Mill >> speed  ^1")
+                server.end()
+                with Server(program, folder, *kept):
+                    typed(folder, lines)
+                    terminal.type(entry + "\n")
+                    terminal.see(f"{BROKE}\n{AGAIN}\nthe image does not have Mill >> speed as you wrote it\nStale: somebody has ")
+                    terminal.see(f"\n{said}\n> ")
+                    same("Stale" in terminal.ask(entry), False)
+                    same(terminal.end(), 0)
+
+
 def told_by_source(program):
     """Behind a new connection versions mean others, so what was shown is found by its source: an edit that somebody has made under the
     same number is not written over unseen, and what is as it was shown, or is not there at all, is written at once."""
@@ -337,5 +360,5 @@ def told_by_source(program):
 
 TRIALS = (
     two_workspaces, stopped_waiting, next_number, same_sender, loaded_again, no_server, lost_server, lost_at_terminal, told_at_enter,
-    older_image, kept_is_not_lost, sources_of_session, told_by_source,
+    older_image, kept_is_not_lost, sources_of_session, removed_behind_connection, told_by_source,
 )

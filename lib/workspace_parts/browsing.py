@@ -10,8 +10,9 @@ from .wrong import Wrong
 
 
 def classes(session, rest):
-    lines = [known.written() for known in looks.user_classes(session)]
-    session.tell(lines or ["no class was defined yet; define one as in  Counter : Object | count |"])
+    found = looks.user_classes(session)
+    session.known.above.update((it.name, it.parent) for it in found)
+    session.tell([it.written() for it in found] or ["no class was defined yet; define one as in  Counter : Object | count |"])
 
 
 def methods(session, rest):

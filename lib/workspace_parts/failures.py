@@ -158,5 +158,7 @@ def lines_of(session, turn, told):
 def missing(session, failure):
     """What was not understood by which class; where that was the message of the turn, also what the class understands."""
     name, selector = failure.send.class_name, failure.send.selector
+    if failure.send.is_super:
+        return [shown.missing_above(session, failure.frames[-1].holder, selector)]
     lines = [shown.missing(session, name, selector)]
     return lines if failure.frames else [*lines, f"{name} understands:  {' '.join(looks.understood(session, name))}"]

@@ -6,14 +6,18 @@ from dataclasses import dataclass, field
 
 from .cutting import continues, entries
 from .entries import Command, Definition, form
+from .gathering import gathered
 from .tokens import has_body
 from .values import count
-from .wrong import Wrong
+from .wrong import Lost, Wrong
 
 # So many refused entries say that a file is not meant to be loaded.
 MOST_REFUSED = 20
 # How an image file begins.
 IMAGE = '{"actors":['
+# What is said of what is written where the image was not asked, and where it does not have all.
+KNOWN_HERE = " that this session knows"
+MORE_HERE = ", with those of this session that the image never had"
 
 
 @dataclass
@@ -106,10 +110,23 @@ def kind_of(text):
 def sources(session, rest):
     if not rest:
         raise Wrong("write the name of a file after it, as in  :sources counter.st")
-    write(rest, definitions(session.known))
-    of_session = " that this session knows" if session.image.is_served else ""
-    methods = count(sum(len(it.methods) for it in session.known.classes.values()), "method")
-    session.say(f"{rest}: {count(len(session.known.user_classes()), 'class')}, {methods}{of_session}")
+    known, of_session = known_of(session)
+    write(rest, definitions(known))
+    methods = count(sum(len(it.methods) for it in known.classes.values()), "method")
+    session.say(f"{rest}: {count(len(known.user_classes()), 'class')}, {methods}{of_session}")
+
+
+def known_of(session):
+    """The classes and methods to be written, with what is said of them. A served image is asked, unless it cannot be reached."""
+    if not session.image.is_served:
+        return session.known, ""
+    try:
+        found, are_more = gathered(session)
+    except Lost as lost:
+        session.is_lost = True
+        session.say(lost.sentence)
+        return session.known, KNOWN_HERE
+    return found, MORE_HERE if are_more else ""
 
 
 def definitions(known):

@@ -64,6 +64,9 @@ class OwnImage:
         if self.hold:
             self.hold.give_back()
 
+    def be_connected(self, session):
+        """A program that has ended is not started again."""
+
     def about_to_save(self):
         """Lets the program save the file."""
         if self.hold:
@@ -114,6 +117,9 @@ class ServedImage:
     def connect(self, session):
         return SocketConnection(self.path)
 
+    def be_connected(self, session):
+        """A connection that broke is not made again."""
+
     def about_to_save(self):
         """The server saves it."""
 
@@ -129,3 +135,7 @@ class WatchedImage(ServedImage):
 
     def connect(self, session):
         return Reconnecting(self.path, session.say, session.begin_again)
+
+    def be_connected(self, session):
+        """Asks something, so that where the connection broke it is made again before anything is sent that rests on what was shown."""
+        session.turns.ask({"cmd": "status"})

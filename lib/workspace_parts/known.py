@@ -5,6 +5,8 @@ import difflib
 from dataclasses import dataclass, field
 
 KERNEL = ("Object", "SmallInteger", "True", "False", "UndefinedObject", "Symbol", "ActorRef", "Class")
+# So many methods that were written here are looked for behind a new connection.
+MOST_WRITTEN = 32
 
 
 @dataclass
@@ -35,10 +37,13 @@ class KnownActor:
 
 class Known:
     """`versions` has those of the methods that were shown or written last, by the class and the selector; 0 where the class was seen to
-    have none of its own. `installed` has the class and the selector of installs, by their places among the edits."""
+    have none of its own. `shown` has their sources, None where there is none. Versions from before a new connection are no longer there.
+    `above` has the class under which each class was shown or put last, and `installed` the class and the selector of installs, by their
+    places among the edits. `written` has the versions and sources of the methods that were written here last, the last one last."""
 
     def __init__(self):
-        self.versions, self.installed = {}, {}
+        self.versions, self.shown, self.above, self.installed = {}, {}, {}, {}
+        self.written = {}
         self.classes = {name: KnownClass(name, "Object", []) for name in KERNEL}
         self.classes["Object"].parent = None
         self.actors = {}
@@ -67,12 +72,32 @@ class Known:
         """The source of a method of a class's own; empty if none is known."""
         return self.classes[name].methods.get(selector, "") if name in self.classes else ""
 
+    def see_version(self, name, selector, version, source):
+        """Takes note of a method that was shown or written, or that there is none."""
+        self.versions[name, selector], self.shown[name, selector] = version, source
+
+    def note_written(self, name, selector, version, source):
+        """Takes note of a method that was written here."""
+        self.see_version(name, selector, version, source)
+        self.written.pop((name, selector), None)
+        self.written[name, selector] = version, source
+        if len(self.written) > MOST_WRITTEN:
+            del self.written[next(iter(self.written))]
+
+    def note_removed(self, name, selector):
+        """Takes note of a method that was removed here."""
+        self.see_version(name, selector, 0, None)
+        self.written.pop((name, selector), None)
+
     def note_shown(self, name, selector, found):
         """Takes note of what a class was shown to run, if it is its own."""
-        is_own = found and found["class"] == name
-        self.versions[name, selector] = found.get("version", 0) if is_own else 0
+        self.see_version(name, selector, 0, None)
         if found and "version" in found:
-            self.versions[found["class"], selector] = found["version"]
+            self.see_version(found["class"], selector, found["version"], found["source"])
+
+    def begin_again(self):
+        """In a new image the numbers of actors, of versions and of edits mean others, and what was shown is found by its source."""
+        self.actors, self.versions, self.installed = {}, {}, {}
 
     def user_classes(self):
         """Those that were defined, each after the class above it, which may have been defined later."""

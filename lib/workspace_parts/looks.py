@@ -16,9 +16,9 @@ def classes(session):
 
 
 def class_there(session, name):
-    """A class that there is. It is not noted: a file puts only those under another one that this session knows."""
+    """A class as it is there, if it is. It is not noted: a file puts only those under another one that this session knows."""
     rows = session.turns.ask({"cmd": "classes"})["classes"]
-    return next(KnownClass(it["name"], it["super"], it["slots"]) for it in rows if it["name"] == name)
+    return next((KnownClass(it["name"], it["super"], it["slots"]) for it in rows if it["name"] == name), None)
 
 
 def user_classes(session):
@@ -45,7 +45,8 @@ def source(session, name, selector):
     if found and "source" in found:
         session.known.install(found["class"], selector, found["source"])
         # Tab brings it.
-        session.known.versions.setdefault((found["class"], selector), found["version"])
+        if (found["class"], selector) not in session.known.shown:
+            session.known.see_version(found["class"], selector, found["version"], found["source"])
     return found
 
 

@@ -8,7 +8,7 @@ PERHAPS = "the number {seq} of sender {sender} was used before: perhaps this mes
 
 class Reconnecting:
     """`tell` takes a sentence on what broke. `begin_again` is called when there is a connection again, asks the image what it has to,
-    and gives a sentence on that. The first command of an entry is sent once more on the new connection. Later ones are not: they rest
+    and gives the lines on that. The first command of an entry is sent once more on the new connection. Later ones are not: they rest
     on what was done on the old one. `file` is that of the last server's image."""
 
     def __init__(self, path, tell, begin_again):
@@ -56,7 +56,8 @@ class Reconnecting:
         except Ended as ended:
             raise Lost(f"{ended.sentence}; the next entry tries again") from None
         self.file = self.connection.file
-        self.tell(self.begin_again())
+        for line in self.begin_again():
+            self.tell(line)
 
     def lose(self):
         self.connection.end()

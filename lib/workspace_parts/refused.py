@@ -77,12 +77,14 @@ def class_exists(session, command, reply):
         return None
     more = [slot for slot in command["slots"] if slot not in old.slots]
     is_wider = command["super"] == old.parent and set(old.slots) < set(command["slots"])
+    known.above[name] = old.parent
     advised = ADD.format(name, " ".join(more)) if is_wider else MOVE
     return f"{reply['error']}: there is already  {old.written()}  and its variables stay; {advised}"
 
 
 def stale(_session, command, reply):
-    return f"{reply['error']}: {NOT_REMOVED}" if command["cmd"] == "remove" else None
+    sentence = {"remove": NOT_REMOVED, "reparent": NOT_MOVED}.get(command["cmd"])
+    return sentence and f"{reply['error']}: {sentence}"
 
 
 ADD = "bin/add-variable FILE {} {}  gives it these too, in an image file that no program has"
@@ -90,7 +92,11 @@ MOVE = "name just these to put it under another class, and further ones in a cla
 
 
 NOT_REMOVED = "somebody has changed this method since it was shown or written here, and nothing is removed; type it again to remove it"
-NO_FILE = "the server was started without --image FILE, so nothing is saved;  :sources FILE  writes the classes and methods of this session"
+NOT_MOVED = (
+    "somebody has put this class under another one since it was shown or defined here, and it stays there; type it again to put it where "
+    "you want it"
+)
+NO_FILE = "the server was started without --image FILE, so nothing is saved;  :sources FILE  writes the classes and methods"
 ABOUT_CLASSES = ("BadSource", "ClassExists", "UnknownClass")
 # What says more than its sentence in advice.py.
 OWN = {

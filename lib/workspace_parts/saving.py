@@ -7,7 +7,7 @@ from .learning import contents
 from .values import count
 from .wrong import Died, Refused, Wrong
 
-OF_SERVER = "the server saves this image in its own file, at  :save  alone;  :sources FILE  writes the classes and methods of this session"
+OF_SERVER = "the server saves this image in its own file, at  :save  alone;  :sources FILE  writes the classes and methods"
 # Where the server's file is not known.
 ITS_FILE = "the server's file"
 NOT_KEPT = "end the workspace again once {} can be written, or now to lose what it has not"

@@ -35,14 +35,15 @@ This image is served to many, and the server's workers run the actors: a message
 A session asks the image for its classes and methods, whoever wrote them (:classes, :methods, :versions, :senders, :implementors), for
 what anybody edited (:edits), how a turn of any actor ended (:turn 3 of actor 0), what the actors run (:actors), what one of them holds
 and which messages wait for it (:inspect actor 0), and how often a method's sends were done (:stats).
-:names, :sources and Tab have what this session typed, and what it was told of classes and methods; :methods alone tells of all.
+:names and Tab have what this session typed, and what it was told of classes and methods; :methods alone tells of all, and :sources
+writes all.
 It cannot see who else is connected, what others named, or what a turn answers that it does not ask for. Turns that failed since the last
 prompt are told of before the next one, whoever posted their messages (:faults, :why actor 0), and Enter alone asks for them. Edits of
 others take effect here at the next send, and are not told; but a method that somebody has changed since it was shown or written here
-is not written over: what is there now is shown, and what is typed again takes the place of that. c := actor 0 names any actor by its
-number. Where somebody has a checkpoint, turns of before are not told of any more.
+is not written over or removed: what is there now is shown, and what is typed again takes the place of that. So it is with a class that
+somebody has put under another one. c := actor 0 names any actor by its number. Where somebody has a checkpoint, turns of before are not told of any more.
 Where the connection breaks, the next entry at a terminal connects again, asks for the last message of this sender that the image
-has, and goes on behind it. A server that was started with --image FILE saves its image at :save, and when bin/stop ends it.
+has, tells which methods it does not have as they were written here, and goes on. A server that was started with --image FILE saves its image at :save, and when bin/stop ends it.
 """.splitlines()
 
 # Commands that one might look for, and why they are not there.
@@ -60,7 +61,7 @@ COMMANDS = {
     "run": FOR_SCRIPT,
     "names": "lists what this session named",
     "save": "has the server write the image to its own file now; nothing comes after it",
-    "sources": "writes the classes and methods that this session knows to a file, for :load",
+    "sources": "writes the classes and methods that the image has now to a file, for :load",
     "restart": "is for a script; here the image is the server's",
     "quit": "ends the workspace; the image goes on",
 }

@@ -45,6 +45,10 @@ class ServedTurns(Turns):
         held, most = self.room
         return most - held <= most // 10
 
+    def is_full(self):
+        held, most = self.room
+        return held >= most
+
     def outcome(self, turn, milliseconds=0):
         """How a turn ended, for which it is waited so long. Others' checkpoints number turns anew: then it is not known."""
         self.learn_epoch()

@@ -1,6 +1,6 @@
 """A session: each entry is done, and what it gives is said."""
 
-from . import commands, failures, looks, shown
+from . import commands, failures, looks, shown, unseen
 from .entries import Command, Definition, Method, form
 from .known import Known
 from .learning import learn
@@ -17,6 +17,7 @@ from .wrong import Died, Faulted, Lost, Refused, Stopped, Wrong
 # The kind of an entry that has nothing but comments.
 NOTHING = type(None).__name__
 OFFER = "a tenth of the history is left;  :checkpoint  empties it, and all goes on"
+FULL = "nothing of the history is left;  :checkpoint  empties it, and all goes on"
 
 
 class Session:
@@ -60,11 +61,11 @@ class Session:
         self.start()
 
     def begin_again(self):
-        """Says with what it goes on behind a new connection. In a new image the numbers of actors, of versions and of edits mean others."""
-        self.known.actors, self.known.versions, self.known.installed = {}, {}, {}
+        """The lines on that with which it goes on behind a new connection, where the image may be another one."""
+        self.known.begin_again()
         said = self.turns.begin_again()
         self.news.begin()
-        return said
+        return [said, *unseen.lost(self)]
 
     def close(self):
         """Ends the session, and says whether what was to be kept is kept: in its file, or beside it."""
@@ -118,10 +119,10 @@ class Session:
         return "refused"
 
     def offer(self):
-        """Offers a checkpoint, once, where a tenth of the history is left."""
+        """Offers a checkpoint, once, where a tenth of the history is left, or nothing."""
         was, self.is_offered = self.is_offered, self.turns.is_nearly_full()
         if self.is_offered and not was:
-            self.say(OFFER)
+            self.say(FULL if self.turns.is_full() else OFFER)
 
     def tell_where(self):
         """While a file is loaded, its name and line come before what is wrong."""
@@ -180,12 +181,14 @@ class Session:
             self.known.define(found.name, found.parent, found.slots)
             raise
         self.known.define(found.name, found.parent, found.slots)
+        self.known.above[found.name] = found.parent
         if not self.loading:
             self.say(f"class {found.name}, version {version}")
 
     def tell_there(self, found):
         """Tells how a class stands that the image has otherwise than the file that is being loaded."""
         there = looks.class_there(self, found.name)
+        self.known.above[found.name] = there.parent
         if (there.parent, there.slots) != (found.parent, found.slots):
             self.tell_where()
             self.say(f"{there.written()}  is there already, and stays as it is")
@@ -204,8 +207,11 @@ class Session:
 
     def move(self, found):
         command = {"cmd": "reparent", "class": found.name, "super": found.parent}
+        if self.image.is_served:
+            unseen.check_class(self, command)
         version = self.turns.ask(command)["version"]
         self.known.move(found.name, found.parent)
+        self.known.above[found.name] = found.parent
         if not self.loading:
             self.say(f"class {found.name} under {found.parent}, version {version}")
 
@@ -229,9 +235,7 @@ class Session:
     def write(self, name, selector, source):
         """Writes a method, and answers its version. Where one was shown or written before, it takes the place of that one alone. What was
         typed when the program died is known too, so that it is kept."""
-        command = {"cmd": "method", "class": name, "source": source}
-        if (name, selector) in self.known.versions:
-            command.update(cmd="replace", over=self.known.versions[name, selector])
+        command = unseen.replacing(self, {"cmd": "method", "class": name, "source": source}, selector)
         try:
             version = self.turns.ask(command)["version"]
         except Refused as refused:
@@ -242,7 +246,7 @@ class Session:
             self.known.install(name, selector, source)
             raise
         self.known.install(name, selector, source)
-        self.known.versions[name, selector] = version
+        self.known.note_written(name, selector, version, source)
         if self.loading:
             self.loading[0].written.append((name, selector))
         else:
@@ -267,25 +271,14 @@ class Session:
     def remove(self, class_name, selector):
         """Removes a method, and tells if methods send it that no class has any more."""
         command = {"cmd": "remove", "class": class_name, "selector": selector}
-        if self.image.is_served:
-            self.look_before(command)
+        if self.image.is_served and (class_name, selector) in self.known.shown:
+            unseen.check(self, command, selector)
         self.turns.ask(command)
-        self.known.versions[class_name, selector] = 0
+        self.known.note_removed(class_name, selector)
         if class_name in self.known.classes:
             self.known.classes[class_name].methods.pop(selector, None)
         if looks.senders(self, selector) and not looks.implementors(self, selector):
             self.say(f"no class has a method {selector} any more; :senders {selector}  lists those that send it")
-
-    def look_before(self, command):
-        """Refused where somebody has changed a method that was shown or written here, so that it is not removed unseen."""
-        place = command["class"], command["selector"]
-        seen = self.known.versions.get(place)
-        now = shown.now(self, *place) if seen else []
-        version = self.known.versions.get(place)
-        if version and version != seen:
-            refused = Refused(command, {"error": "Stale", "version": version})
-            refused.more = now
-            raise refused
 
     def make_actor(self, class_name):
         number = self.turns.ask({"cmd": "actor", "class": class_name})["actor"]
@@ -346,3 +339,5 @@ class Session:
             self.is_lost, lines = True, [lost.sentence]
         self.explain(lambda: lines)
         self.tell(lines)
+        # What is said of a full history offers a checkpoint itself.
+        self.is_offered |= refused.reply["error"] == "HistoryFull"

@@ -65,6 +65,13 @@ def missing(session, name, selector):
     return f"{name} has no method {selector}, and no class above it has one{near(selector, looks.understood(session, name))}"
 
 
+def missing_above(session, name, selector):
+    """The line for a message to `super` in a method of a class."""
+    above = next((it["super"] for it in looks.classes(session) if it["name"] == name), None)
+    there = [it for it in looks.understood(session, above) if it != selector] if above else []
+    return f"no class above {name} has a method {selector}{near(selector, there)}"
+
+
 def lines_of(found, selector):
     """The lines of a method as it is typed."""
     if "kernel" in found:

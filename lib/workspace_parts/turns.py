@@ -113,6 +113,10 @@ class Turns:
         """Whether a tenth of the history is left, or less."""
         return HISTORY - self.items <= HISTORY // 10
 
+    def is_full(self):
+        """Whether nothing of the history is left, as far as it is known."""
+        return False
+
     def begun(self, actor):
         """How many messages an actor has begun, which is the number of the turn that stands in it."""
         ((told,), _) = self.ask({"cmd": "actors", "from": actor, "most": 1}).values()

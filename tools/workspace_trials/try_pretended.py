@@ -11,7 +11,7 @@ from workspace_parts.breaks import Breaks
 from workspace_parts.images import ServedImage, WatchedImage
 from workspace_parts.reconnecting import Reconnecting
 from workspace_parts.served_turns import AGAIN
-from workspace_parts.session import OFFER, Session
+from workspace_parts.session import FULL, OFFER, Session
 from workspace_parts.socket_connection import SocketConnection
 from workspace_parts.wrong import Ended, Lost
 
@@ -83,7 +83,7 @@ def once_more(program):
     answer = '{"ok":{"answer":1}}'
     with pretended([GREETED], [GREETED, answer], [GREETED, answer]) as path:
         told = []
-        connection = Reconnecting(path, told.append, lambda: "again")
+        connection = Reconnecting(path, told.append, lambda: ["again"])
         same(connection.ask(OUTCOME), json.loads(answer))
         same(told, [BROKE.format(path), "again"])
         same(sentence(Lost, connection.ask, OUTCOME), f"{BROKE.format(path)}; the next entry connects again")
@@ -97,7 +97,7 @@ def perhaps_accepted(program):
     """A message whose reply was lost is not posted twice on the same server, also if others post under the number."""
     for last in (3, 5):
         with pretended([GREETED], [GREETED, f'{{"error":"Old","last":{last}}}']) as path:
-            connection = Reconnecting(path, lambda line: None, lambda: "")
+            connection = Reconnecting(path, lambda line: None, lambda: [])
             said = sentence(Lost, connection.ask, POST)
             wanted = "the number 3 of sender 7 was used before: perhaps this message was accepted when the connection broke"
             same(said, f"{wanted}; type it again if it was not")
@@ -146,15 +146,27 @@ def kept_are_told(program):
 
 
 def nearly_full(program):
-    """A checkpoint is offered where the image tells that a tenth of its history is left, whoever has used it."""
+    """A checkpoint is offered where the image tells that a tenth of its history is left, or nothing, whoever has used it."""
     answer, turn = '{"ok":{"answer":1}}', "turn 1 of actor 0 answers 1"
-    for full, wanted in ((STATUS, [turn]), (STATUS.replace("899999", "900000"), [turn, OFFER])):
+    left, full = (STATUS.replace("899999", held) for held in ("900000", "1000000"))
+    for full, wanted in ((STATUS, [turn]), (left, [turn, OFFER]), (full, [turn, FULL])):
         with pretended([GREETED, NEWS, full, answer, NEWS]) as path:
             told = []
             session = Session(ServedImage(path, 7), Breaks(), told.append)
             session.do(":turn 1 of actor 0")
             same(told, wanted)
             session.end()
+
+
+def history_is_full(program):
+    """What is refused since the history is full says how it is emptied, and no line says besides that something is left."""
+    with pretended([GREETED, NEWS, STATUS.replace("899999", "1000000"), '{"error":"HistoryFull"}', NEWS]) as path:
+        told = []
+        session = Session(ServedImage(path, 7), Breaks(), told.append)
+        session.known.names["c"], session.known.actor(0).class_name = {"ref": 0}, "Counter"
+        session.do("c bump")
+        same((len(told), told[0].startswith("HistoryFull: "), ":checkpoint" in told[0]), (1, True, True))
+        session.end()
 
 
 def news(faults, since, steps):
@@ -217,6 +229,6 @@ def no_faults_are_told(program):
 
 
 TRIALS = (
-    begins_again, kept_are_told, nearly_full, faults_are_told, faults_are_listed, no_faults_are_told, no_server_replies, too_many, once_more,
-    perhaps_accepted,
+    begins_again, kept_are_told, nearly_full, history_is_full, faults_are_told, faults_are_listed, no_faults_are_told, no_server_replies,
+    too_many, once_more, perhaps_accepted,
 )

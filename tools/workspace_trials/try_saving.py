@@ -154,7 +154,7 @@ def of_server(program):
         new = "Counter >> bump  ^0"
         told = served(program, folder, [new, ":classes", ":methods", ":sources c.st"])
         same(told[:3], ["Counter : Object | count |", "Counter >> start  count := 0", new])
-        same(told[3:], ["c.st: 1 class, 2 methods that this session knows"])
+        same(told[3:], ["c.st: 1 class, 2 methods"])
 
 
 def endless_on_server(program):

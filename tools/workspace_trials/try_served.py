@@ -21,6 +21,7 @@ from .try_common import COUNTER, SPIN, WORKSPACE, piped, same
 WORKERS = ("--workers", "2")
 COUNT = ["Counter : Object | count |", "Counter >> bump  count isNil ifTrue: [count := 0]. count := count + 1. ^count"]
 BROKE = "the connection to socket broke, perhaps since the server has ended"
+LOST = "the image does not have Counter >> {} as you wrote {}"
 NOTHING = "nothing listens at socket; start a server with  ./actorimage serve --socket socket --workers 4"
 
 
@@ -203,7 +204,8 @@ def lost_at_terminal(program):
         same(terminal.ask("c bump"), f"{BROKE}\n{NOTHING}; the next entry tries again\n")
         same(terminal.ask("c bump"), f"{NOTHING}; the next entry tries again\n")
         with Server(program, folder, *WORKERS) as server:
-            same(terminal.ask("c bump"), AGAIN + "\nUnknownActor: there is no actor 0; :actors lists those there are\n")
+            terminal.type("c bump\n")
+            terminal.see(f"\n{AGAIN}\n{LOST.format('bump', 'it')}\nUnknownActor: there is no actor 0; :actors lists those there are\n> ")
             same(terminal.ask(COUNT[0]), "class Counter, version 1\n")
             server.end()
         with Server(program, folder, *WORKERS) as server:
@@ -218,7 +220,8 @@ def lost_at_terminal(program):
             terminal.see(f"{BROKE}; the next entry connects again\n")
             same(terminal.see("> "), "not sent: c bump\n> ")
         with Server(program, folder, *WORKERS):
-            same(terminal.ask(COUNT[0]), f"{NEW.format(7)}\nclass Counter, version 1\n")
+            terminal.type(COUNT[0] + "\n")
+            terminal.see(f"{NEW.format(7)}\n{LOST.format('bump, Counter >> spin', 'them')}\nclass Counter, version 1\n> ")
             same(terminal.end(), 0)
 
 
@@ -252,7 +255,110 @@ def older_image(program):
                 same(terminal.end(), 0)
 
 
+def kept_is_not_lost(program):
+    """An edit that the image has, or that somebody has changed since, is not told of as lost behind a new connection."""
+    with tempfile.TemporaryDirectory() as folder:
+        kept = (*WORKERS, "--image", "image")
+        with Server(program, folder, *kept) as server, Watching(folder) as terminal:
+            for line in COUNT:
+                terminal.ask(line)
+            terminal.ask("Counter >> stop  ^0")
+            terminal.ask(":remove Counter stop")
+            terminal.ask("Counter >> stop  ^1")
+            terminal.ask("Counter >> other  ^1")
+            typed(folder, ["Counter >> other  ^2", ":save"])
+            terminal.ask("Counter >> more  ^3")
+            terminal.ask(":remove Counter stop")
+            server.end()
+            with Server(program, folder, *kept):
+                terminal.type(COUNT[0] + "\n")
+                terminal.see(f"{BROKE}\n{AGAIN}\n{LOST.format('more', 'it')}\nClassExists: ")
+                terminal.see("\n> ")
+                same(terminal.end(), 0)
+
+
+def sources_of_session(program):
+    """Where nothing listens, `:sources` writes what this session knows; of a new image also what that never had, and of one that it
+    knows better what is there now."""
+    with tempfile.TemporaryDirectory() as folder, Server(program, folder, *WORKERS) as server, Watching(folder) as terminal:
+        terminal.ask("Counter : Object | count |")
+        terminal.ask("Counter >> start  count := 0")
+        terminal.ask("Counter >> stop  ^nil")
+        server.end()
+        said = f"{BROKE}\n{NOTHING}; the next entry tries again\n1.st: 1 class, 2 methods that this session knows\n"
+        same(terminal.ask(":sources 1.st"), said)
+        with Server(program, folder, *WORKERS):
+            typed(folder, ["Other : Object", "Counter : Object | count |", "Counter >> stop  ^2", "Counter removeSelector: #stop"])
+            terminal.type(":sources 2.st\n")
+            terminal.see(f"\n{AGAIN}\n{LOST.format('start, Counter >> stop', 'them')}\n2.st: 2 classes, 1 method, with those of this ")
+            same(terminal.see("> "), "session that the image never had\n> ")
+            typed(folder, ["Counter >> start  count := 9"])
+            same(terminal.ask(":sources 3.st"), "3.st: 2 classes, 1 method\n")
+            same(terminal.end(), 0)
+        start, stop = "Counter >> start  count := 0", "Counter >> stop  ^nil"
+        for name, lines in (
+            ("1.st", ["Counter : Object | count |", start, stop]),
+            ("2.st", ["Other : Object", "Counter : Object | count |", start]),
+            ("3.st", ["Other : Object", "Counter : Object | count |", "Counter >> start  count := 9"]),
+        ):
+            with open(os.path.join(folder, name), encoding="utf-8") as file:
+                same(file.read().splitlines(), lines)
+
+
+def removed_behind_connection(program):
+    """The first entry on a new connection removes no method and moves no class that somebody has changed under the same number."""
+    with tempfile.TemporaryDirectory() as folder:
+        kept = (*WORKERS, "--image", "image")
+        with Server(program, folder, *kept):
+            typed(folder, ["Rack : Object", "Crate : Object", "Mill : Object", ":save"])
+        for lines, entry, said in (
+            (["Mill >> speed  ^2"], "Mill removeSelector: #speed", "version 4: Mill >> speed  ^2"),
+            (["Mill : Crate"], "Mill : Rack", "Mill : Crate"),
+        ):
+            with Server(program, folder, *kept) as server, Watching(folder) as terminal:
+                terminal.ask(":classes")
+                terminal.ask("Mill >> speed  ^1")
+                server.end()
+                with Server(program, folder, *kept):
+                    typed(folder, lines)
+                    terminal.type(entry + "\n")
+                    terminal.see(f"{BROKE}\n{AGAIN}\nthe image does not have Mill >> speed as you wrote it\nStale: somebody has ")
+                    terminal.see(f"\n{said}\n> ")
+                    same("Stale" in terminal.ask(entry), False)
+                    same(terminal.end(), 0)
+
+
+def told_by_source(program):
+    """Behind a new connection versions mean others, so what was shown is found by its source: an edit that somebody has made under the
+    same number is not written over unseen, and what is as it was shown, or is not there at all, is written at once."""
+    mill = ["Mill : Object", "Mill >> speed  ^1", "Mill >> load  ^2"]
+    with tempfile.TemporaryDirectory() as folder:
+        kept = (*WORKERS, "--image", "image")
+        with Server(program, folder, *kept, "--sessions", "1") as server:
+            same(typed(folder, mill).returncode, 0)
+            same(server.process.wait(PATIENCE), 0)
+        with Server(program, folder, *kept) as server, Watching(folder) as terminal:
+            terminal.type(":methods Mill load\n")
+            terminal.see("Mill >> load  ^2\n> ")
+            terminal.ask("Mill >> stop  ^0")
+            terminal.ask("Mill >> speed  ^9")
+            server.end()
+            with Server(program, folder, *kept):
+                typed(folder, ["Mill >> dry  ^3", "Mill >> speed  ^2000"])
+                terminal.type("Mill >> speed  ^10\n")
+                lost = "the image does not have Mill >> stop, Mill >> speed as you wrote them"
+                terminal.see(f"{BROKE}\n{AGAIN}\n{lost}")
+                terminal.see("\nStale: somebody has changed this method since it was shown or written here, and nothing is written; ")
+                terminal.see("\nversion 5: Mill >> speed  ^2000\n> ")
+                same(typed(folder, ["m := Mill actor", "m speed"]).stdout.decode().splitlines()[-1], "2000")
+                same(terminal.ask("Mill >> load  ^4"), "")
+                same(terminal.ask("Mill >> stop  ^5"), "")
+                same(terminal.ask("Mill >> speed  ^10"), "")
+                same(typed(folder, ["m := actor 0", "m speed"]).stdout.decode().splitlines()[-1], "10")
+                same(terminal.end(), 0)
+
+
 TRIALS = (
     two_workspaces, stopped_waiting, next_number, same_sender, loaded_again, no_server, lost_server, lost_at_terminal, told_at_enter,
-    older_image,
+    older_image, kept_is_not_lost, sources_of_session, removed_behind_connection, told_by_source,
 )

@@ -35,11 +35,24 @@ class KnownActor:
     is_own: bool = field(default=False, compare=False)
 
 
+@dataclass
+class Written:
+    """A method that was written here. `before` are the sources in whose place it came, as far as they were shown or written here."""
+
+    version: int
+    source: str
+    before: set
+
+    def is_in(self, rows):
+        """Whether an image has it, by the versions of its class and selector, or had it under its number before others changed it."""
+        return any(it.get("source") == self.source and (it["version"] == self.version or it is rows[-1]) for it in rows)
+
+
 class Known:
     """`versions` has those of the methods that were shown or written last, by the class and the selector; 0 where the class was seen to
     have none of its own. `shown` has their sources, None where there is none. Versions from before a new connection are no longer there.
     `above` has the class under which each class was shown or put last, and `installed` the class and the selector of installs, by their
-    places among the edits. `written` has the versions and sources of the methods that were written here last, the last one last."""
+    places among the edits. `written` has the methods that were written here last, the last one last."""
 
     def __init__(self):
         self.versions, self.shown, self.above, self.installed = {}, {}, {}, {}
@@ -78,9 +91,11 @@ class Known:
 
     def note_written(self, name, selector, version, source):
         """Takes note of a method that was written here."""
+        place = name, selector
+        old = self.written.pop(place, None)
+        before = {self.shown.get(place)} | (old.before if old else set())
         self.see_version(name, selector, version, source)
-        self.written.pop((name, selector), None)
-        self.written[name, selector] = version, source
+        self.written[place] = Written(version, source, before)
         if len(self.written) > MOST_WRITTEN:
             del self.written[next(iter(self.written))]
 

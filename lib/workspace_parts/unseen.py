@@ -34,23 +34,28 @@ def check_class(session, command):
 
 def lost(session):
     """A line on the methods that were written here last and that the image never had, which are looked for no more then."""
-    written = session.known.written
-    gone = [place for place in written if not has(session, *place, *written[place])]
-    for place in gone:
-        del written[place]
-    names = ", ".join(f"{name} >> {selector}" for name, selector in gone)
-    return [f"the image does not have {names} as you wrote {'it' if len(gone) == 1 else 'them'}"] if gone else []
+    known, gone = session.known, []
+    for place, written in list(known.written.items()):
+        rows = versions(session, *place)
+        if written.is_in(rows):
+            continue
+        gone.append(f"{place[0]} >> {place[1]}")
+        del known.written[place]
+        now = rows[-1].get("source") if rows else None
+        # What was there before is there again, and nobody has changed it.
+        if now in written.before:
+            known.shown[place] = now
+    return [f"the image does not have {', '.join(gone)} as you wrote {'it' if len(gone) == 1 else 'them'}"] if gone else []
 
 
-def has(session, name, selector, version, source):
-    """Whether the image has the method as it was written, or had it under that number before others changed it."""
+def versions(session, name, selector):
+    """Those of a class that may not be there."""
     try:
-        rows = looks.versions(session, name, selector)
+        return looks.versions(session, name, selector)
     except Refused as refused:
         if refused.reply["error"] != "UnknownClass":
             raise
-        return False
-    return any(it.get("source") == source and (it["version"] == version or it is rows[-1]) for it in rows)
+        return []
 
 
 def stale(command, now):

@@ -328,6 +328,23 @@ def removed_behind_connection(program):
                     same(terminal.end(), 0)
 
 
+def written_again(program):
+    """An edit that an image has lost is told of, and may be typed again at once where what was shown before it is there again."""
+    with tempfile.TemporaryDirectory() as folder:
+        kept = (*WORKERS, "--image", "image")
+        with Server(program, folder, *kept) as server, Watching(folder) as terminal:
+            for line in ("Mill : Object", "Mill >> speed  ^1", ":save", "Mill >> speed  ^9", "Mill >> speed  ^10"):
+                terminal.ask(line)
+            server.end()
+            with Server(program, folder, *kept):
+                terminal.type("Mill >> speed  ^10\n")
+                terminal.see(f"{BROKE}\n{AGAIN}\nthe image does not have Mill >> speed as you wrote it\n> ")
+                terminal.type("Mill >> speed\n\n")
+                terminal.see("\nMill >> speed  ^10\n")
+                terminal.see("\n> ")
+                same(terminal.end(), 0)
+
+
 def told_by_source(program):
     """Behind a new connection versions mean others, so what was shown is found by its source: an edit that somebody has made under the
     same number is not written over unseen, and what is as it was shown, or is not there at all, is written at once."""
@@ -360,5 +377,6 @@ def told_by_source(program):
 
 TRIALS = (
     two_workspaces, stopped_waiting, next_number, same_sender, loaded_again, no_server, lost_server, lost_at_terminal, told_at_enter,
-    older_image, kept_is_not_lost, sources_of_session, removed_behind_connection, told_by_source,
+    older_image, kept_is_not_lost, sources_of_session, removed_behind_connection, written_again,
+    told_by_source,
 )

@@ -15,7 +15,8 @@ from .places import send_at
 ANEW = "turns are numbered anew since then, by a checkpoint or another start, and this one is not told of any more"
 NO_FAULTS = "this server keeps no places of faults"
 NOT_KEPT = "where it was is not known any more: an image keeps the newest 64 faults"
-INSTEAD = "Where turn {:,} failed is not kept any more: an image keeps the newest 64 faults. This is turn {:,}, the newest of actor {} that is."
+INSTEAD = ("Where turn {:,} failed is not kept any more: an image keeps the newest 64 faults. "
+    "This is turn {:,}, the newest of actor {} that is.")
 # How often the newest one is asked for, where more come meanwhile than an image keeps.
 TRIES = 8
 

@@ -48,7 +48,11 @@ export function fresh() {
 export async function list() {
   const isIn = box.contains(document.activeElement), it = image.classes.get(at.class);
   for (const each of sides.children) each.setAttribute("aria-pressed", String(each.dataset.side === at.side));
-  if (at.side === "gone") gone = (await look("gone", { class: at.class })).ok || [];
+  if (at.side === "gone") {
+    const name = at.class, found = (await look("gone", { class: name })).ok || [];
+    if (name !== at.class || at.side !== "gone") return;
+    gone = found;
+  }
   const removed = gone.map(selector => ({ selector, from: at.class }));
   const rows = withDrafts(at.side === "gone" ? removed : selectors(at.class, at.side === "all"));
   if (hasDraft(at.class, "")) rows.unshift({ selector: "", from: at.class });

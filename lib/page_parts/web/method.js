@@ -3,7 +3,7 @@
 import { change, look } from "./ask.js";
 import { confirmed } from "./dialog.js";
 import { difference } from "./diff.js";
-import { button, h, put, toast } from "./dom.js";
+import { button, h, put, setText, toast } from "./dom.js";
 import { draft, hasDraft, keep } from "./drafts.js";
 import { Editor } from "./editor.js";
 import { find } from "./find.js";
@@ -37,8 +37,8 @@ export class MethodPane {
     this.draw();
   }
 
-  // Opens a method of the class in sight, or the one that it has from the class `from`: of each just its own, also if that is gone. Without
-  // a selector a new method is opened.
+  // Opens a method of the class in sight, or the one that it has from the class `from`: of each just its own, also if that is gone.
+  // Without a selector a new method is opened.
   async open(name, selector, from = name) {
     this.theirs = this.other = null;
     at.from = from;
@@ -62,6 +62,9 @@ export class MethodPane {
 
   // Whether a method of a class is the one in sight.
   shows(name, selector) { return this.told?.class === name && this.told.selector === selector; }
+
+  // Whether it is the one that is chosen, also while that is still asked for.
+  isChosen(name, selector) { return at.from === name && (at.selector ?? "") === selector && this.shows(name, selector); }
 
   take(told) {
     Object.assign(this, { told, theirs: null, hasOwn: null });
@@ -145,7 +148,7 @@ export class MethodPane {
     const { class: name, selector, kernel, gone } = this.told;
     if (!selector) return `${name} has no method of its own.`;
     if (kernel) return `${name} has ${selector} from the kernel, which has no source.`;
-    const from = holder(name, selector), runs = from ? ` A send of it runs that of ${from}.` : "";
+    const from = holder(image.classes.get(name)?.above, selector), runs = from ? ` A send of it runs that of ${from}.` : "";
     const way = image.isFile ? "." : ": one can be brought back.";
     if (gone) return `${name} has no method ${selector} now.${runs} Its versions stand below${way}`;
     return `${name} has no method ${selector} of its own.${runs}`;
@@ -193,7 +196,7 @@ export class MethodPane {
     this.isInstalling = true;
     const reply = await change("install", { class: name, source: text, seen: given });
     this.isInstalling = false;
-    if (!this.shows(name, selector)) {
+    if (!this.isChosen(name, selector)) {
       if (reply.ok && draft(name, selector)?.source === text) keep(name, selector, null);
       toast(reply.ok ? `${name} › ${reply.selector} is version ${reply.ok.version}` : `${name} › ${selector}: ${reply.said}`,
         reply.ok ? "" : "bad");
@@ -245,13 +248,13 @@ export class MethodPane {
     this.isInstalling = true;
     const reply = await change("remove", { class: name, selector, seen: version });
     this.isInstalling = false;
-    if (!reply.ok && !this.shows(name, selector)) { toast(`${name} › ${selector}: ${reply.said}`, "bad"); return; }
+    if (!reply.ok && !this.isChosen(name, selector)) { toast(`${name} › ${selector}: ${reply.said}`, "bad"); return; }
     if (reply.theirs) { this.theirs = reply.theirs; this.draw(); return; }
     if (reply.error) { this.say(reply.said); return; }
     keep(name, selector, null);
     toast(`${name} › ${selector} is removed: version ${reply.ok.version}`, "",
       button("link", "Undo", () => this.undo(name, selector, reply.removed)));
-    if (this.shows(name, selector)) await this.openAgain();
+    if (this.isChosen(name, selector)) await this.openAgain();
   }
 
   // Installs what a removal took, whatever is in sight by now, and over nothing that somebody has written since.
@@ -276,7 +279,7 @@ export class MethodPane {
     if (reply.ok) {
       if (isForgotten) keep(name, selector, null);
       toast(`${name} › ${selector}: version ${version.version} is back, as version ${reply.ok.version}`);
-      if (this.shows(name, selector) && at.selector === selector) await this.openAgain();
+      if (this.isChosen(name, selector)) await this.openAgain();
     }
     this.isInstalling = false;
     return reply;
@@ -292,6 +295,7 @@ export class MethodPane {
       told.sites = sites.sites;
       if (this.began.version === told.version) this.editor.tell(sites.sites);
     }
+    if (!this.hasText) setText(this.none, this.whyNone());
     if (from && from !== name) this.another(from);
     else if (version === (told.version || 0)) this.hasOwn = null;
     else if (!this.isChanged) this.refresh();

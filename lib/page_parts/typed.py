@@ -99,7 +99,11 @@ class PageImage(ServedImage):
         self.line, self.say = line, say
 
     def connect(self, session):
-        return Connection(self.line, lambda: self.say(session.begin_again()))
+        def begin_again():
+            for line in session.begin_again():
+                self.say(line)
+
+        return Connection(self.line, begin_again)
 
     def turns(self, connection, breaks):
         # What was sent is kept for :log, which is not there.
